@@ -1,0 +1,204 @@
+// What a token is: a name, a number, a reserved word or a mark, and its place in the text.
+
+use std::alloc::AllocError;
+use std::marker::Model;
+
+/// A token and where it stands in the text.
+#[derive(Debug, Drop)]
+pub struct Token {
+    pub kind: TokenKind,
+    pub span: Span,
+}
+
+/// The bytes from `start` up to `end`, `end` not included.
+#[derive(Clone, Copy, Debug, PartialEq, Eq)]
+pub struct Span {
+    pub start: usize,
+    pub end: usize,
+}
+
+/// What kind of token it is, with the name or the number that it carries.
+#[derive(Debug, Drop)]
+pub enum TokenKind {
+    Name(Name),
+    /// 0 to 2147483647, or the minimum, for which 2147483648 stands.
+    Number(i32),
+    Word(Word),
+    Mark(Mark),
+}
+
+/// A name: a letter or `_`, then letters, digits and `_`. Contracts see it as the list of its bytes.
+#[derive(Debug, Drop)]
+pub struct Name {
+    bytes: Vec<u8>,
+}
+
+impl Model for Name {
+    ghost use Rattle.std.specs.Prelude.{List, ℕ};
+
+    ghost Value = { List ℕ };
+
+    ghost view = { λ n. n.bytes.items };
+}
+
+impl Name {
+    ghost use Rattle.std.specs.Prelude.{◌≡◌, IfOk, IsTrue, ◌↔◌};
+
+    /// The name that these bytes are. It takes no memory.
+    pub fn new(bytes: Vec<u8>) -> Name
+        ensures { result ≡ bytes.items }
+    {
+        Name { bytes }
+    }
+
+    /// The bytes of the name.
+    pub fn as_bytes(&self) -> &[u8]
+        ensures { result.now ≡ self.now }
+    {
+        self.bytes.as_slice()
+    }
+
+    /// An equal name.
+    pub fn copy(&self) -> Result<Name, AllocError>
+        ensures { IfOk result (λ name. name ≡ self.now) }
+    {
+        let bytes = self.bytes.clone()?;
+        Ok(Name { bytes })
+    }
+
+    /// Whether the two names are the same.
+    pub fn is(&self, other: &Name) -> bool
+        ensures { IsTrue result ↔ (self.now ≡ other.now) }
+    {
+        self.bytes.as_slice() == other.bytes.as_slice()
+    }
+}
+
+/// A reserved word, named as it is written.
+#[derive(Clone, Copy, Debug, PartialEq, Eq)]
+pub enum Word {
+    Filter,
+    Pipeline,
+    Splitjoin,
+    Feedbackloop,
+    Init,
+    Prework,
+    Work,
+    Push,
+    Pop,
+    Peek,
+    Add,
+    Split,
+    Join,
+    Duplicate,
+    Roundrobin,
+    Body,
+    Loop,
+    Enqueue,
+    If,
+    Else,
+    While,
+    For,
+    Int,
+    Boolean,
+    Void,
+    True,
+    False,
+    Print,
+    Println,
+    Identity,
+    FileReader,
+    FileWriter,
+    Break,
+    Continue,
+    Do,
+    Return,
+    Float,
+    Complex,
+    Bit,
+    Struct,
+    Portal,
+}
+
+/// A mark of one or two characters.
+#[derive(Clone, Copy, Debug, PartialEq, Eq)]
+pub enum Mark {
+    /// `->`
+    Arrow,
+    /// `++`
+    PlusPlus,
+    /// `--`
+    MinusMinus,
+    /// `+=`
+    PlusAssign,
+    /// `-=`
+    MinusAssign,
+    /// `*=`
+    StarAssign,
+    /// `/=`
+    SlashAssign,
+    /// `%=`
+    PercentAssign,
+    /// `<<`
+    ShiftLeft,
+    /// `>>`
+    ShiftRight,
+    /// `<=`
+    LessEqual,
+    /// `>=`
+    GreaterEqual,
+    /// `==`
+    Equal,
+    /// `!=`
+    NotEqual,
+    /// `&&`
+    AndAnd,
+    /// `||`
+    OrOr,
+    /// `+`
+    Plus,
+    /// `-`
+    Minus,
+    /// `*`
+    Star,
+    /// `/`
+    Slash,
+    /// `%`
+    Percent,
+    /// `<`
+    Less,
+    /// `>`
+    Greater,
+    /// `=`
+    Assign,
+    /// `!`
+    Not,
+    /// `&`
+    And,
+    /// `|`
+    Or,
+    /// `^`
+    Caret,
+    /// `~`
+    Tilde,
+    /// `?`
+    Question,
+    /// `:`
+    Colon,
+    /// `;`
+    Semicolon,
+    /// `,`
+    Comma,
+    /// `(`
+    OpenBracket,
+    /// `)`
+    CloseBracket,
+    /// `{`
+    OpenBrace,
+    /// `}`
+    CloseBrace,
+    /// `[`
+    OpenSquare,
+    /// `]`
+    CloseSquare,
+}

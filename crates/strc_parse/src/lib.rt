@@ -1,0 +1,7 @@
+// Takes the tokens of a program's text.
+// Gives its syntax tree, or the refusal of tokens that no program has.
+// The theorem to rely on: `parse` answers Ok exactly with the tree of height at most 256 that has this spelling.
+// Stands on strc_lex, whose tokens it reads.
+#![tactic(auto)]
+
+pub mod tree;
