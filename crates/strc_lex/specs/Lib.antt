@@ -1,0 +1,5 @@
+pub mod Characters
+pub mod Marks
+pub mod Scanning
+pub mod Text
+pub mod Words

@@ -4,4 +4,12 @@
 // Stands on no other crate of ours.
 #![tactic(auto)]
 
+mod characters;
+pub mod error;
+pub mod lexer;
+pub mod mark;
+mod scan;
+#[cfg(test)]
+mod tests;
 pub mod token;
+pub mod word;

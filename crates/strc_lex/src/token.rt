@@ -62,15 +62,14 @@ impl Name {
     pub fn copy(&self) -> Result<Name, AllocError>
         ensures { IfOk result (λ name. name ≡ self.now) }
     {
-        let bytes = self.bytes.clone()?;
-        Ok(Name { bytes })
+        Ok(Name::new(self.bytes.clone()?))
     }
 
     /// Whether the two names are the same.
     pub fn is(&self, other: &Name) -> bool
         ensures { IsTrue result ↔ (self.now ≡ other.now) }
     {
-        self.bytes.as_slice() == other.bytes.as_slice()
+        self.as_bytes() == other.as_bytes()
     }
 }
 

@@ -1,0 +1,107 @@
+-- What a lexeme begins with, and how far it can go.
+use Rattle.std.proofs.Common.{◌≡◌, ℕ, zero, suc, ◌<◌, ◌≤◌, Bool, true, false, cond, List, [], ◌∷◌, length, take, refl, arith, subst, ◌||◌}
+use Rattle.std.specs.List.{list_all, prefix_len}
+use Rattle.std.proofs.lemmas.Bool.Decides.{nat_tests}
+use Rattle.strc_lex.specs.Characters.{is_white, is_digit, is_letter, is_name_byte}
+use Rattle.strc_lex.specs.Words.{word_text}
+use Rattle.strc_lex.specs.Marks.{mark_text}
+use Rattle.strc_lex.specs.Text.{IsNameText, IsLexeme}
+use Rattle.strc_lex.specs.declared.token.TokenKind.{TokenKind}
+use Rattle.strc_lex.specs.declared.token.TokenKind.TheVariants.{Name, Number, Word, Mark}
+use Rattle.strc_lex.specs.declared.token.Word as words
+use Rattle.strc_lex.specs.declared.token.Word.TheVariants as word
+use Rattle.strc_lex.specs.declared.token.Mark as marks
+use Rattle.strc_lex.specs.declared.token.Mark.TheVariants as mark
+use Rattle.strc_lex.proofs.Finding.{both_parts}
+
+-- what the first byte of each kind is
+abbrev pub Begins : TokenKind → ℕ → Type 0
+Begins (Name name) b = is_letter b ≡ true
+Begins (Word w) b = is_letter b ≡ true
+Begins (Number value) b = is_digit b ≡ true
+Begins (Mark m) b = (is_letter b ≡ false) × (is_digit b ≡ false) × (is_white b ≡ false)
+
+abbrev starts_letter : List ℕ → Bool
+starts_letter [] = false
+starts_letter (b ∷ bytes) = is_letter b
+
+abbrev starts_mark : List ℕ → Bool
+starts_mark [] = false
+starts_mark (b ∷ bytes) = cond (is_letter b) false (cond (is_digit b) false (cond (is_white b) false true))
+
+letter_black : (b : ℕ) → is_letter b ≡ true → is_white b ≡ false
+letter_black b letter = grind (arith, nat_tests)
+
+digit_black : (b : ℕ) → is_digit b ≡ true → is_white b ≡ false
+digit_black b digit = grind (arith, nat_tests)
+
+word_starts : (w : words.Word) → starts_letter (word_text w) ≡ true
+word_starts word.Filter = refl
+word_starts w = refl
+
+mark_starts : (m : marks.Mark) → starts_mark (mark_text m) ≡ true
+mark_starts mark.Arrow = refl
+mark_starts m = refl
+
+pub word_runs : (w : words.Word) → list_all is_name_byte (word_text w) ≡ true
+word_runs word.Filter = refl
+word_runs w = refl
+
+split_mark : (l d w : Bool) → cond l false (cond d false (cond w false true)) ≡ true → (l ≡ false) × (d ≡ false) × (w ≡ false)
+split_mark true d w e = absurd (cc)
+split_mark false true w e = absurd (cc)
+split_mark false false true e = absurd (cc)
+split_mark false false false e = (refl, refl, refl)
+
+pub no_empty_lexeme : (kind : TokenKind) → IsLexeme kind [] → ⊥
+no_empty_lexeme (Name name) h = h.1
+no_empty_lexeme (Number value) h = h.0
+no_empty_lexeme (Word w) h = let bad : false ≡ true = subst (λ bytes. starts_letter bytes ≡ true) h (word_starts w) in absurd (cc)
+no_empty_lexeme (Mark m) h = let bad : false ≡ true = subst (λ bytes. starts_mark bytes ≡ true) h (mark_starts m) in absurd (cc)
+
+-- no token begins with white space
+pub begins_black : (kind : TokenKind) (b : ℕ) → Begins kind b → is_white b ≡ false
+begins_black (Name name) b letter = letter_black b letter
+begins_black (Word w) b letter = letter_black b letter
+begins_black (Number value) b digit = digit_black b digit
+begins_black (Mark m) b mark = mark.2
+
+-- a lexeme at the front isn't empty, and begins as its kind does
+pub lexeme_begins : (kind : TokenKind) (b : ℕ) (rest : List ℕ) (size : ℕ) → IsLexeme kind (take size (b ∷ rest)) → (0 < size) × Begins kind b
+lexeme_begins (Name name) b rest zero h = absurd h.1
+lexeme_begins (Name name) b rest (suc n) h = (omega arith, h.1.0)
+lexeme_begins (Number value) b rest zero h = absurd h.0
+lexeme_begins (Number value) b rest (suc n) h = (omega arith, h.0.0)
+lexeme_begins (Word w) b rest zero h = let bad : false ≡ true = subst (λ bytes. starts_letter bytes ≡ true) h (word_starts w) in absurd (cc)
+lexeme_begins (Word w) b rest (suc n) h = (omega arith, subst (λ bytes. starts_letter bytes ≡ true) h (word_starts w))
+lexeme_begins (Mark m) b rest zero h = let bad : false ≡ true = subst (λ bytes. starts_mark bytes ≡ true) h (mark_starts m) in absurd (cc)
+lexeme_begins (Mark m) b rest (suc n) h = (omega arith, split_mark (is_letter b) (is_digit b) (is_white b) (subst (λ bytes. starts_mark bytes ≡ true) h (mark_starts m)))
+
+-- as far as each element passes, the run goes
+pub run_bound : (p : ℕ → Bool) (xs : List ℕ) (size : ℕ) → size ≤ length xs → list_all p (take size xs) ≡ true → size ≤ prefix_len p xs
+run_bound p [] zero within all = omega arith
+run_bound p [] (suc n) within all = absurd (omega arith)
+run_bound p (x ∷ xs) zero within all = omega arith
+run_bound p (x ∷ xs) (suc n) within all =
+    let parts = both_parts (p x) (list_all p (take n xs)) all in
+    let more = run_bound p xs n (omega arith) parts.1 in
+    rw parts.0 (omega arith)
+
+or_left : (a b : Bool) → a ≡ true → (a || b) ≡ true
+or_left true b e = refl
+or_left false b e = absurd (cc)
+
+or_right : (a b : Bool) → b ≡ true → (a || b) ≡ true
+or_right true b e = refl
+or_right false b e = e
+
+pub letter_is_name_byte : (b : ℕ) → is_letter b ≡ true → is_name_byte b ≡ true
+letter_is_name_byte b e = or_left (is_letter b) (is_digit b) e
+
+pub digit_is_name_byte : (b : ℕ) → is_digit b ≡ true → is_name_byte b ≡ true
+digit_is_name_byte b e = or_right (is_letter b) (is_digit b) e
+
+-- a name is name bytes throughout
+pub name_runs : (bytes : List ℕ) → IsNameText bytes → list_all is_name_byte bytes ≡ true
+name_runs [] h = absurd h
+name_runs (b ∷ bytes) h = rw (letter_is_name_byte b h.0) h.1

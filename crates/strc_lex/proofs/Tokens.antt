@@ -1,0 +1,275 @@
+-- What the scanner finds at the front of a text is the token there, and the only one.
+use Rattle.std.proofs.Common.{◌≡◌, ◌≢◌, ℕ, ◌<◌, ◌≤◌, Bool, true, false, cond, List, [], ◌∷◌, length, take, drop, refl, ap, arith, ◌∙◌, sym, subst, Option, Some, None, ◌⊎◌, inl, inr, nat_eq, nat_le, ◌&&◌}
+use Rattle.std.specs.List.{list_all, prefix_len, take_while, starts_with}
+use Rattle.std.specs.Int.{w32, cast_signed}
+use Rattle.std.proofs.lemmas.List.Folds.{length-prefix_len}
+use Rattle.std.proofs.lemmas.List.Sums.{prefix_len-le-length}
+use Rattle.std.proofs.lemmas.Bool.{both_ways, eqb-true, eq-eqb, leb-true}
+use Rattle.std.proofs.lemmas.List.{length-take, length-take-le}
+use Rattle.std.proofs.lemmas.Option.{cond_some}
+use Rattle.std.specs.Cmp.Lexicographic.{pointwise}
+use Rattle.strc_lex.specs.Characters.{is_digit, is_letter, is_name_byte}
+use Rattle.strc_lex.specs.Words.{word_text, all_words}
+use Rattle.strc_lex.specs.Marks.{mark_text, paired_marks, single_marks}
+use Rattle.strc_lex.specs.Text.{IsNameText, IsNumeral, IsLexeme, IsApart, IsToken, number_from}
+use Rattle.strc_lex.specs.Scanning.{word_of, word_or_name, name_at, number_at, number_with_length, bounded, is_plain, ends_number, mark_at, mark_of, or_single, pair_of, single_of, opens_comment, mark_with_length, token_at}
+use Rattle.strc_lex.specs.declared.token.TokenKind.{TokenKind}
+use Rattle.strc_lex.specs.declared.token.TokenKind.TheVariants.{Name, Number, Word, Mark}
+use Rattle.strc_lex.specs.declared.token.Word as words
+use Rattle.strc_lex.specs.declared.token.Word.TheVariants as word
+use Rattle.strc_lex.specs.declared.token.Mark as marks
+use Rattle.strc_lex.specs.declared.token.Mark.TheVariants as mark
+use Rattle.strc_lex.proofs.Finding.{either, both_parts, find_passes, find_all, find_none, pick_true, pick_false, none_is_not_some, some_same, same-pointwise, pointwise-same}
+use Rattle.std.proofs.lemmas.Bool.Decides.{nat_tests}
+use Rattle.strc_lex.proofs.Runs.{run_head, run_positive, take-run, list_all-take_while}
+use Rattle.strc_lex.proofs.Lexemes.{lexeme_begins, run_bound, word_runs, name_runs, letter_is_name_byte}
+
+-- a word's text finds the word
+pub word_again : (w : words.Word) → word_of (word_text w) ≡ Some w
+word_again word.Filter = refl
+word_again w = refl
+
+-- where no word is found, the bytes are none
+no_word : (bytes : List ℕ) → word_of bytes ≡ None → (w : words.Word) → word_text w ≢ bytes
+no_word bytes none w e =
+    let fails : pointwise nat_eq (word_text w) bytes ≡ false = find_none (λ v. pointwise nat_eq (word_text v) (word_text w)) (λ v. pointwise nat_eq (word_text v) bytes) all_words w (word_again w) none in
+    both_ways (pointwise nat_eq (word_text w) bytes) fails (pointwise-same (word_text w) bytes e)
+
+-- no letter is a digit
+pub letter_no_digit : (b : ℕ) → is_letter b ≡ true → is_digit b ≡ true → ⊥
+letter_no_digit b letter digit = grind (arith, nat_tests)
+
+-- at a letter nothing is longer than the run of name bytes
+name_longest : (b : ℕ) (rest : List ℕ) → is_letter b ≡ true → (other : TokenKind) (size : ℕ) → size ≤ length (b ∷ rest) → IsLexeme other (take size (b ∷ rest)) → size ≤ prefix_len is_name_byte (b ∷ rest)
+name_longest b rest letter (Name name) size within h = run_bound is_name_byte (b ∷ rest) size within (name_runs (take size (b ∷ rest)) h.1)
+name_longest b rest letter (Word w) size within h = run_bound is_name_byte (b ∷ rest) size within (subst (λ bytes. list_all is_name_byte bytes ≡ true) h (word_runs w))
+name_longest b rest letter (Number value) size within h = absurd (letter_no_digit b letter (lexeme_begins (Number value) b rest size h).1)
+name_longest b rest letter (Mark m) size within h = absurd (both_ways (is_letter b) (lexeme_begins (Mark m) b rest size h).1.0 letter)
+
+-- a run that begins with a letter is a name, and isn't empty
+name_text : (b : ℕ) (rest : List ℕ) → is_letter b ≡ true → IsNameText (take_while is_name_byte (b ∷ rest))
+name_text b rest letter = subst IsNameText (sym (run_head is_name_byte b rest (letter_is_name_byte b letter))) (letter, list_all-take_while is_name_byte rest)
+
+-- at a letter, whichever word the run is
+name_meets_by : (b : ℕ) (rest : List ℕ) → is_letter b ≡ true → (found : Option words.Word) → word_of (take_while is_name_byte (b ∷ rest)) ≡ found → IsToken (b ∷ rest) (word_or_name (take_while is_name_byte (b ∷ rest)) found) (length (take_while is_name_byte (b ∷ rest)))
+name_meets_by b rest letter None none =
+    let run = take-run is_name_byte (b ∷ rest) _ refl in
+    record {
+      within = rw (length-prefix_len is_name_byte (b ∷ rest)) (prefix_len-le-length is_name_byte (b ∷ rest));
+      lexeme = (sym run, subst IsNameText (sym run) (name_text b rest letter), λ w e. no_word _ none w (e ∙ run));
+      apart = tt;
+      longest = λ other size within h. rw (length-prefix_len is_name_byte (b ∷ rest)) (name_longest b rest letter other size within h);
+    }
+name_meets_by b rest letter (Some w) found =
+    let run = take-run is_name_byte (b ∷ rest) _ refl in
+    record {
+      within = rw (length-prefix_len is_name_byte (b ∷ rest)) (prefix_len-le-length is_name_byte (b ∷ rest));
+      lexeme = same-pointwise (word_text w) _ (find_passes (λ v. pointwise nat_eq (word_text v) (take_while is_name_byte (b ∷ rest))) all_words w found) ∙ sym run;
+      apart = tt;
+      longest = λ other size within h. rw (length-prefix_len is_name_byte (b ∷ rest)) (name_longest b rest letter other size within h);
+    }
+
+-- the scanner's answer, as a token that isn't empty
+abbrev pub Meets : List ℕ → TokenKind × ℕ → Type 0
+Meets text found = IsToken text found.0 found.1 × (0 < found.1)
+
+name_meets : (b : ℕ) (rest : List ℕ) → is_letter b ≡ true → Meets (b ∷ rest) (name_at (b ∷ rest))
+name_meets b rest letter =
+    (name_meets_by b rest letter (word_of (take_while is_name_byte (b ∷ rest))) refl, run_positive is_name_byte b rest (letter_is_name_byte b letter))
+
+-- numbers
+
+empty_of_length : (bytes : List ℕ) → nat_eq (length bytes) 0 ≡ true → bytes ≡ []
+empty_of_length [] e = refl
+empty_of_length (b ∷ bytes) e = let bad : length (b ∷ bytes) ≡ 0 = eqb-true (length (b ∷ bytes)) 0 e in absurd (omega arith)
+
+length_of_empty : (bytes : List ℕ) → bytes ≡ [] → nat_eq (length bytes) 0 ≡ true
+length_of_empty bytes e = subst (λ xs. nat_eq (length xs) 0 ≡ true) (sym e) refl
+
+plain_zero : (b : ℕ) (bytes : List ℕ) → is_plain (b ∷ bytes) ≡ true → b ≡ 48 → bytes ≡ []
+plain_zero b bytes plain zero_first = let test : nat_eq b 48 ≡ true = eq-eqb b 48 zero_first in empty_of_length bytes (rw test at plain)
+
+pub zero_plain : (b : ℕ) (bytes : List ℕ) → (b ≡ 48 → bytes ≡ []) → is_plain (b ∷ bytes) ≡ true
+zero_plain b bytes h = elim (either (nat_eq b 48)) [
+  | inl zero_first ↦ rw zero_first (length_of_empty bytes (h (eqb-true b 48 zero_first)))
+  | inr other ↦ rw other refl
+]
+
+negated : (b : Bool) → cond b false true ≡ true → b ≡ false
+negated true e = absurd (cc)
+negated false e = refl
+
+ends_apart : (value : _) (rest : List ℕ) → ends_number rest ≡ true → IsApart (Number value) rest
+ends_apart value [] ends = tt
+ends_apart value (c ∷ rest) ends = negated (is_name_byte c) ends
+
+pub apart_ends : (value : _) (rest : List ℕ) → IsApart (Number value) rest → ends_number rest ≡ true
+apart_ends value [] apart = refl
+apart_ends value (c ∷ rest) apart = rw apart refl
+
+digit_runs : (bytes : List ℕ) → IsNumeral bytes → list_all is_digit bytes ≡ true
+digit_runs [] h = absurd h
+digit_runs (b ∷ bytes) h = rw h.0 h.1
+
+pub number_longest : (b : ℕ) (rest : List ℕ) → is_digit b ≡ true → (other : TokenKind) (size : ℕ) → size ≤ length (b ∷ rest) → IsLexeme other (take size (b ∷ rest)) → size ≤ prefix_len is_digit (b ∷ rest)
+number_longest b rest digit (Name name) size within h = absurd (letter_no_digit b (lexeme_begins (Name name) b rest size h).1 digit)
+number_longest b rest digit (Word w) size within h = absurd (letter_no_digit b (lexeme_begins (Word w) b rest size h).1 digit)
+number_longest b rest digit (Number value) size within h = run_bound is_digit (b ∷ rest) size within (digit_runs (take size (b ∷ rest)) h.0)
+number_longest b rest digit (Mark m) size within h = absurd (both_ways (is_digit b) (lexeme_begins (Mark m) b rest size h).1.1 digit)
+
+numeral_text : (b : ℕ) (rest : List ℕ) → is_digit b ≡ true → is_plain (take_while is_digit (b ∷ rest)) ≡ true → IsNumeral (take_while is_digit (b ∷ rest))
+numeral_text b rest digit plain =
+    let head = run_head is_digit b rest digit in
+    let plain' : is_plain (b ∷ take_while is_digit rest) ≡ true = subst (λ xs. is_plain xs ≡ true) head plain in
+    subst IsNumeral (sym head) (digit, list_all-take_while is_digit rest, plain_zero b (take_while is_digit rest) plain')
+
+number_meets_by : (b : ℕ) (rest : List ℕ) (k : TokenKind) (n : ℕ) → is_digit b ≡ true → is_plain (take_while is_digit (b ∷ rest)) ≡ true → ends_number (drop (length (take_while is_digit (b ∷ rest))) (b ∷ rest)) ≡ true →
+    (o : Option ℕ) → bounded (number_from 0 (take_while is_digit (b ∷ rest))) ≡ o → number_with_length (length (take_while is_digit (b ∷ rest))) o ≡ Some (k, n) → Meets (b ∷ rest) (k, n)
+number_meets_by b rest k n digit plain ends None low e = absurd (cc)
+number_meets_by b rest k n digit plain ends (Some v) low e =
+    let run = take-run is_digit (b ∷ rest) _ refl in
+    let fits = cond_some (nat_le (number_from 0 (take_while is_digit (b ∷ rest))) 2147483648) (number_from 0 (take_while is_digit (b ∷ rest))) v low in
+    let pair : (Number (cast_signed w32 v), length (take_while is_digit (b ∷ rest))) ≡ (k, n) = cc in
+    subst (Meets (b ∷ rest)) pair (
+      record {
+        within = rw (length-prefix_len is_digit (b ∷ rest)) (prefix_len-le-length is_digit (b ∷ rest));
+        lexeme = subst (λ bytes. IsLexeme (Number (cast_signed w32 v)) bytes) (sym run) (numeral_text b rest digit plain, leb-true _ _ fits.0, ap (cast_signed w32) (sym fits.1));
+        apart = ends_apart (cast_signed w32 v) _ ends;
+        longest = λ other size within h. rw (length-prefix_len is_digit (b ∷ rest)) (number_longest b rest digit other size within h);
+      },
+      run_positive is_digit b rest digit,
+    )
+
+number_meets : (b : ℕ) (rest : List ℕ) (k : TokenKind) (n : ℕ) → is_digit b ≡ true → number_at (b ∷ rest) ≡ Some (k, n) → Meets (b ∷ rest) (k, n)
+number_meets b rest k n digit e =
+    let digits = take_while is_digit (b ∷ rest) in
+    elim (either (is_plain (take_while is_digit (b ∷ rest)) && ends_number (drop (length (take_while is_digit (b ∷ rest))) (b ∷ rest)))) [
+      | inl good ↦
+          let parts = both_parts (is_plain (take_while is_digit (b ∷ rest))) (ends_number (drop (length (take_while is_digit (b ∷ rest))) (b ∷ rest))) good in
+          number_meets_by b rest k n digit parts.0 parts.1 (bounded (number_from 0 (take_while is_digit (b ∷ rest)))) refl (rw good at e)
+      | inr bad ↦ absurd (none_is_not_some (k, n) (rw bad at e))
+    ]
+
+-- marks
+
+-- what a mark's text finds
+pub mark_again : (m : marks.Mark) → ((pair_of (mark_text m) ≡ Some m) × (length (mark_text m) ≡ 2)) ⊎ ((single_of (mark_text m) ≡ Some m) × (length (mark_text m) ≡ 1))
+mark_again mark.Arrow = inl (refl, refl)
+mark_again mark.PlusPlus = inl (refl, refl)
+mark_again mark.MinusMinus = inl (refl, refl)
+mark_again mark.PlusAssign = inl (refl, refl)
+mark_again mark.MinusAssign = inl (refl, refl)
+mark_again mark.StarAssign = inl (refl, refl)
+mark_again mark.SlashAssign = inl (refl, refl)
+mark_again mark.PercentAssign = inl (refl, refl)
+mark_again mark.ShiftLeft = inl (refl, refl)
+mark_again mark.ShiftRight = inl (refl, refl)
+mark_again mark.LessEqual = inl (refl, refl)
+mark_again mark.GreaterEqual = inl (refl, refl)
+mark_again mark.Equal = inl (refl, refl)
+mark_again mark.NotEqual = inl (refl, refl)
+mark_again mark.AndAnd = inl (refl, refl)
+mark_again mark.OrOr = inl (refl, refl)
+mark_again m = inr (refl, refl)
+
+mark_short : (m : marks.Mark) → (0 < length (mark_text m)) × (length (mark_text m) ≤ 2)
+mark_short m = elim (mark_again m) [ inl two ↦ (omega arith, omega arith) | inr one ↦ (omega arith, omega arith) ]
+
+-- the text of a mark stands at the front
+mark_stands : (text : List ℕ) (m : marks.Mark) → mark_of text ≡ Some m → mark_text m ≡ take (length (mark_text m)) text
+mark_stands text m e = same-pointwise (mark_text m) (take (length (mark_text m)) text) (by (pair_of text) refl e) where
+  by : (o : Option marks.Mark) → pair_of text ≡ o → or_single text o ≡ Some m → starts_with nat_eq text (mark_text m) ≡ true
+  by None none single = find_passes (λ v. starts_with nat_eq text (mark_text v)) single_marks m single
+  by (Some v) pair same = let one : v ≡ m = cc in find_passes (λ v. starts_with nat_eq text (mark_text v)) paired_marks m (pair ∙ same)
+
+-- a mark of this size stands there
+pub size_of_mark : (text : List ℕ) (m : marks.Mark) (size : ℕ) → size ≤ length text → mark_text m ≡ take size text → length (mark_text m) ≡ size
+size_of_mark text m size within e = ap length e ∙ length-take-le size text within
+
+begins_true : (text : List ℕ) (m : marks.Mark) (size : ℕ) → size ≤ length text → mark_text m ≡ take size text → starts_with nat_eq text (mark_text m) ≡ true
+begins_true text m size within e = pointwise-same (mark_text m) (take (length (mark_text m)) text) (e ∙ ap (λ k. take k text) (sym (size_of_mark text m size within e)))
+
+-- a mark that stands at the front is found, or a longer one
+pub mark_not_missed : (text : List ℕ) (m : marks.Mark) (size : ℕ) → size ≤ length text → mark_text m ≡ take size text → mark_of text ≡ None → ⊥
+mark_not_missed text m size within e none = by (pair_of text) refl none where
+  by : (o : Option marks.Mark) → pair_of text ≡ o → or_single text o ≡ None → ⊥
+  by (Some v) pair bad = absurd (cc)
+  by None pair single = elim (mark_again m) [
+    | inl two ↦ both_ways (starts_with nat_eq text (mark_text m)) (find_none (λ v. starts_with nat_eq (mark_text m) (mark_text v)) (λ v. starts_with nat_eq text (mark_text v)) paired_marks m two.0 pair) (begins_true text m size within e)
+    | inr one ↦ both_ways (starts_with nat_eq text (mark_text m)) (find_none (λ v. starts_with nat_eq (mark_text m) (mark_text v)) (λ v. starts_with nat_eq text (mark_text v)) single_marks m one.0 single) (begins_true text m size within e)
+  ]
+
+-- no mark at the front is longer than the one that is found
+mark_longest : (text : List ℕ) (m : marks.Mark) → mark_of text ≡ Some m → (other : marks.Mark) (size : ℕ) → size ≤ length text → mark_text other ≡ take size text → size ≤ length (mark_text m)
+mark_longest text m found other size within e = by (pair_of text) refl found where
+  by : (o : Option marks.Mark) → pair_of text ≡ o → or_single text o ≡ Some m → size ≤ length (mark_text m)
+  by (Some v) pair same =
+      let one : v ≡ m = cc in
+      let two : nat_eq (length (mark_text m)) 2 ≡ true = find_all (λ v. starts_with nat_eq text (mark_text v)) (λ v. nat_eq (length (mark_text v)) 2) paired_marks m refl (pair ∙ same) in
+      let long = eqb-true (length (mark_text m)) 2 two in
+      let short = mark_short other in
+      let fits = size_of_mark text other size within e in
+      omega arith
+  by None pair single = elim (mark_again other) [
+    | inl two ↦ absurd (both_ways (starts_with nat_eq text (mark_text other)) (find_none (λ v. starts_with nat_eq (mark_text other) (mark_text v)) (λ v. starts_with nat_eq text (mark_text v)) paired_marks other two.0 pair) (begins_true text other size within e))
+    | inr one ↦ let short = mark_short m in let fits = size_of_mark text other size within e in omega arith
+  ]
+
+-- behind a `/` that opens no comment stands no `/` and no `*`
+slash_apart : (b : ℕ) (rest : List ℕ) → b ≡ 47 → opens_comment (b ∷ rest) ≡ false → IsApart (Mark mark.Slash) rest
+slash_apart b [] e plain = tt
+slash_apart b (c ∷ rest) e plain = (
+  λ slash. let bad : opens_comment (47 ∷ 47 ∷ rest) ≡ false = subst (λ x. opens_comment (47 ∷ x ∷ rest) ≡ false) slash (subst (λ x. opens_comment (x ∷ c ∷ rest) ≡ false) e plain) in absurd (cc),
+  λ star. let bad : opens_comment (47 ∷ 42 ∷ rest) ≡ false = subst (λ x. opens_comment (47 ∷ x ∷ rest) ≡ false) star (subst (λ x. opens_comment (x ∷ c ∷ rest) ≡ false) e plain) in absurd (cc),
+)
+
+mark_apart : (m : marks.Mark) (b : ℕ) (rest : List ℕ) → mark_text m ≡ take (length (mark_text m)) (b ∷ rest) → opens_comment (b ∷ rest) ≡ false → IsApart (Mark m) (drop (length (mark_text m)) (b ∷ rest))
+mark_apart mark.Slash b rest e plain = let head : 47 ≡ b = cc in slash_apart b rest (sym head) plain
+mark_apart m b rest e plain = tt
+
+lexeme_longest : (b : ℕ) (rest : List ℕ) (m : marks.Mark) → is_letter b ≡ false → is_digit b ≡ false → mark_of (b ∷ rest) ≡ Some m → (other : TokenKind) (size : ℕ) → size ≤ length (b ∷ rest) → IsLexeme other (take size (b ∷ rest)) → size ≤ length (mark_text m)
+lexeme_longest b rest m letter digit found (Name name) size within h = absurd (both_ways (is_letter b) letter (lexeme_begins (Name name) b rest size h).1)
+lexeme_longest b rest m letter digit found (Word w) size within h = absurd (both_ways (is_letter b) letter (lexeme_begins (Word w) b rest size h).1)
+lexeme_longest b rest m letter digit found (Number value) size within h = absurd (both_ways (is_digit b) digit (lexeme_begins (Number value) b rest size h).1)
+lexeme_longest b rest m letter digit found (Mark other) size within h = mark_longest (b ∷ rest) m found other size within h
+
+mark_meets_by : (b : ℕ) (rest : List ℕ) (k : TokenKind) (n : ℕ) → is_letter b ≡ false → is_digit b ≡ false → opens_comment (b ∷ rest) ≡ false → (o : Option marks.Mark) → mark_of (b ∷ rest) ≡ o → mark_with_length o ≡ Some (k, n) → Meets (b ∷ rest) (k, n)
+mark_meets_by b rest k n letter digit plain None found e = absurd (cc)
+mark_meets_by b rest k n letter digit plain (Some m) found e =
+    let stands = mark_stands (b ∷ rest) m found in
+    let short = mark_short m in
+    let cut : length (mark_text m) ≡ length (take (length (mark_text m)) (b ∷ rest)) = ap length stands in
+    let least = length-take (length (mark_text m)) (b ∷ rest) in
+    let pair : (Mark m, length (mark_text m)) ≡ (k, n) = cc in
+    subst (Meets (b ∷ rest)) pair (
+      record {
+        within = omega arith;
+        lexeme = stands;
+        apart = mark_apart m b rest stands plain;
+        longest = lexeme_longest b rest m letter digit found;
+      },
+      short.0,
+    )
+
+mark_meets : (b : ℕ) (rest : List ℕ) (k : TokenKind) (n : ℕ) → is_letter b ≡ false → is_digit b ≡ false → mark_at (b ∷ rest) ≡ Some (k, n) → Meets (b ∷ rest) (k, n)
+mark_meets b rest k n letter digit e = elim (either (opens_comment (b ∷ rest))) [
+  | inl opens ↦ absurd (none_is_not_some (k, n) (pick_true (opens_comment (b ∷ rest)) None (mark_with_length (mark_of (b ∷ rest))) (Some (k, n)) e opens))
+  | inr plain ↦ mark_meets_by b rest k n letter digit plain (mark_of (b ∷ rest)) refl (pick_false (opens_comment (b ∷ rest)) None (mark_with_length (mark_of (b ∷ rest))) (Some (k, n)) e plain)
+]
+
+-- what the scanner finds is the token at the front
+pub token_meets : (text : List ℕ) (k : TokenKind) (n : ℕ) → token_at text ≡ Some (k, n) → IsToken text k n × (0 < n)
+token_meets [] k n e = absurd (none_is_not_some (k, n) e)
+token_meets (b ∷ rest) k n e =
+    let named = Some (name_at (b ∷ rest)) in
+    let numbered = number_at (b ∷ rest) in
+    let marked = mark_at (b ∷ rest) in
+    elim (either (is_letter b)) [
+      | inl letter ↦ let same : name_at (b ∷ rest) ≡ (k, n) = some_same (pick_true (is_letter b) named (cond (is_digit b) numbered marked) (Some (k, n)) e letter) in subst (Meets (b ∷ rest)) same (name_meets b rest letter)
+      | inr no_letter ↦
+          let left = pick_false (is_letter b) named (cond (is_digit b) numbered marked) (Some (k, n)) e no_letter in
+          elim (either (is_digit b)) [
+            | inl digit ↦ number_meets b rest k n digit (pick_true (is_digit b) numbered marked (Some (k, n)) left digit)
+            | inr no_digit ↦ mark_meets b rest k n no_letter no_digit (pick_false (is_digit b) numbered marked (Some (k, n)) left no_digit)
+          ]
+    ]

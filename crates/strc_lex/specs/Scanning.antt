@@ -1,0 +1,85 @@
+-- Reading the token at the front of a text: what the scanner computes. `Text` says what a token is.
+use Rattle.std.specs.Prelude.{ℕ, Bool, true, false, List, [], ◌∷◌, length, drop, take_while, find, nat_le, nat_eq, codes, ◌||◌, Option, Some, None, if◌then◌else◌, ◌==◌, ◌&&◌}
+use Rattle.std.specs.List.{starts_with}
+use Rattle.std.specs.Cmp.Lexicographic.{pointwise}
+use Rattle.std.specs.Int.{w32, cast_signed}
+use Rattle.strc_lex.specs.Characters.{is_digit, is_letter, is_name_byte}
+use Rattle.strc_lex.specs.Words.{word_text, all_words}
+use Rattle.strc_lex.specs.Marks.{mark_text, paired_marks, single_marks}
+use Rattle.strc_lex.specs.Text.{number_from}
+use Rattle.strc_lex.specs.declared.token.TokenKind.{TokenKind}
+use Rattle.strc_lex.specs.declared.token.TokenKind.TheVariants.{Name, Number, Word, Mark}
+use Rattle.strc_lex.specs.declared.token.Word as words
+use Rattle.strc_lex.specs.declared.token.Mark as marks
+
+-- the reserved word that the bytes are
+abbrev pub word_of : List ℕ → Option words.Word
+word_of bytes = find (λ w. pointwise nat_eq (word_text w) bytes) all_words
+
+abbrev pub word_or_name : List ℕ → Option words.Word → TokenKind
+word_or_name bytes None = Name bytes
+word_or_name bytes (Some w) = Word w
+
+-- a name or a reserved word, and its length
+abbrev pub name_at : List ℕ → TokenKind × ℕ
+name_at text = let bytes = take_while is_name_byte text in (word_or_name bytes (word_of bytes), length bytes)
+
+-- whether what stands behind a number parts it from the next token
+abbrev pub ends_number : List ℕ → Bool
+ends_number [] = true
+ends_number (b ∷ rest) = if is_name_byte b then false else true
+
+-- whether the digits have no needless 0 in front
+abbrev pub is_plain : List ℕ → Bool
+is_plain [] = false
+is_plain (b ∷ bytes) = if b == 48 then nat_eq (length bytes) 0 else true
+
+-- the number, where it isn't too great
+abbrev pub bounded : ℕ → Option ℕ
+bounded n = if nat_le n 2147483648 then Some n else None
+
+abbrev pub number_with_length : ℕ → Option ℕ → Option (TokenKind × ℕ)
+number_with_length len None = None
+number_with_length len (Some n) = Some (Number (cast_signed w32 n), len)
+
+abbrev pub number_at : List ℕ → Option (TokenKind × ℕ)
+number_at text =
+    let digits = take_while is_digit text in
+    if is_plain digits && ends_number (drop (length digits) text)
+    then number_with_length (length digits) (bounded (number_from 0 digits))
+    else None
+
+-- the mark at the front, the longer ones first
+abbrev pub pair_of : List ℕ → Option marks.Mark
+pair_of text = find (λ m. starts_with nat_eq text (mark_text m)) paired_marks
+
+abbrev pub single_of : List ℕ → Option marks.Mark
+single_of text = find (λ m. starts_with nat_eq text (mark_text m)) single_marks
+
+abbrev pub or_single : List ℕ → Option marks.Mark → Option marks.Mark
+or_single text None = single_of text
+or_single text (Some m) = Some m
+
+abbrev pub mark_of : List ℕ → Option marks.Mark
+mark_of text = or_single text (pair_of text)
+
+-- `/` is no mark where a comment begins
+abbrev pub opens_comment : List ℕ → Bool
+opens_comment text = starts_with nat_eq text (codes "//") || starts_with nat_eq text (codes "/*")
+
+abbrev pub mark_with_length : Option marks.Mark → Option (TokenKind × ℕ)
+mark_with_length None = None
+mark_with_length (Some m) = Some (Mark m, length (mark_text m))
+
+abbrev pub mark_at : List ℕ → Option (TokenKind × ℕ)
+mark_at text =
+    if opens_comment text then None
+    else mark_with_length (mark_of text)
+
+-- the token at the front of the text, and its length
+abbrev pub token_at : List ℕ → Option (TokenKind × ℕ)
+token_at [] = None
+token_at (b ∷ rest) =
+    if is_letter b then Some (name_at (b ∷ rest))
+    else if is_digit b then number_at (b ∷ rest)
+    else mark_at (b ∷ rest)

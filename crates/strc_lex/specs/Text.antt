@@ -1,0 +1,84 @@
+-- The tokens of a text: gaps and tokens in turn, each token the longest that can stand there.
+use Rattle.std.specs.Prelude.{◌≡◌, ◌≢◌, ℕ, ◌+◌, ◌-◌, ◌*◌, ◌<◌, ◌≤◌, true, false, List, [], ◌∷◌, length, take, drop, slice_index}
+use Rattle.std.specs.List.{list_all}
+use Rattle.std.specs.Int.{w32, cast_signed}
+use Rattle.strc_lex.specs.Characters.{is_white, is_digit, is_letter, is_name_byte}
+use Rattle.strc_lex.specs.Words.{word_text}
+use Rattle.strc_lex.specs.Marks.{mark_text}
+use Rattle.strc_lex.specs.declared.token.Token.{Token}
+use Rattle.strc_lex.specs.declared.token.TokenKind.{TokenKind}
+use Rattle.strc_lex.specs.declared.token.TokenKind.TheVariants.{Name, Number, Word, Mark}
+use Rattle.strc_lex.specs.declared.token.Word as words
+use Rattle.strc_lex.specs.declared.token.Mark.TheVariants as mark
+
+-- how long a text may be, in bytes
+abbrev pub text_limit : ℕ
+text_limit = 1048576
+
+-- a letter or `_`, then letters, digits and `_`
+abbrev pub IsNameText : List ℕ → Type 0
+IsNameText [] = ⊥
+IsNameText (b ∷ bytes) = (is_letter b ≡ true) × (list_all is_name_byte bytes ≡ true)
+
+-- `0`, or digits that begin with another one
+abbrev pub IsNumeral : List ℕ → Type 0
+IsNumeral [] = ⊥
+IsNumeral (b ∷ bytes) = (is_digit b ≡ true) × (list_all is_digit bytes ≡ true) × (b ≡ 48 → bytes ≡ [])
+
+-- the number that these digits write behind a higher part
+abbrev pub number_from : ℕ → List ℕ → ℕ
+number_from high [] = high
+number_from high (b ∷ bytes) = number_from (10 * high + (b - 48)) bytes
+
+-- the bytes are a token of this kind, wherever they stand
+abbrev pub IsLexeme : TokenKind → List ℕ → Type 0
+IsLexeme (Name name) bytes = (name ≡ bytes) × IsNameText bytes × ((w : words.Word) → word_text w ≢ bytes)
+IsLexeme (Number value) bytes = IsNumeral bytes × (number_from 0 bytes ≤ 2147483648) × (value ≡ cast_signed w32 (number_from 0 bytes))
+IsLexeme (Word w) bytes = word_text w ≡ bytes
+IsLexeme (Mark m) bytes = mark_text m ≡ bytes
+
+-- No digit, letter or `_` stands right behind a number. No `/` or `*` stands right behind `/`: a comment begins there.
+abbrev pub IsApart : TokenKind → List ℕ → Type 0
+IsApart (Number value) (b ∷ rest) = is_name_byte b ≡ false
+IsApart (Mark mark.Slash) (b ∷ rest) = (b ≢ 47) × (b ≢ 42)
+IsApart kind rest = Unit {0}
+
+-- the text begins with a token of this kind and length, and no longer lexeme
+pub record IsToken (text : List ℕ) (kind : TokenKind) (len : ℕ) : Type 0 where
+  pub within : len ≤ length text
+  pub lexeme : IsLexeme kind (take len text)
+  pub apart : IsApart kind (drop len text)
+  pub longest : (other : TokenKind) (size : ℕ) → size ≤ length text → IsLexeme other (take size text) → size ≤ len
+
+-- white space from one place up to another
+pub record IsGap (text : List ℕ) (from to : ℕ) : Type 0 where
+  pub ordered : from ≤ to
+  pub within : to ≤ length text
+  pub white : (k : ℕ) → from ≤ k → k < to → is_white (slice_index text k) ≡ true
+
+-- a token of the text stands at its span
+pub record StandsAt (text : List ℕ) (item : Token) : Type 0 where
+  pub ordered : item.span.start < item.span.end
+  pub token : IsToken (drop item.span.start text) item.kind (item.span.end - item.span.start)
+
+-- from one place up to another the text is gaps and these tokens in turn
+abbrev pub LexesBetween : List ℕ → ℕ → List Token → ℕ → Type 0
+LexesBetween text from [] to = IsGap text from to
+LexesBetween text from (token ∷ tokens) to =
+    IsGap text from token.span.start × StandsAt text token × LexesBetween text token.span.end tokens to
+
+-- the text is gaps and these tokens in turn
+abbrev pub Lexes : List ℕ → List Token → Type 0
+Lexes text tokens = LexesBetween text 0 tokens (length text)
+
+-- at this place stands no white space, and no token begins
+pub record IsStuck (text : List ℕ) (at : ℕ) : Type 0 where
+  pub within : at < length text
+  pub black : is_white (slice_index text at) ≡ false
+  pub none : (kind : TokenKind) (len : ℕ) → IsToken (drop at text) kind len → ⊥
+
+-- what stands before the place is gaps and tokens, and no token goes on there
+pub record StopsAt (text : List ℕ) (at : ℕ) : Type 0 where
+  pub tokens : List Token
+  pub front : LexesBetween text 0 tokens at
+  pub stuck : IsStuck text at

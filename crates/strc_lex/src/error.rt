@@ -1,0 +1,47 @@
+// Why a text has no tokens.
+
+ghost use Rattle.strc_lex.specs.declared.error.LexError.TheVariants.{NoMemory};
+ghost use Rattle.std.specs.Prelude.{◌≡◌};
+
+use std::alloc::{AllocError, AllocFailed};
+use std::error::Error;
+use std::fmt;
+
+/// Why a text has no tokens.
+#[derive(Clone, Copy, Debug, PartialEq, Eq)]
+pub enum LexError {
+    /// No token begins at this byte, counted from 0.
+    Lex { at: usize },
+    /// The text is longer than 1,048,576 bytes.
+    TextTooLong,
+    /// Memory ran out.
+    NoMemory,
+}
+
+impl fmt::Display for LexError {
+    fn fmt<W: fmt::Write>(&self, f: &mut fmt::Formatter<W>) -> fmt::Result {
+        match self {
+            LexError::Lex { at } => write!(f, "no token begins at byte {at}"),
+            LexError::TextTooLong => write!(f, "the text is longer than 1048576 bytes"),
+            LexError::NoMemory => write!(f, "out of memory"),
+        }
+    }
+}
+
+impl Error for LexError {}
+
+impl From<AllocError> for LexError {
+    ghost from_gives = { λ _ e. e ≡ NoMemory };
+
+    fn from(_e: AllocError) -> LexError {
+        LexError::NoMemory
+    }
+}
+
+impl<T: Drop> From<AllocFailed<T>> for LexError {
+    ghost from_gives = { λ _ e. e ≡ NoMemory };
+
+    fn from(_e: AllocFailed<T>) -> LexError {
+        LexError::NoMemory
+    }
+}

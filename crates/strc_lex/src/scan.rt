@@ -1,0 +1,167 @@
+// Reading the token at the front of a text.
+
+ghost use Rattle.std.specs.Prelude.{◌≡◌, ◌≤◌, IfOk, true, length, take_while};
+ghost use Rattle.std.specs.List.{list_all};
+ghost use Rattle.strc_lex.specs.Characters as spec_of;
+ghost use Rattle.strc_lex.specs.Scanning as spec;
+ghost use Rattle.strc_lex.specs.Text.{number_from};
+
+use crate::characters::{is_digit, is_letter, is_name_byte};
+use crate::token::{Mark, Name, TokenKind, Word};
+use std::alloc::{AllocError, Global};
+
+// The greatest number that a text can write.
+const GREATEST: u64 = 2147483648;
+
+/// The token at the front of a text and its length, or None where none begins there.
+pub(crate) fn token_at(alloc: Global, text: &[u8]) -> Result<Option<(TokenKind, usize)>, AllocError>
+    ensures { IfOk result (λ found. found ≡ spec.token_at text.now) }
+{
+    let Some(&first) = text.first() else {
+        return Ok(None);
+    };
+    if is_letter(first) {
+        Ok(Some(name_at(alloc, text)?))
+    } else if is_digit(first) {
+        Ok(number_at(text))
+    } else {
+        Ok(mark_at(text))
+    }
+}
+
+// A name or a reserved word.
+fn name_at(alloc: Global, text: &[u8]) -> Result<(TokenKind, usize), AllocError>
+    ensures { IfOk result (λ found. found ≡ spec.name_at text.now) }
+{
+    let bytes = name_bytes(text);
+    match word_of(bytes) {
+        Some(word) => Ok((TokenKind::Word(word), bytes.len())),
+        None => Ok((
+            TokenKind::Name(Name::new(bytes.to_vec(alloc)?)),
+            bytes.len(),
+        )),
+    }
+}
+
+// The front that goes on as a name does.
+fn name_bytes(text: &[u8]) -> &[u8]
+    ensures { result.now ≡ take_while spec_of.is_name_byte text.now }
+{
+    &text[..name_length(text)]
+}
+
+fn name_length(text: &[u8]) -> usize
+    ensures within { result ≤ length text.now }
+    ensures run { result ≡ length (take_while spec_of.is_name_byte text.now) }
+{
+    text.iter().take_while(|byte| is_name_byte(**byte)).count()
+}
+
+// The digits at the front.
+fn digits_at(text: &[u8]) -> &[u8]
+    ensures { result.now ≡ take_while spec_of.is_digit text.now }
+{
+    &text[..digits_length(text)]
+}
+
+fn digits_length(text: &[u8]) -> usize
+    ensures within { result ≤ length text.now }
+    ensures run { result ≡ length (take_while spec_of.is_digit text.now) }
+{
+    text.iter().take_while(|byte| is_digit(**byte)).count()
+}
+
+fn word_of(bytes: &[u8]) -> Option<Word>
+    ensures { result ≡ spec.word_of bytes.now }
+{
+    Word::ALL.iter().copied().find(|word| word.text() == bytes)
+}
+
+fn number_at(text: &[u8]) -> Option<(TokenKind, usize)>
+    ensures { result ≡ spec.number_at text.now }
+{
+    let digits = digits_at(text);
+    if is_plain(digits) && ends_number(&text[digits.len()..]) {
+        let value = number_of(digits)?;
+        Some((TokenKind::Number(value.cast_signed()), digits.len()))
+    } else {
+        None
+    }
+}
+
+// Whether the digits have no needless 0 in front.
+fn is_plain(digits: &[u8]) -> bool
+    ensures { result ≡ spec.is_plain digits.now }
+{
+    match digits {
+        [] => false,
+        [first, rest @ ..] => *first != b'0' || rest.is_empty(),
+    }
+}
+
+// Whether what stands behind a number parts it from the next token.
+fn ends_number(rest: &[u8]) -> bool
+    ensures { result ≡ spec.ends_number rest.now }
+{
+    match rest {
+        [] => true,
+        [next, ..] => !is_name_byte(*next),
+    }
+}
+
+// The number that the digits write, where it isn't too great.
+fn number_of(digits: &[u8]) -> Option<u32>
+    requires { list_all spec_of.is_digit digits.now ≡ true }
+    ensures { result ≡ spec.bounded (number_from 0 digits.now) }
+{
+    let mut number: u64 = 0;
+    for digit in digits {
+        if number > GREATEST {
+            return None;
+        }
+        number = 10 * number + u64::from(*digit - b'0');
+    }
+    if number > GREATEST {
+        None
+    } else {
+        Some(number as u32)
+    }
+}
+
+fn mark_at(text: &[u8]) -> Option<(TokenKind, usize)>
+    ensures { result ≡ spec.mark_at text.now }
+{
+    if text.starts_with(b"//") || text.starts_with(b"/*") {
+        return None;
+    }
+    let mark = mark_of(text)?;
+    Some((TokenKind::Mark(mark), mark.text().len()))
+}
+
+// The mark at the front, the longer ones first.
+fn mark_of(text: &[u8]) -> Option<Mark>
+    ensures { result ≡ spec.mark_of text.now }
+{
+    match pair_of(text) {
+        Some(mark) => Some(mark),
+        None => single_of(text),
+    }
+}
+
+fn pair_of(text: &[u8]) -> Option<Mark>
+    ensures { result ≡ spec.pair_of text.now }
+{
+    Mark::PAIRS
+        .iter()
+        .copied()
+        .find(|mark| text.starts_with(mark.text()))
+}
+
+fn single_of(text: &[u8]) -> Option<Mark>
+    ensures { result ≡ spec.single_of text.now }
+{
+    Mark::SINGLES
+        .iter()
+        .copied()
+        .find(|mark| text.starts_with(mark.text()))
+}

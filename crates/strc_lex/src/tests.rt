@@ -1,0 +1,112 @@
+// What no clause says: that a call succeeds, and examples from the language's rules.
+
+use crate::error::LexError;
+use crate::lexer::{lex, one_token_list};
+use crate::token::{Mark, Name, Token, TokenKind, Word};
+use std::alloc::{AllocError, Global};
+use std::test::Fail;
+
+// The tokens as they stand in the text, with a blank between two.
+fn spaced(alloc: Global, text: &[u8], tokens: &[Token]) -> Result<Vec<u8>, AllocError> {
+    let mut shown = Vec::new(alloc);
+    for token in tokens {
+        if !shown.is_empty() {
+            shown.push(b' ')?;
+        }
+        if token.span.start <= token.span.end && token.span.end <= text.len() {
+            for byte in &text[token.span.start..token.span.end] {
+                shown.push(*byte)?;
+            }
+        }
+    }
+    Ok(shown)
+}
+
+#[test]
+fn takes_the_longest_token(rt: HostRuntime) -> Result<(), Fail> {
+    let cases: [(&str, &str); 8] = [
+        ("", ""),
+        (" \t\n\u{c}\r ", ""),
+        ("x+++y", "x ++ + y"),
+        ("a<<=b", "a << = b"),
+        ("workx work", "workx work"),
+        ("int->void", "int -> void"),
+        ("a/=b/c", "a /= b / c"),
+        ("0 10;_a1(", "0 10 ; _a1 ("),
+    ];
+    for (text, want) in cases {
+        let tokens = lex(rt.alloc(), text.as_bytes())?;
+        let shown = spaced(rt.alloc(), text.as_bytes(), tokens.as_slice())?;
+        assert_eq!(rt; shown.as_slice(), want.as_bytes(), "at {text:?}");
+    }
+    Ok(())
+}
+
+#[test]
+fn names_the_byte_where_no_token_begins(rt: HostRuntime) {
+    let cases: [(&str, usize); 10] = [
+        ("@", 0),
+        ("a @", 2),
+        ("007", 0),
+        ("x 2147483649", 2),
+        ("12ab", 0),
+        ("1_", 0),
+        ("a // b", 2),
+        ("a /* b */", 2),
+        ("\"s\"", 0),
+        ("a\u{b}", 1),
+    ];
+    for (text, at) in cases {
+        let outcome = lex(rt.alloc(), text.as_bytes());
+        assert!(rt; is_refused_at(&outcome, at), "at {text:?}");
+    }
+}
+
+fn is_refused_at(outcome: &Result<Vec<Token>, LexError>, at: usize) -> bool {
+    match outcome {
+        Err(error) => *error == LexError::Lex { at },
+        Ok(_) => false,
+    }
+}
+
+#[test]
+fn tells_kinds_apart(rt: HostRuntime) -> Result<(), Fail> {
+    let tokens = lex(rt.alloc(), b"splits split 2147483648 2147483647 ||")?;
+    assert_eq!(rt; tokens.len(), 5);
+    let name = Name::new(b"splits".to_vec(rt.alloc())?);
+    let found = match &tokens[0].kind {
+        TokenKind::Name(other) => other.is(&name) && other.copy()?.as_bytes() == name.as_bytes(),
+        _ => false,
+    };
+    assert!(rt; found);
+    assert!(rt; matches!(&tokens[1].kind, TokenKind::Word(Word::Split)));
+    assert!(rt; matches!(&tokens[2].kind, TokenKind::Number(i32::MIN)));
+    assert!(rt; matches!(&tokens[3].kind, TokenKind::Number(i32::MAX)));
+    assert!(rt; matches!(&tokens[4].kind, TokenKind::Mark(Mark::OrOr)));
+    assert_eq!(rt; tokens[4].span.start, 35);
+    one_token_list();
+    Ok(())
+}
+
+#[test]
+fn refuses_a_text_past_the_limit_alone(rt: HostRuntime) -> Result<(), Fail> {
+    let mut text = vec![in rt.alloc(); b' '; 1048576]?;
+    assert!(rt; lex(rt.alloc(), text.as_slice())?.is_empty());
+    text.push(b' ')?;
+    let refused = match lex(rt.alloc(), text.as_slice()) {
+        Err(error) => error == LexError::TextTooLong,
+        Ok(_) => false,
+    };
+    assert!(rt; refused);
+    Ok(())
+}
+
+#[test]
+fn says_why(rt: HostRuntime) -> Result<(), Fail> {
+    let at = LexError::Lex { at: 12 };
+    assert_eq!(rt;
+        format!(in rt.alloc(); "{at}")?.as_str(),
+        "no token begins at byte 12"
+    );
+    Ok(())
+}
