@@ -4,4 +4,16 @@
 // Stands on strc_lex, whose tokens it reads.
 #![tactic(auto)]
 
+mod declaration;
+mod error;
+mod expression;
+mod lookahead;
+mod program;
+mod statement;
 pub mod tree;
+
+pub use error::ParseError;
+pub use program::parse;
+
+#[cfg(test)]
+mod tests;

@@ -1,0 +1,12 @@
+pub mod Arithmetic
+pub mod Names
+pub mod Filters
+pub mod Resolution
+pub mod Firing
+pub mod Lowering
+pub mod Kept
+pub mod States
+pub mod Lowered
+pub mod Emission
+pub mod Copies
+pub mod Running

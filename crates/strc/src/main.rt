@@ -1,0 +1,97 @@
+// The program `strc`: the words of the command line, a file's text, and the two standard streams, handed to the
+// library that does the work.
+#![tactic(auto)]
+
+use std::env;
+use std::fs::File;
+use std::io::Write;
+use std::process::ExitCode;
+use strc_cli::device::Told;
+use strc_cli::execute::{CliError, execute};
+use strc_cli::line::{Line, LineFault};
+use strc_cli::program_text::{TextFault, read_text};
+use strc_cli::words::{command, complaint};
+
+// The exit statuses that no answer of `execute` has.
+const WORDS: u8 = 1;
+const NO_MEMORY: u8 = 4;
+const FAILED: u8 = 5;
+
+fn main(rt: HostRuntime) -> ExitCode {
+    ExitCode::from(run(&rt))
+}
+
+fn run(rt: &HostRuntime) -> u8 {
+    let words: Vec<String> = match env::args(rt) {
+        Ok(words) => match words.collect(rt.alloc()) {
+            Ok(words) => words,
+            Err(_) => return out_of_memory(rt),
+        },
+        Err(error) => {
+            let _ = eprintln!(rt; "strc: cannot read the command line: {error}");
+            return FAILED;
+        }
+    };
+    let words: Vec<&str> = match words.iter().map(|word| word.as_str()).collect(rt.alloc()) {
+        Ok(words) => words,
+        Err(_) => return out_of_memory(rt),
+    };
+    match command(rt.alloc(), &words) {
+        Ok(line) => run_line(rt, &line),
+        Err(LineFault::Memory) => out_of_memory(rt),
+        Err(LineFault::Words) => {
+            if let Ok(text) = complaint(rt.alloc(), &words) {
+                let _ = eprintln!(rt; "{text}");
+            }
+            WORDS
+        }
+    }
+}
+
+// Reads the text that the line names, and executes it.
+fn run_line(rt: &HostRuntime, line: &Line) -> u8 {
+    let name = match &line.file {
+        Some(file) => file.as_str(),
+        None => "standard input",
+    };
+    let text = match &line.file {
+        Some(file) => match File::open(rt, file.as_str()) {
+            Ok(mut file) => read_text(rt.alloc(), &mut file),
+            Err(error) => {
+                let _ = eprintln!(rt; "strc: cannot open {name}: {error}");
+                return FAILED;
+            }
+        },
+        None => read_text(rt.alloc(), &mut rt.stdin()),
+    };
+    match text {
+        Ok(text) => execute_text(rt, line, &text),
+        Err(TextFault::NoMemory) => out_of_memory(rt),
+        Err(TextFault::Failed(error)) => {
+            let _ = eprintln!(rt; "strc: cannot read {name}: {error}");
+            FAILED
+        }
+    }
+}
+
+fn execute_text(rt: &HostRuntime, line: &Line, text: &[u8]) -> u8 {
+    let mut input = Told::new(rt.stdin());
+    let mut output = Told::new(rt.stdout());
+    match execute(rt.alloc(), text, &line.command, &mut input, &mut output) {
+        Ok(status) => status.number(),
+        Err(CliError::Memory) => out_of_memory(rt),
+        Err(CliError::Read) => {
+            let _ = eprintln!(rt; "strc: reading the input from standard input failed");
+            FAILED
+        }
+        Err(CliError::Write) => {
+            let _ = eprintln!(rt; "strc: writing the output to standard output failed");
+            FAILED
+        }
+    }
+}
+
+fn out_of_memory(rt: &HostRuntime) -> u8 {
+    let _ = eprintln!(rt; "strc: out of memory");
+    NO_MEMORY
+}

@@ -1,0 +1,20 @@
+// Takes the words of the command line, a program's text and its input.
+// Gives the printed numbers, or one named fault and the numbers before its round, or one named refusal.
+// The theorem to rely on: `execute` writes only what its answer says, and fails only where the device did.
+// Stands on strc_lex, strc_parse and strc_work, and on clap for the command line.
+#![tactic(auto)]
+
+mod compile;
+pub mod device;
+mod elaborate;
+pub mod execute;
+mod instance;
+pub mod line;
+mod outcome;
+mod output;
+pub mod program_text;
+mod rates;
+pub mod refusal;
+mod runner;
+mod text;
+pub mod words;

@@ -1,0 +1,30 @@
+// What a command line asks for.
+
+/// What the program is to do.
+#[derive(Debug, Drop)]
+pub enum Command {
+    /// Run the program for so many rounds, or for as many as its input allows.
+    Run {
+        /// 0 to 4,294,967,295 rounds, where a number is given.
+        rounds: Option<u32>,
+        /// The name of the main stream, where one is given.
+        main: Option<String>,
+    },
+}
+
+/// A line of words that was understood.
+#[derive(Debug, Drop)]
+pub struct Line {
+    /// The file of the program's text; without one it comes from standard input.
+    pub file: Option<String>,
+    pub command: Command,
+}
+
+/// Why a line of words was not understood.
+#[derive(Clone, Copy, Debug, PartialEq, Eq)]
+pub enum LineFault {
+    /// The words are none that the program knows.
+    Words,
+    /// Memory ran out.
+    Memory,
+}

@@ -1,0 +1,29 @@
+// Reading a program's text.
+
+use std::alloc::Global;
+use std::io;
+use std::io::{ErrorKind, Read};
+
+// A text of more bytes than a program may have is read no further.
+const MOST_BYTES: u64 = 1048577;
+
+/// Why a text could not be read.
+#[derive(Debug, Drop)]
+pub enum TextFault {
+    /// The reader failed.
+    Failed(io::Error),
+    /// Memory ran out.
+    NoMemory,
+}
+
+/// The bytes of a text, as many as the reader has but at most 1,048,577: one more than a text may have.
+pub fn read_text<R: Read>(alloc: Global, reader: &mut R) -> Result<Vec<u8>, TextFault> {
+    let mut text = Vec::new(alloc);
+    match reader.take(MOST_BYTES).read_to_end(&mut text) {
+        Ok(_) => Ok(text),
+        Err(error) => match error.kind() {
+            ErrorKind::OutOfMemory => Err(TextFault::NoMemory),
+            _ => Err(TextFault::Failed(error)),
+        },
+    }
+}

@@ -1,0 +1,72 @@
+-- The rows, computed from the definitions.
+use Rattle.std.proofs.Common.{◌≡◌, refl, ap, ◌∙◌, ℕ, true, [], ◌∷◌}
+use Rattle.strc_dataflow.specs.Node.{total, at_port_0}
+use Rattle.strc_dataflow.specs.Histories.{all_below, windows, finds, begun, after_firing, advance_if, advance, runs}
+use Rattle.strc_dataflow.specs.Flat.{items_of, arrived, runs_at}
+use Rattle.strc_dataflow.specs.Streams.{source_at_0, delayed, led_by, node_layout, maybe_layout, chained_layout, beside_layout, fed_back_layout, layout, any_code, flat, chained, beside, iterate, around, back_of, turn, settled, fed_back, no_part, node_part, reader_part, maybe_part, part, solution}
+use Rattle.strc_dataflow.specs.Order.{raised, tally, counts_after, supply_of, supply}
+use Rattle.strc_dataflow.specs.Machine.{put, at_first, fired_once, unless_faulted, go, stop_at, or_else, first_fault}
+use Rattle.strc_dataflow.specs.Answer.{words_of, stream_runs, round_outcome, rounds, startup_outcome, whole_run}
+use Rattle.strc_dataflow.specs.RoundRobin.{span_start}
+use Rattle.strc_dataflow.specs.Examples.{inputs, takes, looks_at, gives, quotient, cycle_of, fires, example}
+use Rattle.strc_dataflow.specs.Rows.{Shown, shown, Program, by_node, EquationsSay, IsRow, minimal, MinimalRow, fibonacci, FibonacciRow, division, DivisionFaultRow, weights, WeightsRow, two_quotients, DownstreamFaultRow, two_branches, TwoFaultsRow, loop_fault, FaultInLoopRow, startup_fault, StartupFaultRow}
+use Rattle.strc_dataflow.proofs.Blocks.{block_keeps}
+use Rattle.strc_dataflow.proofs.Tests.{ready_test, order_test, within_test, tally_test, schedule_test, schedule_from_test}
+use Rattle.strc_dataflow.proofs.Theorem.{stream_run_gives, stream_answer_is_run}
+
+-- A row from what computes: its orders pass the test, the equations say so, and the run shows it.
+row_from :
+    (p : Program) (expected : Shown)
+    → schedule_test example (flat p.stream) p.input p.startup p.round p.startup_order p.round_order p.rounds ≡ true
+    → EquationsSay p expected
+    → shown p.printer (whole_run example (flat p.stream) p.input p.round_order p.startup_order p.rounds) ≡ expected
+    → IsRow p expected
+row_from p expected valid equations run =
+    let schedule = schedule_from_test example (flat p.stream) p.input p.startup p.round p.startup_order p.round_order p.rounds valid in
+    record {
+      schedule = schedule;
+      equations = equations;
+      run = run;
+      answer = stream_run_gives example p.stream p.input (by_node p.startup) (by_node p.round) p.startup_order p.round_order p.rounds (λ node. block_keeps ((flat p.stream).code node)) schedule;
+      only = λ outcome h. ap (shown p.printer) (stream_answer_is_run example p.stream p.input (by_node p.startup) (by_node p.round) p.startup_order p.round_order p.rounds (λ node. block_keeps ((flat p.stream).code node)) schedule outcome h) ∙ run;
+    }
+
+-- What the rows compute with.
+unfoldable all_definitions : ℕ
+unfolding total at_port_0 all_below windows finds begun after_firing advance_if advance runs items_of arrived runs_at source_at_0 delayed led_by node_layout maybe_layout chained_layout beside_layout fed_back_layout layout any_code flat chained beside iterate around back_of turn settled fed_back no_part node_part reader_part maybe_part part solution raised tally counts_after supply_of supply put at_first fired_once unless_faulted go stop_at or_else first_fault words_of stream_runs round_outcome rounds startup_outcome whole_run span_start inputs takes looks_at gives quotient cycle_of fires example shown ready_test order_test within_test tally_test schedule_test
+all_definitions = 0
+
+pub minimal_row : MinimalRow
+unfolding all_definitions
+minimal_row = row_from minimal _ refl refl refl
+
+pub fibonacci_row : FibonacciRow
+unfolding all_definitions
+fibonacci_row = row_from fibonacci _ refl refl refl
+
+pub division_fault_row : DivisionFaultRow
+unfolding all_definitions
+division_fault_row = row_from division _ refl (refl, refl) refl
+
+pub weights_row : WeightsRow
+unfolding all_definitions
+weights_row = row_from weights _ refl refl refl
+
+pub downstream_fault_row : DownstreamFaultRow
+unfolding all_definitions
+downstream_fault_row = row_from two_quotients _ refl (refl, refl) refl
+
+pub two_faults_row : TwoFaultsRow
+unfolding all_definitions
+two_faults_row = (
+  row_from (two_branches (0 ∷ 1 ∷ 2 ∷ 3 ∷ 4 ∷ 5 ∷ 5 ∷ [])) _ refl (refl, refl) refl,
+  row_from (two_branches (0 ∷ 1 ∷ 3 ∷ 2 ∷ 4 ∷ 5 ∷ 5 ∷ [])) _ refl (refl, refl) refl,
+)
+
+pub fault_in_loop_row : FaultInLoopRow
+unfolding all_definitions
+fault_in_loop_row = row_from loop_fault _ refl (refl, refl) refl
+
+pub startup_fault_row : StartupFaultRow
+unfolding all_definitions
+startup_fault_row = row_from startup_fault _ refl refl refl

@@ -1,0 +1,12 @@
+pub mod Runs
+pub mod Invariant
+pub mod WholeRun
+pub mod Growth
+pub mod Solved
+pub mod Again
+pub mod Queued
+pub mod Theorem
+pub mod Rates
+pub mod Blocks
+pub mod Tests
+pub mod Computed

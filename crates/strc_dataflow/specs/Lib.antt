@@ -1,0 +1,13 @@
+pub mod Node
+pub mod Histories
+pub mod Flat
+pub mod Streams
+pub mod Order
+pub mod Machine
+pub mod Answer
+pub mod RoundRobin
+pub mod Examples
+pub mod Rows
+pub mod Rounds
+pub mod Queues
+pub mod Laws

@@ -1,0 +1,80 @@
+// Takes: what one firing of each kind of node means, a stream as a tree, counts of firings and orders of them.
+// Gives: definitions that other crates cite (nodes, runs, the stream equations, orders, the answer of a run), and laws about them.
+// A caller relies on `run_gives_answer`: the run of each order that is valid by counts gives the answer of the stream equations.
+// Each law is the contract of a public function with an empty body; `specs/Laws.antt` states them, `specs/Examples.antt` has the rows.
+// Stands on std alone.
+#![tactic(auto)]
+
+ghost use Rattle.strc_dataflow.specs.Laws.{AnswerIsOne, AnySolution, OrderIsValidAgain, QueuesHoldTheRest, RunGivesAnswer, SolutionSolves};
+ghost use Rattle.strc_dataflow.specs.Rows.{DivisionFaultRow, DownstreamFaultRow, FaultInLoopRow, FibonacciRow, MinimalRow, StartupFaultRow, TwoFaultsRow, WeightsRow};
+
+/// The solution that the recursion over a stream gives solves the equations of its flat graph.
+pub fn solution_solves<Code, State, Cause, Word>()
+    ensures { SolutionSolves Code State Cause Word }
+{}
+
+/// The run of start-up and k rounds gives the answer of the stream equations: all words; or the first round in which the equations
+/// fault, the words before it, and the fault that stands first in the order.
+pub fn run_gives_answer<Code, State, Cause, Word>()
+    ensures { RunGivesAnswer Code State Cause Word }
+{}
+
+/// Two answers are equal, and exactly one of done, a fault in start-up and a fault in a round holds.
+pub fn answer_is_one<Code, State, Cause, Word>()
+    ensures { AnswerIsOne Code State Cause Word }
+{}
+
+/// The run of a graph is the answer that any solutions of its flat equations give, and no other outcome is.
+pub fn any_solution<Code, State, Cause, Word>()
+    ensures { AnySolution Code State Cause Word }
+{}
+
+/// Each queue is what has come without what was taken, and a machine over queues does what the one over histories does.
+pub fn queues_hold_the_rest<Code, State, Cause, Word>()
+    ensures { QueuesHoldTheRest Code State Cause Word }
+{}
+
+/// An order that is valid in the first round is valid in every later one, where the channels balance.
+pub fn order_is_valid_again<Code, State, Cause, Word>()
+    ensures { OrderIsValidAgain Code State Cause Word }
+{}
+
+/// A counter and a printer: five rounds print 0 to 4.
+pub fn minimal()
+    ensures { MinimalRow }
+{}
+
+/// A feedback loop that adds its last two items: 1, 2, 3, 5, 8.
+pub fn fibonacci()
+    ensures { FibonacciRow }
+{}
+
+/// A division by zero in round 1, with the word before it.
+pub fn division_fault()
+    ensures { DivisionFaultRow }
+{}
+
+/// A split-join with weights 2 and 1.
+pub fn weights()
+    ensures { WeightsRow }
+{}
+
+/// A fault downstream of a node that itself faults only a round later.
+pub fn downstream_fault()
+    ensures { DownstreamFaultRow }
+{}
+
+/// Two faults in one round: the order says which one is named.
+pub fn two_faults()
+    ensures { TwoFaultsRow }
+{}
+
+/// A fault inside a feedback loop.
+pub fn fault_in_loop()
+    ensures { FaultInLoopRow }
+{}
+
+/// A fault in start-up, without words.
+pub fn startup_fault()
+    ensures { StartupFaultRow }
+{}

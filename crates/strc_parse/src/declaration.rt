@@ -1,0 +1,290 @@
+// Streams and programs.
+
+ghost use Rattle.std.specs.Prelude.{◌≡◌, map, []};
+ghost use Rattle.std.specs.Option.{option_map};
+ghost use Rattle.strc_parse.specs.View.{expr_view, stmt_view, member_view, declaration_view};
+ghost use Rattle.strc_parse.specs.Grammar.{kinds};
+ghost use Rattle.strc_parse.specs.Reading as spec;
+ghost use Rattle.strc_parse.specs.Reading.{Gives};
+
+use crate::error::ReadError;
+use crate::lookahead::{expect, expect_word, is_mark, name, peek, tail, unexpected};
+use crate::statement::{statements, variable};
+use crate::tree::{
+    Decl, FilterTree, ItemType, Member, PipelineTree, RateKind, RateTree, StreamTree, WorkTree,
+};
+use std::alloc::Global;
+use strc_lex::token::{Mark, Name, Token, TokenKind, Word};
+
+/// The greatest height of a statement or an expression.
+const HEIGHT_LIMIT: usize = 256;
+
+#[tactic(auto, unfolding(crate::specs::Reading::item_type))]
+fn item_type(tokens: &[Token]) -> Result<(ItemType, &[Token]), ReadError>
+    ensures { Gives (λ x. (x.0, kinds x.1.now)) result (spec.item_type (kinds tokens.now)) }
+{
+    match peek(tokens) {
+        Some(TokenKind::Word(Word::Int)) => Ok((ItemType::Int, tail(tokens))),
+        Some(TokenKind::Word(Word::Void)) => Ok((ItemType::Void, tail(tokens))),
+        _ => Err(unexpected(tokens)),
+    }
+}
+
+/// The kind of rate whose word stands first.
+#[tactic(auto, unfolding(crate::specs::Reading::rate_kind))]
+fn rate_kind(tokens: &[Token]) -> Option<RateKind>
+    ensures { result ≡ spec.rate_kind (kinds tokens.now) }
+{
+    match peek(tokens) {
+        Some(TokenKind::Word(Word::Push)) => Some(RateKind::Push),
+        Some(TokenKind::Word(Word::Pop)) => Some(RateKind::Pop),
+        _ => None,
+    }
+}
+
+fn is_rate(value: i32) -> bool
+    ensures { result ≡ spec.is_rate value }
+{
+    match value {
+        0 | 1 => true,
+        _ => false,
+    }
+}
+
+/// A 0 or a 1.
+#[tactic(auto, unfolding(crate::specs::Reading::rate_number))]
+fn rate_number(tokens: &[Token]) -> Result<(i32, &[Token]), ReadError>
+    ensures { Gives (λ x. (x.0, kinds x.1.now)) result (spec.rate_number (kinds tokens.now)) }
+{
+    match peek(tokens) {
+        Some(TokenKind::Number(value)) => {
+            if is_rate(*value) {
+                Ok((*value, tail(tokens)))
+            } else {
+                Err(unexpected(tokens))
+            }
+        }
+        _ => Err(unexpected(tokens)),
+    }
+}
+
+/// Whether a rate of this kind is among these.
+fn has_rate(kind: RateKind, rates: &[RateTree]) -> bool
+    ensures { result ≡ spec.has_rate kind rates.now }
+{
+    rates.iter().any(|rate| rate.kind == kind)
+}
+
+/// The number of a rate of this kind, which the rates so far don't have: at its word.
+fn rate_of<'t>(
+    kind: RateKind,
+    so_far: &[RateTree],
+    tokens: &'t [Token],
+) -> Result<(i32, &'t [Token]), ReadError>
+    ensures { Gives (λ x. (x.0, kinds x.1.now)) result (spec.rate_of kind so_far.now (kinds tokens.now)) }
+{
+    if has_rate(kind, so_far) {
+        return Err(unexpected(tokens));
+    }
+    rate_number(tail(tokens))
+}
+
+/// The rates of a work, each at most once.
+#[tactic(auto, unfolding(crate::specs::Reading::rates))]
+fn rates(alloc: Global, tokens: &[Token]) -> Result<(Vec<RateTree>, &[Token]), ReadError>
+    ensures { Gives (λ x. (x.0.items, kinds x.1.now)) result (spec.rates (kinds tokens.entry.now)) }
+{
+    let mut found = Vec::new(alloc);
+    let mut rest = tokens;
+    for _turn in 0..tokens.len() + 1 {
+        let Some(kind) = rate_kind(rest) else {
+            return Ok((found, rest));
+        };
+        let (rate, after) = rate_of(kind, &found, rest)?;
+        found.push(RateTree { kind, rate })?;
+        rest = after;
+    }
+    Err(unexpected(rest))
+}
+
+/// A work: behind its word.
+#[tactic(auto, unfolding(crate::specs::Reading::work), using(crate::proofs::Views::row_of_views))]
+fn work(alloc: Global, tokens: &[Token]) -> Result<(Member, &[Token]), ReadError>
+    ensures { Gives (λ x. (member_view x.0, kinds x.1.now)) result (spec.work (kinds tokens.now)) }
+{
+    let (rates, rest) = rates(alloc, tokens)?;
+    let opened = expect(Mark::OpenBrace, rest)?;
+    let (block, _, rest) = statements(alloc, HEIGHT_LIMIT, opened)?;
+    Ok((Member::Work(WorkTree { rates, block }), rest))
+}
+
+/// A field: behind the word of its type.
+#[tactic(auto, unfolding(crate::specs::Reading::field))]
+fn field(alloc: Global, tokens: &[Token]) -> Result<(Member, &[Token]), ReadError>
+    ensures { Gives (λ x. (member_view x.0, kinds x.1.now)) result (spec.field (kinds tokens.now)) }
+{
+    let (declared, _, rest) = variable(alloc, HEIGHT_LIMIT, tokens)?;
+    Ok((Member::Field(declared), rest))
+}
+
+#[tactic(auto, unfolding(crate::specs::Reading::member))]
+fn member(alloc: Global, tokens: &[Token]) -> Result<(Member, &[Token]), ReadError>
+    ensures { Gives (λ x. (member_view x.0, kinds x.1.now)) result (spec.member (kinds tokens.now)) }
+{
+    match peek(tokens) {
+        Some(TokenKind::Word(Word::Int)) => field(alloc, tail(tokens)),
+        Some(TokenKind::Word(Word::Work)) => work(alloc, tail(tokens)),
+        _ => Err(unexpected(tokens)),
+    }
+}
+
+/// The members of a filter, up to the brace that closes it.
+#[tactic(auto, unfolding(crate::specs::Reading::members))]
+fn members(alloc: Global, tokens: &[Token]) -> Result<(Vec<Member>, &[Token]), ReadError>
+    ensures { Gives (λ x. (map member_view x.0.items, kinds x.1.now)) result (spec.members (kinds tokens.entry.now)) }
+{
+    let mut found = Vec::new(alloc);
+    let mut rest = tokens;
+    for _turn in 0..tokens.len() {
+        if is_mark(Mark::CloseBrace, rest) {
+            return Ok((found, tail(rest)));
+        }
+        let (next, after) = member(alloc, rest)?;
+        found.push(next)?;
+        rest = after;
+    }
+    Err(unexpected(rest))
+}
+
+/// `add A;`
+#[tactic(auto, unfolding(crate::specs::Reading::child))]
+fn child(tokens: &[Token]) -> Result<(Name, &[Token]), ReadError>
+    ensures { Gives (λ x. (x.0, kinds x.1.now)) result (spec.child (kinds tokens.now)) }
+{
+    let rest = expect_word(Word::Add, tokens)?;
+    let (child, rest) = name(rest)?;
+    let rest = expect(Mark::Semicolon, rest)?;
+    Ok((child, rest))
+}
+
+/// The children of a pipeline, up to the brace that closes it.
+#[tactic(auto, unfolding(crate::specs::Reading::children))]
+fn children(alloc: Global, tokens: &[Token]) -> Result<(Vec<Name>, &[Token]), ReadError>
+    ensures { Gives (λ x. (x.0.items, kinds x.1.now)) result (spec.children (kinds tokens.entry.now)) }
+{
+    let mut found = Vec::new(alloc);
+    let mut rest = tokens;
+    for _turn in 0..tokens.len() {
+        if is_mark(Mark::CloseBrace, rest) {
+            return Ok((found, tail(rest)));
+        }
+        let (next, after) = child(rest)?;
+        found.push(next)?;
+        rest = after;
+    }
+    Err(unexpected(rest))
+}
+
+/// `int->void`
+#[tactic(auto, unfolding(crate::specs::Reading::stream_type))]
+fn stream_type(tokens: &[Token]) -> Result<(ItemType, ItemType, &[Token]), ReadError>
+    ensures { Gives (λ x. ((x.0, x.1), kinds x.2.now)) result (spec.stream_type (kinds tokens.now)) }
+{
+    let (input, rest) = item_type(tokens)?;
+    let rest = expect(Mark::Arrow, rest)?;
+    let (output, rest) = item_type(rest)?;
+    Ok((input, output, rest))
+}
+
+/// The name of a stream and the brace that opens it.
+#[tactic(auto, unfolding(crate::specs::Reading::heading))]
+fn heading(tokens: &[Token]) -> Result<(Name, &[Token]), ReadError>
+    ensures { Gives (λ x. (x.0, kinds x.1.now)) result (spec.heading (kinds tokens.now)) }
+{
+    let (called, rest) = name(tokens)?;
+    let rest = expect(Mark::OpenBrace, rest)?;
+    Ok((called, rest))
+}
+
+/// A filter: behind its word.
+#[tactic(auto, unfolding(crate::specs::Reading::filter))]
+fn filter(
+    alloc: Global,
+    input: ItemType,
+    output: ItemType,
+    tokens: &[Token],
+) -> Result<(Decl, &[Token]), ReadError>
+    ensures { Gives (λ x. (declaration_view x.0, kinds x.1.now)) result (spec.filter input output (kinds tokens.now)) }
+{
+    let (name, rest) = heading(tokens)?;
+    let (members, rest) = members(alloc, rest)?;
+    let stream = StreamTree::Filter(FilterTree {
+        input,
+        output,
+        members,
+    });
+    Ok((Decl { name, stream }, rest))
+}
+
+/// A pipeline: behind its word.
+#[tactic(auto, unfolding(crate::specs::Reading::pipeline))]
+fn pipeline(
+    alloc: Global,
+    input: ItemType,
+    output: ItemType,
+    tokens: &[Token],
+) -> Result<(Decl, &[Token]), ReadError>
+    ensures { Gives (λ x. (declaration_view x.0, kinds x.1.now)) result (spec.pipeline input output (kinds tokens.now)) }
+{
+    let (name, rest) = heading(tokens)?;
+    let (children, rest) = children(alloc, rest)?;
+    let stream = StreamTree::Pipeline(PipelineTree {
+        input,
+        output,
+        children,
+    });
+    Ok((Decl { name, stream }, rest))
+}
+
+/// A stream: behind its type.
+#[tactic(auto, unfolding(crate::specs::Reading::stream))]
+fn stream(
+    alloc: Global,
+    input: ItemType,
+    output: ItemType,
+    tokens: &[Token],
+) -> Result<(Decl, &[Token]), ReadError>
+    ensures { Gives (λ x. (declaration_view x.0, kinds x.1.now)) result (spec.stream input output (kinds tokens.now)) }
+{
+    match peek(tokens) {
+        Some(TokenKind::Word(Word::Filter)) => filter(alloc, input, output, tail(tokens)),
+        Some(TokenKind::Word(Word::Pipeline)) => pipeline(alloc, input, output, tail(tokens)),
+        _ => Err(unexpected(tokens)),
+    }
+}
+
+#[tactic(auto, unfolding(crate::specs::Reading::declaration))]
+fn declaration(alloc: Global, tokens: &[Token]) -> Result<(Decl, &[Token]), ReadError>
+    ensures { Gives (λ x. (declaration_view x.0, kinds x.1.now)) result (spec.declaration (kinds tokens.now)) }
+{
+    let (input, output, rest) = stream_type(tokens)?;
+    stream(alloc, input, output, rest)
+}
+
+/// All declarations of a text.
+#[tactic(auto, unfolding(crate::specs::Reading::declarations))]
+pub(crate) fn declarations(alloc: Global, tokens: &[Token]) -> Result<Vec<Decl>, ReadError>
+    ensures { Gives (λ v. (map declaration_view v.items, [])) result (spec.declarations (kinds tokens.entry.now)) }
+{
+    let mut found = Vec::new(alloc);
+    let mut rest = tokens;
+    for _turn in 0..tokens.len() + 1 {
+        if rest.is_empty() {
+            return Ok(found);
+        }
+        let (next, after) = declaration(alloc, rest)?;
+        found.push(next)?;
+        rest = after;
+    }
+    Err(unexpected(rest))
+}

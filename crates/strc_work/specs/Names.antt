@@ -1,0 +1,12 @@
+-- Names and what they stand for, the innermost first.
+use Rattle.std.specs.Prelude.{ℕ, ℤ, Bool, false, ◌||◌, List, [], ◌∷◌, Option, Some, None, if◌then◌else◌, bytes_eq}
+
+-- whether a name is among these
+abbrev pub has_name : List (List ℕ) → List ℕ → Bool
+has_name [] name = false
+has_name (first ∷ rest) name = bytes_eq first name || has_name rest name
+
+-- the value that stands beside a name
+abbrev pub value_named : List (List ℕ × ℤ) → List ℕ → Option ℤ
+value_named [] name = None
+value_named (first ∷ rest) name = if bytes_eq first.0 name then Some first.1 else value_named rest name

@@ -1,0 +1,48 @@
+// From a filter's syntax tree to its code.
+
+use crate::code::Code;
+use crate::constants::Constants;
+use crate::fault::Cause;
+use crate::memory::NoMemory;
+use crate::{emission, resolution};
+use std::alloc::{AllocError, AllocFailed, Global};
+use strc_lex::token::Name;
+use strc_parse::tree::FilterTree;
+
+/// Why a filter isn't lowered: the first rule that it breaks, in order of the text.
+#[derive(Debug, Drop)]
+pub enum LowerError {
+    /// A name that isn't declared.
+    UnknownName { name: Name },
+    /// A type, kind or part isn't the one that must stand there.
+    TypeMismatch,
+    /// A number that must be known faults when it is computed.
+    ConstFault { cause: Cause },
+    /// Memory was refused.
+    NoMemory,
+}
+
+impl From<NoMemory> for LowerError {
+    fn from(_error: NoMemory) -> LowerError {
+        LowerError::NoMemory
+    }
+}
+
+impl From<AllocError> for LowerError {
+    fn from(_error: AllocError) -> LowerError {
+        LowerError::NoMemory
+    }
+}
+
+impl<T: Drop> From<AllocFailed<T>> for LowerError {
+    fn from(_error: AllocFailed<T>) -> LowerError {
+        LowerError::NoMemory
+    }
+}
+
+/// The code of a filter, with its constants put in.
+pub fn lower(alloc: Global, tree: &FilterTree, constants: &Constants) -> Result<Code, LowerError> {
+    let tree = resolution::resolve_filter(alloc, tree, constants)?;
+    let code = emission::emit_filter(alloc, tree)?;
+    Ok(code)
+}
