@@ -4,7 +4,7 @@
 
 use std::env;
 use std::fs::File;
-use std::io::Write;
+use std::io::{ErrorKind, Write};
 use std::process::ExitCode;
 use strc_cli::device::Told;
 use strc_cli::execute::{CliError, execute};
@@ -28,6 +28,9 @@ fn run(rt: &HostRuntime) -> u8 {
             Err(_) => return out_of_memory(rt),
         },
         Err(error) => {
+            if error.kind() == ErrorKind::OutOfMemory {
+                return out_of_memory(rt);
+            }
             let _ = eprintln!(rt; "strc: cannot read the command line: {error}");
             return FAILED;
         }

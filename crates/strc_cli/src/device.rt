@@ -63,9 +63,6 @@ pub struct Told<T> {
 }
 
 impl<T> Told<T> {
-    /// How many reads a new one allows.
-    pub const READS: u64 = 4294967296;
-
     /// A device that has not failed, with 4,294,967,296 reads to go.
     pub fn new(device: T) -> Told<T>
         ensures { result ≡ record { device = device; failed = false; left = 4294967296 } }
@@ -75,6 +72,18 @@ impl<T> Told<T> {
             failed: false,
             left: 4294967296,
         }
+    }
+
+    /// The device.
+    pub fn into_device(self) -> T
+        ensures { result ≡ self.device }
+    {
+        let Told {
+            device,
+            failed: _,
+            left: _,
+        } = self;
+        device
     }
 }
 

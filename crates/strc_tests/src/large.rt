@@ -1,0 +1,82 @@
+// Texts at the limits.
+
+use crate::programs::{rounds, run_text};
+use std::alloc::{AllocError, Global};
+use std::test::Fail;
+
+// A printer of a number in so many brackets.
+fn bracketed(alloc: Global, depth: u32) -> Result<String, AllocError> {
+    let mut text = String::from_str(alloc, "void->void filter M { work { println(")?;
+    for _ in 0..depth {
+        text.push_str("(")?;
+    }
+    text.push_str("1")?;
+    for _ in 0..depth {
+        text.push_str(")")?;
+    }
+    text.push_str("); } }")?;
+    Ok(text)
+}
+
+#[test]
+fn nesting_is_refused_past_its_limit_alone(rt: HostRuntime) -> Result<(), Fail> {
+    let deepest = bracketed(rt.alloc(), 254)?;
+    let (output, _status) = run_text(rt.alloc(), deepest.as_bytes(), &rounds(1))?;
+    assert_eq!(rt; output.as_slice(), b"1\n".as_slice());
+    for depth in [255, 300] {
+        let text = bracketed(rt.alloc(), depth)?;
+        let (output, _status) = run_text(rt.alloc(), text.as_bytes(), &rounds(1))?;
+        assert_eq!(rt; output.as_slice(), b"refused E26 Nesting\n".as_slice());
+    }
+    Ok(())
+}
+
+#[test]
+fn a_text_is_refused_past_its_limit_alone(rt: HostRuntime) -> Result<(), Fail> {
+    let mut text = vec![in rt.alloc(); b' '; 1048576]?;
+    let (output, _status) = run_text(rt.alloc(), text.as_slice(), &rounds(1))?;
+    assert_eq!(rt; output.as_slice(), b"refused E6 NoMain\n".as_slice());
+    text.push(b' ')?;
+    let (output, _status) = run_text(rt.alloc(), text.as_slice(), &rounds(1))?;
+    assert_eq!(rt; output.as_slice(), b"refused E3 TextTooLong\n".as_slice());
+    Ok(())
+}
+
+// A pipeline of so many filters.
+fn pipeline(alloc: Global, filters: u32) -> Result<String, AllocError> {
+    let mut text = String::from_str(
+        alloc,
+        "void->int filter S { int x; work push 1 { push(x++); } }
+int->int filter F { work push 1 pop 1 { push(pop() + 1); } }
+int->void filter P { work pop 1 { println(pop()); } }
+void->void pipeline M { add S;",
+    )?;
+    for _ in 2..filters {
+        text.push_str("add F;")?;
+    }
+    text.push_str("add P; }")?;
+    Ok(text)
+}
+
+#[test]
+fn filters_are_refused_past_their_limit_alone(rt: HostRuntime) -> Result<(), Fail> {
+    let most = pipeline(rt.alloc(), 4096)?;
+    let (output, _status) = run_text(rt.alloc(), most.as_bytes(), &rounds(2))?;
+    assert_eq!(rt; output.as_slice(), b"4094\n4095\n".as_slice());
+    let more = pipeline(rt.alloc(), 4097)?;
+    let (output, _status) = run_text(rt.alloc(), more.as_bytes(), &rounds(2))?;
+    assert_eq!(rt; output.as_slice(), b"refused E9 NodeLimit\n".as_slice());
+    Ok(())
+}
+
+#[test]
+fn a_long_block_is_no_deep_one(rt: HostRuntime) -> Result<(), Fail> {
+    let mut text = String::from_str(rt.alloc(), "void->void filter M { int x; work {")?;
+    for _ in 0..100000 {
+        text.push_str("x++;")?;
+    }
+    text.push_str("println(x); } }")?;
+    let (output, _status) = run_text(rt.alloc(), text.as_bytes(), &rounds(2))?;
+    assert_eq!(rt; output.as_slice(), b"100000\n200000\n".as_slice());
+    Ok(())
+}
