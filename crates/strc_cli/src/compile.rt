@@ -61,7 +61,7 @@ fn check_connections(filters: &[Instance]) -> Result<(), Refusal> {
         if !joined {
             return Err(Refusal::Disconnected);
         }
-        joined = filter.output == ItemType::Int;
+        joined = filter.code.tree().output == ItemType::Int;
     }
     Ok(())
 }

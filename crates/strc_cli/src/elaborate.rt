@@ -72,9 +72,7 @@ fn named_main(
     ensures { IfOk result (λ number. number < length declarations.now) }
 {
     match names.get(name.as_bytes()) {
-        Some(&number)
-            if number < declarations.len() && is_closed(&declarations[number].stream) =>
-        {
+        Some(&number) if number < declarations.len() && is_closed(&declarations[number].stream) => {
             Ok(number)
         }
         _ => Err(Refusal::NoMain),
@@ -164,11 +162,5 @@ fn instance(alloc: Global, number: usize, filter: &FilterTree) -> Result<Instanc
     let Ok(frame) = code.frame(alloc) else {
         return Err(Refusal::NoMemory);
     };
-    Ok(Instance {
-        input: filter.input,
-        output: filter.output,
-        code,
-        state,
-        frame,
-    })
+    Ok(Instance { code, state, frame })
 }

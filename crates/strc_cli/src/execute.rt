@@ -3,8 +3,8 @@
 use crate::compile::compile;
 use crate::device::{Sink, Source};
 use crate::line::Command;
-use crate::output::{outcome_text, refusal_text};
 use crate::outcome::Outcome;
+use crate::output::{outcome_text, refusal_text};
 use crate::refusal::Refusal;
 use crate::runner::run;
 use std::alloc::Global;

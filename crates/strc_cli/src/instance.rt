@@ -3,7 +3,6 @@
 ghost use Rattle.strc_work.specs.Filters.{filter_of};
 ghost use Rattle.strc_work.specs.States.{IsStateOf, IsFrameOf};
 
-use strc_parse::tree::ItemType;
 use strc_work::code::Code;
 use strc_work::frame::Frame;
 use strc_work::state::State;
@@ -11,8 +10,6 @@ use strc_work::state::State;
 /// A filter with its code, its state before the first firing, and room for a firing.
 #[derive(Drop)]
 pub(crate) struct Instance {
-    pub input: ItemType,
-    pub output: ItemType,
     pub code: Code,
     pub state: State,
     pub frame: Frame,

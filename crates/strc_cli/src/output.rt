@@ -1,5 +1,8 @@
 // What is written: the words and the fault line, or the line of a refusal.
 
+ghost use Rattle.std.specs.Prelude.{◌≡◌, ◌++◌, IfOk, OnOk, codes, decimal};
+ghost use Rattle.strc_cli.specs.Output as spec;
+
 use crate::outcome::{Fault, Outcome};
 use crate::refusal::Refusal;
 use crate::text::{push_bytes, push_integer, push_number};
@@ -8,7 +11,9 @@ use strc_work::fault::Cause;
 use strc_work::word::Word;
 
 /// The text of a run's outcome.
-pub(crate) fn outcome_text(alloc: Global, outcome: &Outcome) -> Result<Vec<u8>, AllocError> {
+pub(crate) fn outcome_text(alloc: Global, outcome: &Outcome) -> Result<Vec<u8>, AllocError>
+    ensures { IfOk result (λ text. text.items ≡ spec.outcome_text outcome.now) }
+{
     let mut text = Vec::new(alloc);
     match outcome {
         Outcome::Done(words) => push_words(&mut text, words)?,
@@ -24,7 +29,9 @@ pub(crate) fn outcome_text(alloc: Global, outcome: &Outcome) -> Result<Vec<u8>, 
 }
 
 // Each word in decimal, and a line feed after those that end a line.
-fn push_words(text: &mut Vec<u8>, words: &[Word]) -> Result<(), AllocError> {
+fn push_words(text: &mut Vec<u8>, words: &[Word]) -> Result<(), AllocError>
+    ensures { OnOk result (text.new.items ≡ text.old.items ++ spec.words_text words.now) }
+{
     for word in words {
         push_integer(text, word.value)?;
         if word.ends_line {
@@ -34,14 +41,18 @@ fn push_words(text: &mut Vec<u8>, words: &[Word]) -> Result<(), AllocError> {
     Ok(())
 }
 
-fn leaves_line_open(words: &[Word]) -> bool {
+fn leaves_line_open(words: &[Word]) -> bool
+    ensures { result ≡ spec.leaves_open words.now }
+{
     match words.last() {
         Some(word) => !word.ends_line,
         None => false,
     }
 }
 
-fn push_fault(text: &mut Vec<u8>, fault: &Fault) -> Result<(), AllocError> {
+fn push_fault(text: &mut Vec<u8>, fault: &Fault) -> Result<(), AllocError>
+    ensures { OnOk result (text.new.items ≡ text.old.items ++ spec.fault_line fault.now) }
+{
     push_bytes(text, b"fault ")?;
     push_bytes(text, cause_name(fault.cause))?;
     push_bytes(text, b" node ")?;
@@ -53,7 +64,9 @@ fn push_fault(text: &mut Vec<u8>, fault: &Fault) -> Result<(), AllocError> {
     push_bytes(text, b"\n")
 }
 
-fn cause_name(cause: Cause) -> &'static [u8] {
+fn cause_name(cause: Cause) -> &'static [u8]
+    ensures { result.now ≡ spec.cause_name cause }
+{
     match cause {
         Cause::DivZero => b"DivZero",
         Cause::Index => b"Index",
@@ -63,76 +76,99 @@ fn cause_name(cause: Cause) -> &'static [u8] {
 }
 
 /// The line that tells a refusal.
-pub(crate) fn refusal_text(alloc: Global, refusal: &Refusal) -> Result<Vec<u8>, AllocError> {
+pub(crate) fn refusal_text(alloc: Global, refusal: &Refusal) -> Result<Vec<u8>, AllocError>
+    ensures { IfOk result (λ text. text.items ≡ spec.refusal_line refusal.now) }
+{
     let mut text = Vec::new(alloc);
     push_bytes(&mut text, b"refused ")?;
-    push_bytes(&mut text, refusal_name(refusal))?;
-    push_fields(&mut text, refusal)?;
+    push_refusal(&mut text, refusal)?;
     push_bytes(&mut text, b"\n")?;
     Ok(text)
 }
 
-// The number and the name of a refusal, as the table of refusals has them.
-fn refusal_name(refusal: &Refusal) -> &'static [u8] {
+// The number and the name of a refusal, and its fields, each behind its name.
+fn push_refusal(text: &mut Vec<u8>, refusal: &Refusal) -> Result<(), AllocError>
+    ensures { OnOk result (text.new.items ≡ text.old.items ++ spec.refusal_words refusal.now) }
+{
     match refusal {
-        Refusal::NotYet => b"E0 NotYet",
-        Refusal::Lex { .. } => b"E1 Lex",
-        Refusal::Parse { .. } => b"E2 Parse",
-        Refusal::TextTooLong => b"E3 TextTooLong",
-        Refusal::UnknownName { .. } => b"E4 UnknownName",
-        Refusal::TypeMismatch { .. } => b"E5 TypeMismatch",
-        Refusal::NoMain => b"E6 NoMain",
-        Refusal::ManyMains => b"E7 ManyMains",
-        Refusal::NodeLimit => b"E9 NodeLimit",
-        Refusal::ConstFault { .. } => b"E12 ConstFault",
-        Refusal::RateMismatch { .. } => b"E14 RateMismatch",
-        Refusal::RateLimit { .. } => b"E16 RateLimit",
-        Refusal::TwoOutputs => b"E18 TwoOutputs",
-        Refusal::Disconnected => b"E19 Disconnected",
-        Refusal::NoMemory => b"E25 NoMemory",
-        Refusal::Nesting => b"E26 Nesting",
-        Refusal::RoundsNeeded => b"S5 RoundsNeeded",
-    }
-}
-
-// The fields of a refusal, each behind its name.
-fn push_fields(text: &mut Vec<u8>, refusal: &Refusal) -> Result<(), AllocError> {
-    match refusal {
-        Refusal::Lex { at } => push_field(text, b" at ", *at as u64),
-        Refusal::Parse { token } => push_field(text, b" token ", *token as u64),
-        Refusal::UnknownName { name } => {
-            push_bytes(text, b" name ")?;
-            push_bytes(text, name.as_bytes())
+        Refusal::NotYet => push_bytes(text, b"E0 NotYet"),
+        Refusal::Lex { at } => push_field(text, b"E1 Lex", b" at ", *at as u64),
+        Refusal::Parse { token } => push_field(text, b"E2 Parse", b" token ", *token as u64),
+        Refusal::TextTooLong => push_bytes(text, b"E3 TextTooLong"),
+        Refusal::UnknownName { name } => push_named(
+            text,
+            b"E4 UnknownName",
+            b" name ",
+            name.as_bytes(),
+        ),
+        Refusal::TypeMismatch { stream } => {
+            push_field(text, b"E5 TypeMismatch", b" stream ", *stream as u64)
         }
-        Refusal::TypeMismatch { stream } => push_field(text, b" stream ", *stream as u64),
+        Refusal::NoMain => push_bytes(text, b"E6 NoMain"),
+        Refusal::ManyMains => push_bytes(text, b"E7 ManyMains"),
+        Refusal::NodeLimit => push_bytes(text, b"E9 NodeLimit"),
         Refusal::ConstFault { cause } => {
-            push_bytes(text, b" cause ")?;
-            push_bytes(text, cause_name(*cause))
+            push_named(text, b"E12 ConstFault", b" cause ", cause_name(*cause))
         }
         Refusal::RateMismatch {
             node,
             declared,
             counted,
-        } => {
-            push_field(text, b" node ", *node as u64)?;
-            push_field(text, b" declared ", u64::from(*declared))?;
-            push_field(text, b" counted ", u64::from(*counted))
-        }
-        Refusal::RateLimit { node } => push_field(text, b" node ", *node as u64),
-        Refusal::NotYet
-        | Refusal::TextTooLong
-        | Refusal::NoMain
-        | Refusal::ManyMains
-        | Refusal::NodeLimit
-        | Refusal::TwoOutputs
-        | Refusal::Disconnected
-        | Refusal::NoMemory
-        | Refusal::Nesting
-        | Refusal::RoundsNeeded => Ok(()),
+        } => push_mismatch(text, *node, *declared, *counted),
+        Refusal::RateLimit { node } => push_field(text, b"E16 RateLimit", b" node ", *node as u64),
+        Refusal::TwoOutputs => push_bytes(text, b"E18 TwoOutputs"),
+        Refusal::Disconnected => push_bytes(text, b"E19 Disconnected"),
+        Refusal::NoMemory => push_bytes(text, b"E25 NoMemory"),
+        Refusal::Nesting => push_bytes(text, b"E26 Nesting"),
+        Refusal::RoundsNeeded => push_bytes(text, b"S5 RoundsNeeded"),
     }
 }
 
-fn push_field(text: &mut Vec<u8>, name: &[u8], value: u64) -> Result<(), AllocError> {
-    push_bytes(text, name)?;
+// A refusal with one number.
+fn push_field(
+    text: &mut Vec<u8>,
+    refusal: &[u8],
+    field: &[u8],
+    value: u64,
+) -> Result<(), AllocError>
+    ensures { OnOk result (text.new.items ≡ text.old.items ++ (refusal.now ++ field.now ++ decimal value)) }
+{
+    push_bytes(text, refusal)?;
+    push_bytes(text, field)?;
     push_number(text, value)
+}
+
+// A refusal with one name.
+fn push_named(
+    text: &mut Vec<u8>,
+    refusal: &[u8],
+    field: &[u8],
+    name: &[u8],
+) -> Result<(), AllocError>
+    ensures { OnOk result (text.new.items ≡ text.old.items ++ (refusal.now ++ field.now ++ name.now)) }
+{
+    push_bytes(text, refusal)?;
+    push_bytes(text, field)?;
+    push_bytes(text, name)
+}
+
+fn push_mismatch(
+    text: &mut Vec<u8>,
+    node: usize,
+    declared: u32,
+    counted: u32,
+) -> Result<(), AllocError>
+    ensures { OnOk result (text.new.items ≡ text.old.items ++ (codes "E14 RateMismatch" ++ codes " node " ++ decimal node ++ (codes " declared " ++ decimal declared ++ codes " counted " ++ decimal counted))) }
+{
+    push_field(text, b"E14 RateMismatch", b" node ", node as u64)?;
+    push_counts(text, declared, counted)
+}
+
+fn push_counts(text: &mut Vec<u8>, declared: u32, counted: u32) -> Result<(), AllocError>
+    ensures { OnOk result (text.new.items ≡ text.old.items ++ (codes " declared " ++ decimal declared ++ codes " counted " ++ decimal counted)) }
+{
+    push_bytes(text, b" declared ")?;
+    push_number(text, u64::from(declared))?;
+    push_bytes(text, b" counted ")?;
+    push_number(text, u64::from(counted))
 }

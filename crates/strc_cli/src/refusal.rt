@@ -13,15 +13,23 @@ pub enum Refusal {
     /// A part of the language that can't be run yet.
     NotYet,
     /// No token begins at this byte.
-    Lex { at: usize },
+    Lex {
+        at: usize,
+    },
     /// The first token that no program can have there; their number where the text ends too soon.
-    Parse { token: usize },
+    Parse {
+        token: usize,
+    },
     /// The text is longer than 1,048,576 bytes.
     TextTooLong,
     /// A variable or a stream that isn't declared.
-    UnknownName { name: Name },
+    UnknownName {
+        name: Name,
+    },
     /// A type, kind or part isn't the one that must stand there; the declaration that holds it.
-    TypeMismatch { stream: usize },
+    TypeMismatch {
+        stream: usize,
+    },
     /// No declaration can be the main stream, or the named one can't.
     NoMain,
     /// Several declarations can be the main stream, and none is named.
@@ -29,7 +37,9 @@ pub enum Refusal {
     /// More than 4,096 nodes.
     NodeLimit,
     /// A fault in an initialiser.
-    ConstFault { cause: Cause },
+    ConstFault {
+        cause: Cause,
+    },
     /// A declared rate isn't the one that a firing has.
     RateMismatch {
         node: usize,
@@ -37,7 +47,9 @@ pub enum Refusal {
         counted: u32,
     },
     /// A rate of `work` is 0 on a side that has items.
-    RateLimit { node: usize },
+    RateLimit {
+        node: usize,
+    },
     /// More than one node prints.
     TwoOutputs,
     /// The nodes aren't all connected.

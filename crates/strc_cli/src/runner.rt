@@ -59,11 +59,7 @@ fn run_round(
 }
 
 // One firing, from the items on the channel before the filter to those behind it.
-fn fire(
-    filter: &mut Instance,
-    channel: &mut Vec<i32>,
-    words: &mut Vec<Word>,
-) -> Result<(), Halt> {
+fn fire(filter: &mut Instance, channel: &mut Vec<i32>, words: &mut Vec<Word>) -> Result<(), Halt> {
     let window = channel.as_slice();
     filter.code.fire(
         Body::Work,

@@ -1,17 +1,19 @@
 -- The rows, computed from the definitions.
-use Rattle.std.proofs.Common.{◌≡◌, refl, ap, ◌∙◌, ℕ, true, [], ◌∷◌}
+use Rattle.std.proofs.Common.{◌≡◌, refl, ap, ◌∙◌, ℕ, true, [], ◌∷◌, zero, suc, ◌<◌, ◌≤◌, arith, get_or}
+use Rattle.strc_dataflow.specs.Rounds.{gives_in_round, IsBalanced, IsSupplied}
 use Rattle.strc_dataflow.specs.Node.{total, at_port_0}
 use Rattle.strc_dataflow.specs.Histories.{all_below, windows, finds, begun, after_firing, advance_if, advance, runs}
-use Rattle.strc_dataflow.specs.Flat.{items_of, arrived, runs_at}
+use Rattle.strc_dataflow.specs.Flat.{items_of, arrived, runs_at, Origin.Input}
 use Rattle.strc_dataflow.specs.Streams.{source_at_0, delayed, led_by, node_layout, maybe_layout, chained_layout, beside_layout, fed_back_layout, layout, any_code, flat, chained, beside, iterate, around, back_of, turn, settled, fed_back, no_part, node_part, reader_part, maybe_part, part, solution}
 use Rattle.strc_dataflow.specs.Order.{raised, tally, counts_after, supply_of, supply}
 use Rattle.strc_dataflow.specs.Machine.{put, at_first, fired_once, unless_faulted, go, stop_at, or_else, first_fault}
 use Rattle.strc_dataflow.specs.Answer.{words_of, stream_runs, round_outcome, rounds, startup_outcome, whole_run}
-use Rattle.strc_dataflow.specs.RoundRobin.{span_start}
-use Rattle.strc_dataflow.specs.Examples.{inputs, takes, looks_at, gives, quotient, cycle_of, fires, example}
-use Rattle.strc_dataflow.specs.Rows.{Shown, shown, Program, by_node, EquationsSay, IsRow, minimal, MinimalRow, fibonacci, FibonacciRow, division, DivisionFaultRow, weights, WeightsRow, two_quotients, DownstreamFaultRow, two_branches, TwoFaultsRow, loop_fault, FaultInLoopRow, startup_fault, StartupFaultRow}
-use Rattle.strc_dataflow.proofs.Blocks.{block_keeps}
-use Rattle.strc_dataflow.proofs.Tests.{ready_test, order_test, within_test, tally_test, schedule_test, schedule_from_test}
+use Rattle.strc_dataflow.specs.RoundRobin.{span_start, one_cycle, dealt, duplicated, woven, places, cycles, port_at}
+use Rattle.strc_dataflow.specs.Examples.{inputs, takes, looks_at, gives, quotient, fires, example, Block.Counter, Block.Negation, Block.Printer}
+use Rattle.strc_dataflow.specs.Rows.{Shown, shown, Program, by_node, EquationsSay, IsRow, minimal, MinimalRow, fibonacci, FibonacciRow, division, DivisionFaultRow, weights, WeightsRow, two_quotients, DownstreamFaultRow, two_branches, TwoFaultsRow, loop_fault, FaultInLoopRow, ExampleSplitters, PlacesRow, startup_fault, StartupFaultRow, MatchedRow, BalanceRow}
+use Rattle.strc_dataflow.proofs.Blocks.{block_keeps, splitter_block, duplicate_block, joiner_block}
+use Rattle.strc_dataflow.proofs.Tests.{ready_test, order_test, within_test, tally_test, schedule_test, schedule_from_test, tally_from_test, order_from_test}
+use Rattle.strc_dataflow.proofs.Again.{each_round}
 use Rattle.strc_dataflow.proofs.Theorem.{stream_run_gives, stream_answer_is_run}
 
 -- A row from what computes: its orders pass the test, the equations say so, and the run shows it.
@@ -31,9 +33,9 @@ row_from p expected valid equations run =
       only = λ outcome h. ap (shown p.printer) (stream_answer_is_run example p.stream p.input (by_node p.startup) (by_node p.round) p.startup_order p.round_order p.rounds (λ node. block_keeps ((flat p.stream).code node)) schedule outcome h) ∙ run;
     }
 
--- What the rows compute with.
-unfoldable all_definitions : ℕ
-unfolding total at_port_0 all_below windows finds begun after_firing advance_if advance runs items_of arrived runs_at source_at_0 delayed led_by node_layout maybe_layout chained_layout beside_layout fed_back_layout layout any_code flat chained beside iterate around back_of turn settled fed_back no_part node_part reader_part maybe_part part solution raised tally counts_after supply_of supply put at_first fired_once unless_faulted go stop_at or_else first_fault words_of stream_runs round_outcome rounds startup_outcome whole_run span_start inputs takes looks_at gives quotient cycle_of fires example shown ready_test order_test within_test tally_test schedule_test
+-- What rows compute with: a proof that names it on its unfolding line computes with all definitions of the crate.
+unfoldable pub all_definitions : ℕ
+unfolding total at_port_0 all_below windows finds begun after_firing advance_if advance runs items_of arrived runs_at source_at_0 delayed led_by node_layout maybe_layout chained_layout beside_layout fed_back_layout layout any_code flat chained beside iterate around back_of turn settled fed_back no_part node_part reader_part maybe_part part solution raised tally counts_after supply_of supply put at_first fired_once unless_faulted go stop_at or_else first_fault words_of stream_runs round_outcome rounds startup_outcome whole_run span_start inputs takes looks_at gives quotient one_cycle fires example shown ready_test order_test within_test tally_test schedule_test
 all_definitions = 0
 
 pub minimal_row : MinimalRow
@@ -70,3 +72,79 @@ fault_in_loop_row = row_from loop_fault _ refl (refl, refl) refl
 pub startup_fault_row : StartupFaultRow
 unfolding all_definitions
 startup_fault_row = row_from startup_fault _ refl refl refl
+
+pub example_splitters : ExampleSplitters
+example_splitters weights = (splitter_block weights, duplicate_block weights, joiner_block weights)
+
+pub places_row : PlacesRow
+unfolding dealt duplicated woven places cycles port_at span_start
+places_row = (refl, refl, refl, refl, refl)
+
+pub matched_row : MatchedRow
+unfolding inputs takes looks_at gives example
+matched_row = record {
+  source = refl;
+  windows = windows_at;
+  pops = pops_at;
+}
+  where
+    windows_at :
+        (node firing port : ℕ) → node < 2 → port < inputs (get_or (Negation ∷ Printer ∷ []) node Counter)
+        → looks_at (get_or (Negation ∷ Printer ∷ []) node Counter) port ≤ gives (get_or (Counter ∷ Negation ∷ Printer ∷ []) node Counter) port
+    windows_at zero firing zero below within = omega arith
+    windows_at zero firing (suc port) below within = absurd (omega arith)
+    windows_at (suc zero) firing zero below within = omega arith
+    windows_at (suc zero) firing (suc port) below within = absurd (omega arith)
+    windows_at (suc (suc node)) firing port below within = absurd (omega arith)
+
+    pops_at :
+        (node firing port : ℕ) → node < 2 → port < inputs (get_or (Negation ∷ Printer ∷ []) node Counter)
+        → takes (get_or (Negation ∷ Printer ∷ []) node Counter) port ≤ gives (get_or (Counter ∷ Negation ∷ Printer ∷ []) node Counter) port
+    pops_at zero firing zero below within = omega arith
+    pops_at zero firing (suc port) below within = absurd (omega arith)
+    pops_at (suc zero) firing zero below within = omega arith
+    pops_at (suc zero) firing (suc port) below within = absurd (omega arith)
+    pops_at (suc (suc node)) firing port below within = absurd (omega arith)
+
+fibonacci_balanced : IsBalanced example (flat fibonacci.stream) (by_node fibonacci.startup) (by_node fibonacci.round)
+unfolding all_definitions gives_in_round
+fibonacci_balanced zero zero within channel = refl
+fibonacci_balanced zero (suc zero) within channel = refl
+fibonacci_balanced zero (suc (suc port)) within channel = absurd (omega arith)
+fibonacci_balanced (suc zero) zero within channel = refl
+fibonacci_balanced (suc zero) (suc port) within channel = absurd (omega arith)
+fibonacci_balanced (suc (suc zero)) zero within channel = refl
+fibonacci_balanced (suc (suc zero)) (suc port) within channel = absurd (omega arith)
+fibonacci_balanced (suc (suc (suc zero))) zero within channel = refl
+fibonacci_balanced (suc (suc (suc zero))) (suc port) within channel = absurd (omega arith)
+fibonacci_balanced (suc (suc (suc (suc zero)))) zero within channel = refl
+fibonacci_balanced (suc (suc (suc (suc zero)))) (suc port) within channel = absurd (omega arith)
+fibonacci_balanced (suc (suc (suc (suc (suc node))))) port within channel = omega arith
+
+no_input : (node port : ℕ) → ((flat fibonacci.stream).source node port).origin ≡ Input → ⊥
+unfolding all_definitions
+no_input zero zero e = cc
+no_input zero (suc zero) e = cc
+no_input zero (suc (suc port)) e = cc
+no_input (suc zero) port e = cc
+no_input (suc (suc zero)) port e = cc
+no_input (suc (suc (suc zero))) zero e = cc
+no_input (suc (suc (suc zero))) (suc port) e = cc
+no_input (suc (suc (suc (suc zero)))) zero e = cc
+no_input (suc (suc (suc (suc zero)))) (suc port) e = cc
+no_input (suc (suc (suc (suc (suc node))))) port e = cc
+
+fibonacci_supplied : (counts : ℕ → ℕ) → IsSupplied example (flat fibonacci.stream) [] counts
+fibonacci_supplied counts node port firing within reads below = absurd (no_input node port reads)
+
+pub balance_row : BalanceRow
+unfolding all_definitions
+balance_row = (
+  fibonacci_balanced,
+  λ k. each_round example (flat fibonacci.stream) [] (by_node fibonacci.startup) (by_node fibonacci.round) fibonacci.round_order k
+      (tally_from_test fibonacci.round_order fibonacci.round refl)
+      (record { windows_repeat = λ node firing port h. refl; pops_repeat = λ node firing port h. refl; pushes_repeat = λ node firing port h. refl })
+      fibonacci_balanced
+      (fibonacci_supplied (counts_after (by_node fibonacci.startup) (by_node fibonacci.round) k))
+      (order_from_test example (flat fibonacci.stream) [] fibonacci.round_order (counts_after (by_node fibonacci.startup) (by_node fibonacci.round) 0) refl),
+)

@@ -7,6 +7,10 @@ pub mod Again
 pub mod Queued
 pub mod Theorem
 pub mod Rates
+pub mod RoundRobin
 pub mod Blocks
 pub mod Tests
 pub mod Computed
+pub mod Chain
+pub mod Fills
+pub mod Ports

@@ -6,11 +6,12 @@ use Rattle.std.proofs.lemmas.Bool.{lt-leb}
 use Rattle.strc_dataflow.specs.Node.{ByPort, Fired, Fired.Fires, Fired.Faults, Meaning, total}
 use Rattle.strc_dataflow.specs.Histories.{Run, all_below, windows, finds, begun, after_firing, advance_if, advance}
 use Rattle.strc_dataflow.specs.Flat.{Origin, Origin.Nowhere, Origin.Input, Origin.Port, Source, Graph, items_of, arrived}
-use Rattle.strc_dataflow.specs.Machine.{put, unless_faulted, fired_once, go}
-use Rattle.strc_dataflow.specs.Queues.{Fifo, FifoProgress, FifoProgress.FifoWent, FifoProgress.FifoStopped, added, holds, fronts, moved, fifo_after, fifo_if, fifo_fire, fifo_then, fifo_go, IsQueued, IsAlike, fifo_at_first, TakesWithinWindow}
+use Rattle.strc_dataflow.specs.Machine.{Stop, Progress, Progress.Went, Progress.Stopped, put, at_first, unless_faulted, fired_once, go}
+use Rattle.strc_dataflow.specs.Answer.{Outcome, Outcome.StartupFault, Outcome.RoundFault, words_of, round_outcome, rounds, startup_outcome, whole_run}
+use Rattle.strc_dataflow.specs.Queues.{fifo_round_outcome, fifo_rounds, fifo_startup_outcome, fifo_run, Fifo, FifoProgress, FifoProgress.FifoWent, FifoProgress.FifoStopped, added, holds, fronts, moved, fifo_after, fifo_if, fifo_fire, fifo_then, fifo_go, IsQueued, IsAlike, fifo_at_first, TakesWithinWindow}
 use Rattle.strc_dataflow.proofs.Runs.{found_at}
 
-all_same : (n : ℕ) (f g : ℕ → Bool) → ((i : ℕ) → i < n → f i ≡ g i) → all_below n f ≡ all_below n g
+pub all_same : (n : ℕ) (f g : ℕ → Bool) → ((i : ℕ) → i < n → f i ≡ g i) → all_below n f ≡ all_below n g
 unfolding all_below
 all_same zero f g h = refl
 all_same (suc n) f g h = ap (λ (b : Bool). b && f n) (all_same n f g (λ i less. h i (omega arith))) ∙ ap (λ (b : Bool). all_below n g && b) (h n (omega arith))
@@ -163,3 +164,37 @@ module _ {Code State Cause Word : Type 0} (meaning : Meaning Code State Cause Wo
   pub queued_at_first : IsQueued meaning graph input (fifo_at_first meaning graph input)
   unfolding fifo_at_first begun total
   queued_at_first = record { faultless = λ node. refl; came = λ node port less. omega arith; rest = λ node port less. refl }
+
+  module _ (round_order : List ℕ) where
+    same_round :
+        (q : ℕ) (now : Fifo State Cause Word) (later : (ℕ → Run State Cause Word) → Outcome Cause Word) (fifo_later : Fifo State Cause Word → Outcome Cause Word)
+        → ((next : Fifo State Cause Word) → IsQueued meaning graph input next → fifo_later next ≡ later next.runs)
+        → (progress : Progress State Cause Word) (fifo : FifoProgress State Cause Word)
+        → IsAlike meaning graph input progress fifo
+        → fifo_round_outcome meaning graph input round_order q (words_of now.runs) fifo fifo_later ≡ round_outcome meaning graph input round_order q (words_of now.runs) progress later
+    unfolding fifo_round_outcome round_outcome
+    same_round q now later fifo_later same (Went next) (FifoWent fifo) alike = same fifo alike.1 ∙ ap later alike.0
+    same_round q now later fifo_later same (Went next) (FifoStopped stop) alike = absurd alike
+    same_round q now later fifo_later same (Stopped stop) (FifoWent fifo) alike = absurd alike
+    same_round q now later fifo_later same (Stopped stop) (FifoStopped other) alike = ap {A = Stop Cause} {B = Outcome Cause Word} (λ s. RoundFault q s (words_of now.runs)) (sym alike)
+
+    same_rounds : (left q : ℕ) (now : Fifo State Cause Word) → IsQueued meaning graph input now → fifo_rounds meaning graph input round_order left q now ≡ rounds meaning graph input round_order left q now.runs
+    unfolding fifo_rounds rounds
+    same_rounds zero q now queued = refl
+    same_rounds (suc left) q now queued =
+        same_round q now (rounds meaning graph input round_order left (suc q)) (fifo_rounds meaning graph input round_order left (suc q)) (same_rounds left (suc q))
+        (go meaning graph input round_order now.runs) (fifo_go meaning graph round_order now) (machines_alike round_order now queued)
+
+    same_startup : (k : ℕ) (progress : Progress State Cause Word) (fifo : FifoProgress State Cause Word) → IsAlike meaning graph input progress fifo → fifo_startup_outcome meaning graph input round_order k fifo ≡ startup_outcome meaning graph input round_order k progress
+    unfolding fifo_startup_outcome startup_outcome
+    same_startup k (Went now) (FifoWent fifo) alike = same_rounds k 0 fifo alike.1 ∙ ap (rounds meaning graph input round_order k 0) alike.0
+    same_startup k (Went now) (FifoStopped stop) alike = absurd alike
+    same_startup k (Stopped stop) (FifoWent fifo) alike = absurd alike
+    same_startup k (Stopped stop) (FifoStopped other) alike = ap StartupFault (sym alike)
+
+    -- The run over queues is the run over histories.
+    pub fifo_run-whole_run : (startup_order : List ℕ) (k : ℕ) → fifo_run meaning graph input round_order startup_order k ≡ whole_run meaning graph input round_order startup_order k
+    unfolding fifo_run whole_run at_first fifo_at_first
+    fifo_run-whole_run startup_order k =
+        same_startup k (go meaning graph input startup_order (at_first meaning graph)) (fifo_go meaning graph startup_order (fifo_at_first meaning graph input))
+        (machines_alike startup_order (fifo_at_first meaning graph input) queued_at_first)

@@ -23,7 +23,7 @@ module _ {Code State Cause Word : Type 0} (meaning : Meaning Code State Cause Wo
       ∙ (let e : length (take (meaning.window code n port) (drop (total (meaning.popped code) n port) (inputs port))) ≡ meaning.window code n port
       = omega (arith, length-take (meaning.window code n port) (drop (total (meaning.popped code) n port) (inputs port)), length-drop (total (meaning.popped code) n port) (inputs port), found_at meaning code n inputs found port less) in e)
 
-  fired_by : (run : Run State Cause Word) (outcome : Fired State Cause Word) → (after_firing meaning code run outcome).fired ≤ suc run.fired
+  pub fired_by : (run : Run State Cause Word) (outcome : Fired State Cause Word) → (after_firing meaning code run outcome).fired ≤ suc run.fired
   unfolding after_firing
   fired_by run (Fires state pushes words) = omega arith
   fired_by run (Faults cause) = omega arith

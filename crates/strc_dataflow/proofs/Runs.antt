@@ -170,7 +170,7 @@ module _ {Code State Cause Word : Type 0} (meaning : Meaning Code State Cause Wo
   pushes_by run (Fires state pushes words) port = record { rest = pushes port; whole = refl }
   pushes_by run (Faults cause) port = begins_itself (run.pushes port)
 
-  pushes_if : (inputs : ByPort) (run : Run State Cause Word) (fault : Option Cause) (found : Bool) (port : ℕ) → Begins (run.pushes port) ((advance_if meaning code inputs run fault found).pushes port)
+  pub pushes_if : (inputs : ByPort) (run : Run State Cause Word) (fault : Option Cause) (found : Bool) (port : ℕ) → Begins (run.pushes port) ((advance_if meaning code inputs run fault found).pushes port)
   unfolding advance_if
   pushes_if inputs run (Some cause) found port = begins_itself (run.pushes port)
   pushes_if inputs run None true port = pushes_by run (meaning.fire code run.fired run.state (windows meaning code run.fired inputs)) port

@@ -8,7 +8,7 @@ use Rattle.strc_dataflow.specs.Histories.{Run, begun, runs, KeepsRates}
 use Rattle.strc_dataflow.specs.Flat.{Graph, runs_at, Solves}
 use Rattle.strc_dataflow.specs.Order.{raised, counted, tally, counts_after, IsSchedule}
 use Rattle.strc_dataflow.specs.Machine.{Stop, Progress, Progress.Went, Progress.Stopped, at_first, go, stop_at, or_else, first_fault}
-use Rattle.strc_dataflow.specs.Answer.{Outcome, Outcome.Done, Outcome.StartupFault, Outcome.RoundFault, words_of, IsFaultless, IsAnswerOf, round_outcome, rounds, startup_outcome, whole_run}
+use Rattle.strc_dataflow.specs.Answer.{Verdict.AllWords, Verdict.StoppedInRound, verdict, Outcome, Outcome.Done, Outcome.StartupFault, Outcome.RoundFault, words_of, IsFaultless, IsAnswerOf, round_outcome, rounds, startup_outcome, whole_run}
 use Rattle.strc_dataflow.proofs.Invariant.{IsExact, Tells, run_tells}
 
 tally_by : (counts : ℕ → ℕ) (order : List ℕ) (v : ℕ) (test : Bool) → cond test (suc (counts v)) (counts v) + tally order v ≡ counts v + cond test (suc (tally order v)) (tally order v)
@@ -76,6 +76,31 @@ module _ {State Cause Word : Type 0} where
             let stops : s ≡ t = some_same (first_fault (after (suc p)) (counts_after startup round p) round_order) s t (subst (λ (n : ℕ). first_fault (after (suc n)) (counts_after startup round n) round_order ≡ Some s) e a.2) b.2 in
             let words : ws ≡ vs = a.3 ∙ ap (λ (n : ℕ). words_of (after n)) e ∙ sym b.3 in
             cc
+
+  -- Answers of two pairs of orders differ at most in the firing that they name.
+  pub same_verdict :
+      (after : ℕ → ℕ → Run State Cause Word) (startup round : ℕ → ℕ) (startup_order round_order other_startup other_round : List ℕ) (k : ℕ) (a b : Outcome Cause Word)
+      → IsAnswerOf after startup round startup_order round_order k a
+      → IsAnswerOf after startup round other_startup other_round k b
+      → IsSure after startup round other_startup other_round k b
+      → verdict a ≡ verdict b
+  unfolding verdict
+  same_verdict after startup round so ro sp rp k (Done ws) (Done vs) a b sure = ap AllWords (a.1 ∙ sym b.1)
+  same_verdict after startup round so ro sp rp k (Done ws) (StartupFault t) a b sure = absurd (faultless_has_none (after k) a.0 (sure k (omega arith)))
+  same_verdict after startup round so ro sp rp k (Done ws) (RoundFault p t vs) a b sure = absurd (faultless_has_none (after k) a.0 (sure k b.0 (omega arith)))
+  same_verdict after startup round so ro sp rp k (StartupFault s) (Done vs) a b sure = absurd (faultless_has_none (after 0) (sure 0 (omega arith)) (first_has_fault (after 0) so (λ node. 0) s a))
+  same_verdict after startup round so ro sp rp k (StartupFault s) (StartupFault t) a b sure = refl
+  same_verdict after startup round so ro sp rp k (StartupFault s) (RoundFault p t vs) a b sure = absurd (faultless_has_none (after 0) (b.1 0 (omega arith)) (first_has_fault (after 0) so (λ node. 0) s a))
+  same_verdict after startup round so ro sp rp k (RoundFault q s ws) (Done vs) a b sure = absurd (faultless_has_none (after (suc q)) (sure (suc q) a.0) (first_has_fault (after (suc q)) ro (counts_after startup round q) s a.2))
+  same_verdict after startup round so ro sp rp k (RoundFault q s ws) (StartupFault t) a b sure = absurd (faultless_has_none (after 0) (a.1 0 (omega arith)) (sure 0 (omega arith)))
+  same_verdict after startup round so ro sp rp k (RoundFault q s ws) (RoundFault p t vs) a b sure =
+      elim (cases_order q p) [
+        | inl e ↦ (let words : ws ≡ vs = a.3 ∙ ap (λ (n : ℕ). words_of (after n)) e ∙ sym b.3 in ap {A = ℕ} (λ n. StoppedInRound n ws) e ∙ ap (StoppedInRound p) words)
+        | inr other ↦ elim other [
+          | inl less ↦ absurd (faultless_has_none (after (suc q)) (b.1 (suc q) less) (first_has_fault (after (suc q)) ro (counts_after startup round q) s a.2))
+          | inr more ↦ absurd (faultless_has_none (after (suc p)) (a.1 (suc p) more) (sure (suc p) (omega arith) b.0))
+        ]
+      ]
 
 module _ {Code State Cause Word : Type 0}
     (meaning : Meaning Code State Cause Word) (graph : Graph Code) (input : List ℤ)

@@ -13,6 +13,17 @@ pub data Outcome (Cause Word : Type 0) : Type 0 where
   StartupFault : Stop Cause → Outcome Cause Word
   RoundFault : ℕ → Stop Cause → (ℕ → List Word) → Outcome Cause Word
 
+-- An outcome without the firing that it names.
+pub data Verdict (Word : Type 0) : Type 0 where
+  AllWords : (ℕ → List Word) → Verdict Word
+  StoppedAtStartup : Verdict Word
+  StoppedInRound : ℕ → (ℕ → List Word) → Verdict Word
+
+unfoldable pub verdict : {Cause Word : Type 0} → Outcome Cause Word → Verdict Word
+verdict (Done words) = AllWords words
+verdict (StartupFault stop) = StoppedAtStartup
+verdict (RoundFault q stop words) = StoppedInRound q words
+
 module _ {State Cause Word : Type 0} where
   -- The words of each node.
   unfoldable pub words_of : (ℕ → Run State Cause Word) → ℕ → List Word

@@ -1,7 +1,7 @@
 -- A small concrete meaning, and streams of the language's examples over it.
-use Rattle.std.specs.Prelude.{ℕ, zero, suc, Bool, true, cond, eqb, ltb, ℤ, pos, negsuc, ◌+ℤ◌, ◌-ℤ◌, neg_ℤ, int_div, List, [], ◌∷◌, ◌++◌, length, get_or, take, drop, sum}
+use Rattle.std.specs.Prelude.{ℕ, zero, suc, Bool, true, cond, eqb, ℤ, pos, negsuc, ◌+ℤ◌, ◌-ℤ◌, neg_ℤ, int_div, List, [], ◌∷◌, length, get_or, take, drop, sum}
 use Rattle.strc_dataflow.specs.Node.{ByPort, Fired, Fired.Fires, Fired.Faults, Meaning, at_port_0}
-use Rattle.strc_dataflow.specs.RoundRobin.{span_start}
+use Rattle.strc_dataflow.specs.RoundRobin.{span_start, one_cycle}
 
 -- Filters of the examples, with splitters and joiners by their weights.
 pub data Block : Type 0 where
@@ -18,8 +18,8 @@ pub data Block : Type 0 where
   -- prints pop(), ending a line
   Printer : Block
   RoundRobinSplitter : List ℕ → Block
-  -- gives the item to so many ports
-  DuplicateSplitter : ℕ → Block
+  -- gives the item to each port of weight above 0
+  DuplicateSplitter : List ℕ → Block
   RoundRobinJoiner : List ℕ → Block
 
 pub data Cause : Type 0 where
@@ -51,7 +51,7 @@ looks_at block port = takes block port
 unfoldable pub gives : Block → ℕ → ℕ
 gives Printer port = 0
 gives (RoundRobinSplitter weights) port = get_or weights port 0
-gives (DuplicateSplitter ports) port = cond (ltb port ports) 1 0
+gives (DuplicateSplitter weights) port = cond (eqb (get_or weights port 0) 0) 0 1
 gives (RoundRobinJoiner weights) port = cond (eqb port 0) (sum weights) 0
 gives _ port = cond (eqb port 0) 1 0
 
@@ -59,11 +59,6 @@ unfoldable pub quotient : ℤ → ℤ → ℤ → Fired ℤ Cause Word
 quotient n (pos zero) state = Faults DivisionByZero
 quotient n (pos (suc d)) state = Fires state (at_port_0 (int_div n (pos (suc d)) ∷ [])) []
 quotient n (negsuc d) state = Fires state (at_port_0 (int_div n (negsuc d) ∷ [])) []
-
--- The items that one cycle of a joiner gives.
-unfoldable pub cycle_of : List ℕ → ℕ → ByPort → List ℤ
-cycle_of [] port seen = []
-cycle_of (weight ∷ weights) port seen = seen port ++ cycle_of weights (suc port) seen
 
 unfoldable pub fires : Block → ℤ → ByPort → Fired ℤ Cause Word
 fires Counter x seen = Fires (x +ℤ pos 1) (at_port_0 (x ∷ [])) []
@@ -73,8 +68,8 @@ fires Negation x seen = Fires x (at_port_0 (neg_ℤ (get_or (seen 0) 0 (pos 0)) 
 fires (Quotient n k) x seen = quotient n (get_or (seen 0) 0 (pos 0) -ℤ k) x
 fires Printer x seen = Fires x (λ port. []) (line (get_or (seen 0) 0 (pos 0)) ∷ [])
 fires (RoundRobinSplitter weights) x seen = Fires x (λ port. take (get_or weights port 0) (drop (span_start weights port) (seen 0))) []
-fires (DuplicateSplitter ports) x seen = Fires x (λ port. cond (ltb port ports) (seen 0) []) []
-fires (RoundRobinJoiner weights) x seen = Fires x (at_port_0 (cycle_of weights 0 seen)) []
+fires (DuplicateSplitter weights) x seen = Fires x (λ port. cond (eqb (get_or weights port 0) 0) [] (seen 0)) []
+fires (RoundRobinJoiner weights) x seen = Fires x (at_port_0 (one_cycle weights 0 seen)) []
 
 unfoldable pub example : Meaning Block ℤ Cause Word
 example = record {

@@ -1,4 +1,4 @@
--- A flat graph by sources, and its equations (Lee and Messerschmitt 1987, section II; Kahn's equations on finite lists).
+-- A flat graph by sources, and its equations (Lee and Messerschmitt 1987; Kahn's equations on finite lists).
 use Rattle.std.specs.Prelude.{◌≡◌, ℕ, ℤ, List, [], ◌++◌}
 use Rattle.strc_dataflow.specs.Node.{ByPort, Meaning}
 use Rattle.strc_dataflow.specs.Histories.{Run, runs}

@@ -6,6 +6,7 @@ pub mod Order
 pub mod Machine
 pub mod Answer
 pub mod RoundRobin
+pub mod Pipelines
 pub mod Examples
 pub mod Rows
 pub mod Rounds

@@ -1,4 +1,4 @@
--- The nodes of a synchronous dataflow graph: filters, splitters and joiners under one notion (Lee and Messerschmitt 1987, section II;
+-- The nodes of a synchronous dataflow graph: filters, splitters and joiners under one notion (Lee and Messerschmitt 1987;
 -- StreamIt specification 2.1, "Filters"). A node is known by its code; what a code means is a record over abstract carriers.
 use Rattle.std.specs.Prelude.{ℕ, zero, suc, ◌+◌, ℤ, List}
 

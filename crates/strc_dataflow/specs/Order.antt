@@ -1,5 +1,5 @@
--- Orders of firings by counts alone (Lee and Messerschmitt 1987, sections II and III: admissible sequential schedules).
-use Rattle.std.specs.Prelude.{◌≡◌, ℕ, suc, ◌+◌, ◌*◌, ◌<◌, ◌≤◌, cond, eqb, ℤ, List, [], ◌∷◌, length}
+-- Orders of firings by counts alone (Lee and Messerschmitt 1987: admissible sequential schedules).
+use Rattle.std.specs.Prelude.{◌≡◌, ℕ, suc, ◌+◌, ◌-◌, ◌*◌, ◌<◌, ◌≤◌, cond, eqb, ℤ, List, [], ◌∷◌, length}
 use Rattle.strc_dataflow.specs.Node.{Meaning, total}
 use Rattle.strc_dataflow.specs.Flat.{Origin, Origin.Nowhere, Origin.Input, Origin.Port, Source, Graph}
 
@@ -31,6 +31,10 @@ module _ {Code State Cause Word : Type 0} (meaning : Meaning Code State Cause Wo
   -- How many items have come from a source, enqueued ones included.
   unfoldable pub supply : (ℕ → ℕ) → Source → ℕ
   supply counts source = length source.enqueued + supply_of counts source.origin
+
+  -- How many items wait at an input port, by counts: those that have come without those that were taken.
+  unfoldable pub fill : (ℕ → ℕ) → ℕ → ℕ → ℕ
+  fill counts node port = supply counts (graph.source node port) - total (meaning.popped (graph.code node)) (counts node) port
 
   -- By counts, the node's next firing finds its windows.
   abbrev pub IsReady : (ℕ → ℕ) → ℕ → Type 0

@@ -1,9 +1,10 @@
--- The machine over queues (Lee and Messerschmitt 1987, section II: samples on an arc are a first-in-first-out queue): a firing sees the
+-- The machine over queues (Lee and Messerschmitt 1987: samples on an arc are a first-in-first-out queue): a firing sees the
 -- fronts of its node's queues, takes items from there and adds what it pushes at the backs of others.
-use Rattle.std.specs.Prelude.{◌≡◌, ℕ, ◌<◌, ◌≤◌, Bool, true, false, cond, eqb, leb, ltb, ℤ, List, [], ◌∷◌, ◌++◌, length, take, drop, None}
+use Rattle.std.specs.Prelude.{◌≡◌, ℕ, ◌<◌, ◌≤◌, Bool, true, false, cond, eqb, leb, ltb, ℤ, List, [], ◌∷◌, ◌++◌, length, take, drop, None, zero, suc}
 use Rattle.strc_dataflow.specs.Node.{ByPort, Fired, Fired.Fires, Fired.Faults, Meaning, total}
 use Rattle.strc_dataflow.specs.Histories.{Run, all_below, begun, after_firing}
 use Rattle.strc_dataflow.specs.Flat.{Origin, Origin.Nowhere, Origin.Input, Origin.Port, Graph, arrived}
+use Rattle.strc_dataflow.specs.Answer.{Outcome, Outcome.Done, Outcome.StartupFault, Outcome.RoundFault, words_of}
 use Rattle.strc_dataflow.specs.Machine.{Stop, Progress, Progress.Went, Progress.Stopped, put}
 
 -- Each node's run, and the queue at each input port.
@@ -81,3 +82,22 @@ module _ {Code State Cause Word : Type 0} (meaning : Meaning Code State Cause Wo
   -- No firing takes more than it looks at.
   abbrev pub TakesWithinWindow : Type 0
   TakesWithinWindow = (node firing port : ℕ) → port < meaning.ports (graph.code node) → meaning.popped (graph.code node) firing port ≤ meaning.window (graph.code node) firing port
+
+module _ {Code State Cause Word : Type 0} (meaning : Meaning Code State Cause Word) (graph : Graph Code) (input : List ℤ) (round_order : List ℕ) where
+  -- A round's outcome, where the later rounds have theirs.
+  unfoldable pub fifo_round_outcome : ℕ → (ℕ → List Word) → FifoProgress State Cause Word → (Fifo State Cause Word → Outcome Cause Word) → Outcome Cause Word
+  fifo_round_outcome q words (FifoWent now) later = later now
+  fifo_round_outcome q words (FifoStopped stop) later = RoundFault q stop words
+
+  -- What is left of the run: so many rounds, from round q on.
+  unfoldable pub fifo_rounds : ℕ → ℕ → Fifo State Cause Word → Outcome Cause Word
+  fifo_rounds zero q now = Done (words_of now.runs)
+  fifo_rounds (suc left) q now = fifo_round_outcome q (words_of now.runs) (fifo_go meaning graph round_order now) (fifo_rounds left (suc q))
+
+  unfoldable pub fifo_startup_outcome : ℕ → FifoProgress State Cause Word → Outcome Cause Word
+  fifo_startup_outcome k (FifoWent now) = fifo_rounds k 0 now
+  fifo_startup_outcome k (FifoStopped stop) = StartupFault stop
+
+  -- The run of the machine over queues: start-up and k rounds.
+  unfoldable pub fifo_run : List ℕ → ℕ → Outcome Cause Word
+  fifo_run startup_order k = fifo_startup_outcome k (fifo_go meaning graph startup_order (fifo_at_first meaning graph input))

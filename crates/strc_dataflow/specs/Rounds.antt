@@ -1,4 +1,4 @@
--- When an order of one round is valid in every round (Lee and Messerschmitt 1987, section III: balance equations, periodic schedules).
+-- When an order of one round is valid in every round (Lee and Messerschmitt 1987: balance equations, periodic schedules).
 use Rattle.std.specs.Prelude.{◌≡◌, ℕ, ◌+◌, ◌*◌, ◌<◌, ◌≤◌, ◌≢◌, ℤ, List, length}
 use Rattle.strc_dataflow.specs.Node.{Meaning, total}
 use Rattle.strc_dataflow.specs.Flat.{Origin, Origin.Nowhere, Origin.Input, Origin.Port, Graph}

@@ -1,7 +1,11 @@
 -- Worked rows: streams over the example blocks, with counts, orders that are valid by them, and what is printed.
-use Rattle.std.specs.Prelude.{◌≡◌, ℕ, suc, ℤ, pos, neg_ℤ, List, [], ◌∷◌, get_or, Some}
+use Rattle.std.specs.Prelude.{◌≡◌, ◌<◌, sum, ℕ, suc, ℤ, pos, neg_ℤ, List, [], ◌∷◌, get_or, Some}
+use Rattle.strc_dataflow.specs.Rounds.{IsBalanced}
+use Rattle.strc_dataflow.specs.Pipelines.{IsMatched}
+use Rattle.strc_dataflow.specs.Node.{ByPort}
+use Rattle.strc_dataflow.specs.RoundRobin.{dealt, duplicated, woven, IsRoundRobinSplitter, IsDuplicateSplitter, IsRoundRobinJoiner}
 use Rattle.strc_dataflow.specs.Streams.{Stream, Stream.One, Stream.Reader, Stream.Pipeline, Stream.SplitJoin, Stream.FeedbackLoop, Streams.Last, Streams.More, flat}
-use Rattle.strc_dataflow.specs.Order.{counts_after, IsSchedule}
+use Rattle.strc_dataflow.specs.Order.{counts_after, IsSchedule, IsOrder}
 use Rattle.strc_dataflow.specs.Machine.{Stop, first_fault}
 use Rattle.strc_dataflow.specs.Answer.{Outcome, Outcome.Done, Outcome.StartupFault, Outcome.RoundFault, IsAnswer, stream_runs, whole_run}
 use Rattle.strc_dataflow.specs.Examples.{Block, Block.Counter, Block.Identity, Block.Adder, Block.Negation, Block.Quotient, Block.Printer, Block.RoundRobinSplitter, Block.DuplicateSplitter, Block.RoundRobinJoiner, Cause, Cause.DivisionByZero, Word, line, example}
@@ -30,6 +34,9 @@ pub record Program : Type 0 where
 
 abbrev pub by_node : List ℕ → ℕ → ℕ
 by_node counts node = get_or counts node 0
+
+abbrev pub by_lists : List (List ℤ) → ByPort
+by_lists lists port = get_or lists port []
 
 -- What the stream equations say, read at the counts that decide.
 abbrev pub EquationsSay : Program → Shown → Type 0
@@ -73,7 +80,7 @@ MinimalRow = IsRow minimal (Words (line (pos 0) ∷ line (pos 1) ∷ line (pos 2
 abbrev pub fibonacci : Program
 fibonacci = record {
   stream = Pipeline
-      (More (FeedbackLoop (RoundRobinJoiner (0 ∷ 1 ∷ [])) (One Adder) (DuplicateSplitter 2) (One Identity) (pos 0 ∷ pos 1 ∷ []))
+      (More (FeedbackLoop (RoundRobinJoiner (0 ∷ 1 ∷ [])) (One Adder) (DuplicateSplitter (1 ∷ 1 ∷ [])) (One Identity) (pos 0 ∷ pos 1 ∷ []))
       (Last (One Printer)));
   input = [];
   startup = 1 ∷ 0 ∷ 0 ∷ 0 ∷ 0 ∷ [];
@@ -143,7 +150,7 @@ abbrev pub two_branches : List ℕ → Program
 two_branches round_order = record {
   stream = Pipeline
       (More (Reader Identity)
-      (More (SplitJoin (Some (DuplicateSplitter 2)) (More (One (Quotient (pos 100) (pos 0))) (Last (One (Quotient (pos 50) (pos 0))))) (Some (RoundRobinJoiner (1 ∷ 1 ∷ []))))
+      (More (SplitJoin (Some (DuplicateSplitter (1 ∷ 1 ∷ []))) (More (One (Quotient (pos 100) (pos 0))) (Last (One (Quotient (pos 50) (pos 0))))) (Some (RoundRobinJoiner (1 ∷ 1 ∷ []))))
       (Last (One Printer))));
   input = pos 25 ∷ pos 0 ∷ [];
   startup = 0 ∷ 0 ∷ 0 ∷ 0 ∷ 0 ∷ 0 ∷ [];
@@ -163,7 +170,7 @@ TwoFaultsRow =
 abbrev pub loop_fault : Program
 loop_fault = record {
   stream = Pipeline
-      (More (FeedbackLoop (RoundRobinJoiner (0 ∷ 1 ∷ [])) (One (Quotient (pos 6) (pos 1))) (DuplicateSplitter 2) (One Identity) (pos 4 ∷ []))
+      (More (FeedbackLoop (RoundRobinJoiner (0 ∷ 1 ∷ [])) (One (Quotient (pos 6) (pos 1))) (DuplicateSplitter (1 ∷ 1 ∷ [])) (One Identity) (pos 4 ∷ []))
       (Last (One Printer)));
   input = [];
   startup = 0 ∷ 0 ∷ 0 ∷ 0 ∷ 0 ∷ [];
@@ -192,3 +199,30 @@ startup_fault = record {
 
 abbrev pub StartupFaultRow : Type 0
 StartupFaultRow = IsRow startup_fault (FaultAtStart (stop 1 0))
+
+-- The example's splitters and joiners are those of which the formulas on places speak.
+abbrev pub ExampleSplitters : Type 0
+ExampleSplitters =
+    (weights : List ℕ)
+    → (0 < sum weights → IsRoundRobinSplitter example (RoundRobinSplitter weights) weights)
+    × IsDuplicateSplitter example (DuplicateSplitter weights) weights
+    × IsRoundRobinJoiner example (RoundRobinJoiner weights) weights
+
+-- A list of seven items dealt by weights 2, 0 and 1, and three lists woven by them.
+abbrev pub PlacesRow : Type 0
+PlacesRow =
+    (dealt (2 ∷ 0 ∷ 1 ∷ []) 5 (pos 1 ∷ pos 2 ∷ pos 3 ∷ pos 4 ∷ pos 5 ∷ pos 6 ∷ pos 7 ∷ []) 0 ≡ pos 1 ∷ pos 2 ∷ pos 4 ∷ pos 5 ∷ [])
+    × (dealt (2 ∷ 0 ∷ 1 ∷ []) 5 (pos 1 ∷ pos 2 ∷ pos 3 ∷ pos 4 ∷ pos 5 ∷ pos 6 ∷ pos 7 ∷ []) 2 ≡ pos 3 ∷ pos 6 ∷ [])
+    × (woven (2 ∷ 0 ∷ 1 ∷ []) 5 (by_lists ((pos 1 ∷ pos 2 ∷ pos 4 ∷ pos 5 ∷ []) ∷ [] ∷ (pos 3 ∷ pos 6 ∷ pos 9 ∷ []) ∷ [])) ≡ pos 1 ∷ pos 2 ∷ pos 3 ∷ pos 4 ∷ pos 5 ∷ pos 6 ∷ [])
+    × (duplicated (1 ∷ 0 ∷ []) 2 (pos 1 ∷ pos 2 ∷ pos 3 ∷ []) 0 ≡ pos 1 ∷ pos 2 ∷ [])
+    × (duplicated (1 ∷ 0 ∷ []) 2 (pos 1 ∷ pos 2 ∷ pos 3 ∷ []) 1 ≡ [])
+
+-- A pipeline of a counter, a negation and a printer meets what the law of pipelines asks.
+abbrev pub MatchedRow : Type 0
+MatchedRow = IsMatched example Counter (Negation ∷ Printer ∷ [])
+
+-- Fibonacci's channels balance at one firing each, its rates repeat, and its order of a round is valid in every round.
+abbrev pub BalanceRow : Type 0
+BalanceRow =
+    IsBalanced example (flat fibonacci.stream) (by_node fibonacci.startup) (by_node fibonacci.round)
+    × ((k q : ℕ) → q < k → IsOrder example (flat fibonacci.stream) [] (counts_after (by_node fibonacci.startup) (by_node fibonacci.round) q) fibonacci.round_order)

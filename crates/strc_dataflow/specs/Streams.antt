@@ -8,9 +8,12 @@ use Rattle.strc_dataflow.specs.Flat.{Origin.Nowhere, Origin.Input, Origin.Port, 
 mutual
   -- A stream; a split-join whose input (output) is void has no splitter (joiner).
   pub data Stream (Code : Type 0) : Type 0 where
+    -- a filter
     One : Code → Stream Code
+    -- a filter that takes the program's input
     Reader : Code → Stream Code
     Pipeline : Streams Code → Stream Code
+    -- splitter, children, joiner
     SplitJoin : Option Code → Streams Code → Option Code → Stream Code
     -- joiner, body, splitter, loop, and the items enqueued on the channel from the loop to the joiner
     FeedbackLoop : Code → Stream Code → Code → Stream Code → List ℤ → Stream Code

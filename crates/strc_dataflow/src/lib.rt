@@ -1,12 +1,12 @@
 // Takes: what one firing of each kind of node means, a stream as a tree, counts of firings and orders of them.
 // Gives: definitions that other crates cite (nodes, runs, the stream equations, orders, the answer of a run), and laws about them.
 // A caller relies on `run_gives_answer`: the run of each order that is valid by counts gives the answer of the stream equations.
-// Each law is the contract of a public function with an empty body; `specs/Laws.antt` states them, `specs/Examples.antt` has the rows.
+// Each law is the contract of a public function with an empty body; `specs/Laws.antt` states them, `specs/Rows.antt` has worked rows.
 // Stands on std alone.
 #![tactic(auto)]
 
-ghost use Rattle.strc_dataflow.specs.Laws.{AnswerIsOne, AnySolution, OrderIsValidAgain, QueuesHoldTheRest, RunGivesAnswer, SolutionSolves};
-ghost use Rattle.strc_dataflow.specs.Rows.{DivisionFaultRow, DownstreamFaultRow, FaultInLoopRow, FibonacciRow, MinimalRow, StartupFaultRow, TwoFaultsRow, WeightsRow};
+ghost use Rattle.strc_dataflow.specs.Laws.{AnswerIsOne, AnySolution, FillsAreByCounts, OnlyPortsMatter, OrderIsValidAgain, OrdersAgree, PipelineRunsInOrder, QueueRunGivesAnswer, QueuesHoldTheRest, RunGivesAnswer, SolutionSolves, SplittersAndJoiners, StateSolves};
+ghost use Rattle.strc_dataflow.specs.Rows.{BalanceRow, DivisionFaultRow, DownstreamFaultRow, ExampleSplitters, FaultInLoopRow, FibonacciRow, MatchedRow, MinimalRow, PlacesRow, StartupFaultRow, TwoFaultsRow, WeightsRow};
 
 /// The solution that the recursion over a stream gives solves the equations of its flat graph.
 pub fn solution_solves<Code, State, Cause, Word>()
@@ -24,6 +24,11 @@ pub fn answer_is_one<Code, State, Cause, Word>()
     ensures { AnswerIsOne Code State Cause Word }
 {}
 
+/// Two schedules of the same counts give the same words, and a fault in the same round; they differ at most in the firing that they name.
+pub fn orders_agree<Code, State, Cause, Word>()
+    ensures { OrdersAgree Code State Cause Word }
+{}
+
 /// The run of a graph is the answer that any solutions of its flat equations give, and no other outcome is.
 pub fn any_solution<Code, State, Cause, Word>()
     ensures { AnySolution Code State Cause Word }
@@ -34,9 +39,39 @@ pub fn queues_hold_the_rest<Code, State, Cause, Word>()
     ensures { QueuesHoldTheRest Code State Cause Word }
 {}
 
+/// The run over queues gives the answer too.
+pub fn queue_run_gives_answer<Code, State, Cause, Word>()
+    ensures { QueueRunGivesAnswer Code State Cause Word }
+{}
+
+/// After an order that is valid by counts the state solves the flat equations at its counts.
+pub fn state_solves<Code, State, Cause, Word>()
+    ensures { StateSolves Code State Cause Word }
+{}
+
+/// The length of each queue is what the counts say.
+pub fn fills_are_by_counts<Code, State, Cause, Word>()
+    ensures { FillsAreByCounts Code State Cause Word }
+{}
+
 /// An order that is valid in the first round is valid in every later one, where the channels balance.
 pub fn order_is_valid_again<Code, State, Cause, Word>()
     ensures { OrderIsValidAgain Code State Cause Word }
+{}
+
+/// What stands at ports that a node doesn't have makes no difference to a run.
+pub fn only_ports_matter<Code, State, Cause, Word>()
+    ensures { OnlyPortsMatter Code State Cause Word }
+{}
+
+/// A pipeline of filters that take what the one before gives runs in order, each node once a round.
+pub fn pipeline_runs_in_order<Code, State, Cause, Word>()
+    ensures { PipelineRunsInOrder Code State Cause Word }
+{}
+
+/// Round-robin and duplicating splitters and round-robin joiners do the formulas on places.
+pub fn splitters_and_joiners<Code, State, Cause, Word>()
+    ensures { SplittersAndJoiners Code State Cause Word }
 {}
 
 /// A counter and a printer: five rounds print 0 to 4.
@@ -77,4 +112,24 @@ pub fn fault_in_loop()
 /// A fault in start-up, without words.
 pub fn startup_fault()
     ensures { StartupFaultRow }
+{}
+
+/// The example's splitters and joiners are round-robin and duplicating ones.
+pub fn example_splitters()
+    ensures { ExampleSplitters }
+{}
+
+/// Lists dealt, woven and duplicated by weights, one of them 0.
+pub fn dealt_and_woven()
+    ensures { PlacesRow }
+{}
+
+/// A pipeline that meets what the law of pipelines asks.
+pub fn matched_pipeline()
+    ensures { MatchedRow }
+{}
+
+/// A feedback loop whose channels balance, and whose order is valid in every round.
+pub fn balanced_loop()
+    ensures { BalanceRow }
 {}

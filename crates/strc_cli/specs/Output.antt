@@ -1,0 +1,77 @@
+-- The text that is written: the words of a run and its fault line, or the line of a refusal.
+use Rattle.std.specs.Prelude.{ℕ, ◌-◌, Bool, false, not, Option, Some, None, length, slice_get, List, [], ◌∷◌, ◌++◌, codes, decimal, if◌then◌else◌}
+use Rattle.std.specs.Fmt.{signed_decimal}
+use Rattle.strc_work.specs.declared.word.Word.{Word}
+use Rattle.strc_work.specs.declared.fault.Cause.{Cause}
+use Rattle.strc_work.specs.declared.fault.Cause.TheVariants as cause
+use Rattle.strc_cli.specs.declared.outcome.Outcome.{Outcome}
+use Rattle.strc_cli.specs.declared.outcome.Outcome.TheVariants as outcome
+use Rattle.strc_cli.specs.declared.outcome.Fault.{Fault}
+use Rattle.strc_cli.specs.declared.refusal.Refusal.{Refusal}
+use Rattle.strc_cli.specs.declared.refusal.Refusal.TheVariants as refusal
+
+-- a line feed
+abbrev pub line_end : List ℕ
+line_end = 10 ∷ []
+
+-- a word in decimal, with its line feed where it ends a line
+abbrev pub word_text : Word → List ℕ
+word_text word = signed_decimal word.value ++ (if word.ends_line then line_end else [])
+
+abbrev pub words_text : List Word → List ℕ
+words_text [] = []
+words_text (word ∷ words) = word_text word ++ words_text words
+
+-- whether the last word leaves its line open
+abbrev pub is_open : Option Word → Bool
+is_open None = false
+is_open (Some word) = not word.ends_line
+
+abbrev pub leaves_open : List Word → Bool
+leaves_open words = is_open (slice_get words (length words - 1))
+
+-- the line feed that stands before a line where the words leave theirs open
+abbrev pub closing : List Word → List ℕ
+closing words = if leaves_open words then line_end else []
+
+abbrev pub cause_name : Cause → List ℕ
+cause_name cause.DivZero = codes "DivZero"
+cause_name cause.Index = codes "Index"
+cause_name cause.PeekRange = codes "PeekRange"
+cause_name cause.Turns = codes "Turns"
+
+-- `fault DivZero node 1 firing 1 round 1`
+abbrev pub fault_line : Fault → List ℕ
+fault_line fault =
+    codes "fault " ++ cause_name fault.cause ++ codes " node " ++ decimal fault.node ++ codes " firing " ++ decimal fault.firing
+    ++ codes " round " ++ decimal fault.round ++ line_end
+
+-- all that a run writes
+abbrev pub outcome_text : Outcome → List ℕ
+outcome_text (outcome.Done words) = words_text words.items
+outcome_text (outcome.Fault fault words) = words_text words.items ++ closing words.items ++ fault_line fault
+
+-- the number and the name of a refusal, with its fields, each behind its name
+abbrev pub refusal_words : Refusal → List ℕ
+refusal_words refusal.NotYet = codes "E0 NotYet"
+refusal_words (refusal.Lex at) = codes "E1 Lex" ++ codes " at " ++ decimal at
+refusal_words (refusal.Parse token) = codes "E2 Parse" ++ codes " token " ++ decimal token
+refusal_words refusal.TextTooLong = codes "E3 TextTooLong"
+refusal_words (refusal.UnknownName name) = codes "E4 UnknownName" ++ codes " name " ++ name
+refusal_words (refusal.TypeMismatch stream) = codes "E5 TypeMismatch" ++ codes " stream " ++ decimal stream
+refusal_words refusal.NoMain = codes "E6 NoMain"
+refusal_words refusal.ManyMains = codes "E7 ManyMains"
+refusal_words refusal.NodeLimit = codes "E9 NodeLimit"
+refusal_words (refusal.ConstFault cause) = codes "E12 ConstFault" ++ codes " cause " ++ cause_name cause
+refusal_words (refusal.RateMismatch node declared counted) =
+    codes "E14 RateMismatch" ++ codes " node " ++ decimal node ++ (codes " declared " ++ decimal declared ++ codes " counted " ++ decimal counted)
+refusal_words (refusal.RateLimit node) = codes "E16 RateLimit" ++ codes " node " ++ decimal node
+refusal_words refusal.TwoOutputs = codes "E18 TwoOutputs"
+refusal_words refusal.Disconnected = codes "E19 Disconnected"
+refusal_words refusal.NoMemory = codes "E25 NoMemory"
+refusal_words refusal.Nesting = codes "E26 Nesting"
+refusal_words refusal.RoundsNeeded = codes "S5 RoundsNeeded"
+
+-- `refused E1 Lex at 12`
+abbrev pub refusal_line : Refusal → List ℕ
+refusal_line refused = codes "refused " ++ refusal_words refused ++ line_end
