@@ -1,5 +1,5 @@
 -- Reading a spelled tree again: it is read where its height is within the depth, and else nests too deep.
-use Rattle.std.proofs.Common.{◌≡◌, ℕ, zero, suc, ◌+◌, ◌-◌, ◌<◌, ◌≤◌, max, Bool, true, false, cond, ltb, List, [], ◌∷◌, length, Option, Some, None, Result, Ok, Err, refl, sym, ap, ◌∙◌, arith, inl, inr}
+use Rattle.std.proofs.Common.{◌≡◌, ℕ, suc, ◌+◌, ◌<◌, ◌≤◌, List, ◌∷◌, Result, Ok, Err, refl, arith, inl, inr}
 use Rattle.std.proofs.lemmas.Bool.{cases_lt, lt-ltb, le-ltb}
 use denote.Enum.Bare.{true_same}
 use Rattle.strc_lex.specs.contracts.token.Mark.{the_type as mark_type}
@@ -10,7 +10,7 @@ use Rattle.strc_lex.specs.declared.token.Word.{Word}
 use Rattle.strc_lex.specs.declared.token.Mark.{Mark}
 use Rattle.strc_parse.specs.declared.error.Fault.{Fault}
 use Rattle.strc_parse.specs.declared.error.Fault.TheVariants.{Nesting}
-use Rattle.strc_parse.specs.Reading.{◌>>=◌, is_mark, is_word, expect, expect_word, name, raised}
+use Rattle.strc_parse.specs.Reading.{◌>>=◌, is_mark, is_word, expect, expect_word, raised}
 
 pub record Again (depth height : ℕ) {X : Type 0} (x : X) (read : Result X Fault) : Type 0 where
   pub fits : height ≤ depth → read ≡ Ok x

@@ -1,5 +1,5 @@
 -- An expression's spelling is read again, whatever stops it.
-use Rattle.std.proofs.Common.{◌≡◌, ℕ, zero, suc, ◌+◌, ◌-◌, ◌<◌, ◌≤◌, max, Bool, true, false, cond, eqb, List, [], ◌∷◌, length, Option, Some, None, Result, Ok, Err, refl, sym, ap, subst, ◌∙◌, arith, inl, inr}
+use Rattle.std.proofs.Common.{◌≡◌, ℕ, zero, suc, ◌+◌, ◌-◌, ◌<◌, ◌≤◌, max, true, false, eqb, List, ◌∷◌, length, Option, Some, None, Ok, Err, refl, ap, subst, ◌∙◌, arith, inl, inr}
 use Rattle.std.proofs.lemmas.Bool.{cases_lt, ne_eqb, eq-eqb}
 use Rattle.strc_lex.specs.declared.token.TokenKind.{TokenKind}
 use Rattle.strc_lex.specs.declared.token.TokenKind.TheVariants as token
@@ -11,11 +11,10 @@ use Rattle.strc_parse.specs.declared.tree.StepOperator.{StepOperator}
 use Rattle.strc_parse.specs.declared.tree.StepOperator.TheVariants as step
 use Rattle.strc_parse.specs.declared.tree.BinaryOperator.{BinaryOperator}
 use Rattle.strc_parse.specs.declared.tree.BinaryOperator.TheVariants as binary
-use Rattle.strc_parse.specs.declared.error.Fault.{Fault}
 use Rattle.strc_parse.specs.declared.error.Fault.TheVariants.{Nesting}
 use Rattle.strc_parse.specs.Tree as tree
-use Rattle.strc_parse.specs.Grammar.{unary_mark, binary_mark, step_spelled, expr_spelled, looseness, rank, IsExpr, expr_height}
-use Rattle.strc_parse.specs.Reading.{◌>>=◌, Below, tail, first, mark_at, binary_of, binary_by, of_rank, operator, step_after, after_name, name, step_first, expect, pop_brackets, loosest, group, sign, marked, operand, chain, climb, expression, raised}
+use Rattle.strc_parse.specs.Grammar.{binary_mark, step_spelled, expr_spelled, looseness, rank, IsExpr, expr_height}
+use Rattle.strc_parse.specs.Reading.{Below, tail, mark_at, binary_of, binary_by, of_rank, operator, step_after, after_name, name, step_first, pop_brackets, loosest, group, sign, marked, operand, chain, climb, expression}
 use Rattle.strc_parse.proofs.Again.{Again, Again-then, Again-inside, Again-leaf, Again-raised, expect_mark, raised_low, raised_high}
 
 -- what follows an expression of this rank and stops it
@@ -240,7 +239,7 @@ module _ (o : BinaryOperator) (left right : tree.Expr) (left_low : rank left ≤
   binary_facts =
       let own : looseness o ≡ suc (looseness o - 1) = omega (arith, looseness_some o) in
       let climbed : IsClimbed both = λ d k rest le stops. climb_on (suc d) (expression d) (suc (looseness o - 1)) k (expr_spelled both rest) both rest (omega arith) stops
-          (own_climb d (looseness o - 1) rest own (Stops-le (suc (looseness o - 1)) (omega arith) stops)) in
+      (own_climb d (looseness o - 1) rest own (Stops-le (suc (looseness o - 1)) (omega arith) stops)) in
       record {
         climbed = climbed;
         spine = λ d k rest le stops. elim (cases_lt k (looseness o)) [
@@ -266,8 +265,8 @@ module _ (d : ℕ) (rest : List TokenKind) where
   unfolding group
   group_again inner again =
       Again-inside d (expr_height inner) (expr_height inner + 1) (found inner (token.Mark mark.CloseBracket ∷ rest)) (found (tree.Group inner) rest) _ _
-        (again d loosest (token.Mark mark.CloseBracket ∷ rest) (rank_low inner) (Stops-bracket loosest rest)) (omega arith)
-        (λ low. rw (expect_mark mark.CloseBracket rest) (Again-raised (suc d) (expr_height inner) (found (tree.Group inner) rest) _ refl))
+      (again d loosest (token.Mark mark.CloseBracket ∷ rest) (rank_low inner) (Stops-bracket loosest rest)) (omega arith)
+      (λ low. rw (expect_mark mark.CloseBracket rest) (Again-raised (suc d) (expr_height inner) (found (tree.Group inner) rest) _ refl))
 
   sign_again : (o : UnaryOperator) (inner : tree.Expr) → IsReadAgain inner → rank inner ≡ 0 → step_after rest ≡ None
       → Again (suc d) (expr_height (tree.Unary o inner)) (found (tree.Unary o inner) rest) (sign (suc d) (expression d) o (expr_spelled inner rest))
@@ -275,8 +274,8 @@ module _ (d : ℕ) (rest : List TokenKind) where
   sign_again o inner again at no_step =
       let stops : Stops 0 rest = record { no_step = no_step; no_operator = λ k h. no_rank_0 k (omega arith) (mark_at rest) } in
       Again-inside d (expr_height inner) (expr_height inner + 1) (found inner rest) (found (tree.Unary o inner) rest) _ _
-        (again d 0 rest (omega arith) stops) (omega arith)
-        (λ low. Again-raised (suc d) (expr_height inner) (found (tree.Unary o inner) rest) _ refl)
+      (again d 0 rest (omega arith) stops) (omega arith)
+      (λ low. Again-raised (suc d) (expr_height inner) (found (tree.Unary o inner) rest) _ refl)
 
   pop_again : pop_brackets (token.Mark mark.OpenBracket ∷ token.Mark mark.CloseBracket ∷ rest) ≡ Ok (found tree.Pop rest)
   unfolding pop_brackets

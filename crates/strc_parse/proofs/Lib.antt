@@ -4,4 +4,10 @@ pub mod Steps
 pub mod Again
 pub mod ExpressionAgain
 pub mod StatementAgain
+pub mod ProgramAgain
+pub mod Holds
+pub mod ExpressionHolds
+pub mod StatementHolds
+pub mod ProgramHolds
+pub mod Exact
 pub mod Views

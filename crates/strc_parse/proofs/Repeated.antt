@@ -1,5 +1,5 @@
 -- A loop of turns, beside the code's loop that counts up.
-use Rattle.std.proofs.Common.{◌≡◌, ℕ, ℤ, eqb, suc, ◌+◌, ◌-◌, ◌<◌, ◌≤◌, Bool, true, false, List, [], ◌∷◌, ◌++◌, length, Option, Some, None, Result, Ok, Err, refl, sym, ap, ◌∙◌, arith}
+use Rattle.std.proofs.Common.{◌≡◌, ℕ, ℤ, eqb, suc, ◌+◌, ◌-◌, ◌<◌, ◌≤◌, true, false, List, [], ◌∷◌, ◌++◌, length, Option, Some, None, Result, Ok, Err, refl, ◌∙◌, arith}
 use Rattle.strc_lex.specs.declared.token.TokenKind.{TokenKind}
 use Rattle.strc_lex.specs.declared.token.Mark.TheVariants as mark
 use Rattle.std.proofs.lemmas.Bool.{eqb-true}

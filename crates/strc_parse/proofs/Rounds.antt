@@ -1,10 +1,9 @@
 -- How the readers that recurse go on, beside the code.
-use Rattle.std.proofs.Common.{◌≡◌, ℕ, zero, suc, ◌+◌, ◌-◌, ◌<◌, ◌≤◌, List, Option, Some, None, Result, Ok, Err, max, refl, sym, ap, ◌∙◌, arith}
+use Rattle.std.proofs.Common.{◌≡◌, ℕ, zero, suc, ◌+◌, ◌-◌, ◌<◌, List, Some, Ok, max, refl, arith}
 use Rattle.strc_lex.specs.declared.token.TokenKind.{TokenKind}
 use Rattle.strc_parse.specs.declared.tree.BinaryOperator.{BinaryOperator}
-use Rattle.strc_parse.specs.declared.error.Fault.{Fault}
 use Rattle.strc_parse.specs.Tree as tree
-use Rattle.strc_parse.specs.Reading.{◌>>=◌, Tall, Below, tail, raised, operator, chain, climb, expression, shallow, statement}
+use Rattle.strc_parse.specs.Reading.{Below, tail, raised, operator, chain, climb, expression, shallow, statement}
 
 pub expression_at : (depth rank : ℕ) (tokens : List TokenKind) → 0 < depth → expression depth rank tokens ≡ climb depth (expression (depth - 1)) rank tokens
 unfolding expression

@@ -1,10 +1,9 @@
 -- A statement's spelling is read again, whatever follows it.
-use Rattle.std.proofs.Common.{◌≡◌, ℕ, zero, suc, ◌+◌, ◌-◌, ◌<◌, ◌≤◌, max, Bool, true, false, cond, eqb, List, [], ◌∷◌, ◌++◌, length, Option, Some, None, Result, Ok, Err, refl, sym, ap, subst, ◌∙◌, arith, inl, inr, append_assoc}
+use Rattle.std.proofs.Common.{◌≡◌, ℕ, zero, suc, ◌+◌, ◌-◌, ◌<◌, ◌≤◌, max, List, [], ◌∷◌, ◌++◌, length, Option, Some, None, Ok, Err, refl, sym, ap, ◌∙◌, arith, inl, inr, append_assoc}
 use Rattle.std.proofs.lemmas.Bool.{cases_lt}
 use Rattle.std.proofs.lemmas.List.{append-nil}
 use Rattle.strc_lex.specs.declared.token.TokenKind.{TokenKind}
 use Rattle.strc_lex.specs.declared.token.TokenKind.TheVariants as token
-use Rattle.strc_lex.specs.declared.token.Word.TheVariants as word
 use Rattle.strc_lex.specs.declared.token.Mark.TheVariants as mark
 use Rattle.strc_parse.specs.declared.tree.UnaryOperator.TheVariants as unary
 use Rattle.strc_parse.specs.declared.tree.StepOperator.TheVariants as step
@@ -12,13 +11,12 @@ use Rattle.strc_parse.specs.declared.tree.AssignOperator.{AssignOperator}
 use Rattle.strc_parse.specs.declared.tree.AssignOperator.TheVariants as assign
 use Rattle.strc_parse.specs.declared.tree.BinaryOperator.{BinaryOperator}
 use Rattle.strc_parse.specs.declared.tree.BinaryOperator.TheVariants as binary
-use Rattle.strc_parse.specs.declared.error.Fault.{Fault}
 use Rattle.strc_parse.specs.declared.error.Fault.TheVariants.{Nesting}
 use Rattle.strc_parse.specs.Tree as tree
-use Rattle.strc_parse.specs.Grammar.{unary_mark, binary_mark, assign_mark, expr_spelled, variable_spelled, argument_spelled, stmt_spelled, row_spelled, IsExpr, IsInitial, IsStmt, AreStmts, expr_height, initial_height, stmt_height, row_height}
-use Rattle.strc_parse.specs.Reading.{◌>>=◌, Inner, Read, tail, first, mark_at, is_mark, name, expect, raised, loosest, expression, initial, variable, declare, ended, evaluate, assign_to, assign_at, named, bracketed, argument, row, repeated, brace, statement_turn, statements, block, worded, shallow, statement}
+use Rattle.strc_parse.specs.Grammar.{binary_mark, assign_mark, expr_spelled, variable_spelled, argument_spelled, stmt_spelled, row_spelled, IsExpr, IsInitial, IsStmt, AreStmts, expr_height, initial_height, stmt_height, row_height}
+use Rattle.strc_parse.specs.Reading.{◌>>=◌, Inner, tail, mark_at, is_mark, name, expect, loosest, initial, variable, declare, ended, evaluate, assign_to, assign_at, named, bracketed, argument, row, repeated, brace, statement_turn, statements, block, worded, shallow, statement}
 use Rattle.strc_parse.proofs.Again.{Again, Again-then, Again-inside, Again-leaf, Again-raised, expect_mark}
-use Rattle.strc_parse.proofs.ExpressionAgain.{Stops-semicolon, Stops-bracket, rank_low, height_some, expr_length, expression_again}
+use Rattle.strc_parse.proofs.ExpressionAgain.{Stops-semicolon, Stops-bracket, rank_low, expr_length, expression_again}
 
 -- ---- the parts
 
@@ -41,8 +39,8 @@ module _ (d : ℕ) (rest : List TokenKind) where
   unfolding declare
   declare_again named begun shape =
       rw less (Again-inside d (initial_height begun) (initial_height begun + 1) ((named, begun), initial_height begun, rest) (tree.Declare named begun, initial_height begun + 1, rest) _ _
-        (variable_again named begun shape d rest) (omega arith)
-        (λ low. Again-raised (suc d) (initial_height begun) (tree.Declare named begun, initial_height begun + 1, rest) _ refl))
+      (variable_again named begun shape d rest) (omega arith)
+      (λ low. Again-raised (suc d) (initial_height begun) (tree.Declare named begun, initial_height begun + 1, rest) _ refl))
 
   module _ (e : tree.Expr) (shape : IsExpr e) where
     abbrev above : tree.Expr × ℕ × List TokenKind
@@ -52,37 +50,37 @@ module _ (d : ℕ) (rest : List TokenKind) where
     unfolding ended
     ended_again =
         rw less (Again-inside d (expr_height e) (expr_height e + 1) (e, expr_height e, token.Mark mark.Semicolon ∷ rest) above _ _
-          (expression_again e shape d loosest (token.Mark mark.Semicolon ∷ rest) (rank_low e) (Stops-semicolon loosest rest)) (omega arith)
-          (λ low. rw (expect_mark mark.Semicolon rest) (Again-raised (suc d) (expr_height e) above _ refl)))
+        (expression_again e shape d loosest (token.Mark mark.Semicolon ∷ rest) (rank_low e) (Stops-semicolon loosest rest)) (omega arith)
+        (λ low. rw (expect_mark mark.Semicolon rest) (Again-raised (suc d) (expr_height e) above _ refl)))
 
     bracketed_again : Again d (expr_height e) (e, expr_height e, rest) (bracketed (suc d) (token.Mark mark.OpenBracket ∷ expr_spelled e (token.Mark mark.CloseBracket ∷ rest)))
     unfolding bracketed
     bracketed_again =
         rw (expect_mark mark.OpenBracket (expr_spelled e (token.Mark mark.CloseBracket ∷ rest)), less)
-          (Again-then d (expr_height e) (expr_height e) (e, expr_height e, token.Mark mark.CloseBracket ∷ rest) (e, expr_height e, rest) _ _
-            (expression_again e shape d loosest (token.Mark mark.CloseBracket ∷ rest) (rank_low e) (Stops-bracket loosest rest)) (omega arith)
-            (λ low. rw (expect_mark mark.CloseBracket rest) (record { fits = λ h. refl; over = λ h. absurd (omega arith) })))
+        (Again-then d (expr_height e) (expr_height e) (e, expr_height e, token.Mark mark.CloseBracket ∷ rest) (e, expr_height e, rest) _ _
+        (expression_again e shape d loosest (token.Mark mark.CloseBracket ∷ rest) (rank_low e) (Stops-bracket loosest rest)) (omega arith)
+        (λ low. rw (expect_mark mark.CloseBracket rest) (record { fits = λ h. refl; over = λ h. absurd (omega arith) })))
 
 module _ (d : ℕ) (rest : List TokenKind) (e : tree.Expr) (shape : IsExpr e) where
   argument_again : Again (suc d) (expr_height e + 1) (e, expr_height e + 1, rest) (argument (suc d) (argument_spelled e rest))
   unfolding argument
   argument_again =
       Again-inside d (expr_height e) (expr_height e + 1) (e, expr_height e, token.Mark mark.Semicolon ∷ rest) (e, expr_height e + 1, rest) _ _
-        (bracketed_again d (token.Mark mark.Semicolon ∷ rest) e shape) (omega arith)
-        (λ low. rw (expect_mark mark.Semicolon rest) (Again-raised (suc d) (expr_height e) (e, expr_height e + 1, rest) _ refl))
+      (bracketed_again d (token.Mark mark.Semicolon ∷ rest) e shape) (omega arith)
+      (λ low. rw (expect_mark mark.Semicolon rest) (Again-raised (suc d) (expr_height e) (e, expr_height e + 1, rest) _ refl))
 
   -- a statement made of such an expression
   of_argument : (make : tree.Expr → tree.Stmt)
       → Again (suc d) (expr_height e + 1) {X = tree.Stmt × ℕ × List TokenKind} (make e, expr_height e + 1, rest) (argument (suc d) (argument_spelled e rest) >>= λ read. Ok (make read.0, read.1, read.2))
   of_argument make =
       Again-then (suc d) (expr_height e + 1) (expr_height e + 1) (e, expr_height e + 1, rest) (make e, expr_height e + 1, rest) _ _ argument_again (omega arith)
-        (λ low. record { fits = λ h. refl; over = λ h. absurd (omega arith) })
+      (λ low. record { fits = λ h. refl; over = λ h. absurd (omega arith) })
 
   of_ended : (make : tree.Expr → tree.Stmt)
       → Again (suc d) (expr_height e + 1) {X = tree.Stmt × ℕ × List TokenKind} (make e, expr_height e + 1, rest) (ended (suc d) (expr_spelled e (token.Mark mark.Semicolon ∷ rest)) >>= λ read. Ok (make read.0, read.1, read.2))
   of_ended make =
       Again-then (suc d) (expr_height e + 1) (expr_height e + 1) (e, expr_height e + 1, rest) (make e, expr_height e + 1, rest) _ _ (ended_again d rest e shape) (omega arith)
-        (λ low. record { fits = λ h. refl; over = λ h. absurd (omega arith) })
+      (λ low. record { fits = λ h. refl; over = λ h. absurd (omega arith) })
 
 -- ---- how a statement begins
 
@@ -153,7 +151,7 @@ no_brace_before (tree.Println value) rest = refl
 -- ---- heights and lengths
 
 mutual
-  stmt_length : (s : tree.Stmt) (rest : List TokenKind) → stmt_height s + length rest ≤ length (stmt_spelled s rest)
+  pub stmt_length : (s : tree.Stmt) (rest : List TokenKind) → stmt_height s + length rest ≤ length (stmt_spelled s rest)
   stmt_length tree.Empty rest = omega arith
   stmt_length (tree.Block body) rest = omega (arith, row_length body (token.Mark mark.CloseBrace ∷ rest))
   stmt_length (tree.Declare x None) rest = omega arith
@@ -164,7 +162,7 @@ mutual
   stmt_length (tree.Print value) rest = omega (arith, expr_length value (token.Mark mark.CloseBracket ∷ token.Mark mark.Semicolon ∷ rest))
   stmt_length (tree.Println value) rest = omega (arith, expr_length value (token.Mark mark.CloseBracket ∷ token.Mark mark.Semicolon ∷ rest))
 
-  row_length : (body : tree.Stmts) (rest : List TokenKind) → row_height body + length rest ≤ length (row_spelled body rest)
+  pub row_length : (body : tree.Stmts) (rest : List TokenKind) → row_height body + length rest ≤ length (row_spelled body rest)
   row_length tree.Done rest = omega arith
   row_length (tree.Then s others) rest = omega (arith, stmt_length s (row_spelled others rest), row_length others rest)
 
@@ -229,7 +227,7 @@ block_again : (body : tree.Stmts) (d : ℕ) (rest : List TokenKind)
 unfolding shallow block
 block_again body d rest again =
     Again-inside d (row_height body) (row_height body + 1) ((listed body, row_height body), rest) (tree.Block body, row_height body + 1, rest) _ _ again (omega arith)
-      (λ low. rw (row_listed body) (Again-raised (suc d) (row_height body) (tree.Block body, row_height body + 1, rest) _ refl))
+    (λ low. rw (row_listed body) (Again-raised (suc d) (row_height body) (tree.Block body, row_height body + 1, rest) _ refl))
 
 evaluate_again : (e : tree.Expr) → IsExpr e → (d : ℕ) (rest : List TokenKind)
     → Again (suc d) (expr_height e + 1) (tree.Evaluate e, expr_height e + 1, rest) (shallow (suc d) (statement d) (stmt_spelled (tree.Evaluate e) rest))
@@ -248,13 +246,14 @@ always s again (suc d) rest = again d rest
 
 of_row : (body : tree.Stmts) (d : ℕ) (rest : List TokenKind)
     → Again d (row_height body) (read_row [] 0 body rest)
-      (repeated brace (statement_turn (statement d)) (length (row_spelled body (token.Mark mark.CloseBrace ∷ rest))) ([], 0) (row_spelled body (token.Mark mark.CloseBrace ∷ rest)))
+    (repeated brace (statement_turn (statement d)) (length (row_spelled body (token.Mark mark.CloseBrace ∷ rest))) ([], 0) (row_spelled body (token.Mark mark.CloseBrace ∷ rest)))
     → Again d (row_height body) ((listed body, row_height body), rest) (statements (statement d) (row_spelled body (token.Mark mark.CloseBrace ∷ rest)))
 unfolding statements
 of_row body d rest again = let same : max 0 (row_height body) ≡ row_height body = omega arith in rw same at again
 
 mutual
   unfolding shallow worded
+
   stmt_shallow : (s : tree.Stmt) → IsStmt s → (d : ℕ) (rest : List TokenKind)
       → Again (suc d) (stmt_height s) (s, stmt_height s, rest) (shallow (suc d) (statement d) (stmt_spelled s rest))
   stmt_shallow tree.Empty shape d rest = Again-leaf d _ _ refl
@@ -286,9 +285,6 @@ mutual
           | inr low ↦ turn_again d front high s behind t one low ∙ more.over (omega arith)
         ];
       }
-
-pub statement_again : (s : tree.Stmt) → IsStmt s → IsStmtAgain s
-statement_again s shape = always s (λ d rest. stmt_shallow s shape d rest)
 
 pub statements_again : (body : tree.Stmts) → AreStmts body → (d : ℕ) (rest : List TokenKind)
     → Again d (row_height body) ((listed body, row_height body), rest) (statements (statement d) (row_spelled body (token.Mark mark.CloseBrace ∷ rest)))

@@ -1,5 +1,5 @@
 -- Taking apart the readers that did not fail.
-use Rattle.std.proofs.Common.{◌≡◌, ℕ, ℤ, zero, suc, pos, negsuc, Bool, true, false, cond, List, Option, Some, None, Result, Ok, Err, refl, sym, ap, ◌∙◌}
+use Rattle.std.proofs.Common.{◌≡◌, ℤ, zero, suc, pos, Bool, true, false, cond, List, Option, Some, Result, Ok, Err, refl, sym, ap, ◌∙◌}
 use mir.Val.{of_z, to_z}
 use mir.Syntax.{w32}
 use Rattle.strc_lex.specs.declared.token.TokenKind.{TokenKind}
@@ -7,12 +7,7 @@ use Rattle.strc_lex.specs.declared.token.TokenKind.TheVariants as token
 use Rattle.strc_parse.specs.declared.tree.RateKind.{RateKind}
 use Rattle.strc_parse.specs.declared.tree.RateTree.{RateTree}
 use Rattle.strc_parse.specs.declared.error.Fault.{Fault}
-use Rattle.strc_parse.specs.Reading.{◌>>=◌, Read, unexpected, tail, first, is_rate, rate_number_by, rate_number, has_rate, rate_of}
-
--- the value of a step that did not fail
-pub bind_ok : {A B : Type 0} (r : Result A Fault) (f : A → Result B Fault) (y : B) → (r >>= f) ≡ Ok y → (x : A) × (r ≡ Ok x) × (f x ≡ Ok y)
-bind_ok (Ok x) f y e = (x, refl, e)
-bind_ok (Err d) f y e = absurd cc
+use Rattle.strc_parse.specs.Reading.{tail, first, is_rate, rate_number_by, rate_number, has_rate, rate_of}
 
 -- a test that went well
 pub chosen_ok : {A : Type 0} (b : Bool) (x y : A) (fault : Fault) → cond b (Ok x) (Err fault) ≡ Ok y → (b ≡ true) × (x ≡ y)

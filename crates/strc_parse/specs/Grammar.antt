@@ -1,5 +1,5 @@
 -- The grammar: which tokens spell a tree, which trees are well shaped, and how high they are.
-use Rattle.std.specs.Prelude.{◌≡◌, ℕ, ℤ, pos, ◌+◌, ◌<◌, ◌≤◌, max, ◌⊎◌, List, [], ◌∷◌, map, Option, Some, None}
+use Rattle.std.specs.Prelude.{◌≡◌, ℕ, pos, ◌+◌, ◌<◌, ◌≤◌, max, ◌⊎◌, List, [], ◌∷◌, length, map, Option, Some, None, Result, Ok, Err}
 use Rattle.std.specs.List.{AllByRecursion}
 use Rattle.strc_lex.specs.declared.token.Token.{Token}
 use Rattle.strc_lex.specs.declared.token.TokenKind.{TokenKind}
@@ -20,7 +20,11 @@ use Rattle.strc_parse.specs.declared.tree.StepOperator.{StepOperator}
 use Rattle.strc_parse.specs.declared.tree.StepOperator.TheVariants as step
 use Rattle.strc_parse.specs.declared.tree.BinaryOperator.{BinaryOperator}
 use Rattle.strc_parse.specs.declared.tree.BinaryOperator.TheVariants as binary
+use Rattle.strc_parse.specs.declared.tree.Program.{Program}
+use Rattle.strc_parse.specs.declared.error.ParseError.{ParseError}
+use Rattle.strc_parse.specs.declared.error.ParseError.TheVariants as refusal
 use Rattle.strc_parse.specs.Tree as tree
+use Rattle.strc_parse.specs.View.{program_view}
 
 -- the kinds of tokens, without their places
 abbrev pub kinds : List Token → List TokenKind
@@ -266,3 +270,20 @@ height_limit = 256
 -- the tokens are those of this program, which is well shaped and not too high
 abbrev pub Parses : List TokenKind → List tree.Declaration → Type 0
 Parses tokens program = (tokens ≡ spelling program) × IsTree program × (height program ≤ height_limit)
+
+-- What a refusal says: tokens that no program has, at a place within them; or tokens that no program within the limit
+-- has, of which there are more than 200.
+abbrev pub Refuses : List TokenKind → ParseError → Type 0
+Refuses tokens (refusal.Parse place) = (place ≤ length tokens) × ((program : List tree.Declaration) → IsTree program → tokens ≡ spelling program → ⊥)
+Refuses tokens refusal.Nesting = (200 < length tokens) × ((program : List tree.Declaration) → Parses tokens program → ⊥)
+Refuses tokens refusal.NoMemory = Unit {0}
+
+-- the answer to the tokens of this program: it, or that memory ran out
+abbrev pub IsFound : List tree.Declaration → Result Program ParseError → Type 0
+IsFound program (Ok found) = program_view found ≡ program
+IsFound program (Err refusal.NoMemory) = Unit {0}
+IsFound program (Err _) = ⊥
+
+-- no two programs have one spelling
+abbrev pub IsUnambiguous : Type 0
+IsUnambiguous = (first second : List tree.Declaration) → IsTree first → IsTree second → spelling first ≡ spelling second → first ≡ second

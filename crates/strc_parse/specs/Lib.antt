@@ -1,4 +1,5 @@
 pub mod Tree
 pub mod View
 pub mod Grammar
+pub mod Seen
 pub mod Reading

@@ -1,4 +1,4 @@
--- Reading trees from the front of a token list, rule by rule.
+-- Reading trees from the front of a token list, rule by rule, as the code does. It serves the proofs: no public clause cites it.
 use Rattle.std.specs.Prelude.{◌≡◌, ℕ, zero, suc, ℤ, pos, ◌+◌, ◌-◌, max, Bool, true, false, if◌then◌else◌, ◌==◌, nat_lt, List, [], ◌∷◌, ◌++◌, length, Option, Some, None, Result, Ok, Err}
 use Rattle.std.specs.List.{list_any}
 use denote.Enum.Bare.{sameb}
@@ -29,7 +29,7 @@ use Rattle.strc_parse.specs.declared.error.Fault.TheVariants.{Unexpected, Nestin
 use Rattle.strc_parse.specs.declared.error.ReadError.{ReadError}
 use Rattle.strc_parse.specs.declared.error.ReadError.TheVariants as errors
 use Rattle.strc_parse.specs.Tree as tree
-use Rattle.strc_parse.specs.Grammar.{looseness, height_limit}
+use Rattle.strc_parse.specs.Grammar.{looseness}
 
 infixl 10 ◌>>=◌
 abbrev pub ◌>>=◌ : {A B : Type 0} → Result A Fault → (A → Result B Fault) → Result B Fault
@@ -427,29 +427,31 @@ no_rate tokens = no_rate_by tokens (rate_kind tokens)
 unfoldable pub rates : List TokenKind → Read (List RateTree)
 rates tokens = repeated no_rate rate_turn (length tokens + 1) [] tokens
 
+-- From here on the limit is the greatest height of a statement or an expression.
+
 -- a work: behind its word
-unfoldable pub work : List TokenKind → Read tree.Member
-work tokens = do
+unfoldable pub work : ℕ → List TokenKind → Read tree.Member
+work limit tokens = do
   declared ← rates tokens
   opened ← expect mark.OpenBrace declared.1
-  body ← statements (statement height_limit) opened
+  body ← statements (statement limit) opened
   Ok (tree.Work declared.0 (row body.0.0), body.1)
 
 -- a field: behind the word of its type
-unfoldable pub field : List TokenKind → Read tree.Member
-field tokens = variable height_limit tokens >>= λ read. Ok (tree.Field read.0.0 read.0.1, read.2)
+unfoldable pub field : ℕ → List TokenKind → Read tree.Member
+field limit tokens = variable limit tokens >>= λ read. Ok (tree.Field read.0.0 read.0.1, read.2)
 
-abbrev pub member_by : List TokenKind → Option TokenKind → Read tree.Member
-member_by tokens (Some (token.Word word.Int)) = field (tail tokens)
-member_by tokens (Some (token.Word word.Work)) = work (tail tokens)
-member_by tokens _ = unexpected tokens
+abbrev pub member_by : ℕ → List TokenKind → Option TokenKind → Read tree.Member
+member_by limit tokens (Some (token.Word word.Int)) = field limit (tail tokens)
+member_by limit tokens (Some (token.Word word.Work)) = work limit (tail tokens)
+member_by limit tokens _ = unexpected tokens
 
-unfoldable pub member : List TokenKind → Read tree.Member
-member tokens = member_by tokens (first tokens)
+unfoldable pub member : ℕ → List TokenKind → Read tree.Member
+member limit tokens = member_by limit tokens (first tokens)
 
 -- the members of a filter, and the brace that closes them
-unfoldable pub members : List TokenKind → Read (List tree.Member)
-members tokens = repeated brace (one_more member) (length tokens) [] tokens
+unfoldable pub members : ℕ → List TokenKind → Read (List tree.Member)
+members limit tokens = repeated brace (one_more (member limit)) (length tokens) [] tokens
 
 -- `add A;`
 unfoldable pub child : List TokenKind → Read (List ℕ)
@@ -479,10 +481,10 @@ heading tokens = do
   Ok (read.0, rest)
 
 -- a filter: behind its word
-unfoldable pub filter : ItemType → ItemType → List TokenKind → Read tree.Declaration
-filter input output tokens = do
+unfoldable pub filter : ℕ → ItemType → ItemType → List TokenKind → Read tree.Declaration
+filter limit input output tokens = do
   head ← heading tokens
-  body ← members head.1
+  body ← members limit head.1
   Ok (record { name = head.0; stream = tree.Filter input output body.0 }, body.1)
 
 -- a pipeline: behind its word
@@ -492,17 +494,17 @@ pipeline input output tokens = do
   body ← children head.1
   Ok (record { name = head.0; stream = tree.Pipeline input output body.0 }, body.1)
 
-abbrev pub stream_by : ItemType → ItemType → List TokenKind → Option TokenKind → Read tree.Declaration
-stream_by input output tokens (Some (token.Word word.Filter)) = filter input output (tail tokens)
-stream_by input output tokens (Some (token.Word word.Pipeline)) = pipeline input output (tail tokens)
-stream_by input output tokens _ = unexpected tokens
+abbrev pub stream_by : ℕ → ItemType → ItemType → List TokenKind → Option TokenKind → Read tree.Declaration
+stream_by limit input output tokens (Some (token.Word word.Filter)) = filter limit input output (tail tokens)
+stream_by limit input output tokens (Some (token.Word word.Pipeline)) = pipeline input output (tail tokens)
+stream_by limit input output tokens _ = unexpected tokens
 
 -- a stream: behind its type
-unfoldable pub stream : ItemType → ItemType → List TokenKind → Read tree.Declaration
-stream input output tokens = stream_by input output tokens (first tokens)
+unfoldable pub stream : ℕ → ItemType → ItemType → List TokenKind → Read tree.Declaration
+stream limit input output tokens = stream_by limit input output tokens (first tokens)
 
-unfoldable pub declaration : List TokenKind → Read tree.Declaration
-declaration tokens = stream_type tokens >>= λ types. stream types.0.0 types.0.1 types.1
+unfoldable pub declaration : ℕ → List TokenKind → Read tree.Declaration
+declaration limit tokens = stream_type tokens >>= λ types. stream limit types.0.0 types.0.1 types.1
 
 -- declarations stop at the end
 unfoldable pub at_end : List TokenKind → Option (List TokenKind)
@@ -510,9 +512,9 @@ at_end [] = Some []
 at_end (t ∷ rest) = None
 
 -- all declarations of a text
-unfoldable pub declarations : List TokenKind → Read (List tree.Declaration)
-declarations tokens = repeated at_end (one_more declaration) (length tokens + 1) [] tokens
+unfoldable pub declarations : ℕ → List TokenKind → Read (List tree.Declaration)
+declarations limit tokens = repeated at_end (one_more (declaration limit)) (length tokens + 1) [] tokens
 
 -- the program that the tokens spell
-abbrev pub program : List TokenKind → Result (List tree.Declaration) Fault
-program tokens = declarations tokens >>= λ read. Ok read.0
+abbrev pub program : ℕ → List TokenKind → Result (List tree.Declaration) Fault
+program limit tokens = declarations limit tokens >>= λ read. Ok read.0

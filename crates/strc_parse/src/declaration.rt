@@ -3,7 +3,8 @@
 ghost use Rattle.std.specs.Prelude.{◌≡◌, map, []};
 ghost use Rattle.std.specs.Option.{option_map};
 ghost use Rattle.strc_parse.specs.View.{expr_view, stmt_view, member_view, declaration_view};
-ghost use Rattle.strc_parse.specs.Grammar.{kinds};
+ghost use Rattle.strc_parse.specs.Grammar.{kinds, height_limit};
+ghost use Rattle.strc_parse.specs.Seen.{seen_member, seen_declaration, seen};
 ghost use Rattle.strc_parse.specs.Reading as spec;
 ghost use Rattle.strc_parse.specs.Reading.{Gives};
 
@@ -21,7 +22,7 @@ const HEIGHT_LIMIT: usize = 256;
 
 #[tactic(auto, unfolding(crate::specs::Reading::item_type))]
 fn item_type(tokens: &[Token]) -> Result<(ItemType, &[Token]), ReadError>
-    ensures { Gives (λ x. (x.0, kinds x.1.now)) result (spec.item_type (kinds tokens.now)) }
+    ensures { Gives seen result (spec.item_type (kinds tokens.now)) }
 {
     match peek(tokens) {
         Some(TokenKind::Word(Word::Int)) => Ok((ItemType::Int, tail(tokens))),
@@ -54,7 +55,7 @@ fn is_rate(value: i32) -> bool
 /// A 0 or a 1.
 #[tactic(auto, unfolding(crate::specs::Reading::rate_number))]
 fn rate_number(tokens: &[Token]) -> Result<(i32, &[Token]), ReadError>
-    ensures { Gives (λ x. (x.0, kinds x.1.now)) result (spec.rate_number (kinds tokens.now)) }
+    ensures { Gives seen result (spec.rate_number (kinds tokens.now)) }
 {
     match peek(tokens) {
         Some(TokenKind::Number(value)) => {
@@ -81,7 +82,7 @@ fn rate_of<'t>(
     so_far: &[RateTree],
     tokens: &'t [Token],
 ) -> Result<(i32, &'t [Token]), ReadError>
-    ensures { Gives (λ x. (x.0, kinds x.1.now)) result (spec.rate_of kind so_far.now (kinds tokens.now)) }
+    ensures { Gives seen result (spec.rate_of kind so_far.now (kinds tokens.now)) }
 {
     if has_rate(kind, so_far) {
         return Err(unexpected(tokens));
@@ -110,7 +111,7 @@ fn rates(alloc: Global, tokens: &[Token]) -> Result<(Vec<RateTree>, &[Token]), R
 /// A work: behind its word.
 #[tactic(auto, unfolding(crate::specs::Reading::work), using(crate::proofs::Views::row_of_views))]
 fn work(alloc: Global, tokens: &[Token]) -> Result<(Member, &[Token]), ReadError>
-    ensures { Gives (λ x. (member_view x.0, kinds x.1.now)) result (spec.work (kinds tokens.now)) }
+    ensures { Gives seen_member result (spec.work height_limit (kinds tokens.now)) }
 {
     let (rates, rest) = rates(alloc, tokens)?;
     let opened = expect(Mark::OpenBrace, rest)?;
@@ -121,7 +122,7 @@ fn work(alloc: Global, tokens: &[Token]) -> Result<(Member, &[Token]), ReadError
 /// A field: behind the word of its type.
 #[tactic(auto, unfolding(crate::specs::Reading::field))]
 fn field(alloc: Global, tokens: &[Token]) -> Result<(Member, &[Token]), ReadError>
-    ensures { Gives (λ x. (member_view x.0, kinds x.1.now)) result (spec.field (kinds tokens.now)) }
+    ensures { Gives seen_member result (spec.field height_limit (kinds tokens.now)) }
 {
     let (declared, _, rest) = variable(alloc, HEIGHT_LIMIT, tokens)?;
     Ok((Member::Field(declared), rest))
@@ -129,7 +130,7 @@ fn field(alloc: Global, tokens: &[Token]) -> Result<(Member, &[Token]), ReadErro
 
 #[tactic(auto, unfolding(crate::specs::Reading::member))]
 fn member(alloc: Global, tokens: &[Token]) -> Result<(Member, &[Token]), ReadError>
-    ensures { Gives (λ x. (member_view x.0, kinds x.1.now)) result (spec.member (kinds tokens.now)) }
+    ensures { Gives seen_member result (spec.member height_limit (kinds tokens.now)) }
 {
     match peek(tokens) {
         Some(TokenKind::Word(Word::Int)) => field(alloc, tail(tokens)),
@@ -141,7 +142,8 @@ fn member(alloc: Global, tokens: &[Token]) -> Result<(Member, &[Token]), ReadErr
 /// The members of a filter, up to the brace that closes it.
 #[tactic(auto, unfolding(crate::specs::Reading::members))]
 fn members(alloc: Global, tokens: &[Token]) -> Result<(Vec<Member>, &[Token]), ReadError>
-    ensures { Gives (λ x. (map member_view x.0.items, kinds x.1.now)) result (spec.members (kinds tokens.entry.now)) }
+    ensures { Gives (λ x. (map member_view x.0.items, kinds x.1.now)) result
+        (spec.members height_limit (kinds tokens.entry.now)) }
 {
     let mut found = Vec::new(alloc);
     let mut rest = tokens;
@@ -159,7 +161,7 @@ fn members(alloc: Global, tokens: &[Token]) -> Result<(Vec<Member>, &[Token]), R
 /// `add A;`
 #[tactic(auto, unfolding(crate::specs::Reading::child))]
 fn child(tokens: &[Token]) -> Result<(Name, &[Token]), ReadError>
-    ensures { Gives (λ x. (x.0, kinds x.1.now)) result (spec.child (kinds tokens.now)) }
+    ensures { Gives seen result (spec.child (kinds tokens.now)) }
 {
     let rest = expect_word(Word::Add, tokens)?;
     let (child, rest) = name(rest)?;
@@ -170,7 +172,8 @@ fn child(tokens: &[Token]) -> Result<(Name, &[Token]), ReadError>
 /// The children of a pipeline, up to the brace that closes it.
 #[tactic(auto, unfolding(crate::specs::Reading::children))]
 fn children(alloc: Global, tokens: &[Token]) -> Result<(Vec<Name>, &[Token]), ReadError>
-    ensures { Gives (λ x. (x.0.items, kinds x.1.now)) result (spec.children (kinds tokens.entry.now)) }
+    ensures { Gives (λ x. (x.0.items, kinds x.1.now)) result
+        (spec.children (kinds tokens.entry.now)) }
 {
     let mut found = Vec::new(alloc);
     let mut rest = tokens;
@@ -188,7 +191,8 @@ fn children(alloc: Global, tokens: &[Token]) -> Result<(Vec<Name>, &[Token]), Re
 /// `int->void`
 #[tactic(auto, unfolding(crate::specs::Reading::stream_type))]
 fn stream_type(tokens: &[Token]) -> Result<(ItemType, ItemType, &[Token]), ReadError>
-    ensures { Gives (λ x. ((x.0, x.1), kinds x.2.now)) result (spec.stream_type (kinds tokens.now)) }
+    ensures { Gives (λ x. ((x.0, x.1), kinds x.2.now)) result
+        (spec.stream_type (kinds tokens.now)) }
 {
     let (input, rest) = item_type(tokens)?;
     let rest = expect(Mark::Arrow, rest)?;
@@ -199,7 +203,7 @@ fn stream_type(tokens: &[Token]) -> Result<(ItemType, ItemType, &[Token]), ReadE
 /// The name of a stream and the brace that opens it.
 #[tactic(auto, unfolding(crate::specs::Reading::heading))]
 fn heading(tokens: &[Token]) -> Result<(Name, &[Token]), ReadError>
-    ensures { Gives (λ x. (x.0, kinds x.1.now)) result (spec.heading (kinds tokens.now)) }
+    ensures { Gives seen result (spec.heading (kinds tokens.now)) }
 {
     let (called, rest) = name(tokens)?;
     let rest = expect(Mark::OpenBrace, rest)?;
@@ -214,7 +218,8 @@ fn filter(
     output: ItemType,
     tokens: &[Token],
 ) -> Result<(Decl, &[Token]), ReadError>
-    ensures { Gives (λ x. (declaration_view x.0, kinds x.1.now)) result (spec.filter input output (kinds tokens.now)) }
+    ensures { Gives seen_declaration result
+        (spec.filter height_limit input output (kinds tokens.now)) }
 {
     let (name, rest) = heading(tokens)?;
     let (members, rest) = members(alloc, rest)?;
@@ -234,7 +239,7 @@ fn pipeline(
     output: ItemType,
     tokens: &[Token],
 ) -> Result<(Decl, &[Token]), ReadError>
-    ensures { Gives (λ x. (declaration_view x.0, kinds x.1.now)) result (spec.pipeline input output (kinds tokens.now)) }
+    ensures { Gives seen_declaration result (spec.pipeline input output (kinds tokens.now)) }
 {
     let (name, rest) = heading(tokens)?;
     let (children, rest) = children(alloc, rest)?;
@@ -254,7 +259,8 @@ fn stream(
     output: ItemType,
     tokens: &[Token],
 ) -> Result<(Decl, &[Token]), ReadError>
-    ensures { Gives (λ x. (declaration_view x.0, kinds x.1.now)) result (spec.stream input output (kinds tokens.now)) }
+    ensures { Gives seen_declaration result
+        (spec.stream height_limit input output (kinds tokens.now)) }
 {
     match peek(tokens) {
         Some(TokenKind::Word(Word::Filter)) => filter(alloc, input, output, tail(tokens)),
@@ -265,7 +271,7 @@ fn stream(
 
 #[tactic(auto, unfolding(crate::specs::Reading::declaration))]
 fn declaration(alloc: Global, tokens: &[Token]) -> Result<(Decl, &[Token]), ReadError>
-    ensures { Gives (λ x. (declaration_view x.0, kinds x.1.now)) result (spec.declaration (kinds tokens.now)) }
+    ensures { Gives seen_declaration result (spec.declaration height_limit (kinds tokens.now)) }
 {
     let (input, output, rest) = stream_type(tokens)?;
     stream(alloc, input, output, rest)
@@ -274,7 +280,8 @@ fn declaration(alloc: Global, tokens: &[Token]) -> Result<(Decl, &[Token]), Read
 /// All declarations of a text.
 #[tactic(auto, unfolding(crate::specs::Reading::declarations))]
 pub(crate) fn declarations(alloc: Global, tokens: &[Token]) -> Result<Vec<Decl>, ReadError>
-    ensures { Gives (λ v. (map declaration_view v.items, [])) result (spec.declarations (kinds tokens.entry.now)) }
+    ensures { Gives (λ v. (map declaration_view v.items, [])) result
+        (spec.declarations height_limit (kinds tokens.entry.now)) }
 {
     let mut found = Vec::new(alloc);
     let mut rest = tokens;

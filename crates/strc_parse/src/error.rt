@@ -10,7 +10,8 @@ use std::fmt;
 /// Why the tokens of a text have no tree.
 #[derive(Clone, Copy, Debug, PartialEq, Eq)]
 pub enum ParseError {
-    /// No program has the token of this number there, counted from 0; the number of tokens where the text ends too soon.
+    /// No program has the token of this number there, counted from 0.
+    /// It is the number of tokens where the text ends too soon.
     Parse { token: usize },
     /// A statement or an expression is higher than 256.
     Nesting,

@@ -3,6 +3,7 @@
 ghost use Rattle.std.specs.Prelude.{◌≡◌, ◌+◌, ◌-◌, ◌<◌, ◌≤◌, length, IfOk};
 ghost use Rattle.strc_parse.specs.View.{expr_view};
 ghost use Rattle.strc_parse.specs.Grammar.{kinds, looseness};
+ghost use Rattle.strc_parse.specs.Seen.{seen_expr};
 ghost use Rattle.strc_parse.specs.Reading as spec;
 ghost use Rattle.strc_parse.specs.Reading.{Gives};
 ghost use Rattle.strc_parse.specs.Tree as tree;
@@ -89,11 +90,7 @@ fn binary(
 ) -> Result<Expr, AllocError>
     ensures { IfOk result (λ e. expr_view e ≡ tree.Binary operator (expr_view left) (expr_view right)) }
 {
-    Ok(Expr::Binary(
-        operator,
-        Box::new(alloc, left)?,
-        Box::new(alloc, right)?,
-    ))
+    Ok(Expr::Binary(operator, Box::new(alloc, left)?, Box::new(alloc, right)?))
 }
 
 fn grouped(alloc: Global, inner: Expr) -> Result<Expr, AllocError>
@@ -109,7 +106,7 @@ fn after_name<'t>(
     name: Name,
     tokens: &'t [Token],
 ) -> Result<(Expr, usize, &'t [Token]), ReadError>
-    ensures { Gives (λ x. (expr_view x.0, x.1, kinds x.2.now)) result (spec.after_name depth name (kinds tokens.now)) }
+    ensures { Gives seen_expr result (spec.after_name depth name (kinds tokens.now)) }
 {
     match step_after(tokens) {
         None => Ok((Expr::Read(Lvalue { name }), 1, tokens)),
@@ -127,7 +124,7 @@ fn step_first(
     operator: StepOperator,
     tokens: &[Token],
 ) -> Result<(Expr, usize, &[Token]), ReadError>
-    ensures { Gives (λ x. (expr_view x.0, x.1, kinds x.2.now)) result (spec.step_first depth operator (kinds tokens.now)) }
+    ensures { Gives seen_expr result (spec.step_first depth operator (kinds tokens.now)) }
 {
     let (name, rest) = name(tokens)?;
     let height = raised(depth, 1)?;
@@ -137,7 +134,7 @@ fn step_first(
 /// `pop()`: behind the word.
 #[tactic(auto, unfolding(crate::specs::Reading::pop_brackets))]
 fn pop_brackets(tokens: &[Token]) -> Result<(Expr, usize, &[Token]), ReadError>
-    ensures { Gives (λ x. (expr_view x.0, x.1, kinds x.2.now)) result (spec.pop_brackets (kinds tokens.now)) }
+    ensures { Gives seen_expr result (spec.pop_brackets (kinds tokens.now)) }
 {
     let inside = expect(Mark::OpenBracket, tokens)?;
     let rest = expect(Mark::CloseBracket, inside)?;
@@ -154,7 +151,7 @@ pub(crate) fn expression(
     tokens: &[Token],
 ) -> Result<(Expr, usize, &[Token]), ReadError>
     requires { rank ≤ 6 }
-    ensures { Gives (λ x. (expr_view x.0, x.1, kinds x.2.now)) result (spec.expression depth rank (kinds tokens.now)) }
+    ensures { Gives seen_expr result (spec.expression depth rank (kinds tokens.now)) }
 {
     if depth == 0 {
         return Err(ReadError::Fault(Fault::Nesting));
@@ -172,7 +169,8 @@ fn climb(
 ) -> Result<(Expr, usize, &[Token]), ReadError>
     requires deep { 0 < depth }
     requires bound { rank ≤ 6 }
-    ensures { Gives (λ x. (expr_view x.0, x.1, kinds x.2.now)) result (spec.climb depth (spec.expression (depth - 1)) rank (kinds tokens.now)) }
+    ensures { Gives seen_expr result
+        (spec.climb depth (spec.expression (depth - 1)) rank (kinds tokens.now)) }
 {
     if rank == 0 {
         return operand(alloc, depth, tokens);
@@ -195,7 +193,9 @@ fn chain(
     requires deep { 0 < depth }
     requires some { 0 < rank }
     requires bound { rank ≤ 6 }
-    ensures { Gives (λ x. (expr_view x.0, x.1, kinds x.2.now)) result (spec.chain depth (spec.expression (depth - 1)) rank (length (kinds tokens.entry.now)) (expr_view first) first_height (kinds tokens.entry.now)) }
+    ensures { Gives seen_expr result
+        (spec.chain depth (spec.expression (depth - 1)) rank
+        (length (kinds tokens.entry.now)) (expr_view first) first_height (kinds tokens.entry.now)) }
 {
     let mut left = first;
     let mut height = first_height;
@@ -221,7 +221,8 @@ fn group(
     tokens: &[Token],
 ) -> Result<(Expr, usize, &[Token]), ReadError>
     requires { 0 < depth }
-    ensures { Gives (λ x. (expr_view x.0, x.1, kinds x.2.now)) result (spec.group depth (spec.expression (depth - 1)) (kinds tokens.now)) }
+    ensures { Gives seen_expr result
+        (spec.group depth (spec.expression (depth - 1)) (kinds tokens.now)) }
 {
     let (inner, height, after) = expression(alloc, depth - 1, LOOSEST, tokens)?;
     let rest = expect(Mark::CloseBracket, after)?;
@@ -239,7 +240,8 @@ fn sign(
     tokens: &[Token],
 ) -> Result<(Expr, usize, &[Token]), ReadError>
     requires { 0 < depth }
-    ensures { Gives (λ x. (expr_view x.0, x.1, kinds x.2.now)) result (spec.sign depth (spec.expression (depth - 1)) operator (kinds tokens.now)) }
+    ensures { Gives seen_expr result
+        (spec.sign depth (spec.expression (depth - 1)) operator (kinds tokens.now)) }
 {
     let (inner, height, rest) = expression(alloc, depth - 1, 0, tokens)?;
     let height = raised(depth, height)?;
@@ -255,7 +257,8 @@ fn operand(
     tokens: &[Token],
 ) -> Result<(Expr, usize, &[Token]), ReadError>
     requires { 0 < depth }
-    ensures { Gives (λ x. (expr_view x.0, x.1, kinds x.2.now)) result (spec.operand depth (spec.expression (depth - 1)) (kinds tokens.now)) }
+    ensures { Gives seen_expr result
+        (spec.operand depth (spec.expression (depth - 1)) (kinds tokens.now)) }
 {
     match peek(tokens) {
         Some(TokenKind::Number(value)) => Ok((Expr::Number(*value), 1, tail(tokens))),
@@ -276,7 +279,8 @@ fn marked(
     tokens: &[Token],
 ) -> Result<(Expr, usize, &[Token]), ReadError>
     requires { 0 < depth }
-    ensures { Gives (λ x. (expr_view x.0, x.1, kinds x.2.now)) result (spec.marked depth (spec.expression (depth - 1)) mark (kinds tokens.now)) }
+    ensures { Gives seen_expr result
+        (spec.marked depth (spec.expression (depth - 1)) mark (kinds tokens.now)) }
 {
     match mark {
         Mark::OpenBracket => group(alloc, depth, tail(tokens)),

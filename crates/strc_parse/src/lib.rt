@@ -1,6 +1,7 @@
 // Takes the tokens of a program's text.
 // Gives its syntax tree, or the refusal of tokens that no program has.
 // The theorem to rely on: `parse` answers Ok exactly with the tree of height at most 256 that has this spelling.
+// The definitions to believe are specs/Tree, specs/View and specs/Grammar; no public clause cites the others.
 // Stands on strc_lex, whose tokens it reads.
 #![tactic(auto)]
 
@@ -13,7 +14,7 @@ mod statement;
 pub mod tree;
 
 pub use error::ParseError;
-pub use program::parse;
+pub use program::{one_tree, parse};
 
 #[cfg(test)]
 mod tests;

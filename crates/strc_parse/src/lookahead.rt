@@ -5,6 +5,7 @@ ghost use Rattle.std.specs.Option.{option_map};
 ghost use Rattle.strc_parse.specs.declared.error.ReadError.TheVariants.{Fault as a_fault};
 ghost use Rattle.strc_parse.specs.declared.error.Fault.TheVariants.{Unexpected};
 ghost use Rattle.strc_parse.specs.Grammar.{kinds};
+ghost use Rattle.strc_parse.specs.Seen.{seen};
 ghost use Rattle.strc_parse.specs.Reading as spec;
 ghost use Rattle.strc_parse.specs.Reading.{Gives};
 
@@ -98,7 +99,7 @@ pub(crate) fn expect_word(wanted: Word, tokens: &[Token]) -> Result<&[Token], Re
 /// The name that has to stand first.
 #[tactic(auto, unfolding(crate::specs::Reading::name))]
 pub(crate) fn name(tokens: &[Token]) -> Result<(Name, &[Token]), ReadError>
-    ensures { Gives (λ x. (x.0, kinds x.1.now)) result (spec.name (kinds tokens.now)) }
+    ensures { Gives seen result (spec.name (kinds tokens.now)) }
 {
     match peek(tokens) {
         Some(TokenKind::Name(name)) => Ok((name.copy()?, tail(tokens))),

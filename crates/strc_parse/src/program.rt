@@ -1,8 +1,9 @@
 // Whole texts.
 
-ghost use Rattle.std.specs.Prelude.{◌≡◌, length, IfOk};
+ghost use Rattle.std.specs.Prelude.{◌≡◌, List, IfOk, IfErr};
+ghost use Rattle.strc_parse.specs.Tree.{Declaration};
 ghost use Rattle.strc_parse.specs.View.{program_view};
-ghost use Rattle.strc_parse.specs.Grammar.{kinds};
+ghost use Rattle.strc_parse.specs.Grammar.{kinds, height_limit, Parses, Refuses, IsFound, IsUnambiguous};
 ghost use Rattle.strc_parse.specs.Reading as spec;
 ghost use Rattle.strc_parse.specs.Reading.{Gives};
 
@@ -13,20 +14,36 @@ use std::alloc::Global;
 use strc_lex::token::Token;
 
 fn program(alloc: Global, tokens: &[Token]) -> Result<Program, ReadError>
-    ensures { Gives program_view result (spec.program (kinds tokens.now)) }
+    ensures { Gives program_view result (spec.program height_limit (kinds tokens.now)) }
 {
     let declarations = declarations(alloc, tokens)?;
     Ok(Program { declarations })
 }
 
 /// The tree of a program's tokens.
-pub fn parse(alloc: Global, tokens: &[Token]) -> Result<Program, ParseError> {
+///
+/// `Parse` is for tokens that no program has, whatever its height; `Nesting` for those of which a statement or an
+/// expression is higher than 256; `NoMemory` where memory runs out.
+pub fn parse(alloc: Global, tokens: &[Token]) -> Result<Program, ParseError>
+    // What is read is a well-shaped program, and these are its tokens.
+    ensures ok { IfOk result (λ p. Parses (kinds tokens.now) (program_view p)) }
+    // What a refusal says is so.
+    ensures refused { IfErr result (λ e. Refuses (kinds tokens.now) e) }
+    // A program whose tokens these are is read, unless memory runs out.
+    ensures found { (program : List Declaration) → Parses (kinds tokens.now) program → IsFound program result }
+{
     match program(alloc, tokens) {
         Ok(program) => Ok(program),
         Err(ReadError::Memory) => Err(ParseError::NoMemory),
         Err(ReadError::Fault(Fault::Nesting)) => Err(ParseError::Nesting),
-        Err(ReadError::Fault(Fault::Unexpected(left))) => Err(ParseError::Parse {
-            token: tokens.len().saturating_sub(left),
-        }),
+        Err(ReadError::Fault(Fault::Unexpected(left))) => {
+            let token = tokens.len() - left;
+            Err(ParseError::Parse { token })
+        }
     }
 }
+
+/// Two programs never share a spelling.
+pub fn one_tree()
+    ensures { IsUnambiguous }
+{}

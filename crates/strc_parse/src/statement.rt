@@ -5,6 +5,7 @@ ghost use Rattle.std.specs.Option.{option_map};
 ghost use Rattle.strc_parse.specs.View.{expr_view, stmt_view};
 ghost use Rattle.strc_parse.specs.Grammar.{kinds};
 ghost use Rattle.strc_parse.specs.Tree as tree;
+ghost use Rattle.strc_parse.specs.Seen.{seen_expr, seen_stmt, seen_body};
 ghost use Rattle.strc_parse.specs.Reading as spec;
 ghost use Rattle.strc_parse.specs.Reading.{Gives};
 
@@ -22,7 +23,8 @@ fn initial(
     depth: usize,
     tokens: &[Token],
 ) -> Result<(Option<Expr>, usize, &[Token]), ReadError>
-    ensures { Gives (λ x. (option_map expr_view x.0, x.1, kinds x.2.now)) result (spec.initial depth (kinds tokens.now)) }
+    ensures { Gives (λ x. (option_map expr_view x.0, x.1, kinds x.2.now)) result
+        (spec.initial depth (kinds tokens.now)) }
 {
     if !is_mark(Mark::Assign, tokens) {
         return Ok((None, 0, tokens));
@@ -38,7 +40,8 @@ pub(crate) fn variable(
     depth: usize,
     tokens: &[Token],
 ) -> Result<(Variable, usize, &[Token]), ReadError>
-    ensures { Gives (λ x. ((x.0.name, option_map expr_view x.0.initial), x.1, kinds x.2.now)) result (spec.variable depth (kinds tokens.now)) }
+    ensures { Gives (λ x. ((x.0.name, option_map expr_view x.0.initial), x.1, kinds x.2.now)) result
+        (spec.variable depth (kinds tokens.now)) }
 {
     let (name, rest) = name(tokens)?;
     let (initial, height, rest) = initial(alloc, depth, rest)?;
@@ -53,7 +56,7 @@ fn declare(
     tokens: &[Token],
 ) -> Result<(Stmt, usize, &[Token]), ReadError>
     requires { 0 < depth }
-    ensures { Gives (λ x. (stmt_view x.0, x.1, kinds x.2.now)) result (spec.declare depth (kinds tokens.now)) }
+    ensures { Gives seen_stmt result (spec.declare depth (kinds tokens.now)) }
 {
     let (declared, height, rest) = variable(alloc, depth - 1, tokens)?;
     let height = raised(depth, height)?;
@@ -68,7 +71,7 @@ fn ended(
     tokens: &[Token],
 ) -> Result<(Expr, usize, &[Token]), ReadError>
     requires { 0 < depth }
-    ensures { Gives (λ x. (expr_view x.0, x.1, kinds x.2.now)) result (spec.ended depth (kinds tokens.now)) }
+    ensures { Gives seen_expr result (spec.ended depth (kinds tokens.now)) }
 {
     let (value, height, rest) = expression(alloc, depth - 1, LOOSEST, tokens)?;
     let rest = expect(Mark::Semicolon, rest)?;
@@ -83,7 +86,7 @@ fn evaluate(
     tokens: &[Token],
 ) -> Result<(Stmt, usize, &[Token]), ReadError>
     requires { 0 < depth }
-    ensures { Gives (λ x. (stmt_view x.0, x.1, kinds x.2.now)) result (spec.evaluate depth (kinds tokens.now)) }
+    ensures { Gives seen_stmt result (spec.evaluate depth (kinds tokens.now)) }
 {
     let (value, height, rest) = ended(alloc, depth, tokens)?;
     Ok((Stmt::Evaluate(value), height, rest))
@@ -99,7 +102,7 @@ fn assign_to<'t>(
     tokens: &'t [Token],
 ) -> Result<(Stmt, usize, &'t [Token]), ReadError>
     requires { 0 < depth }
-    ensures { Gives (λ x. (stmt_view x.0, x.1, kinds x.2.now)) result (spec.assign_to depth name operator (kinds tokens.entry.now)) }
+    ensures { Gives seen_stmt result (spec.assign_to depth name operator (kinds tokens.entry.now)) }
 {
     let (value, height, rest) = ended(alloc, depth, tokens)?;
     Ok((Stmt::Assign(Lvalue { name }, operator, value), height, rest))
@@ -130,7 +133,7 @@ fn named<'t>(
     tokens: &'t [Token],
 ) -> Result<(Stmt, usize, &'t [Token]), ReadError>
     requires { 0 < depth }
-    ensures { Gives (λ x. (stmt_view x.0, x.1, kinds x.2.now)) result (spec.named depth name.now (kinds tokens.now)) }
+    ensures { Gives seen_stmt result (spec.named depth name.now (kinds tokens.now)) }
 {
     let behind = tail(tokens);
     match assign_at(behind) {
@@ -147,7 +150,7 @@ fn bracketed(
     tokens: &[Token],
 ) -> Result<(Expr, usize, &[Token]), ReadError>
     requires { 0 < depth }
-    ensures { Gives (λ x. (expr_view x.0, x.1, kinds x.2.now)) result (spec.bracketed depth (kinds tokens.now)) }
+    ensures { Gives seen_expr result (spec.bracketed depth (kinds tokens.now)) }
 {
     let inside = expect(Mark::OpenBracket, tokens)?;
     let (value, height, rest) = expression(alloc, depth - 1, LOOSEST, inside)?;
@@ -163,7 +166,7 @@ fn argument(
     tokens: &[Token],
 ) -> Result<(Expr, usize, &[Token]), ReadError>
     requires { 0 < depth }
-    ensures { Gives (λ x. (expr_view x.0, x.1, kinds x.2.now)) result (spec.argument depth (kinds tokens.now)) }
+    ensures { Gives seen_expr result (spec.argument depth (kinds tokens.now)) }
 {
     let (value, height, rest) = bracketed(alloc, depth, tokens)?;
     let rest = expect(Mark::Semicolon, rest)?;
@@ -180,7 +183,7 @@ fn worded(
     tokens: &[Token],
 ) -> Result<(Stmt, usize, &[Token]), ReadError>
     requires { 0 < depth }
-    ensures { Gives (λ x. (stmt_view x.0, x.1, kinds x.2.now)) result (spec.worded depth word (kinds tokens.now)) }
+    ensures { Gives seen_stmt result (spec.worded depth word (kinds tokens.now)) }
 {
     match word {
         Word::Int => declare(alloc, depth, tail(tokens)),
@@ -215,7 +218,7 @@ fn statement(
     depth: usize,
     tokens: &[Token],
 ) -> Result<(Stmt, usize, &[Token]), ReadError>
-    ensures { Gives (λ x. (stmt_view x.0, x.1, kinds x.2.now)) result (spec.statement depth (kinds tokens.now)) }
+    ensures { Gives seen_stmt result (spec.statement depth (kinds tokens.now)) }
 {
     if depth == 0 {
         return Err(ReadError::Fault(Fault::Nesting));
@@ -231,7 +234,8 @@ fn shallow(
     tokens: &[Token],
 ) -> Result<(Stmt, usize, &[Token]), ReadError>
     requires { 0 < depth }
-    ensures { Gives (λ x. (stmt_view x.0, x.1, kinds x.2.now)) result (spec.shallow depth (spec.statement (depth - 1)) (kinds tokens.now)) }
+    ensures { Gives seen_stmt result
+        (spec.shallow depth (spec.statement (depth - 1)) (kinds tokens.now)) }
 {
     match peek(tokens) {
         Some(TokenKind::Mark(Mark::OpenBrace)) => block(alloc, depth, tail(tokens)),
@@ -251,7 +255,8 @@ fn block(
     tokens: &[Token],
 ) -> Result<(Stmt, usize, &[Token]), ReadError>
     requires { 0 < depth }
-    ensures { Gives (λ x. (stmt_view x.0, x.1, kinds x.2.now)) result (spec.block depth (spec.statement (depth - 1)) (kinds tokens.now)) }
+    ensures { Gives seen_stmt result
+        (spec.block depth (spec.statement (depth - 1)) (kinds tokens.now)) }
 {
     let (body, highest, rest) = statements(alloc, depth - 1, tokens)?;
     let height = raised(depth, highest)?;
@@ -266,7 +271,8 @@ pub(crate) fn statements(
     depth: usize,
     tokens: &[Token],
 ) -> Result<(Vec<Stmt>, usize, &[Token]), ReadError>
-    ensures { Gives (λ x. ((map stmt_view x.0.items, x.1), kinds x.2.now)) result (spec.statements (spec.statement depth) (kinds tokens.entry.now)) }
+    ensures { Gives seen_body result
+        (spec.statements (spec.statement depth) (kinds tokens.entry.now)) }
 {
     let mut found = Vec::new(alloc);
     let mut highest = 0;

@@ -158,7 +158,11 @@ fn names_the_refused_token(rt: HostRuntime) -> Result<(), Fail> {
         ("void -> void pipeline P { A ; }", 6),
     ];
     for (text, token) in cases {
-        assert_eq!(rt; refusal(rt.alloc(), text)?, Some(ParseError::Parse { token }), "{text}");
+        assert_eq!(rt;
+            refusal(rt.alloc(), text)?,
+            Some(ParseError::Parse { token }),
+            "{text}"
+        );
     }
     Ok(())
 }
@@ -172,7 +176,15 @@ fn limits_heights(rt: HostRuntime) -> Result<(), Fail> {
     let alloc = rt.alloc();
     let cases = [
         ("push (", "(", 254, "1", ")", ") ;", None),
-        ("push (", "(", 255, "1", ")", ") ;", Some(ParseError::Nesting)),
+        (
+            "push (",
+            "(",
+            255,
+            "1",
+            ")",
+            ") ;",
+            Some(ParseError::Nesting),
+        ),
         ("", "{", 256, "", "}", "", None),
         ("", "{", 257, "", "}", "", Some(ParseError::Nesting)),
         ("x =", "-", 254, "1", "", ";", None),
@@ -204,6 +216,87 @@ fn takes_long_pipelines(rt: HostRuntime) -> Result<(), Fail> {
     let long = repeated(alloc, begin, "add A ;", 10000, "}")?;
     assert_eq!(rt; parse(alloc, &long).err(), None);
     let broken = repeated(alloc, begin, "add A ;", 100, "add ; }")?;
-    assert_eq!(rt; parse(alloc, &broken).err(), Some(ParseError::Parse { token: 307 }));
+    assert_eq!(rt;
+        parse(alloc, &broken).err(),
+        Some(ParseError::Parse { token: 307 })
+    );
+    Ok(())
+}
+
+fn symbol(operator: BinaryOperator) -> &'static str {
+    match operator {
+        BinaryOperator::Or => "|",
+        BinaryOperator::ExclusiveOr => "^",
+        BinaryOperator::And => "&",
+        BinaryOperator::ShiftLeft => "<<",
+        BinaryOperator::ShiftRight => ">>",
+        BinaryOperator::Add => "+",
+        BinaryOperator::Subtract => "-",
+        BinaryOperator::Multiply => "*",
+        BinaryOperator::Divide => "/",
+        BinaryOperator::Remainder => "%",
+    }
+}
+
+/// Writes an expression of numbers with square brackets round each operation.
+fn show(expression: &Expr, out: &mut String) -> Result<(), AllocError> {
+    match expression {
+        Expr::Number(value) => write!(out, "{value}")?,
+        Expr::Unary(_, operand) => {
+            out.push_str("[-")?;
+            show(operand, out)?;
+            out.push_str("]")?;
+        }
+        Expr::Binary(operator, left, right) => {
+            out.push_str("[")?;
+            show(left, out)?;
+            out.push_str(symbol(*operator))?;
+            show(right, out)?;
+            out.push_str("]")?;
+        }
+        _ => out.push_str("?")?,
+    }
+    Ok(())
+}
+
+/// The first statement of the first filter, where it is an expression.
+fn only_expression(program: &Program) -> Option<&Expr> {
+    let declared = program.declarations.first()?;
+    let StreamTree::Filter(filter) = &declared.stream else {
+        return None;
+    };
+    let Member::Work(work) = filter.members.first()? else {
+        return None;
+    };
+    match work.block.first()? {
+        Stmt::Evaluate(value) => Some(value),
+        _ => None,
+    }
+}
+
+#[test]
+fn groups_operators(rt: HostRuntime) -> Result<(), Fail> {
+    let alloc = rt.alloc();
+    let cases = [
+        ("1 - 2 - 3", "[[1-2]-3]"),
+        ("1 / 2 * 3 % 4", "[[[1/2]*3]%4]"),
+        ("1 + 2 * 3", "[1+[2*3]]"),
+        ("1 * 2 + 3", "[[1*2]+3]"),
+        ("1 | 2 ^ 3 & 4 << 5 + 6 * 7", "[1|[2^[3&[4<<[5+[6*7]]]]]]"),
+        ("1 * 2 + 3 << 4 & 5 ^ 6 | 7", "[[[[[[1*2]+3]<<4]&5]^6]|7]"),
+        ("1 << 2 >> 3", "[[1<<2]>>3]"),
+        ("- 1 * 2", "[[-1]*2]"),
+        ("1 - - 2", "[1-[-2]]"),
+    ];
+    for (text, want) in cases {
+        let tokens = repeated(alloc, BEGIN, text, 1, "; } }")?;
+        let program = parse(alloc, &tokens).ok().ok_or("no program")?;
+        let mut shown = String::new(alloc);
+        show(
+            only_expression(&program).ok_or("no expression")?,
+            &mut shown,
+        )?;
+        assert_eq!(rt; shown.as_str(), want, "{text}");
+    }
     Ok(())
 }

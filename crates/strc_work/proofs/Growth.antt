@@ -2,7 +2,7 @@
 use Rattle.std.proofs.Common.{◌≡◌, ℕ, ◌-◌, List, [], ◌∷◌, ◌++◌, length, drop, refl, ap, ◌∙◌, arith, length-append}
 use Rattle.std.proofs.Math.Seq.{drop-append_seam}
 use Rattle.strc_parse.specs.Tree as tree
-use Rattle.strc_work.specs.Lowering.{scope_after}
+use Rattle.strc_work.specs.Resolution.{names_after}
 
 -- the names are others, with some inside them
 pub record StandsOn (base names : List (List ℕ)) : Type 0 where
@@ -13,7 +13,7 @@ pub stands_on_itself : (base : List (List ℕ)) → StandsOn base base
 stands_on_itself base = record { inner = []; is = refl }
 
 -- a statement adds at most a name
-pub stands_on_after : (base names : List (List ℕ)) (s : tree.Stmt) → StandsOn base names → StandsOn base (scope_after names s)
+pub stands_on_after : (base names : List (List ℕ)) (s : tree.Stmt) → StandsOn base names → StandsOn base (names_after names s)
 stands_on_after base names (tree.Declare name initial) h = record { inner = name ∷ h.inner; is = ap (λ l. name ∷ l) h.is }
 stands_on_after base names tree.Empty h = h
 stands_on_after base names (tree.Block body) h = h

@@ -4,3 +4,11 @@ pub mod Rooms
 pub mod Growth
 pub mod Blocks
 pub mod Emitted
+pub mod Resolved
+pub mod Variables
+pub mod Related
+pub mod Expressions
+pub mod ExpressionRuns
+pub mod StatementRuns
+pub mod Resolving
+pub mod FilterRuns

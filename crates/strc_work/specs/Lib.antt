@@ -10,3 +10,5 @@ pub mod Lowered
 pub mod Emission
 pub mod Copies
 pub mod Running
+pub mod Verdicts
+pub mod Closed

@@ -1,5 +1,5 @@
 -- The rules on names and types, and the filter with its constants put in.
-use Rattle.std.specs.Prelude.{ℕ, ℤ, pos, Bool, true, false, ◌==◌, ◌&&◌, not, List, [], ◌∷◌, ◌++◌, reverse, Option, Some, None, Result, Ok, Err, if◌then◌else◌}
+use Rattle.std.specs.Prelude.{ℕ, ◌-◌, ℤ, pos, Bool, true, false, ◌==◌, ◌&&◌, not, List, [], ◌∷◌, length, take, reverse, Option, Some, None, Result, Ok, Err, if◌then◌else◌}
 use Rattle.std.specs.Int.RustNames.{int_lt}
 use Rattle.strc_parse.specs.Tree as tree
 use Rattle.strc_parse.specs.declared.tree.ItemType.{ItemType}
@@ -77,70 +77,84 @@ abbrev pub initial_resolved : Site → List (List ℕ) → Option tree.Expr → 
 initial_resolved site names None = Ok None
 initial_resolved site names (Some value) = and_then (expr_resolved site names value) (λ value'. Ok (Some value'))
 
--- the names of a block after a statement
+-- the names that can be seen after a statement
 abbrev pub names_after : List (List ℕ) → tree.Stmt → List (List ℕ)
-names_after here (tree.Declare name initial) = name ∷ here
-names_after here _ = here
+names_after names (tree.Declare name initial) = name ∷ names
+names_after names _ = names
+
+-- the names of the innermost block, where this many stand outside it
+abbrev pub block_names : (outer : ℕ) → List (List ℕ) → List (List ℕ)
+block_names outer names = take (length names - outer) names
 
 abbrev mutual
-  -- a statement, among the names of its block and those round it
-  pub stmt_resolved : Site → (here outer : List (List ℕ)) → tree.Stmt → Result tree.Stmt LowerError
-  stmt_resolved site here outer tree.Empty = Ok tree.Empty
-  stmt_resolved site here outer (tree.Block body) =
-      and_then (stmts_resolved site [] (here ++ outer) body) (λ body'. Ok (tree.Block body'))
-  stmt_resolved site here outer (tree.Declare name initial) =
-      and_then (where_kept (not (has_name here name)) name) (λ name'.
-      and_then (initial_resolved site (here ++ outer) initial) (λ initial'. Ok (tree.Declare name' initial')))
-  stmt_resolved site here outer (tree.Evaluate value) =
-      and_then (expr_resolved site (here ++ outer) value) (λ value'. Ok (tree.Evaluate value'))
-  stmt_resolved site here outer (tree.Assign name operator value) =
-      and_then (write_resolved site (here ++ outer) name) (λ name'.
-      and_then (expr_resolved site (here ++ outer) value) (λ value'. Ok (tree.Assign name' operator value')))
-  stmt_resolved site here outer (tree.Push value) =
+  -- a statement, among the names that can be seen, of which the `outer` last ones stand outside its block
+  pub stmt_resolved : Site → List (List ℕ) → (outer : ℕ) → tree.Stmt → Result tree.Stmt LowerError
+  stmt_resolved site names outer tree.Empty = Ok tree.Empty
+  stmt_resolved site names outer (tree.Block body) =
+      and_then (stmts_resolved site names (length names) body) (λ body'. Ok (tree.Block body'))
+  stmt_resolved site names outer (tree.Declare name initial) =
+      and_then (where_kept (not (has_name (block_names outer names) name)) name) (λ name'.
+      and_then (initial_resolved site names initial) (λ initial'. Ok (tree.Declare name' initial')))
+  stmt_resolved site names outer (tree.Evaluate value) =
+      and_then (expr_resolved site names value) (λ value'. Ok (tree.Evaluate value'))
+  stmt_resolved site names outer (tree.Assign name operator value) =
+      and_then (write_resolved site names name) (λ name'.
+      and_then (expr_resolved site names value) (λ value'. Ok (tree.Assign name' operator value')))
+  stmt_resolved site names outer (tree.Push value) =
       and_then (where_kept site.pushes value) (λ kept.
-      and_then (expr_resolved site (here ++ outer) kept) (λ value'. Ok (tree.Push value')))
-  stmt_resolved site here outer (tree.Print value) =
-      and_then (expr_resolved site (here ++ outer) value) (λ value'. Ok (tree.Print value'))
-  stmt_resolved site here outer (tree.Println value) =
-      and_then (expr_resolved site (here ++ outer) value) (λ value'. Ok (tree.Println value'))
+      and_then (expr_resolved site names kept) (λ value'. Ok (tree.Push value')))
+  stmt_resolved site names outer (tree.Print value) =
+      and_then (expr_resolved site names value) (λ value'. Ok (tree.Print value'))
+  stmt_resolved site names outer (tree.Println value) =
+      and_then (expr_resolved site names value) (λ value'. Ok (tree.Println value'))
 
   -- the statements of a block, each among the names that are declared before it
-  pub stmts_resolved : Site → (here outer : List (List ℕ)) → tree.Stmts → Result tree.Stmts LowerError
-  stmts_resolved site here outer tree.Done = Ok tree.Done
-  stmts_resolved site here outer (tree.Then first rest) =
-      and_then (stmt_resolved site here outer first) (λ first'.
-      and_then (stmts_resolved site (names_after here first) outer rest) (λ rest'. Ok (tree.Then first' rest')))
+  pub stmts_resolved : Site → List (List ℕ) → (outer : ℕ) → tree.Stmts → Result tree.Stmts LowerError
+  stmts_resolved site names outer tree.Done = Ok tree.Done
+  stmts_resolved site names outer (tree.Then first rest) =
+      and_then (stmt_resolved site names outer first) (λ first'.
+      and_then (stmts_resolved site (names_after names first) outer rest) (λ rest'. Ok (tree.Then first' rest')))
 
 -- whether items flow on a side
 abbrev pub carries_items : ItemType → Bool
 carries_items item.Int = true
 carries_items item.Void = false
 
+-- the side of a filter that a rate speaks of
+abbrev pub side_of : (input output : ItemType) → RateKind → ItemType
+side_of input output kind.Push = output
+side_of input output kind.Pop = input
+
 -- whether a rate may be declared: above 0 only where items flow
 abbrev pub rate_fits : ItemType → ItemType → RateTree → Bool
-rate_fits input output rate = side_fits rate.kind (not (int_lt (pos 0) rate.rate))
-  where
-    side_fits : RateKind → Bool → Bool
-    side_fits kind.Push true = true
-    side_fits kind.Push false = carries_items output
-    side_fits kind.Pop true = true
-    side_fits kind.Pop false = carries_items input
+rate_fits input output rate = not (int_lt (pos 0) rate.rate && not (carries_items (side_of input output rate.kind)))
 
 abbrev pub rates_fit : ItemType → ItemType → List RateTree → Bool
 rates_fit input output [] = true
 rates_fit input output (first ∷ rest) = rate_fits input output first && rates_fit input output rest
 
--- the members in order of the text, with the fields before a member; each sees all fields
-abbrev pub members_resolved : (constants : List (List ℕ × ℤ)) (input output : ItemType) (fields before : List (List ℕ)) → List tree.Member → Result (List tree.Member) LowerError
-members_resolved constants input output fields before [] = Ok []
-members_resolved constants input output fields before (tree.Field name initial ∷ rest) =
+-- the names of the fields after a member
+abbrev pub fields_after : List (List ℕ) → tree.Member → List (List ℕ)
+fields_after before (tree.Field name initial) = name ∷ before
+fields_after before (tree.Work rates block) = before
+
+-- a member, with the fields before it; it sees all fields
+abbrev pub member_resolved : (constants : List (List ℕ × ℤ)) (input output : ItemType) (fields before : List (List ℕ)) → tree.Member → Result tree.Member LowerError
+member_resolved constants input output fields before (tree.Field name initial) =
     and_then (where_kept (not (has_name before name)) name) (λ name'.
     and_then (initial_resolved (record { constants = constants; pops = false; pushes = false }) fields initial) (λ initial'.
-    and_then (members_resolved constants input output fields (name ∷ before) rest) (λ rest'. Ok (tree.Field name' initial' ∷ rest'))))
-members_resolved constants input output fields before (tree.Work rates block ∷ rest) =
+    Ok (tree.Field name' initial')))
+member_resolved constants input output fields before (tree.Work rates block) =
     and_then (where_kept (rates_fit input output rates) rates) (λ rates'.
-    and_then (stmts_resolved (record { constants = constants; pops = carries_items input; pushes = carries_items output }) [] fields block) (λ block'.
-    and_then (members_resolved constants input output fields before rest) (λ rest'. Ok (tree.Work rates' block' ∷ rest'))))
+    and_then (stmts_resolved (record { constants = constants; pops = carries_items input; pushes = carries_items output }) fields (length fields) block) (λ block'.
+    Ok (tree.Work rates' block')))
+
+-- the members, in order of the text
+abbrev pub members_resolved : (constants : List (List ℕ × ℤ)) (input output : ItemType) (fields before : List (List ℕ)) → List tree.Member → Result (List tree.Member) LowerError
+members_resolved constants input output fields before [] = Ok []
+members_resolved constants input output fields before (first ∷ rest) =
+    and_then (member_resolved constants input output fields before first) (λ first'.
+    and_then (members_resolved constants input output fields (fields_after before first) rest) (λ rest'. Ok (first' ∷ rest')))
 
 -- a filter with its constants put in, or the first rule that it breaks
 abbrev pub filter_resolved : List (List ℕ × ℤ) → Filter → Result Filter LowerError

@@ -4,6 +4,7 @@ ghost use Rattle.std.specs.Prelude.{◌≡◌, ◌+◌, ◌++◌, ◌∷◌, [],
 ghost use Rattle.strc_parse.specs.View.{expr_view, stmt_view};
 ghost use Rattle.strc_work.specs.Filters.{members_of, field_names, work_block, filter_of};
 ghost use Rattle.strc_work.specs.Lowering as steps_of;
+ghost use Rattle.strc_work.specs.Resolution.{names_after};
 ghost use Rattle.strc_work.specs.Firing.{assigned_value};
 ghost use Rattle.strc_work.specs.Emission.{compound_of, operand_slot, operand_steps, old_slot, old_steps};
 
@@ -62,7 +63,7 @@ fn emit_work(alloc: Global, names: &mut Scope, members: &[Member]) -> Result<Vec
 /// The steps of a statement.
 fn emit_stmt(steps: &mut Vec<Step>, names: &mut Scope, statement: &Stmt) -> Result<(), NoMemory>
     ensures steps { OnOk result (steps.new.items ≡ steps.old.items ++ steps_of.stmt_steps names.old (stmt_view statement.now)) }
-    ensures names { OnOk result (names.new ≡ steps_of.scope_after names.old (stmt_view statement.now)) }
+    ensures names { OnOk result (names.new ≡ names_after names.old (stmt_view statement.now)) }
 {
     let free = names.len();
     match statement {

@@ -21,3 +21,6 @@ pub mod state;
 mod step;
 pub mod window;
 pub mod word;
+
+#[cfg(test)]
+mod tests;

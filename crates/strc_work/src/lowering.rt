@@ -23,18 +23,33 @@ pub enum LowerError {
 }
 
 impl From<NoMemory> for LowerError {
+    ghost use Rattle.std.specs.Prelude.{◌≡◌};
+    ghost use Rattle.strc_work.specs.declared.lowering.LowerError.TheVariants as refused;
+
+    ghost from_gives = { λ _ e. e ≡ refused.NoMemory };
+
     fn from(_error: NoMemory) -> LowerError {
         LowerError::NoMemory
     }
 }
 
 impl From<AllocError> for LowerError {
+    ghost use Rattle.std.specs.Prelude.{◌≡◌};
+    ghost use Rattle.strc_work.specs.declared.lowering.LowerError.TheVariants as refused;
+
+    ghost from_gives = { λ _ e. e ≡ refused.NoMemory };
+
     fn from(_error: AllocError) -> LowerError {
         LowerError::NoMemory
     }
 }
 
 impl<T: Drop> From<AllocFailed<T>> for LowerError {
+    ghost use Rattle.std.specs.Prelude.{◌≡◌};
+    ghost use Rattle.strc_work.specs.declared.lowering.LowerError.TheVariants as refused;
+
+    ghost from_gives = { λ _ e. e ≡ refused.NoMemory };
+
     fn from(_error: AllocFailed<T>) -> LowerError {
         LowerError::NoMemory
     }

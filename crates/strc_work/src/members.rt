@@ -19,6 +19,19 @@ pub fn field_count(members: &[Member]) -> usize
     count
 }
 
+/// How many works there are.
+pub fn work_count(members: &[Member]) -> usize
+    ensures { result ≡ filters.work_count (filters.members_of members.now) }
+{
+    let mut count = 0;
+    for member in members {
+        if let Member::Work(_) = member {
+            count += 1;
+        }
+    }
+    count
+}
+
 /// The first rate of a kind; a missing one is 0.
 pub fn rate_of(members: &[Member], kind: RateKind) -> i32
     ensures { result ≡ filters.rate_of kind (filters.work_rates (filters.members_of members.now)) }

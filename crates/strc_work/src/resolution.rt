@@ -1,11 +1,19 @@
 // The rules on names and types. A tree that keeps them is copied with its constants put in.
 
-ghost use Rattle.std.specs.Prelude.{◌≡◌, IfOk, reverse};
-ghost use Rattle.strc_work.specs.Filters.{members_of, field_names};
+ghost use Rattle.std.specs.Prelude.{◌≡◌, IfOk, OnOk, [], length, reverse};
+ghost use Rattle.std.specs.Option.{option_map};
+ghost use Rattle.strc_parse.specs.View.{expr_view, stmt_view, block_view, member_view};
+ghost use Rattle.strc_parse.specs.declared.tree.Lvalue.{Lvalue as Place};
+ghost use Rattle.strc_parse.specs.declared.tree.WorkTree.{WorkTree as Work};
+ghost use Rattle.strc_parse.specs.declared.tree.Member.TheVariants as member;
+ghost use Rattle.strc_work.specs.Filters.{filter_of, members_of, field_names};
+ghost use Rattle.strc_work.specs.Resolution as judged;
+ghost use Rattle.strc_work.specs.Verdicts.{IsVerdict, site_of, Statements};
 
 use crate::constants::Constants;
 use crate::copies;
 use crate::lowering::LowerError;
+use crate::members;
 use crate::memory::NoMemory;
 use crate::scope::Scope;
 use std::alloc::Global;
@@ -28,36 +36,24 @@ pub fn resolve_filter(
     alloc: Global,
     tree: &FilterTree,
     constants: &Constants,
-) -> Result<FilterTree, LowerError> {
-    if !has_one_work(&tree.members) {
+) -> Result<FilterTree, LowerError>
+    ensures { IsVerdict filter_of (judged.filter_resolved constants.now (filter_of tree.now)) result }
+{
+    if members::work_count(&tree.members) != 1 {
         return Err(LowerError::TypeMismatch);
     }
     let mut fields = field_scope(alloc, &tree.members)?;
     let mut before = Scope::new(alloc);
-    let mut members = Vec::new(alloc);
+    let mut resolved = Vec::new(alloc);
     for member in &tree.members {
         let member = resolve_member(alloc, tree, constants, &mut fields, &mut before, member)?;
-        members.push(member)?;
+        resolved.push(member)?;
     }
     Ok(FilterTree {
         input: tree.input,
         output: tree.output,
-        members,
+        members: resolved,
     })
-}
-
-/// Whether there is exactly one work.
-fn has_one_work(members: &[Member]) -> bool {
-    let mut found = false;
-    for member in members {
-        if let Member::Work(_) = member {
-            if found {
-                return false;
-            }
-            found = true;
-        }
-    }
-    found
 }
 
 /// The names of the fields.
@@ -80,7 +76,13 @@ fn resolve_member(
     fields: &mut Scope,
     before: &mut Scope,
     member: &Member,
-) -> Result<Member, LowerError> {
+) -> Result<Member, LowerError>
+    ensures verdict { IsVerdict member_view
+        (judged.member_resolved constants.now tree.now.input tree.now.output fields.old before.old (member_view member.now))
+        result }
+    ensures fields { OnOk result (fields.new ≡ fields.old) }
+    ensures before { OnOk result (before.new ≡ judged.fields_after before.old (member_view member.now)) }
+{
     match member {
         Member::Field(variable) => {
             let site = Site {
@@ -88,11 +90,13 @@ fn resolve_member(
                 pops: false,
                 pushes: false,
             };
-            if before.has_since(0, &variable.name) {
+            if before.has(&variable.name) {
                 return Err(LowerError::TypeMismatch);
             }
             before.declare(&variable.name)?;
-            Ok(Member::Field(resolve_variable(alloc, &site, fields, variable)?))
+            let initial = resolve_initial(alloc, &site, fields, &variable.initial)?;
+            let name = variable.name.copy()?;
+            Ok(Member::Field(Variable { name, initial }))
         }
         Member::Work(work) => Ok(Member::Work(resolve_work(alloc, tree, constants, fields, work)?)),
     }
@@ -104,7 +108,12 @@ fn resolve_work(
     constants: &Constants,
     fields: &mut Scope,
     work: &WorkTree,
-) -> Result<WorkTree, LowerError> {
+) -> Result<WorkTree, LowerError>
+    ensures verdict { IsVerdict (λ (work : Work). member_view (member.Work work))
+        (judged.member_resolved constants.now tree.now.input tree.now.output fields.old [] (member_view (member.Work work.now)))
+        result }
+    ensures fields { OnOk result (fields.new ≡ fields.old) }
+{
     if !rates_fit(tree.input, tree.output, &work.rates) {
         return Err(LowerError::TypeMismatch);
     }
@@ -114,17 +123,30 @@ fn resolve_work(
         pops: carries_items(tree.input),
         pushes: carries_items(tree.output),
     };
-    let start = fields.len();
-    let mut block = Vec::new(alloc);
-    for statement in &work.block {
-        block.push(resolve_stmt(alloc, &site, fields, start, statement)?)?;
-    }
-    fields.leave(start);
+    let block = resolve_block(alloc, &site, fields, &work.block)?;
     Ok(WorkTree { rates, block })
 }
 
+/// The statements of a work, among the fields.
+fn resolve_block(alloc: Global, site: &Site, names: &mut Scope, block: &[Stmt]) -> Result<Vec<Stmt>, LowerError>
+    ensures verdict { IsVerdict (λ (block : Statements). block_view block.items)
+        (judged.stmts_resolved (site_of site.now) names.old (length names.old) (block_view block.now))
+        result }
+    ensures names { OnOk result (names.new ≡ names.old) }
+{
+    let start = names.len();
+    let mut resolved = Vec::new(alloc);
+    for inner in block {
+        resolved.push(resolve_stmt(alloc, site, names, start, inner)?)?;
+    }
+    names.leave(start);
+    Ok(resolved)
+}
+
 /// Whether items flow on a side.
-fn carries_items(side: ItemType) -> bool {
+fn carries_items(side: ItemType) -> bool
+    ensures { result ≡ judged.carries_items side }
+{
     match side {
         ItemType::Int => true,
         ItemType::Void => false,
@@ -132,7 +154,9 @@ fn carries_items(side: ItemType) -> bool {
 }
 
 /// Whether the rates are above 0 only where items flow.
-fn rates_fit(input: ItemType, output: ItemType, rates: &[RateTree]) -> bool {
+fn rates_fit(input: ItemType, output: ItemType, rates: &[RateTree]) -> bool
+    ensures { result ≡ judged.rates_fit input output rates.now }
+{
     for rate in rates {
         let side = match rate.kind {
             RateKind::Push => output,
@@ -145,18 +169,24 @@ fn rates_fit(input: ItemType, output: ItemType, rates: &[RateTree]) -> bool {
     true
 }
 
-fn resolve_variable(
+/// An initialiser, where there is one.
+fn resolve_initial(
     alloc: Global,
     site: &Site,
     names: &Scope,
-    variable: &Variable,
-) -> Result<Variable, LowerError> {
-    let name = variable.name.copy()?;
-    let initial = match &variable.initial {
-        None => None,
-        Some(value) => Some(resolve_expr(alloc, site, names, value)?),
-    };
-    Ok(Variable { name, initial })
+    initial: &Option<Expr>,
+) -> Result<Option<Expr>, LowerError>
+    ensures { IsVerdict (option_map expr_view)
+        (judged.initial_resolved (site_of site.now) names.now (option_map expr_view initial.now))
+        result }
+{
+    match initial {
+        None => Ok(None),
+        Some(value) => {
+            let value = resolve_expr(alloc, site, names, value)?;
+            Ok(Some(value))
+        }
+    }
 }
 
 /// A statement, among the names that can be seen; those of its own block stand from `start` on.
@@ -166,7 +196,10 @@ fn resolve_stmt(
     names: &mut Scope,
     start: u32,
     statement: &Stmt,
-) -> Result<Stmt, LowerError> {
+) -> Result<Stmt, LowerError>
+    ensures verdict { IsVerdict stmt_view (judged.stmt_resolved (site_of site.now) names.old start (stmt_view statement.now)) result }
+    ensures names { OnOk result (names.new ≡ judged.names_after names.old (stmt_view statement.now)) }
+{
     match statement {
         Stmt::Empty => Ok(Stmt::Empty),
         Stmt::Block(body) => {
@@ -182,9 +215,10 @@ fn resolve_stmt(
             if names.has_since(start, &variable.name) {
                 return Err(LowerError::TypeMismatch);
             }
-            let resolved = resolve_variable(alloc, site, names, variable)?;
+            let initial = resolve_initial(alloc, site, names, &variable.initial)?;
             names.declare(&variable.name)?;
-            Ok(Stmt::Declare(resolved))
+            let name = variable.name.copy()?;
+            Ok(Stmt::Declare(Variable { name, initial }))
         }
         Stmt::Evaluate(value) => Ok(Stmt::Evaluate(resolve_expr(alloc, site, names, value)?)),
         Stmt::Assign(place, operator, value) => {
@@ -207,7 +241,9 @@ fn resolve_expr(
     site: &Site,
     names: &Scope,
     value: &Expr,
-) -> Result<Expr, LowerError> {
+) -> Result<Expr, LowerError>
+    ensures { IsVerdict expr_view (judged.expr_resolved (site_of site.now) names.now (expr_view value.now)) result }
+{
     match value {
         Expr::Number(number) => Ok(Expr::Number(*number)),
         Expr::Read(place) => resolve_name(site, names, &place.name),
@@ -241,8 +277,10 @@ fn resolve_expr(
 }
 
 /// A name that is read: a variable, or else a constant, whose value is put in.
-fn resolve_name(site: &Site, names: &Scope, name: &Name) -> Result<Expr, LowerError> {
-    if names.has_since(0, name) {
+fn resolve_name(site: &Site, names: &Scope, name: &Name) -> Result<Expr, LowerError>
+    ensures { IsVerdict expr_view (judged.name_resolved (site_of site.now) names.now name.now) result }
+{
+    if names.has(name) {
         let name = name.copy()?;
         return Ok(Expr::Read(Lvalue { name }));
     }
@@ -256,9 +294,11 @@ fn resolve_name(site: &Site, names: &Scope, name: &Name) -> Result<Expr, LowerEr
 }
 
 /// A name that is written: a variable, and no constant.
-fn resolve_place(site: &Site, names: &Scope, place: &Lvalue) -> Result<Lvalue, LowerError> {
+fn resolve_place(site: &Site, names: &Scope, place: &Lvalue) -> Result<Lvalue, LowerError>
+    ensures { IsVerdict (λ (place : Place). place.name) (judged.write_resolved (site_of site.now) names.now place.now.name) result }
+{
     let name = place.name.copy()?;
-    if names.has_since(0, &name) {
+    if names.has(&name) {
         return Ok(Lvalue { name });
     }
     match site.constants.value_of(&name) {

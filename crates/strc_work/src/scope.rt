@@ -58,6 +58,13 @@ impl Scope {
         None
     }
 
+    /// Whether one of the names is this one.
+    pub fn has(&self, name: &Name) -> bool
+        ensures { result ≡ has_name self.now name.now }
+    {
+        self.has_since(0, name)
+    }
+
     /// Whether one of the names from this place on is this one.
     pub fn has_since(&self, start: u32, name: &Name) -> bool
         ensures { result ≡ has_name (take (length self.now - start) self.now) name.now }

@@ -2,33 +2,33 @@ use Rattle.std.proofs.Common.{◌≡◌, ◌∙◌, ◌∷◌, [], ◌++◌, Ok,
 use Rattle.std.proofs.lemmas.Result.{err_from_is_err_and}
 use Rattle.std.proofs.lemmas.List.{map_push}
 use Rattle.strc_parse.specs.View.{member_view}
-use Rattle.strc_parse.specs.Grammar.{kinds}
+use Rattle.strc_parse.specs.Grammar.{kinds, height_limit}
 use Rattle.strc_parse.specs.Reading.{brace, one_more, member}
 use Rattle.strc_parse.proofs.Repeated.{Fails-then, brace_closes, brace_stays, repeated_on, repeated_ends, repeated_fails, repeated_over}
 use Rattle.strc_parse.proofs.declaration.members.Goals as goal
 
 pub returns-then-is_mark : goal.returns-then-is_mark
 returns-then-is_mark c =
-    rw c.tail.ensures (repeated_ends brace (one_more member) (length c.args.tokens.now) c.loop-turn._turn (map member_view c.loop-turn.found.items)
-      (kinds c.loop-turn.rest.now) _ c.loop-turn.invariant _ c.loop-turn-test.true (brace_closes _ (sym c.is_mark.ensures ∙ c.if-is_mark.true)))
+    rw c.tail.ensures (repeated_ends brace (one_more (member height_limit)) (length c.args.tokens.now) c.loop-turn._turn (map member_view c.loop-turn.found.items)
+    (kinds c.loop-turn.rest.now) _ c.loop-turn.invariant _ c.loop-turn-test.true (brace_closes _ (sym c.is_mark.ensures ∙ c.if-is_mark.true)))
 
 pub returns-in_err-next : goal.returns-in_err-next
 unfolding one_more
 returns-in_err-next c =
     let p = err_from_is_err_and c.from_residual.result c.from_residual.ensures.1 in
-    rw (p.1, p.2) (repeated_fails brace (one_more member) (length c.args.tokens.now) c.loop-turn._turn (map member_view c.loop-turn.found.items)
-      (kinds c.loop-turn.rest.now) _ c.loop-turn.invariant c.in_err-next.field-0.0 c.loop-turn-test.true (brace_stays _ (sym c.is_mark.ensures ∙ c.if-is_mark.false))
-      (Fails-then c.in_err-next.field-0.0 _ _ c.in_err-next.ensures))
+    rw (p.1, p.2) (repeated_fails brace (one_more (member height_limit)) (length c.args.tokens.now) c.loop-turn._turn (map member_view c.loop-turn.found.items)
+    (kinds c.loop-turn.rest.now) _ c.loop-turn.invariant c.in_err-next.field-0.0 c.loop-turn-test.true (brace_stays _ (sym c.is_mark.ensures ∙ c.if-is_mark.false))
+    (Fails-then c.in_err-next.field-0.0 _ _ c.in_err-next.ensures))
 
 pub loop-turn-preserved : goal.loop-turn-preserved
 unfolding one_more
 loop-turn-preserved c =
     let front = (map member_view c.loop-turn.found.items) in
     let e : map member_view c.push.new.self.items ≡ front ++ (member_view c.in_ok-next.next) ∷ [] = rw c.in_ok-push.ensures.items (map_push _ c.loop-turn.found.items c.in_ok-next.next) in
-    let one : one_more member front (kinds c.loop-turn.rest.now) ≡ Ok (front ++ (member_view c.in_ok-next.next) ∷ [], kinds c.in_ok-next.after.now) = rw c.in_ok-next.ensures refl in
-    rw e (repeated_on brace (one_more member) (length c.args.tokens.now) c.loop-turn._turn (map member_view c.loop-turn.found.items)
-      (kinds c.loop-turn.rest.now) _ c.loop-turn.invariant _ _ c.loop-turn-test.true (brace_stays _ (sym c.is_mark.ensures ∙ c.if-is_mark.false)) one)
+    let one : one_more (member height_limit) front (kinds c.loop-turn.rest.now) ≡ Ok (front ++ (member_view c.in_ok-next.next) ∷ [], kinds c.in_ok-next.after.now) = rw c.in_ok-next.ensures refl in
+    rw e (repeated_on brace (one_more (member height_limit)) (length c.args.tokens.now) c.loop-turn._turn (map member_view c.loop-turn.found.items)
+    (kinds c.loop-turn.rest.now) _ c.loop-turn.invariant _ _ c.loop-turn-test.true (brace_stays _ (sym c.is_mark.ensures ∙ c.if-is_mark.false)) one)
 
 pub returns : goal.returns
-returns c = rw c.unexpected.ensures (repeated_over brace (one_more member) (length c.args.tokens.now) c.loop-turn._turn (map member_view c.loop-turn.found.items)
-      (kinds c.loop-turn.rest.now) _ c.loop-turn.invariant c.loop-turn-test.false)
+returns c = rw c.unexpected.ensures (repeated_over brace (one_more (member height_limit)) (length c.args.tokens.now) c.loop-turn._turn (map member_view c.loop-turn.found.items)
+    (kinds c.loop-turn.rest.now) _ c.loop-turn.invariant c.loop-turn-test.false)

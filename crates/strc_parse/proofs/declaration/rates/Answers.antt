@@ -9,24 +9,24 @@ use Rattle.strc_parse.proofs.declaration.rates.Goals as goal
 pub returns-in_default : goal.returns-in_default
 returns-in_default c =
     repeated_ends no_rate rate_turn (length c.args.tokens.now + 1) c.loop-turn._turn c.loop-turn.found.items
-      (kinds c.loop-turn.rest.now) _ c.loop-turn.invariant _ c.loop-turn-test.true (no_rate_ends _ (sym c.rate_kind.ensures ∙ c.in_default.is))
+    (kinds c.loop-turn.rest.now) _ c.loop-turn.invariant _ c.loop-turn-test.true (no_rate_ends _ (sym c.rate_kind.ensures ∙ c.in_default.is))
 
 pub returns-in_err-rate : goal.returns-in_err-rate
 returns-in_err-rate c =
     let p = err_from_is_err_and c.from_residual.result c.from_residual.ensures.1 in
     let stands : rate_kind (kinds c.loop-turn.rest.now) ≡ Some c.in-Some.kind = sym c.rate_kind.ensures ∙ c.in-Some.is in
     rw (p.1, p.2) (repeated_fails no_rate rate_turn (length c.args.tokens.now + 1) c.loop-turn._turn c.loop-turn.found.items
-      (kinds c.loop-turn.rest.now) _ c.loop-turn.invariant c.in_err-rate.field-0.0 c.loop-turn-test.true (no_rate_stays _ _ stands)
-      (rate_turn_fails c.in_err-rate.field-0.0 c.loop-turn.found.items _ c.in-Some.kind stands (rw c.deref.ensures.value at c.in_err-rate.ensures)))
+    (kinds c.loop-turn.rest.now) _ c.loop-turn.invariant c.in_err-rate.field-0.0 c.loop-turn-test.true (no_rate_stays _ _ stands)
+    (rate_turn_fails c.in_err-rate.field-0.0 c.loop-turn.found.items _ c.in-Some.kind stands (rw c.deref.ensures.value at c.in_err-rate.ensures)))
 
 pub loop-turn-preserved : goal.loop-turn-preserved
 loop-turn-preserved c =
     let stands : rate_kind (kinds c.loop-turn.rest.now) ≡ Some c.in-Some.kind = sym c.rate_kind.ensures ∙ c.in-Some.is in
     let read : rate_of c.in-Some.kind c.loop-turn.found.items (kinds c.loop-turn.rest.now) ≡ Ok (c.in_ok-rate.rate, kinds c.in_ok-rate.after.now) = rw c.deref.ensures.value at c.in_ok-rate.ensures in
     rw (c.in_ok-push.ensures.items, rate_kept c.in_ok-rate.rate (rate_is_one c.in-Some.kind c.loop-turn.found.items _ c.in_ok-rate.rate _ read)) (repeated_on no_rate rate_turn (length c.args.tokens.now + 1) c.loop-turn._turn c.loop-turn.found.items
-      (kinds c.loop-turn.rest.now) _ c.loop-turn.invariant _ _ c.loop-turn-test.true (no_rate_stays _ _ stands)
-      (rate_turn_at c.loop-turn.found.items _ c.in-Some.kind c.in_ok-rate.rate _ stands read))
+    (kinds c.loop-turn.rest.now) _ c.loop-turn.invariant _ _ c.loop-turn-test.true (no_rate_stays _ _ stands)
+    (rate_turn_at c.loop-turn.found.items _ c.in-Some.kind c.in_ok-rate.rate _ stands read))
 
 pub returns : goal.returns
 returns c = rw c.unexpected.ensures (repeated_over no_rate rate_turn (length c.args.tokens.now + 1) c.loop-turn._turn c.loop-turn.found.items
-      (kinds c.loop-turn.rest.now) _ c.loop-turn.invariant c.loop-turn-test.false)
+    (kinds c.loop-turn.rest.now) _ c.loop-turn.invariant c.loop-turn-test.false)

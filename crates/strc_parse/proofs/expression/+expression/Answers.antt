@@ -15,5 +15,5 @@ expression-returns t c = rw (expression_at c.args.depth c.args.rank (kinds c.arg
 pub chain-loop-turn-preserved : goal.chain-loop-turn-preserved
 chain-loop-turn-preserved t c =
     rw c.in_ok-left.ensures (c.loop-turn.invariant ∙ chain_on c.args.depth (expression (c.args.depth - 1)) c.args.rank (length c.args.tokens.now) c.loop-turn._turn
-      (expr_view c.loop-turn.left) c.loop-turn.height (kinds c.loop-turn.rest.now) c.in-Some.operator (expr_view c.in_ok-right.right) c.in_ok-right.right_height
-      c.in_ok-height.height (kinds c.in_ok-right.after.now) c.loop-turn-test.true (search rules) (search rules) (search rules))
+    (expr_view c.loop-turn.left) c.loop-turn.height (kinds c.loop-turn.rest.now) c.in-Some.operator (expr_view c.in_ok-right.right) c.in_ok-right.right_height
+    c.in_ok-height.height (kinds c.in_ok-right.after.now) c.loop-turn-test.true (search rules) (search rules) (search rules))

@@ -1,0 +1,241 @@
+-- Each expression's steps do what it means.
+use Rattle.std.proofs.Common.{◌≡◌, ◌≢◌, ℕ, zero, suc, ◌+◌, ◌-◌, ◌<◌, ◌≤◌, max, Bool, true, false, cond, ℤ, pos, negsuc, neg_ℤ, ◌+ℤ◌, List, [], ◌∷◌, ◌++◌, length, get_or, set, Option, Some, None, Result, Ok, Err, refl, sym, ap, ◌∙◌, subst, arith}
+use Rattle.std.specs.Prelude.{if◌then◌else◌, unwrap_or, slice_get}
+use Rattle.std.proofs.lemmas.List.{get_or-set_same, get_or-set_other, length-set}
+use Rattle.strc_parse.specs.Tree as tree
+use Rattle.strc_parse.specs.declared.tree.UnaryOperator.{UnaryOperator}
+use Rattle.strc_parse.specs.declared.tree.UnaryOperator.TheVariants as unary
+use Rattle.strc_parse.specs.declared.tree.BinaryOperator.{BinaryOperator}
+use Rattle.strc_parse.specs.declared.tree.BinaryOperator.TheVariants as binary
+use Rattle.strc_parse.specs.declared.tree.StepOperator.{StepOperator}
+use Rattle.strc_parse.specs.declared.tree.StepOperator.TheVariants as step
+use Rattle.strc_work.specs.declared.fault.Cause.{Cause}
+use Rattle.strc_work.specs.declared.step.Step.{Step}
+use Rattle.strc_work.specs.declared.step.Step.TheVariants as act
+use Rattle.strc_work.specs.Arithmetic.{wrapped, unary_value, binary_value}
+use Rattle.strc_work.specs.Closed.{IsNamed, IsClosed}
+use Rattle.strc_work.specs.Firing.{Port, Store, Traffic, then_do, value_in, value_of, popped_from, assigned, with_value, value_stepped, step_value}
+use Rattle.strc_work.specs.Lowering.{Machine, slot_value, slot_written, step_done, steps_done, step_room, steps_room, slot_of, variable_slot, changes_none, stands_at, unless_there, unary_step, binary_step, step_steps, expr_steps, unary_done, binary_done}
+use Rattle.strc_work.specs.Emission.{operand_slot, operand_steps}
+use Rattle.strc_work.proofs.Variables.{Variables, names_of, at, Holds, Holds-set_above, Holds-with_value, names_of-with_value, length-names_of}
+use Rattle.strc_work.proofs.Related.{Related, then_related, weaker_related, steps_done-append, steps_room-append, then_last}
+use Rattle.strc_work.proofs.Expressions.{Arrives, StandsAt, Ready, machine_at, Runs, named_below, named_value, length-variables, variable_runs, Keeps, keeps, same_slots, unary_room, binary_room, stays_slot, operand_runs}
+
+-- a value that needs no other step
+arrives_at_once : (names : List (List ℕ)) (into free : ℕ) (store : Store) (slots : List ℤ) (value : ℤ) → Ready names free store slots → Arrives names into free slots (value, store) (record { slots = set slots into value; traffic = store.traffic })
+arrives_at_once names into free store slots value ready = record {
+  slots = slots;
+  written = refl;
+  names_are = ready.names_are;
+  holds = ready.holds;
+  kept = λ k low high. refl;
+  size = refl;
+}
+
+pop_runs : (names : List (List ℕ)) (into free : ℕ) (store : Store) (slots : List ℤ) (r : Result (ℤ × Traffic) Cause) → Ready names free store slots → Related (Arrives names into free slots) (then_do r (λ taken. Ok (taken.0, record store { traffic = taken.1 }))) (then_do (then_do r (λ taken. Ok (record { slots = set slots into taken.0; traffic = taken.1 }))) (λ (m : Machine). Ok m))
+pop_runs names into free store slots (Ok taken) ready = record {
+  slots = slots;
+  written = refl;
+  names_are = ready.names_are;
+  holds = ready.holds;
+  kept = λ k low high. refl;
+  size = refl;
+}
+pop_runs names into free store slots (Err cause) ready = refl
+
+unary_step_done : (port : Port) (operator : UnaryOperator) (into from : ℕ) (m : Machine) → step_done port (unary_step operator into from) m ≡ unary_done operator into from m
+unary_step_done port unary.Negate into from m = refl
+unary_step_done port unary.Not into from m = refl
+unary_step_done port unary.Complement into from m = refl
+
+binary_step_done : (port : Port) (operator : BinaryOperator) (into left right : ℕ) (m : Machine) → step_done port (binary_step operator into left right) m ≡ binary_done operator into left right m
+binary_step_done port binary.Or into left right m = refl
+binary_step_done port binary.ExclusiveOr into left right m = refl
+binary_step_done port binary.And into left right m = refl
+binary_step_done port binary.ShiftLeft into left right m = refl
+binary_step_done port binary.ShiftRight into left right m = refl
+binary_step_done port binary.Add into left right m = refl
+binary_step_done port binary.Subtract into left right m = refl
+binary_step_done port binary.Multiply into left right m = refl
+binary_step_done port binary.Divide into left right m = refl
+binary_step_done port binary.Remainder into left right m = refl
+
+-- the last step of an operator before its operand
+unary_arrives : (names : List (List ℕ)) (operator : UnaryOperator) (into from free : ℕ) (before : List ℤ) (given : ℤ × Store) (after : Machine) → StandsAt names from free before given after → Arrives names into free before (unary_value operator given.0, given.1) (slot_written after into (unary_value operator (slot_value after from)))
+unary_arrives names operator into from free before given after stands = record {
+  slots = after.slots;
+  written =
+    ap (λ v. slot_written after into (unary_value operator v)) stands.value
+    ∙ ap (λ t. record { slots = set after.slots into (unary_value operator given.0); traffic = t }) stands.traffic;
+  names_are = stands.names_are;
+  holds = stands.holds;
+  kept = stands.kept;
+  size = stands.size;
+}
+
+-- the last step of an operator between its operands
+binary_arrives : (names : List (List ℕ)) (into free : ℕ) (before : List ℤ) (store : Store) (after : Machine) (r : Result ℤ Cause) → after.traffic ≡ store.traffic → names_of store.variables ≡ names → Holds store.variables after.slots → ((k : ℕ) → length names ≤ k → k < free → at after.slots k ≡ at before k) → length after.slots ≡ length before → Related (Arrives names into free before) (then_do r (λ value. Ok (value, store))) (then_do r (λ value. Ok (slot_written after into value)))
+binary_arrives names into free before store after (Ok value) traffic names_are holds kept size = record {
+  slots = after.slots;
+  written = ap (λ t. record { slots = set after.slots into value; traffic = t }) traffic;
+  names_are = names_are;
+  holds = holds;
+  kept = kept;
+  size = size;
+}
+binary_arrives names into free before store after (Err cause) traffic names_are holds kept size = refl
+
+-- a machine whose traffic is a store's
+machine_is : (m : Machine) (store : Store) → m.traffic ≡ store.traffic → m ≡ machine_at m.slots store
+machine_is m store e = ap (λ t. record { slots = m.slots; traffic = t }) e
+
+-- the left operand's value is still there after the right operand's steps
+left_stays : (port : Port) (names : List (List ℕ)) (left right : tree.Expr) (free : ℕ) (store : Store) (slots : List ℤ) (first second : ℤ × Store) (m1 m2 : Machine) → IsClosed names left → Ready names free store slots → value_of port right first.1 ≡ Ok second → StandsAt names (operand_slot names (changes_none right) left free) free slots first m1 → Holds second.1.variables m2.slots → ((k : ℕ) → length names ≤ k → k < free + 1 → at m2.slots k ≡ at m1.slots k) → at m2.slots (operand_slot names (changes_none right) left free) ≡ first.0
+left_stays port names left right free store slots first second m1 m2 closed ready is stands holds kept =
+    by_place (stands_at names (changes_none right) left) (λ slot at_slot. stays_slot names (changes_none right) left slot at_slot) stands.value
+  where
+    by_place : (o : Option ℕ) → ((slot : ℕ) → o ≡ Some slot → (changes_none right ≡ true) × (variable_slot names left ≡ Some slot)) → at m1.slots (unwrap_or o free) ≡ first.0 → at m2.slots (unwrap_or o free) ≡ first.0
+    by_place None place value =
+        let above = ready.above in
+        kept free above (omega arith) ∙ value
+    by_place (Some slot) place value =
+        let p = place slot refl in
+        let below = (variable_runs port left names free slot store slots p.1 closed ready).1 in
+        let same : second.1.variables ≡ first.1.variables = subst (Keeps first.1.variables) is (keeps port right p.0 first.1) in
+        let few : length first.1.variables ≡ length names = sym (length-names_of first.1.variables) ∙ ap length stands.names_are in
+        let lt : slot < length first.1.variables = omega arith in
+        same_slots first.1.variables m2.slots m1.slots slot (subst (λ v. Holds v m2.slots) same holds) stands.holds lt ∙ value
+
+-- an operator between its operands
+binary_runs : (port : Port) (operator : BinaryOperator) (left right : tree.Expr) → Runs port left → Runs port right → Runs port (tree.Binary operator left right)
+binary_runs port operator left right run_left run_right names into free store slots closed ready room =
+    let stays = changes_none right in
+    let a = operand_steps names stays left free in
+    let b = operand_steps names true right (free + 1) in
+    let at_left = operand_slot names stays left free in
+    let at_right = operand_slot names true right (free + 1) in
+    let last = binary_step operator into at_left at_right in
+    let room_a : steps_room a ≤ length slots = omega (arith, steps_room-append a (b ++ last ∷ [])) in
+    let room_b : steps_room b ≤ length slots = omega (arith, steps_room-append a (b ++ last ∷ []), steps_room-append b (last ∷ [])) in
+    let above = ready.above in
+    let meant_last : ℤ → ℤ × Store → Result (ℤ × Store) Cause = λ value second. then_do (binary_value operator value second.0) (λ v. Ok (v, second.1)) in
+    let meant_right : ℤ × Store → Result (ℤ × Store) Cause = λ first. then_do (value_of port right first.1) (meant_last first.0) in
+    let goal_is : Result (ℤ × Store) Cause → Result Machine Cause → Type 0 = Related (Arrives names into free slots) in
+    subst (goal_is (then_do (value_of port left store) meant_right)) (sym (steps_done-append port a (b ++ last ∷ []) (machine_at slots store)))
+    (then_related (StandsAt names at_left free slots) (Arrives names into free slots) (value_of port left store) (steps_done port a (machine_at slots store)) meant_right (steps_done port (b ++ last ∷ [])) (operand_runs port left run_left names stays free store slots closed.0 ready room_a) (λ first m1 is_first stands1.
+      let size1 = stands1.size in
+      let roomy = ready.roomy in
+      let ready1 : Ready names (free + 1) first.1 m1.slots = record { names_are = stands1.names_are; holds = stands1.holds; above = omega arith; roomy = omega arith } in
+      let room_b1 : steps_room b ≤ length m1.slots = omega arith in
+      let steps_are : steps_done port (b ++ last ∷ []) m1 ≡ then_do (steps_done port b (machine_at m1.slots first.1)) (step_done port last) = then_last port b last m1 ∙ ap (λ m. then_do (steps_done port b m) (step_done port last)) (machine_is m1 first.1 stands1.traffic) in
+      subst (goal_is (meant_right first)) (sym steps_are)
+      (then_related (StandsAt names at_right (free + 1) m1.slots) (Arrives names into free slots) (value_of port right first.1) (steps_done port b (machine_at m1.slots first.1)) (meant_last first.0) (step_done port last) (operand_runs port right run_right names true (free + 1) first.1 m1.slots closed.1 ready1 room_b1) (λ second m2 is_second stands2.
+        let value1 = left_stays port names left right free store slots first second m1 m2 closed.0 ready is_second stands1 stands2.holds stands2.kept in
+        let done_is : step_done port last m2 ≡ then_do (binary_value operator first.0 second.0) (λ value. Ok (slot_written m2 into value)) =
+          binary_step_done port operator into at_left at_right m2
+          ∙ ap (λ v. then_do (binary_value operator v (slot_value m2 at_right)) (λ value. Ok (slot_written m2 into value))) value1
+          ∙ ap (λ v. then_do (binary_value operator first.0 v) (λ value. Ok (slot_written m2 into value))) stands2.value in
+        subst (goal_is (meant_last first.0 second)) (sym done_is)
+        (binary_arrives names into free slots second.1 m2 (binary_value operator first.0 second.0) stands2.traffic stands2.names_are stands2.holds (λ k low high. stands2.kept k low (omega arith) ∙ stands1.kept k low high) (stands2.size ∙ stands1.size))))))
+
+-- an operator before its operand
+unary_runs : (port : Port) (operator : UnaryOperator) (operand : tree.Expr) → Runs port operand → Runs port (tree.Unary operator operand)
+unary_runs port operator operand run names into free store slots closed ready room =
+    let a = operand_steps names true operand free in
+    let from = operand_slot names true operand free in
+    let last = unary_step operator into from in
+    let room_a : steps_room a ≤ length slots = omega (arith, steps_room-append a (last ∷ [])) in
+    let meant_last : ℤ × Store → Result (ℤ × Store) Cause = λ right. Ok (unary_value operator right.0, right.1) in
+    let goal_is : Result (ℤ × Store) Cause → Result Machine Cause → Type 0 = Related (Arrives names into free slots) in
+    subst (goal_is (then_do (value_of port operand store) meant_last)) (sym (then_last port a last (machine_at slots store)))
+    (then_related (StandsAt names from free slots) (Arrives names into free slots) (value_of port operand store) (steps_done port a (machine_at slots store)) meant_last (step_done port last) (operand_runs port operand run names true free store slots closed ready room_a) (λ given m is stands.
+      subst (goal_is (meant_last given)) (sym (unary_step_done port operator into from m))
+      (unary_arrives names operator into from free slots given m stands)))
+
+-- a step of a variable, whose new value is the step's own
+first_runs : (port : Port) (names : List (List ℕ)) (name : List ℕ) (amount : ℤ) (into free : ℕ) (store : Store) (slots : List ℤ) → IsNamed names name → Ready names free store slots → length names ≤ length slots → let new = wrapped (value_in store name +ℤ amount) in Arrives names into free slots (new, assigned store name new) (slot_written (slot_written (machine_at slots store) (slot_of names name) (wrapped (at slots (slot_of names name) +ℤ amount))) into (slot_value (slot_written (machine_at slots store) (slot_of names name) (wrapped (at slots (slot_of names name) +ℤ amount))) (slot_of names name)))
+first_runs port names name amount into free store slots named ready room =
+    let slot = slot_of names name in
+    let old = named_value names free store slots name ready named in
+    let new = wrapped (value_in store name +ℤ amount) in
+    let below = named_below names free store slots name ready named in
+    let within : slot < length slots = omega arith in
+    let few = length-variables names free store slots ready in
+    let named' : IsNamed (names_of store.variables) name = subst (λ n. IsNamed n name) (sym ready.names_are) named in
+    let new_is : wrapped (at slots slot +ℤ amount) ≡ new = ap (λ v. wrapped (v +ℤ amount)) old in
+    record {
+      slots = set slots slot new;
+      written =
+        ap (λ v. slot_written (slot_written (machine_at slots store) slot v) into (slot_value (slot_written (machine_at slots store) slot v) slot)) new_is
+        ∙ ap (λ v. record { slots = set (set slots slot new) into v; traffic = store.traffic }) (get_or-set_same slots slot new (pos 0) within);
+      names_are = names_of-with_value store.variables name new ∙ ready.names_are;
+      holds = subst (λ n. Holds (with_value store.variables name new) (set slots (slot_of n name) new)) ready.names_are (Holds-with_value store.variables slots name new (omega arith) ready.holds named');
+      kept = λ k low high. let other : k ≢ slot = omega arith in get_or-set_other slots slot k new (pos 0) other;
+      size = length-set slots slot new;
+    }
+
+-- a step of a variable, whose old value is the step's own and waits in the free slot
+after_runs : (port : Port) (names : List (List ℕ)) (name : List ℕ) (amount : ℤ) (into free : ℕ) (store : Store) (slots : List ℤ) → IsNamed names name → Ready names free store slots → free < length slots → let new = wrapped (value_in store name +ℤ amount) in let m1 = slot_written (machine_at slots store) free (at slots (slot_of names name)) in let m2 = slot_written m1 (slot_of names name) (wrapped (slot_value m1 (slot_of names name) +ℤ amount)) in Arrives names into free slots (value_in store name, assigned store name new) (slot_written m2 into (slot_value m2 free))
+after_runs port names name amount into free store slots named ready room =
+    let slot = slot_of names name in
+    let old = value_in store name in
+    let old_is : at slots slot ≡ old = named_value names free store slots name ready named in
+    let new = wrapped (old +ℤ amount) in
+    let above = ready.above in
+    let roomy = ready.roomy in
+    let below = named_below names free store slots name ready named in
+    let few = length-variables names free store slots ready in
+    let named' : IsNamed (names_of store.variables) name = subst (λ n. IsNamed n name) (sym ready.names_are) named in
+    let waiting = set slots free old in
+    let apart : slot ≢ free = omega arith in
+    let apart' : free ≢ slot = omega arith in
+    let still : at waiting slot ≡ old = get_or-set_other slots free slot old (pos 0) apart ∙ old_is in
+    let stepped = set waiting slot new in
+    let waits : at stepped free ≡ old = get_or-set_other waiting slot free new (pos 0) apart' ∙ get_or-set_same slots free old (pos 0) room in
+    let size1 = length-set slots free old in
+    let m1 : ℤ → Machine = λ v. slot_written (machine_at slots store) free v in
+    let m2 : Machine → ℤ → Machine = λ m v. slot_written m slot (wrapped (v +ℤ amount)) in
+    record {
+      slots = stepped;
+      written =
+        ap (λ v. slot_written (m2 (m1 v) (slot_value (m1 v) slot)) into (slot_value (m2 (m1 v) (slot_value (m1 v) slot)) free)) old_is
+        ∙ ap (λ v. slot_written (m2 (m1 old) v) into (slot_value (m2 (m1 old) v) free)) still
+        ∙ ap (λ v. record { slots = set stepped into v; traffic = store.traffic }) waits;
+      names_are = names_of-with_value store.variables name new ∙ ready.names_are;
+      holds = subst (λ n. Holds (with_value store.variables name new) (set waiting (slot_of n name) new)) ready.names_are (Holds-with_value store.variables waiting name new (omega arith) (Holds-set_above store.variables slots free old (omega arith) ready.holds) named');
+      kept = λ k low high.
+        let other : k ≢ slot = omega arith in
+        let other' : k ≢ free = omega arith in
+        get_or-set_other waiting slot k new (pos 0) other ∙ get_or-set_other slots free k old (pos 0) other';
+      size = length-set waiting slot new ∙ size1;
+    }
+
+step_runs : (port : Port) (operator : StepOperator) (name : List ℕ) → Runs port (tree.Step operator name)
+step_runs port step.IncrementFirst name names into free store slots closed ready room =
+    first_runs port names name (pos 1) into free store slots closed ready ready.roomy
+step_runs port step.DecrementFirst name names into free store slots closed ready room =
+    first_runs port names name (neg_ℤ (pos 1)) into free store slots closed ready ready.roomy
+step_runs port step.IncrementAfter name names into free store slots closed ready room =
+    let within : free < length slots = omega arith in
+    after_runs port names name (pos 1) into free store slots closed ready within
+step_runs port step.DecrementAfter name names into free store slots closed ready room =
+    let within : free < length slots = omega arith in
+    after_runs port names name (neg_ℤ (pos 1)) into free store slots closed ready within
+
+-- every expression's steps do what it means
+pub expr_runs : (port : Port) (e : tree.Expr) → Runs port e
+expr_runs port (tree.Number value) names into free store slots closed ready room =
+    arrives_at_once names into free store slots value ready
+expr_runs port (tree.Read name) names into free store slots closed ready room =
+    subst (λ v. Related (Arrives names into free slots) (Ok (v, store)) (Ok (slot_written (machine_at slots store) into (at slots (slot_of names name))))) (named_value names free store slots name ready closed)
+    (arrives_at_once names into free store slots (at slots (slot_of names name)) ready)
+expr_runs port tree.Pop names into free store slots closed ready room =
+    pop_runs names into free store slots (popped_from port store.traffic) ready
+expr_runs port (tree.Group inner) names into free store slots closed ready room =
+    expr_runs port inner names into free store slots closed ready room
+expr_runs port (tree.Unary operator operand) names into free store slots closed ready room =
+    unary_runs port operator operand (expr_runs port operand) names into free store slots closed ready room
+expr_runs port (tree.Step operator name) names into free store slots closed ready room =
+    step_runs port operator name names into free store slots closed ready room
+expr_runs port (tree.Binary operator left right) names into free store slots closed ready room =
+    binary_runs port operator left right (expr_runs port left) (expr_runs port right) names into free store slots closed ready room

@@ -1,0 +1,219 @@
+-- The steps of an expression put its value into their slot.
+use Rattle.std.proofs.Common.{◌≡◌, ◌≢◌, ℕ, zero, suc, ◌+◌, ◌-◌, ◌<◌, ◌≤◌, max, Bool, true, false, ◌&&◌, cond, ℤ, pos, negsuc, ◌+ℤ◌, List, [], ◌∷◌, ◌++◌, length, get_or, set, Option, Some, None, Result, Ok, Err, refl, sym, ap, ◌∙◌, subst, ⊎_elim, arith}
+use Rattle.std.specs.Prelude.{if◌then◌else◌, unwrap_or, slice_get}
+use Rattle.std.proofs.lemmas.List.{get_or-set_same, get_or-set_other, length-set}
+use Rattle.std.proofs.lemmas.Bool.{false≢true, cases_lt}
+use Rattle.strc_parse.specs.Tree as tree
+use Rattle.strc_parse.specs.declared.tree.UnaryOperator.{UnaryOperator}
+use Rattle.strc_parse.specs.declared.tree.UnaryOperator.TheVariants as unary
+use Rattle.strc_parse.specs.declared.tree.BinaryOperator.{BinaryOperator}
+use Rattle.strc_parse.specs.declared.tree.BinaryOperator.TheVariants as binary
+use Rattle.strc_parse.specs.declared.tree.StepOperator.{StepOperator}
+use Rattle.strc_parse.specs.declared.tree.StepOperator.TheVariants as step
+use Rattle.strc_work.specs.declared.fault.Cause.{Cause}
+use Rattle.strc_work.specs.declared.step.Step.{Step}
+use Rattle.strc_work.specs.declared.step.Step.TheVariants as act
+use Rattle.strc_work.specs.Arithmetic.{wrapped, unary_value, binary_value}
+use Rattle.strc_work.specs.Closed.{IsNamed, IsClosed}
+use Rattle.strc_work.specs.Firing.{Port, Store, Traffic, then_do, value_in, value_of, popped_from, assigned, with_value, value_stepped, step_value}
+use Rattle.strc_work.specs.Lowering.{Machine, slot_value, slot_written, step_done, steps_done, step_room, steps_room, slot_of, variable_slot, changes_none, stands_at, unless_there, unary_step, binary_step, step_steps, expr_steps, unary_done, binary_done}
+use Rattle.strc_work.specs.Emission.{operand_slot, operand_steps}
+use Rattle.strc_work.proofs.Variables.{Variables, names_of, at, Holds, Holds-set_above, Holds-with_value, slot_of-below, slot_of-value, names_of-with_value, length-names_of}
+use Rattle.strc_work.proofs.Related.{Related, then_related, weaker_related, steps_done-append, steps_room-append, then_last}
+
+-- the machine stands where the store is, with the value about to be written into a slot; the slots from `length names` up to `free` are kept
+pub record Arrives (names : List (List ℕ)) (into free : ℕ) (before : List ℤ) (given : ℤ × Store) (after : Machine) : Type 0 where
+  pub slots : List ℤ
+  pub written : after ≡ record { slots = set slots into given.0; traffic = given.1.traffic }
+  pub names_are : names_of given.1.variables ≡ names
+  pub holds : Holds given.1.variables slots
+  pub kept : (k : ℕ) → length names ≤ k → k < free → at slots k ≡ at before k
+  pub size : length slots ≡ length before
+
+-- the machine stands where the store is, with the value in a slot
+pub record StandsAt (names : List (List ℕ)) (slot free : ℕ) (before : List ℤ) (given : ℤ × Store) (after : Machine) : Type 0 where
+  pub traffic : after.traffic ≡ given.1.traffic
+  pub names_are : names_of given.1.variables ≡ names
+  pub holds : Holds given.1.variables after.slots
+  pub value : at after.slots slot ≡ given.0
+  pub kept : (k : ℕ) → length names ≤ k → k < free → at after.slots k ≡ at before k
+  pub size : length after.slots ≡ length before
+
+-- the slots hold the store's variables, which have these names and stand below the free ones
+pub record Ready (names : List (List ℕ)) (free : ℕ) (store : Store) (slots : List ℤ) : Type 0 where
+  pub names_are : names_of store.variables ≡ names
+  pub holds : Holds store.variables slots
+  pub above : length names ≤ free
+  pub roomy : length names ≤ length slots
+
+abbrev pub machine_at : List ℤ → Store → Machine
+machine_at slots store = record { slots = slots; traffic = store.traffic }
+
+-- an expression's steps do what it means
+abbrev pub Runs : Port → tree.Expr → Type 0
+Runs port e = (names : List (List ℕ)) (into free : ℕ) (store : Store) (slots : List ℤ) → IsClosed names e → Ready names free store slots → steps_room (expr_steps names e into free) ≤ length slots → Related (Arrives names into free slots) (value_of port e store) (steps_done port (expr_steps names e into free) (machine_at slots store))
+
+-- a named variable
+pub named_below : (names : List (List ℕ)) (free : ℕ) (store : Store) (slots : List ℤ) (name : List ℕ) → Ready names free store slots → IsNamed names name → slot_of names name < length names
+named_below names free store slots name ready named =
+    let named' : IsNamed (names_of store.variables) name = subst (λ n. IsNamed n name) (sym ready.names_are) named in
+    let below = slot_of-below store.variables slots name ready.holds named' in
+    let e : length (names_of store.variables) ≡ length store.variables = length-names_of store.variables in
+    subst (λ n. slot_of n name < length n) ready.names_are (subst (λ n. slot_of (names_of store.variables) name < n) (sym e) below)
+
+pub named_value : (names : List (List ℕ)) (free : ℕ) (store : Store) (slots : List ℤ) (name : List ℕ) → Ready names free store slots → IsNamed names name → at slots (slot_of names name) ≡ value_in store name
+named_value names free store slots name ready named =
+    let named' : IsNamed (names_of store.variables) name = subst (λ n. IsNamed n name) (sym ready.names_are) named in
+    subst (λ n. at slots (slot_of n name) ≡ value_in store name) ready.names_are (slot_of-value store.variables slots name ready.holds named')
+
+pub length-variables : (names : List (List ℕ)) (free : ℕ) (store : Store) (slots : List ℤ) → Ready names free store slots → length store.variables ≡ length names
+length-variables names free store slots ready = sym (length-names_of store.variables) ∙ ap length ready.names_are
+
+-- a variable, in brackets or not
+pub variable_runs : (port : Port) (e : tree.Expr) (names : List (List ℕ)) (free slot : ℕ) (store : Store) (slots : List ℤ) → variable_slot names e ≡ Some slot → IsClosed names e → Ready names free store slots → (value_of port e store ≡ Ok (at slots slot, store)) × (slot < length names)
+variable_runs port (tree.Number value) names free slot store slots is closed ready = absurd (cc)
+variable_runs port (tree.Read name) names free slot store slots is closed ready =
+    let same : slot_of names name ≡ slot = cc in (
+      ap (λ v. Ok (v, store)) (sym (named_value names free store slots name ready closed) ∙ ap (at slots) same),
+      subst (λ n. n < length names) same (named_below names free store slots name ready closed),
+    )
+variable_runs port tree.Pop names free slot store slots is closed ready = absurd (cc)
+variable_runs port (tree.Group inner) names free slot store slots is closed ready =
+    variable_runs port inner names free slot store slots is closed ready
+variable_runs port (tree.Unary operator operand) names free slot store slots is closed ready = absurd (cc)
+variable_runs port (tree.Step operator name) names free slot store slots is closed ready = absurd (cc)
+variable_runs port (tree.Binary operator left right) names free slot store slots is closed ready = absurd (cc)
+
+-- a result that keeps the variables
+abbrev pub Keeps : Variables → Result (ℤ × Store) Cause → Type 0
+Keeps variables (Ok given) = given.1.variables ≡ variables
+Keeps variables (Err cause) = Unit {0}
+
+both_true : (a b : Bool) → a && b ≡ true → (a ≡ true) × (b ≡ true)
+both_true true b e = (refl, e)
+both_true false b e = absurd (false≢true e)
+
+popped_keeps : (store : Store) (r : Result (ℤ × Traffic) Cause) → Keeps store.variables (then_do r (λ taken. Ok (taken.0, record store { traffic = taken.1 })))
+popped_keeps store (Ok taken) = refl
+popped_keeps store (Err cause) = tt
+
+unary_keeps : (variables : Variables) (operator : UnaryOperator) (r : Result (ℤ × Store) Cause) → Keeps variables r → Keeps variables (then_do r (λ right. Ok (unary_value operator right.0, right.1)))
+unary_keeps variables operator (Ok given) h = h
+unary_keeps variables operator (Err cause) h = tt
+
+last_keeps : (variables : Variables) (store : Store) (r : Result ℤ Cause) → store.variables ≡ variables → Keeps variables (then_do r (λ value. Ok (value, store)))
+last_keeps variables store (Ok value) h = h
+last_keeps variables store (Err cause) h = tt
+
+right_keeps : (variables : Variables) (operator : BinaryOperator) (value : ℤ) (r : Result (ℤ × Store) Cause) → Keeps variables r → Keeps variables (then_do r (λ second. then_do (binary_value operator value second.0) (λ v. Ok (v, second.1))))
+right_keeps variables operator value (Ok second) h = last_keeps variables second.1 (binary_value operator value second.0) h
+right_keeps variables operator value (Err cause) h = tt
+
+left_keeps : (port : Port) (variables : Variables) (operator : BinaryOperator) (right : tree.Expr) (r : Result (ℤ × Store) Cause) → ((store : Store) → Keeps store.variables (value_of port right store)) → Keeps variables r → Keeps variables (then_do r (λ first. then_do (value_of port right first.1) (λ second. then_do (binary_value operator first.0 second.0) (λ v. Ok (v, second.1)))))
+left_keeps port variables operator right (Ok first) inside h =
+    right_keeps variables operator first.0 (value_of port right first.1) (subst (λ v. Keeps v (value_of port right first.1)) h (inside first.1))
+left_keeps port variables operator right (Err cause) inside h = tt
+
+pub keeps : (port : Port) (e : tree.Expr) → changes_none e ≡ true → (store : Store) → Keeps store.variables (value_of port e store)
+keeps port (tree.Number value) none store = refl
+keeps port (tree.Read name) none store = refl
+keeps port tree.Pop none store = popped_keeps store (popped_from port store.traffic)
+keeps port (tree.Group inner) none store = keeps port inner none store
+keeps port (tree.Unary operator operand) none store =
+    unary_keeps store.variables operator (value_of port operand store) (keeps port operand none store)
+keeps port (tree.Step operator name) none store = absurd (false≢true none)
+keeps port (tree.Binary operator left right) none store =
+    let both = both_true (changes_none left) (changes_none right) none in
+    left_keeps port store.variables operator right (value_of port left store) (keeps port right both.1) (keeps port left both.0 store)
+
+-- variables that stand in two lists of slots
+pub same_slots : (variables : Variables) (first second : List ℤ) (slot : ℕ) → Holds variables first → Holds variables second → slot < length variables → at first slot ≡ at second slot
+same_slots [] first second slot h h' below = absurd (omega arith)
+same_slots (variable ∷ rest) first second slot h h' below =
+    ⊎_elim
+    (λ (lt : slot < length rest). same_slots rest first second slot h.1 h'.1 lt)
+    (λ (le : length rest ≤ slot).
+      let e : length rest ≡ slot = omega arith in
+      subst (λ n. at first n ≡ at second n) e (h.0 ∙ sym h'.0))
+    (cases_lt slot (length rest))
+
+-- the slot that an expression's steps write is one of those that they need
+pub unary_room : (operator : UnaryOperator) (into from : ℕ) → into + 1 ≤ step_room (unary_step operator into from)
+unary_room unary.Negate into from = omega arith
+unary_room unary.Not into from = omega arith
+unary_room unary.Complement into from = omega arith
+
+pub binary_room : (operator : BinaryOperator) (into left right : ℕ) → into + 1 ≤ step_room (binary_step operator into left right)
+binary_room binary.Or into left right = omega arith
+binary_room binary.ExclusiveOr into left right = omega arith
+binary_room binary.And into left right = omega arith
+binary_room binary.ShiftLeft into left right = omega arith
+binary_room binary.ShiftRight into left right = omega arith
+binary_room binary.Add into left right = omega arith
+binary_room binary.Subtract into left right = omega arith
+binary_room binary.Multiply into left right = omega arith
+binary_room binary.Divide into left right = omega arith
+binary_room binary.Remainder into left right = omega arith
+
+step_room_into : (operator : StepOperator) (slot into free : ℕ) → into + 1 ≤ steps_room (step_steps operator slot into free)
+step_room_into step.IncrementFirst slot into free = omega arith
+step_room_into step.DecrementFirst slot into free = omega arith
+step_room_into step.IncrementAfter slot into free = omega arith
+step_room_into step.DecrementAfter slot into free = omega arith
+
+pub expr_room : (names : List (List ℕ)) (e : tree.Expr) (into free : ℕ) → into + 1 ≤ steps_room (expr_steps names e into free)
+expr_room names (tree.Number value) into free = omega arith
+expr_room names (tree.Read name) into free = omega arith
+expr_room names tree.Pop into free = omega arith
+expr_room names (tree.Group inner) into free = expr_room names inner into free
+expr_room names (tree.Unary operator operand) into free =
+    let slot = unwrap_or (variable_slot names operand) free in
+    omega (arith, steps_room-append (unless_there (variable_slot names operand) (expr_steps names operand free (free + 1))) (unary_step operator into slot ∷ []), unary_room operator into slot)
+expr_room names (tree.Step operator name) into free = step_room_into operator (slot_of names name) into free
+expr_room names (tree.Binary operator left right) into free =
+    let a = unless_there (stands_at names (changes_none right) left) (expr_steps names left free (free + 1)) in
+    let b = unless_there (variable_slot names right) (expr_steps names right (free + 1) (free + 1 + 1)) in
+    let at_left = unwrap_or (stands_at names (changes_none right) left) free in
+    let at_right = unwrap_or (variable_slot names right) (free + 1) in
+    let last = binary_step operator into at_left at_right in
+    omega (arith, steps_room-append a (b ++ last ∷ []), steps_room-append b (last ∷ []), binary_room operator into at_left at_right)
+
+-- an operand that stands in its variable's slot
+pub stays_slot : (names : List (List ℕ)) (stays : Bool) (e : tree.Expr) (slot : ℕ) → stands_at names stays e ≡ Some slot → (stays ≡ true) × (variable_slot names e ≡ Some slot)
+stays_slot names true e slot is = (refl, is)
+stays_slot names false e slot is = absurd (cc)
+
+-- a value that was written into a free slot stands there
+pub arrived_stands : (names : List (List ℕ)) (slot : ℕ) (before : List ℤ) (given : ℤ × Store) (after : Machine) → length names ≤ slot → slot < length before → Arrives names slot (slot + 1) before given after → StandsAt names slot slot before given after
+arrived_stands names slot before given after above room arrives =
+    let slots = arrives.slots in
+    let value = given.0 in
+    let size = arrives.size in
+    let within : slot < length slots = omega arith in
+    let few : length given.1.variables ≡ length names = sym (length-names_of given.1.variables) ∙ ap length arrives.names_are in
+    let is : after.slots ≡ set slots slot value = ap (λ (m : Machine). m.slots) arrives.written in
+    record {
+      traffic = ap (λ (m : Machine). m.traffic) arrives.written;
+      names_are = arrives.names_are;
+      holds = subst (Holds given.1.variables) (sym is) (Holds-set_above given.1.variables slots slot value (omega arith) arrives.holds);
+      value = ap (λ l. at l slot) is ∙ get_or-set_same slots slot value (pos 0) within;
+      kept = λ k low high.
+        let other : k ≢ slot = omega arith in
+        ap (λ l. at l k) is ∙ get_or-set_other slots slot k value (pos 0) other ∙ arrives.kept k low (omega arith);
+      size = ap length is ∙ length-set slots slot value ∙ size;
+    }
+
+-- an operand's steps bring its value to its slot
+pub operand_runs : (port : Port) (e : tree.Expr) → Runs port e → (names : List (List ℕ)) (stays : Bool) (free : ℕ) (store : Store) (slots : List ℤ) → IsClosed names e → Ready names free store slots → steps_room (operand_steps names stays e free) ≤ length slots → Related (StandsAt names (operand_slot names stays e free) free slots) (value_of port e store) (steps_done port (operand_steps names stays e free) (machine_at slots store))
+operand_runs port e run names stays free store slots closed ready room =
+    by_place (stands_at names stays e) (λ slot is. variable_runs port e names free slot store slots (stays_slot names stays e slot is).1 closed ready) room
+  where
+    by_place : (o : Option ℕ) → ((slot : ℕ) → o ≡ Some slot → (value_of port e store ≡ Ok (at slots slot, store)) × (slot < length names)) → steps_room (unless_there o (expr_steps names e free (free + 1))) ≤ length slots → Related (StandsAt names (unwrap_or o free) free slots) (value_of port e store) (steps_done port (unless_there o (expr_steps names e free (free + 1))) (machine_at slots store))
+    by_place (Some slot) stands fits =
+        subst (λ r. Related (StandsAt names slot free slots) r (Ok (machine_at slots store))) (sym (stands slot refl).0)
+        (record { traffic = refl; names_are = ready.names_are; holds = ready.holds; value = refl; kept = λ k low high. refl; size = refl })
+    by_place None stands fits =
+        let above = ready.above in
+        let within : free < length slots = omega (arith, expr_room names e free (free + 1)) in
+        let ready' : Ready names (free + 1) store slots = record { names_are = ready.names_are; holds = ready.holds; above = omega arith; roomy = ready.roomy } in
+        weaker_related (Arrives names free (free + 1) slots) (StandsAt names free free slots) (value_of port e store) (steps_done port (expr_steps names e free (free + 1)) (machine_at slots store)) (run names free (free + 1) store slots closed ready' fits) (λ given after arrives. arrived_stands names free slots given after above within arrives)
