@@ -1,3 +1,9 @@
+pub mod Answers
+pub mod Elaboration
+pub mod Loading
+pub mod Names
 pub mod Output
 pub mod Pipeline
+pub mod Programs
 pub mod Rates
+pub mod Verdicts

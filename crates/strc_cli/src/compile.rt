@@ -1,5 +1,13 @@
 // From the text to the filters that are run, or the first refusal.
 
+ghost use Rattle.std.specs.Prelude.{◌≡◌, IfOk, true, false};
+ghost use Rattle.std.specs.Option.{option_map};
+ghost use Rattle.strc_parse.specs.View.{program_view};
+ghost use Rattle.strc_cli.specs.Elaboration as spec;
+ghost use Rattle.strc_cli.specs.Loading.{filters_in, all_loaded_in};
+ghost use Rattle.strc_cli.specs.Pipeline.{loaded};
+ghost use Rattle.strc_cli.specs.Verdicts.{IsVerdict};
+
 use crate::elaborate::elaborate;
 use crate::instance::Instance;
 use crate::rates::check_rates;
@@ -17,12 +25,43 @@ pub(crate) fn compile(
     text: &[u8],
     main: Option<&str>,
 ) -> Result<Vec<Instance>, Refusal> {
-    let program = read_program(alloc, text)?;
-    let filters = elaborate(alloc, &program, main)?;
-    check_outputs(&filters)?;
-    check_connections(&filters)?;
-    check_rates(&filters)?;
-    Ok(filters)
+    match read_program(alloc, text) {
+        Ok(program) => compile_program(alloc, &program, main),
+        Err(refusal) => Err(refusal),
+    }
+}
+
+// The filters of a program that was read.
+fn compile_program(
+    alloc: Global,
+    program: &Program,
+    main: Option<&str>,
+) -> Result<Vec<Instance>, Refusal>
+    ensures verdict { IsVerdict (λ v. filters_in v.items) (spec.compiled (program_view program.now) (option_map (λ n. n.now) main.entry)) result }
+    ensures loaded { IfOk result (λ v. all_loaded_in v.items ≡ loaded (filters_in v.items)) }
+{
+    let filters = match elaborate(alloc, program, main) {
+        Ok(filters) => filters,
+        Err(refusal) => return Err(refusal),
+    };
+    match check_filters(&filters) {
+        Ok(()) => Ok(filters),
+        Err(refusal) => Err(refusal),
+    }
+}
+
+// What is asked of filters together: outputs, connections, rates.
+fn check_filters(filters: &[Instance]) -> Result<(), Refusal>
+    ensures { result ≡ spec.filters_checked (filters_in filters.now) }
+{
+    match check_outputs(filters) {
+        Ok(()) => {}
+        Err(refusal) => return Err(refusal),
+    }
+    match check_connections(filters) {
+        Ok(()) => check_rates(filters),
+        Err(refusal) => Err(refusal),
+    }
 }
 
 fn read_program(alloc: Global, text: &[u8]) -> Result<Program, Refusal> {
@@ -40,8 +79,10 @@ fn read_program(alloc: Global, text: &[u8]) -> Result<Program, Refusal> {
     }
 }
 
-// At most one node prints.
-fn check_outputs(filters: &[Instance]) -> Result<(), Refusal> {
+// At most one filter prints.
+fn check_outputs(filters: &[Instance]) -> Result<(), Refusal>
+    ensures { result ≡ spec.outputs_checked false (filters_in filters.now) }
+{
     let mut found = false;
     for filter in filters {
         if filter.code.prints() {
@@ -55,7 +96,9 @@ fn check_outputs(filters: &[Instance]) -> Result<(), Refusal> {
 }
 
 // Each filter but the last one has a channel to the next.
-fn check_connections(filters: &[Instance]) -> Result<(), Refusal> {
+fn check_connections(filters: &[Instance]) -> Result<(), Refusal>
+    ensures { result ≡ spec.connections_checked true (filters_in filters.now) }
+{
     let mut joined = true;
     for filter in filters {
         if !joined {

@@ -1,7 +1,20 @@
 // From the syntax tree to the filters of the main stream, in order of execution.
 
-ghost use Rattle.std.specs.Prelude.{◌<◌, length, IfOk};
+ghost use Rattle.std.specs.Prelude.{◌≡◌, ℕ, List, IfOk, map, nat_eq, Ok, Some, None};
+ghost use Rattle.std.specs.Option.{option_map};
+ghost use Rattle.std.specs.Cmp.Lexicographic.{pointwise};
+ghost use Rattle.indexmap.specs.IndexMap.{get_by};
+ghost use Rattle.strc_parse.specs.View.{declaration_view, stream_view, program_view};
+ghost use Rattle.strc_work.specs.Filters.{filter_of};
+ghost use Rattle.strc_work.specs.Firing.{started};
+ghost use Rattle.strc_cli.specs.Loading.{filter_in, filters_in, all_loaded_in};
+ghost use Rattle.strc_cli.specs.Names.{place_from};
+ghost use Rattle.strc_cli.specs.Pipeline.{loaded};
+ghost use Rattle.strc_cli.specs.Elaboration as spec;
+ghost use Rattle.strc_cli.specs.Rates as rates;
+ghost use Rattle.strc_cli.specs.Verdicts.{IsVerdict};
 
+use crate::index::{index_of, number_of};
 use crate::instance::Instance;
 use crate::refusal::Refusal;
 use indexmap::IndexMap;
@@ -22,65 +35,126 @@ pub(crate) fn elaborate(
     alloc: Global,
     program: &Program,
     main: Option<&str>,
-) -> Result<Vec<Instance>, Refusal> {
+) -> Result<Vec<Instance>, Refusal>
+    ensures verdict { IsVerdict (λ v. filters_in v.items) (spec.elaborated (program_view program.now) (option_map (λ n. n.now) main.entry)) result }
+    ensures loaded { IfOk result (λ v. all_loaded_in v.items ≡ loaded (filters_in v.items)) }
+{
     let declarations = program.declarations.as_slice();
-    let names = names_of(alloc, declarations)?;
-    let top = match main {
-        Some(name) => named_main(declarations, &names, name)?,
-        None => only_main(declarations)?,
+    let numbers = match index_of(alloc, declarations) {
+        Ok(numbers) => numbers,
+        Err(refusal) => return Err(refusal),
     };
-    match &declarations[top].stream {
-        StreamTree::Filter(filter) => {
-            let mut filters = Vec::new(alloc);
-            filters.push(instance(alloc, top, filter)?)?;
-            Ok(filters)
-        }
+    match main_of(declarations, &numbers, main) {
+        Ok((top, stream)) => elaborate_main(alloc, declarations, &numbers, top, stream),
+        Err(refusal) => Err(refusal),
+    }
+}
+
+// The main stream, with its number.
+fn main_of<'a>(
+    declarations: &'a [Decl],
+    numbers: &IndexMap<&[u8], usize>,
+    main: Option<&str>,
+) -> Result<(usize, &'a StreamTree), Refusal>
+    requires { (q : List ℕ) → get_by (λ k. pointwise nat_eq q k.now) numbers.now ≡ place_from 0 (map (λ d. d.name) declarations.now) q }
+    ensures { IsVerdict (λ m. (m.0, stream_view m.1.now)) (spec.main_of (map declaration_view declarations.now) (option_map (λ n. n.now) main.entry)) result }
+{
+    match main {
+        Some(name) => named_main(declared(declarations, numbers, name.as_bytes())),
+        None => only_main(declarations),
+    }
+}
+
+// The filters of the main stream.
+fn elaborate_main(
+    alloc: Global,
+    declarations: &[Decl],
+    numbers: &IndexMap<&[u8], usize>,
+    top: usize,
+    stream: &StreamTree,
+) -> Result<Vec<Instance>, Refusal>
+    requires { (q : List ℕ) → get_by (λ k. pointwise nat_eq q k.now) numbers.now ≡ place_from 0 (map (λ d. d.name) declarations.now) q }
+    ensures verdict { IsVerdict (λ v. filters_in v.items) (spec.filters_of (map declaration_view declarations.now) (top, stream_view stream.now)) result }
+    ensures loaded { IfOk result (λ v. all_loaded_in v.items ≡ loaded (filters_in v.items)) }
+{
+    match stream {
+        StreamTree::Filter(filter) => elaborate_filter(alloc, top, filter),
         StreamTree::Pipeline(pipeline) => {
-            elaborate_pipeline(alloc, declarations, &names, top, pipeline)
+            elaborate_pipeline(alloc, declarations, numbers, top, pipeline)
         }
     }
 }
 
-// The number of each declaration by its name. A second one of a name is a mismatch.
-fn names_of<'a>(
+// A filter alone.
+fn elaborate_filter(
     alloc: Global,
-    declarations: &'a [Decl],
-) -> Result<IndexMap<&'a [u8], usize>, Refusal> {
-    let mut names = IndexMap::new(alloc);
-    for (number, declaration) in declarations.iter().enumerate() {
-        if names.insert(declaration.name.as_bytes(), number)?.is_some() {
-            return Err(Refusal::TypeMismatch { stream: number });
+    top: usize,
+    filter: &FilterTree,
+) -> Result<Vec<Instance>, Refusal>
+    ensures verdict { IsVerdict (λ v. filters_in v.items) (spec.filter_alone top (filter_of filter.now)) result }
+    ensures loaded { IfOk result (λ v. all_loaded_in v.items ≡ loaded (filters_in v.items)) }
+{
+    let mut filters = Vec::new(alloc);
+    match instance(alloc, top, filter) {
+        Ok(only) => {
+            filters.push(only)?;
+            Ok(filters)
         }
+        Err(refusal) => Err(refusal),
     }
-    Ok(names)
+}
+
+// The number of the declaration of a name, and its stream.
+fn declared<'a>(
+    declarations: &'a [Decl],
+    numbers: &IndexMap<&[u8], usize>,
+    name: &[u8],
+) -> Option<(usize, &'a StreamTree)>
+    requires { (q : List ℕ) → get_by (λ k. pointwise nat_eq q k.now) numbers.now ≡ place_from 0 (map (λ d. d.name) declarations.now) q }
+    ensures { option_map (λ f. (f.0, stream_view f.1.now)) result ≡ spec.declared_from 0 (map declaration_view declarations.now) name.now }
+{
+    match number_of(declarations, numbers, name) {
+        Some(number) => Some((number, &declarations[number].stream)),
+        None => None,
+    }
 }
 
 // Whether a stream takes and gives nothing, as the main stream must.
-fn is_closed(stream: &StreamTree) -> bool {
-    let (input, output) = match stream {
-        StreamTree::Filter(filter) => (filter.input, filter.output),
-        StreamTree::Pipeline(pipeline) => (pipeline.input, pipeline.output),
-    };
-    input == ItemType::Void && output == ItemType::Void
-}
-
-fn named_main(
-    declarations: &[Decl],
-    names: &IndexMap<&[u8], usize>,
-    name: &str,
-) -> Result<usize, Refusal>
-    ensures { IfOk result (λ number. number < length declarations.now) }
+fn is_closed(stream: &StreamTree) -> bool
+    ensures { result ≡ spec.is_closed (stream_view stream.now) }
 {
-    match names.get(name.as_bytes()) {
-        Some(&number) if number < declarations.len() && is_closed(&declarations[number].stream) => {
-            Ok(number)
-        }
-        _ => Err(Refusal::NoMain),
+    match stream {
+        StreamTree::Filter(filter) => !has_items(filter.input) && !has_items(filter.output),
+        StreamTree::Pipeline(pipeline) => !has_items(pipeline.input) && !has_items(pipeline.output),
     }
 }
 
-fn only_main(declarations: &[Decl]) -> Result<usize, Refusal>
-    ensures { IfOk result (λ number. number < length declarations.now) }
+fn has_items(side: ItemType) -> bool
+    ensures { result ≡ rates.has_items side }
+{
+    match side {
+        ItemType::Int => true,
+        ItemType::Void => false,
+    }
+}
+
+fn named_main(found: Option<(usize, &StreamTree)>) -> Result<(usize, &StreamTree), Refusal>
+    ensures { IsVerdict (λ m. (m.0, stream_view m.1.now)) (spec.named_main (option_map (λ f. (f.0, stream_view f.1.now)) found.entry)) result }
+{
+    match found {
+        Some((number, stream)) => {
+            if is_closed(stream) {
+                Ok((number, stream))
+            } else {
+                Err(Refusal::NoMain)
+            }
+        }
+        None => Err(Refusal::NoMain),
+    }
+}
+
+fn only_main(declarations: &[Decl]) -> Result<(usize, &StreamTree), Refusal>
+    ensures { IsVerdict (λ m. (m.0, stream_view m.1.now)) (spec.only_main (spec.closed_from 0 (map declaration_view declarations.now))) result }
 {
     let mut found = None;
     for (number, declaration) in declarations.iter().enumerate() {
@@ -88,11 +162,11 @@ fn only_main(declarations: &[Decl]) -> Result<usize, Refusal>
             if found.is_some() {
                 return Err(Refusal::ManyMains);
             }
-            found = Some(number);
+            found = Some((number, &declaration.stream));
         }
     }
     match found {
-        Some(number) => Ok(number),
+        Some(main) => Ok(main),
         None => Err(Refusal::NoMain),
     }
 }
@@ -100,52 +174,93 @@ fn only_main(declarations: &[Decl]) -> Result<usize, Refusal>
 fn elaborate_pipeline(
     alloc: Global,
     declarations: &[Decl],
-    names: &IndexMap<&[u8], usize>,
+    numbers: &IndexMap<&[u8], usize>,
     top: usize,
     pipeline: &PipelineTree,
-) -> Result<Vec<Instance>, Refusal> {
-    let mut filters: Vec<Instance> = Vec::new(alloc);
-    let mut output = ItemType::Void;
+) -> Result<Vec<Instance>, Refusal>
+    requires { (q : List ℕ) → get_by (λ k. pointwise nat_eq q k.now) numbers.now ≡ place_from 0 (map (λ d. d.name) declarations.now) q }
+    ensures verdict { IsVerdict (λ v. filters_in v.items) (spec.children_of (map declaration_view declarations.now) top 0 ItemType.Void pipeline.now.children.items) result }
+    ensures loaded { IfOk result (λ v. all_loaded_in v.items ≡ loaded (filters_in v.items)) }
+{
+    let mut filters = Vec::new(alloc);
+    let mut given = ItemType::Void;
     for child in &pipeline.children {
-        let (number, filter) = child_of(declarations, names, child)?;
-        if filters.len() >= FILTER_LIMIT {
-            return Err(Refusal::NodeLimit);
+        let found = declared(declarations, numbers, child.as_bytes());
+        match next_child(alloc, top, filters.len(), given, child, found) {
+            Ok(next) => {
+                given = next.code.tree().output;
+                filters.push(next)?;
+            }
+            Err(refusal) => return Err(refusal),
         }
-        let next = instance(alloc, number, filter)?;
-        if filter.input != output {
-            return Err(Refusal::TypeMismatch { stream: top });
-        }
-        output = filter.output;
-        filters.push(next)?;
     }
-    if filters.is_empty() || output != ItemType::Void {
+    if filters.is_empty() || has_items(given) {
         return Err(Refusal::TypeMismatch { stream: top });
     }
     Ok(filters)
 }
 
+// The filter that the next `add` names, behind so many, the last of which gives this type.
+fn next_child(
+    alloc: Global,
+    top: usize,
+    before: usize,
+    given: ItemType,
+    child: &Name,
+    found: Option<(usize, &StreamTree)>,
+) -> Result<Instance, Refusal>
+    ensures verdict { IsVerdict filter_in (spec.next_among (option_map (λ f. (f.0, stream_view f.1.now)) found.entry) top before given child.now) result }
+    ensures fields { IfOk result (λ i. started (filter_in i) ≡ Ok i.state.fields) }
+{
+    let (number, filter) = match child_of(child, found) {
+        Ok(found) => found,
+        Err(refusal) => return Err(refusal),
+    };
+    if before >= FILTER_LIMIT {
+        return Err(Refusal::NodeLimit);
+    }
+    let next = match instance(alloc, number, filter) {
+        Ok(next) => next,
+        Err(refusal) => return Err(refusal),
+    };
+    if same_type(next.code.tree().input, given) {
+        Ok(next)
+    } else {
+        Err(Refusal::TypeMismatch { stream: top })
+    }
+}
+
+fn same_type(side: ItemType, other: ItemType) -> bool
+    ensures { result ≡ spec.same_type side other }
+{
+    match (side, other) {
+        (ItemType::Int, ItemType::Int) | (ItemType::Void, ItemType::Void) => true,
+        (ItemType::Int, ItemType::Void) | (ItemType::Void, ItemType::Int) => false,
+    }
+}
+
 // The filter that an `add` names, and its number.
 fn child_of<'a>(
-    declarations: &'a [Decl],
-    names: &IndexMap<&[u8], usize>,
     child: &Name,
-) -> Result<(usize, &'a FilterTree), Refusal> {
-    let number = match names.get(child.as_bytes()) {
-        Some(&number) if number < declarations.len() => number,
-        _ => {
-            return Err(Refusal::UnknownName {
-                name: child.copy()?,
-            });
-        }
-    };
-    match &declarations[number].stream {
-        StreamTree::Filter(filter) => Ok((number, filter)),
-        StreamTree::Pipeline(_) => Err(Refusal::NotYet),
+    found: Option<(usize, &'a StreamTree)>,
+) -> Result<(usize, &'a FilterTree), Refusal>
+    ensures { IsVerdict (λ f. (f.0, filter_of f.1.now)) (spec.filter_child child.now (option_map (λ f. (f.0, stream_view f.1.now)) found.entry)) result }
+{
+    match found {
+        None => match child.copy() {
+            Ok(name) => Err(Refusal::UnknownName { name }),
+            Err(_) => Err(Refusal::NoMemory),
+        },
+        Some((number, StreamTree::Filter(filter))) => Ok((number, filter)),
+        Some((_, StreamTree::Pipeline(_))) => Err(Refusal::NotYet),
     }
 }
 
 // A filter, lowered and started; a refusal names its declaration.
-fn instance(alloc: Global, number: usize, filter: &FilterTree) -> Result<Instance, Refusal> {
+fn instance(alloc: Global, number: usize, filter: &FilterTree) -> Result<Instance, Refusal>
+    ensures verdict { IsVerdict filter_in (spec.instance_of number (filter_of filter.now)) result }
+    ensures fields { IfOk result (λ i. started (filter_in i) ≡ Ok i.state.fields) }
+{
     let constants = Constants::new(alloc);
     let code = match lower(alloc, filter, &constants) {
         Ok(code) => code,

@@ -1,6 +1,6 @@
 -- Each expression's steps do what it means.
-use Rattle.std.proofs.Common.{◌≡◌, ◌≢◌, ℕ, zero, suc, ◌+◌, ◌-◌, ◌<◌, ◌≤◌, max, Bool, true, false, cond, ℤ, pos, negsuc, neg_ℤ, ◌+ℤ◌, List, [], ◌∷◌, ◌++◌, length, get_or, set, Option, Some, None, Result, Ok, Err, refl, sym, ap, ◌∙◌, subst, arith}
-use Rattle.std.specs.Prelude.{if◌then◌else◌, unwrap_or, slice_get}
+use Rattle.std.proofs.Common.{◌≡◌, ◌≢◌, ℕ, ◌+◌, ◌<◌, ◌≤◌, true, ℤ, pos, neg_ℤ, ◌+ℤ◌, List, [], ◌∷◌, ◌++◌, length, set, Option, Some, None, Result, Ok, Err, refl, sym, ap, ◌∙◌, subst, arith}
+use Rattle.std.specs.Prelude.{unwrap_or}
 use Rattle.std.proofs.lemmas.List.{get_or-set_same, get_or-set_other, length-set}
 use Rattle.strc_parse.specs.Tree as tree
 use Rattle.strc_parse.specs.declared.tree.UnaryOperator.{UnaryOperator}
@@ -10,16 +10,14 @@ use Rattle.strc_parse.specs.declared.tree.BinaryOperator.TheVariants as binary
 use Rattle.strc_parse.specs.declared.tree.StepOperator.{StepOperator}
 use Rattle.strc_parse.specs.declared.tree.StepOperator.TheVariants as step
 use Rattle.strc_work.specs.declared.fault.Cause.{Cause}
-use Rattle.strc_work.specs.declared.step.Step.{Step}
-use Rattle.strc_work.specs.declared.step.Step.TheVariants as act
 use Rattle.strc_work.specs.Arithmetic.{wrapped, unary_value, binary_value}
 use Rattle.strc_work.specs.Closed.{IsNamed, IsClosed}
-use Rattle.strc_work.specs.Firing.{Port, Store, Traffic, then_do, value_in, value_of, popped_from, assigned, with_value, value_stepped, step_value}
-use Rattle.strc_work.specs.Lowering.{Machine, slot_value, slot_written, step_done, steps_done, step_room, steps_room, slot_of, variable_slot, changes_none, stands_at, unless_there, unary_step, binary_step, step_steps, expr_steps, unary_done, binary_done}
+use Rattle.strc_work.specs.Firing.{Port, Store, Traffic, then_do, value_in, value_of, popped_from, assigned, with_value}
+use Rattle.strc_work.specs.Lowering.{Machine, slot_value, slot_written, step_done, steps_done, steps_room, slot_of, variable_slot, changes_none, stands_at, unary_step, binary_step, unary_done, binary_done}
 use Rattle.strc_work.specs.Emission.{operand_slot, operand_steps}
-use Rattle.strc_work.proofs.Variables.{Variables, names_of, at, Holds, Holds-set_above, Holds-with_value, names_of-with_value, length-names_of}
-use Rattle.strc_work.proofs.Related.{Related, then_related, weaker_related, steps_done-append, steps_room-append, then_last}
-use Rattle.strc_work.proofs.Expressions.{Arrives, StandsAt, Ready, machine_at, Runs, named_below, named_value, length-variables, variable_runs, Keeps, keeps, same_slots, unary_room, binary_room, stays_slot, operand_runs}
+use Rattle.strc_work.proofs.Variables.{names_of, at, Holds, Holds-set_above, Holds-with_value, names_of-with_value, length-names_of}
+use Rattle.strc_work.proofs.Related.{Related, then_related, steps_done-append, steps_room-append, then_last}
+use Rattle.strc_work.proofs.Expressions.{Arrives, StandsAt, Ready, machine_at, Runs, named_below, named_value, length-variables, variable_runs, Keeps, keeps, same_slots, stays_slot, operand_runs}
 
 -- a value that needs no other step
 arrives_at_once : (names : List (List ℕ)) (into free : ℕ) (store : Store) (slots : List ℤ) (value : ℤ) → Ready names free store slots → Arrives names into free slots (value, store) (record { slots = set slots into value; traffic = store.traffic })
@@ -65,8 +63,8 @@ unary_arrives : (names : List (List ℕ)) (operator : UnaryOperator) (into from 
 unary_arrives names operator into from free before given after stands = record {
   slots = after.slots;
   written =
-    ap (λ v. slot_written after into (unary_value operator v)) stands.value
-    ∙ ap (λ t. record { slots = set after.slots into (unary_value operator given.0); traffic = t }) stands.traffic;
+      ap (λ v. slot_written after into (unary_value operator v)) stands.value
+      ∙ ap (λ t. record { slots = set after.slots into (unary_value operator given.0); traffic = t }) stands.traffic;
   names_are = stands.names_are;
   holds = stands.holds;
   kept = stands.kept;
@@ -123,20 +121,20 @@ binary_runs port operator left right run_left run_right names into free store sl
     let goal_is : Result (ℤ × Store) Cause → Result Machine Cause → Type 0 = Related (Arrives names into free slots) in
     subst (goal_is (then_do (value_of port left store) meant_right)) (sym (steps_done-append port a (b ++ last ∷ []) (machine_at slots store)))
     (then_related (StandsAt names at_left free slots) (Arrives names into free slots) (value_of port left store) (steps_done port a (machine_at slots store)) meant_right (steps_done port (b ++ last ∷ [])) (operand_runs port left run_left names stays free store slots closed.0 ready room_a) (λ first m1 is_first stands1.
-      let size1 = stands1.size in
-      let roomy = ready.roomy in
-      let ready1 : Ready names (free + 1) first.1 m1.slots = record { names_are = stands1.names_are; holds = stands1.holds; above = omega arith; roomy = omega arith } in
-      let room_b1 : steps_room b ≤ length m1.slots = omega arith in
-      let steps_are : steps_done port (b ++ last ∷ []) m1 ≡ then_do (steps_done port b (machine_at m1.slots first.1)) (step_done port last) = then_last port b last m1 ∙ ap (λ m. then_do (steps_done port b m) (step_done port last)) (machine_is m1 first.1 stands1.traffic) in
-      subst (goal_is (meant_right first)) (sym steps_are)
-      (then_related (StandsAt names at_right (free + 1) m1.slots) (Arrives names into free slots) (value_of port right first.1) (steps_done port b (machine_at m1.slots first.1)) (meant_last first.0) (step_done port last) (operand_runs port right run_right names true (free + 1) first.1 m1.slots closed.1 ready1 room_b1) (λ second m2 is_second stands2.
-        let value1 = left_stays port names left right free store slots first second m1 m2 closed.0 ready is_second stands1 stands2.holds stands2.kept in
-        let done_is : step_done port last m2 ≡ then_do (binary_value operator first.0 second.0) (λ value. Ok (slot_written m2 into value)) =
-          binary_step_done port operator into at_left at_right m2
-          ∙ ap (λ v. then_do (binary_value operator v (slot_value m2 at_right)) (λ value. Ok (slot_written m2 into value))) value1
-          ∙ ap (λ v. then_do (binary_value operator first.0 v) (λ value. Ok (slot_written m2 into value))) stands2.value in
-        subst (goal_is (meant_last first.0 second)) (sym done_is)
-        (binary_arrives names into free slots second.1 m2 (binary_value operator first.0 second.0) stands2.traffic stands2.names_are stands2.holds (λ k low high. stands2.kept k low (omega arith) ∙ stands1.kept k low high) (stands2.size ∙ stands1.size))))))
+    let size1 = stands1.size in
+    let roomy = ready.roomy in
+    let ready1 : Ready names (free + 1) first.1 m1.slots = record { names_are = stands1.names_are; holds = stands1.holds; above = omega arith; roomy = omega arith } in
+    let room_b1 : steps_room b ≤ length m1.slots = omega arith in
+    let steps_are : steps_done port (b ++ last ∷ []) m1 ≡ then_do (steps_done port b (machine_at m1.slots first.1)) (step_done port last) = then_last port b last m1 ∙ ap (λ m. then_do (steps_done port b m) (step_done port last)) (machine_is m1 first.1 stands1.traffic) in
+    subst (goal_is (meant_right first)) (sym steps_are)
+    (then_related (StandsAt names at_right (free + 1) m1.slots) (Arrives names into free slots) (value_of port right first.1) (steps_done port b (machine_at m1.slots first.1)) (meant_last first.0) (step_done port last) (operand_runs port right run_right names true (free + 1) first.1 m1.slots closed.1 ready1 room_b1) (λ second m2 is_second stands2.
+    let value1 = left_stays port names left right free store slots first second m1 m2 closed.0 ready is_second stands1 stands2.holds stands2.kept in
+    let done_is : step_done port last m2 ≡ then_do (binary_value operator first.0 second.0) (λ value. Ok (slot_written m2 into value)) =
+    binary_step_done port operator into at_left at_right m2
+    ∙ ap (λ v. then_do (binary_value operator v (slot_value m2 at_right)) (λ value. Ok (slot_written m2 into value))) value1
+    ∙ ap (λ v. then_do (binary_value operator first.0 v) (λ value. Ok (slot_written m2 into value))) stands2.value in
+    subst (goal_is (meant_last first.0 second)) (sym done_is)
+    (binary_arrives names into free slots second.1 m2 (binary_value operator first.0 second.0) stands2.traffic stands2.names_are stands2.holds (λ k low high. stands2.kept k low (omega arith) ∙ stands1.kept k low high) (stands2.size ∙ stands1.size))))))
 
 -- an operator before its operand
 unary_runs : (port : Port) (operator : UnaryOperator) (operand : tree.Expr) → Runs port operand → Runs port (tree.Unary operator operand)
@@ -149,8 +147,8 @@ unary_runs port operator operand run names into free store slots closed ready ro
     let goal_is : Result (ℤ × Store) Cause → Result Machine Cause → Type 0 = Related (Arrives names into free slots) in
     subst (goal_is (then_do (value_of port operand store) meant_last)) (sym (then_last port a last (machine_at slots store)))
     (then_related (StandsAt names from free slots) (Arrives names into free slots) (value_of port operand store) (steps_done port a (machine_at slots store)) meant_last (step_done port last) (operand_runs port operand run names true free store slots closed ready room_a) (λ given m is stands.
-      subst (goal_is (meant_last given)) (sym (unary_step_done port operator into from m))
-      (unary_arrives names operator into from free slots given m stands)))
+    subst (goal_is (meant_last given)) (sym (unary_step_done port operator into from m))
+    (unary_arrives names operator into from free slots given m stands)))
 
 -- a step of a variable, whose new value is the step's own
 first_runs : (port : Port) (names : List (List ℕ)) (name : List ℕ) (amount : ℤ) (into free : ℕ) (store : Store) (slots : List ℤ) → IsNamed names name → Ready names free store slots → length names ≤ length slots → let new = wrapped (value_in store name +ℤ amount) in Arrives names into free slots (new, assigned store name new) (slot_written (slot_written (machine_at slots store) (slot_of names name) (wrapped (at slots (slot_of names name) +ℤ amount))) into (slot_value (slot_written (machine_at slots store) (slot_of names name) (wrapped (at slots (slot_of names name) +ℤ amount))) (slot_of names name)))
@@ -166,8 +164,8 @@ first_runs port names name amount into free store slots named ready room =
     record {
       slots = set slots slot new;
       written =
-        ap (λ v. slot_written (slot_written (machine_at slots store) slot v) into (slot_value (slot_written (machine_at slots store) slot v) slot)) new_is
-        ∙ ap (λ v. record { slots = set (set slots slot new) into v; traffic = store.traffic }) (get_or-set_same slots slot new (pos 0) within);
+          ap (λ v. slot_written (slot_written (machine_at slots store) slot v) into (slot_value (slot_written (machine_at slots store) slot v) slot)) new_is
+          ∙ ap (λ v. record { slots = set (set slots slot new) into v; traffic = store.traffic }) (get_or-set_same slots slot new (pos 0) within);
       names_are = names_of-with_value store.variables name new ∙ ready.names_are;
       holds = subst (λ n. Holds (with_value store.variables name new) (set slots (slot_of n name) new)) ready.names_are (Holds-with_value store.variables slots name new (omega arith) ready.holds named');
       kept = λ k low high. let other : k ≢ slot = omega arith in get_or-set_other slots slot k new (pos 0) other;
@@ -198,15 +196,15 @@ after_runs port names name amount into free store slots named ready room =
     record {
       slots = stepped;
       written =
-        ap (λ v. slot_written (m2 (m1 v) (slot_value (m1 v) slot)) into (slot_value (m2 (m1 v) (slot_value (m1 v) slot)) free)) old_is
-        ∙ ap (λ v. slot_written (m2 (m1 old) v) into (slot_value (m2 (m1 old) v) free)) still
-        ∙ ap (λ v. record { slots = set stepped into v; traffic = store.traffic }) waits;
+          ap (λ v. slot_written (m2 (m1 v) (slot_value (m1 v) slot)) into (slot_value (m2 (m1 v) (slot_value (m1 v) slot)) free)) old_is
+          ∙ ap (λ v. slot_written (m2 (m1 old) v) into (slot_value (m2 (m1 old) v) free)) still
+          ∙ ap (λ v. record { slots = set stepped into v; traffic = store.traffic }) waits;
       names_are = names_of-with_value store.variables name new ∙ ready.names_are;
       holds = subst (λ n. Holds (with_value store.variables name new) (set waiting (slot_of n name) new)) ready.names_are (Holds-with_value store.variables waiting name new (omega arith) (Holds-set_above store.variables slots free old (omega arith) ready.holds) named');
       kept = λ k low high.
-        let other : k ≢ slot = omega arith in
-        let other' : k ≢ free = omega arith in
-        get_or-set_other waiting slot k new (pos 0) other ∙ get_or-set_other slots free k old (pos 0) other';
+          let other : k ≢ slot = omega arith in
+          let other' : k ≢ free = omega arith in
+          get_or-set_other waiting slot k new (pos 0) other ∙ get_or-set_other slots free k old (pos 0) other';
       size = length-set waiting slot new ∙ size1;
     }
 

@@ -1,6 +1,6 @@
 -- The steps of an expression put its value into their slot.
-use Rattle.std.proofs.Common.{◌≡◌, ◌≢◌, ℕ, zero, suc, ◌+◌, ◌-◌, ◌<◌, ◌≤◌, max, Bool, true, false, ◌&&◌, cond, ℤ, pos, negsuc, ◌+ℤ◌, List, [], ◌∷◌, ◌++◌, length, get_or, set, Option, Some, None, Result, Ok, Err, refl, sym, ap, ◌∙◌, subst, ⊎_elim, arith}
-use Rattle.std.specs.Prelude.{if◌then◌else◌, unwrap_or, slice_get}
+use Rattle.std.proofs.Common.{◌≡◌, ◌≢◌, ℕ, ◌+◌, ◌<◌, ◌≤◌, Bool, true, false, ◌&&◌, ℤ, pos, List, [], ◌∷◌, ◌++◌, length, set, Option, Some, None, Result, Ok, Err, refl, sym, ap, ◌∙◌, subst, ⊎_elim, arith}
+use Rattle.std.specs.Prelude.{unwrap_or}
 use Rattle.std.proofs.lemmas.List.{get_or-set_same, get_or-set_other, length-set}
 use Rattle.std.proofs.lemmas.Bool.{false≢true, cases_lt}
 use Rattle.strc_parse.specs.Tree as tree
@@ -11,15 +11,13 @@ use Rattle.strc_parse.specs.declared.tree.BinaryOperator.TheVariants as binary
 use Rattle.strc_parse.specs.declared.tree.StepOperator.{StepOperator}
 use Rattle.strc_parse.specs.declared.tree.StepOperator.TheVariants as step
 use Rattle.strc_work.specs.declared.fault.Cause.{Cause}
-use Rattle.strc_work.specs.declared.step.Step.{Step}
-use Rattle.strc_work.specs.declared.step.Step.TheVariants as act
-use Rattle.strc_work.specs.Arithmetic.{wrapped, unary_value, binary_value}
+use Rattle.strc_work.specs.Arithmetic.{unary_value, binary_value}
 use Rattle.strc_work.specs.Closed.{IsNamed, IsClosed}
-use Rattle.strc_work.specs.Firing.{Port, Store, Traffic, then_do, value_in, value_of, popped_from, assigned, with_value, value_stepped, step_value}
-use Rattle.strc_work.specs.Lowering.{Machine, slot_value, slot_written, step_done, steps_done, step_room, steps_room, slot_of, variable_slot, changes_none, stands_at, unless_there, unary_step, binary_step, step_steps, expr_steps, unary_done, binary_done}
+use Rattle.strc_work.specs.Firing.{Port, Store, Traffic, then_do, value_in, value_of, popped_from}
+use Rattle.strc_work.specs.Lowering.{Machine, steps_done, step_room, steps_room, slot_of, variable_slot, changes_none, stands_at, unless_there, unary_step, binary_step, step_steps, expr_steps}
 use Rattle.strc_work.specs.Emission.{operand_slot, operand_steps}
-use Rattle.strc_work.proofs.Variables.{Variables, names_of, at, Holds, Holds-set_above, Holds-with_value, slot_of-below, slot_of-value, names_of-with_value, length-names_of}
-use Rattle.strc_work.proofs.Related.{Related, then_related, weaker_related, steps_done-append, steps_room-append, then_last}
+use Rattle.strc_work.proofs.Variables.{Variables, names_of, at, Holds, Holds-set_above, slot_of-below, slot_of-value, length-names_of}
+use Rattle.strc_work.proofs.Related.{Related, weaker_related, steps_room-append}
 
 -- the machine stands where the store is, with the value about to be written into a slot; the slots from `length names` up to `free` are kept
 pub record Arrives (names : List (List ℕ)) (into free : ℕ) (before : List ℤ) (given : ℤ × Store) (after : Machine) : Type 0 where
@@ -133,8 +131,8 @@ same_slots (variable ∷ rest) first second slot h h' below =
     ⊎_elim
     (λ (lt : slot < length rest). same_slots rest first second slot h.1 h'.1 lt)
     (λ (le : length rest ≤ slot).
-      let e : length rest ≡ slot = omega arith in
-      subst (λ n. at first n ≡ at second n) e (h.0 ∙ sym h'.0))
+    let e : length rest ≡ slot = omega arith in
+    subst (λ n. at first n ≡ at second n) e (h.0 ∙ sym h'.0))
     (cases_lt slot (length rest))
 
 -- the slot that an expression's steps write is one of those that they need
@@ -198,8 +196,8 @@ arrived_stands names slot before given after above room arrives =
       holds = subst (Holds given.1.variables) (sym is) (Holds-set_above given.1.variables slots slot value (omega arith) arrives.holds);
       value = ap (λ l. at l slot) is ∙ get_or-set_same slots slot value (pos 0) within;
       kept = λ k low high.
-        let other : k ≢ slot = omega arith in
-        ap (λ l. at l k) is ∙ get_or-set_other slots slot k value (pos 0) other ∙ arrives.kept k low (omega arith);
+          let other : k ≢ slot = omega arith in
+          ap (λ l. at l k) is ∙ get_or-set_other slots slot k value (pos 0) other ∙ arrives.kept k low (omega arith);
       size = ap length is ∙ length-set slots slot value ∙ size;
     }
 

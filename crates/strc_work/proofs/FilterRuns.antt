@@ -1,19 +1,15 @@
 -- A filter's steps start it and fire it as its text says.
-use Rattle.std.proofs.Common.{◌≡◌, ℕ, zero, suc, ◌+◌, ◌-◌, ◌<◌, ◌≤◌, max, Bool, true, false, ◌||◌, ℤ, pos, List, [], ◌∷◌, ◌++◌, length, take, drop, map, reverse, get_or, set, replicate, Option, Some, None, Result, Ok, Err, refl, sym, ap, ◌∙◌, subst, arith, append_assoc}
-use Rattle.std.specs.Prelude.{unwrap_or}
+use Rattle.std.proofs.Common.{◌≡◌, ℕ, zero, suc, ◌+◌, ◌<◌, ◌≤◌, ℤ, pos, List, [], ◌∷◌, ◌++◌, length, take, reverse, replicate, Some, None, Result, refl, sym, ap, ◌∙◌, subst, arith, append_assoc}
 use Rattle.std.proofs.lemmas.List.{reverse-append, length-reverse, append-nil, reverse-reverse, get_or-replicate, length-replicate}
 use Rattle.strc_parse.specs.Tree as tree
 use Rattle.strc_work.specs.declared.fault.Cause.{Cause}
-use Rattle.strc_work.specs.declared.step.Step.{Step}
-use Rattle.strc_work.specs.declared.word.Word.{Word}
 use Rattle.strc_work.specs.declared.code.Body.{Body}
 use Rattle.strc_work.specs.Filters.{Filter, field_names, work_block}
-use Rattle.strc_work.specs.Closed.{IsNamed, IsClosed, AreClosed, IsClosedMember, AreClosedMembers, IsClosedFilter}
-use Rattle.strc_work.specs.Firing.{Port, Store, Traffic, then_do, value_of, assigned, block_left, stmts_done, bound_onto, no_traffic, store_at, field_values, shut, members_started, zeros_for, started, Fired, port_of, fired}
-use Rattle.strc_work.specs.Lowering.{Machine, steps_done, steps_room, slot_of, expr_steps, stmts_steps, field_scope, initial_steps, start_steps, work_steps, slot_count}
-use Rattle.strc_work.proofs.Growth.{StandsOn, drop_inner}
-use Rattle.strc_work.proofs.Variables.{Variables, names_of, at, Holds, Holds-drop, length-names_of, values-Holds}
-use Rattle.strc_work.proofs.Related.{Related, then_related, weaker_related, steps_done-append, steps_room-append}
+use Rattle.strc_work.specs.Closed.{AreClosed, AreClosedMembers, IsClosedFilter}
+use Rattle.strc_work.specs.Firing.{Store, Traffic, then_do, value_of, assigned, block_left, stmts_done, bound_onto, no_traffic, store_at, field_values, shut, members_started, zeros_for, started, Fired, port_of, fired}
+use Rattle.strc_work.specs.Lowering.{Machine, steps_done, steps_room, slot_of, expr_steps, field_scope, initial_steps, start_steps, work_steps, slot_count}
+use Rattle.strc_work.proofs.Variables.{Variables, names_of, at, Holds, length-names_of, values-Holds}
+use Rattle.strc_work.proofs.Related.{Related, then_related, steps_done-append, steps_room-append}
 use Rattle.strc_work.proofs.Expressions.{Arrives, Ready, machine_at}
 use Rattle.strc_work.proofs.ExpressionRuns.{expr_runs}
 use Rattle.strc_work.proofs.StatementRuns.{Reaches, ReachesOn, assigned_reaches, empty_reaches, stmts_runs, left_reaches, map_related}
@@ -45,7 +41,7 @@ members_run (tree.Field name (Some initial) ∷ rest) names store slots closed r
     let go : ℤ × Store → Result Store Cause = λ given. members_started rest (assigned given.1 name given.0) in
     subst (Related (Reaches names (length slots)) (then_do (value_of shut initial store) go)) (sym (steps_done-append shut a b (machine_at slots store)))
     (then_related (Arrives names (slot_of names name) (length names) slots) (Reaches names (length slots)) (value_of shut initial store) (steps_done shut a (machine_at slots store)) go (steps_done shut b) (expr_runs shut initial names (slot_of names name) (length names) store slots closed.0.1 ready room_a) (λ given m is arrives.
-      rest_starts rest (members_run rest) names slots (assigned given.1 name given.0) m closed.1 room_b (assigned_reaches names name slots given m closed.0.0 ready.roomy arrives)))
+    rest_starts rest (members_run rest) names slots (assigned given.1 name given.0) m closed.1 room_b (assigned_reaches names name slots given m closed.0.0 ready.roomy arrives)))
 members_run (tree.Work rates block ∷ rest) names store slots closed ready room =
     members_run rest names store slots closed.1 ready room
 
@@ -65,8 +61,8 @@ Holds-bound_onto variables (name ∷ names) [] slots h stands = h
 Holds-bound_onto variables (name ∷ names) (value ∷ values) slots h stands =
     let top : length variables + 0 ≡ length variables = omega arith in
     Holds-bound_onto (record { 0 = name; 1 = value } ∷ variables) names values slots (ap (at slots) (sym top) ∙ stands 0 (omega arith), h) (λ k lt.
-      let next : suc (length variables) + k ≡ length variables + suc k = omega arith in
-      ap (at slots) next ∙ stands (suc k) (omega arith))
+    let next : suc (length variables) + k ≡ length variables + suc k = omega arith in
+    ap (at slots) next ∙ stands (suc k) (omega arith))
 
 -- the store of a filter stands in slots that begin with its fields' values
 store_ready : (filter : Filter) (values slots : List ℤ) → length values ≡ length (field_names filter.members) → ((k : ℕ) → k < length values → at slots k ≡ at values k) → length (field_names filter.members) ≤ length slots → Ready (field_scope filter) (length (field_scope filter)) (store_at filter values) slots
@@ -116,11 +112,11 @@ start_runs filter size closed room =
     let zeros_are = length-zeros_for names in
     let ready = store_ready filter zeros slots zeros_are (λ k lt. get_or-replicate size k (pos 0) (pos 0) (omega arith) ∙ sym (zeros_for-at names k lt)) fields in
     map_related (Reaches (field_scope filter) (length slots)) (IsStarted filter size) field_values (members_started filter.members store) (steps_done shut (start_steps filter) (machine_at slots store)) (members_run filter.members (field_scope filter) store slots closed ready fits) (λ given after reaches.
-      let same = reaches.same in
-      record {
-        fields = field_values-Holds filter given after.slots reaches.names_are reaches.holds (omega arith);
-        same = same ∙ size_is;
-      })
+    let same = reaches.same in
+    record {
+      fields = field_values-Holds filter given after.slots reaches.names_are reaches.holds (omega arith);
+      same = same ∙ size_is;
+    })
 
 -- ---- a firing
 
@@ -146,11 +142,11 @@ work_runs filter body fields slots window closed e stands room =
     let fits : steps_room (work_steps filter) ≤ length slots = omega arith in
     let ready = store_ready filter fields slots e stands enough in
     map_related (ReachesOn names (length slots)) (HasFired filter (length slots)) (λ inner. let left = block_left store inner in record { fields = field_values left; pushes = left.traffic.pushes; words = left.traffic.words }) (stmts_done port block store) (steps_done port (work_steps filter) (machine_at slots store)) (stmts_runs port block names store slots (work_closed names filter.members closed) ready fits) (λ inner after reaches.
-      let left = left_reaches names slots store inner after ready reaches in
-      let same = left.same in
-      record {
-        fields = field_values-Holds filter (block_left store inner) after.slots left.names_are left.holds (omega arith);
-        pushes = ap (λ (t : Traffic). t.pushes) (sym left.traffic);
-        words = ap (λ (t : Traffic). t.words) (sym left.traffic);
-        same = same;
-      })
+    let left = left_reaches names slots store inner after ready reaches in
+    let same = left.same in
+    record {
+      fields = field_values-Holds filter (block_left store inner) after.slots left.names_are left.holds (omega arith);
+      pushes = ap (λ (t : Traffic). t.pushes) (sym left.traffic);
+      words = ap (λ (t : Traffic). t.words) (sym left.traffic);
+      same = same;
+    })

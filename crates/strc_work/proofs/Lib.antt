@@ -12,3 +12,5 @@ pub mod ExpressionRuns
 pub mod StatementRuns
 pub mod Resolving
 pub mod FilterRuns
+pub mod Printing
+pub mod Answering

@@ -1,10 +1,9 @@
 -- The judgement of a block or of members, from what is judged so far and what is left.
-use Rattle.std.proofs.Common.{◌≡◌, ℕ, ◌+◌, List, [], ◌∷◌, ◌++◌, length, Result, Ok, Err, ℤ, refl, sym, ap, ◌∙◌}
+use Rattle.std.proofs.Common.{◌≡◌, ℕ, List, [], ◌∷◌, ◌++◌, Result, Ok, Err, refl, sym, ap, ◌∙◌}
 use Rattle.strc_parse.specs.Tree as tree
 use Rattle.strc_parse.specs.View.{stmt_view, block_view, member_view}
 use Rattle.strc_parse.specs.declared.tree.Stmt.{Stmt}
 use Rattle.strc_parse.specs.declared.tree.Member.{Member}
-use Rattle.strc_parse.specs.declared.tree.ItemType.{ItemType}
 use Rattle.strc_work.specs.declared.lowering.LowerError.{LowerError}
 use Rattle.strc_work.specs.declared.lowering.LowerError.TheVariants as refused
 use Rattle.strc_work.specs.Filters.{members_of}

@@ -1,15 +1,13 @@
 -- What the judgement accepts is closed.
-use Rattle.std.proofs.Common.{◌≡◌, ℕ, ◌-◌, Bool, true, false, ◌||◌, cond, not, ℤ, pos, List, [], ◌∷◌, ◌++◌, length, reverse, Option, Some, None, Result, Ok, Err, refl, sym, ap, ◌∙◌, subst, append_assoc}
-use Rattle.std.specs.Prelude.{if◌then◌else◌, bytes_eq, ◌==◌}
+use Rattle.std.proofs.Common.{◌≡◌, ℕ, Bool, true, false, ◌||◌, cond, not, ℤ, List, [], ◌∷◌, ◌++◌, length, reverse, Option, Some, None, Result, Ok, Err, refl, sym, ap, ◌∙◌, subst, append_assoc}
+use Rattle.std.specs.Prelude.{bytes_eq, ◌==◌}
 use Rattle.std.proofs.lemmas.List.{reverse-append, append-nil}
 use Rattle.strc_parse.specs.Tree as tree
-use Rattle.strc_parse.specs.declared.tree.UnaryOperator.{UnaryOperator}
 use Rattle.strc_parse.specs.declared.tree.ItemType.{ItemType}
-use Rattle.strc_parse.specs.declared.tree.RateTree.{RateTree}
 use Rattle.strc_work.specs.declared.lowering.LowerError.{LowerError}
 use Rattle.strc_work.specs.Names.{has_name, value_named}
 use Rattle.strc_work.specs.Filters.{Filter, field_names, work_count}
-use Rattle.strc_work.specs.Resolution.{Site, and_then, where_kept, constant_or, write_refused, name_resolved, write_resolved, takes_number, expr_resolved, initial_resolved, names_after, block_names, stmt_resolved, stmts_resolved, rates_fit, carries_items, fields_after, member_resolved, members_resolved, filter_resolved}
+use Rattle.strc_work.specs.Resolution.{Site, and_then, where_kept, constant_or, write_refused, write_resolved, takes_number, expr_resolved, initial_resolved, names_after, block_names, stmt_resolved, stmts_resolved, rates_fit, carries_items, fields_after, member_resolved, members_resolved, filter_resolved}
 use Rattle.strc_work.specs.Closed.{IsNamed, IsClosed, IsClosedStmt, AreClosed, IsClosedMember, AreClosedMembers, IsClosedFilter}
 use Rattle.strc_work.proofs.Scopes.{bytes_eq_same}
 
@@ -52,7 +50,7 @@ expr_gives site names (tree.Step operator name) =
     then_gives (IsNamed names) (IsClosed names) (write_resolved site names name) (λ n. Ok (tree.Step operator n)) (write_gives names name (has_name names name) (value_named site.constants name) refl) (λ n h. h)
 expr_gives site names (tree.Binary operator left right) =
     then_gives (IsClosed names) (IsClosed names) (expr_resolved site names left) (λ l. and_then (expr_resolved site names right) (λ r. Ok (tree.Binary operator l r))) (expr_gives site names left) (λ l h.
-      then_gives (IsClosed names) (IsClosed names) (expr_resolved site names right) (λ r. Ok (tree.Binary operator l r)) (expr_gives site names right) (λ r h'. (h, h')))
+    then_gives (IsClosed names) (IsClosed names) (expr_resolved site names right) (λ r. Ok (tree.Binary operator l r)) (expr_gives site names right) (λ r h'. (h, h')))
 
 -- a closed initialiser, where there is one
 abbrev IsClosedInitial : List (List ℕ) → Option tree.Expr → Type 0
@@ -88,7 +86,7 @@ mutual
       value_like site names value (tree.Evaluate value) tree.Evaluate (λ e h. (h, refl))
   stmt_gives site names outer (tree.Assign name operator value) =
       then_gives (IsNamed names) (IsLike names (tree.Assign name operator value)) (write_resolved site names name) (λ n. and_then (expr_resolved site names value) (λ v. Ok (tree.Assign n operator v))) (write_gives names name (has_name names name) (value_named site.constants name) refl) (λ n h.
-        value_like site names value (tree.Assign name operator value) (tree.Assign n operator) (λ v h'. ((h, h'), refl)))
+      value_like site names value (tree.Assign name operator value) (tree.Assign n operator) (λ v h'. ((h, h'), refl)))
   stmt_gives site names outer (tree.Push value) =
       kept_gives (IsLike names (tree.Push value)) site.pushes value (λ kept. and_then (expr_resolved site names kept) (λ v. Ok (tree.Push v)))
       (value_like site names value (tree.Push value) tree.Push (λ e h. (h, refl)))
@@ -101,8 +99,8 @@ mutual
   stmts_gives site names outer tree.Done = tt
   stmts_gives site names outer (tree.Then first rest) =
       then_gives (IsLike names first) (AreClosed names) (stmt_resolved site names outer first) (λ f. and_then (stmts_resolved site (names_after names first) outer rest) (λ r. Ok (tree.Then f r))) (stmt_gives site names outer first) (λ f h.
-        then_gives (AreClosed (names_after names first)) (AreClosed names) (stmts_resolved site (names_after names first) outer rest) (λ r. Ok (tree.Then f r)) (stmts_gives site (names_after names first) outer rest) (λ r h'.
-          (h.0, subst (λ n. AreClosed n r) (sym h.1) h')))
+      then_gives (AreClosed (names_after names first)) (AreClosed names) (stmts_resolved site (names_after names first) outer rest) (λ r. Ok (tree.Then f r)) (stmts_gives site (names_after names first) outer rest) (λ r h'.
+      (h.0, subst (λ n. AreClosed n r) (sym h.1) h')))
 
 -- the name of a member's field is one of these
 abbrev IsNamedMember : List (List ℕ) → tree.Member → Type 0
@@ -142,8 +140,8 @@ members_gives : (constants : List (List ℕ × ℤ)) (input output : ItemType) (
 members_gives constants input output fields before [] named = (tt, refl)
 members_gives constants input output fields before (first ∷ rest) named =
     then_gives (IsLikeMember fields first) (AreLike fields (first ∷ rest)) (member_resolved constants input output fields before first) (λ f. and_then (members_resolved constants input output fields (fields_after before first) rest) (λ r. Ok (f ∷ r))) (member_gives constants input output fields before first named.0) (λ f h.
-      then_gives (AreLike fields rest) (AreLike fields (first ∷ rest)) (members_resolved constants input output fields (fields_after before first) rest) (λ r. Ok (f ∷ r)) (members_gives constants input output fields (fields_after before first) rest named.1) (λ r h'.
-        ((h.0, h'.0), field_names_cons f r rest h'.1 ∙ h.1 rest)))
+    then_gives (AreLike fields rest) (AreLike fields (first ∷ rest)) (members_resolved constants input output fields (fields_after before first) rest) (λ r. Ok (f ∷ r)) (members_gives constants input output fields (fields_after before first) rest named.1) (λ r h'.
+    ((h.0, h'.0), field_names_cons f r rest h'.1 ∙ h.1 rest)))
 
 -- a name among more names
 or_false : (t : Bool) → t || true ≡ true
@@ -159,7 +157,7 @@ all_named back [] = tt
 all_named back (tree.Field name initial ∷ rest) =
     let names = field_names rest in
     let e : reverse (name ∷ names) ++ back ≡ reverse names ++ name ∷ back =
-      ap (λ l. l ++ back) (reverse-append (name ∷ []) names) ∙ append_assoc (reverse names) (name ∷ []) back in
+    ap (λ l. l ++ back) (reverse-append (name ∷ []) names) ∙ append_assoc (reverse names) (name ∷ []) back in
     subst (λ l. AreNamedMembers l (tree.Field name initial ∷ rest)) (sym e)
     (named_behind (reverse names) (name ∷ back) name (ap (λ t. t || has_name back name) (bytes_eq_same name name refl)), all_named (name ∷ back) rest)
 all_named back (tree.Work rates block ∷ rest) = (tt, all_named back rest)
@@ -170,7 +168,7 @@ filter_gives constants filter =
     let fields = reverse (field_names ms) in
     kept_gives IsClosedFilter (work_count ms == 1) filter _
     (then_gives (AreLike fields ms) IsClosedFilter (members_resolved constants filter.input filter.output fields [] ms) (λ ms'. Ok (record filter { members = ms' })) (members_gives constants filter.input filter.output fields [] ms (subst (λ l. AreNamedMembers l ms) (append-nil fields) (all_named [] ms))) (λ ms' h.
-      subst (λ l. AreClosedMembers (reverse l) ms') (sym h.1) h.0))
+    subst (λ l. AreClosedMembers (reverse l) ms') (sym h.1) h.0))
 
 -- the filter that the judgement gives is closed
 pub resolved_closed : (constants : List (List ℕ × ℤ)) (filter filter' : Filter) → filter_resolved constants filter ≡ Ok filter' → IsClosedFilter filter'

@@ -1,26 +1,23 @@
 -- Each statement's steps do what it means.
-use Rattle.std.proofs.Common.{◌≡◌, ◌≢◌, ℕ, zero, suc, ◌+◌, ◌-◌, ◌<◌, ◌≤◌, max, Bool, true, false, cond, ℤ, pos, negsuc, neg_ℤ, ◌+ℤ◌, List, [], ◌∷◌, ◌++◌, length, drop, map, get_or, set, Option, Some, None, Result, Ok, Err, refl, sym, ap, ◌∙◌, subst, arith, append_assoc, length-append}
-use Rattle.std.specs.Prelude.{if◌then◌else◌, unwrap_or, nat_lt}
-use Rattle.std.proofs.lemmas.List.{get_or-set_same, get_or-set_other, length-set, drop-map}
+use Rattle.std.proofs.Common.{◌≡◌, ℕ, ◌+◌, ◌-◌, ◌<◌, ◌≤◌, Bool, true, false, ℤ, pos, negsuc, ◌+ℤ◌, List, [], ◌∷◌, ◌++◌, length, drop, set, Some, None, Result, Ok, Err, refl, sym, ap, ◌∙◌, subst, arith, append_assoc}
+use Rattle.std.proofs.lemmas.List.{get_or-set_same, length-set, drop-map}
 use Rattle.strc_parse.specs.Tree as tree
 use Rattle.strc_parse.specs.declared.tree.AssignOperator.{AssignOperator}
 use Rattle.strc_parse.specs.declared.tree.AssignOperator.TheVariants as assign
-use Rattle.strc_parse.specs.declared.tree.StepOperator.{StepOperator}
 use Rattle.strc_parse.specs.declared.tree.StepOperator.TheVariants as step
 use Rattle.strc_work.specs.declared.fault.Cause.{Cause}
 use Rattle.strc_work.specs.declared.step.Step.{Step}
 use Rattle.strc_work.specs.declared.step.Step.TheVariants as act
-use Rattle.strc_work.specs.declared.word.Word.{Word}
 use Rattle.strc_work.specs.Arithmetic.{wrapped}
 use Rattle.strc_work.specs.Resolution.{names_after}
 use Rattle.strc_work.specs.Closed.{IsNamed, IsClosed, IsClosedStmt, AreClosed}
-use Rattle.strc_work.specs.Firing.{Port, Store, Traffic, then_do, value_in, value_of, pushed_to, printed, assigned, assigned_value, with_value, value_stepped, block_left, stmt_done, stmts_done}
-use Rattle.strc_work.specs.Lowering.{Machine, slot_value, slot_written, step_done, steps_done, steps_room, slot_of, expr_steps, evaluation_steps, step_amount, stmt_steps, stmts_steps, used_steps}
+use Rattle.strc_work.specs.Firing.{Port, Store, Traffic, then_do, value_in, value_of, pushed_to, printed, assigned, assigned_value, with_value, block_left, stmt_done, stmts_done}
+use Rattle.strc_work.specs.Lowering.{Machine, slot_value, slot_written, step_done, steps_done, steps_room, slot_of, expr_steps, stmt_steps, stmts_steps, used_steps}
 use Rattle.strc_work.specs.Emission.{operand_slot, operand_steps}
 use Rattle.strc_work.proofs.Growth.{StandsOn, stands_on_itself, stands_on_after, drop_inner}
 use Rattle.strc_work.proofs.Variables.{Variables, names_of, at, Holds, Holds-set_above, Holds-with_value, Holds-drop, names_of-with_value, length-names_of}
 use Rattle.strc_work.proofs.Related.{Related, then_related, weaker_related, steps_done-append, steps_room-append, then_last}
-use Rattle.strc_work.proofs.Expressions.{Arrives, StandsAt, Ready, machine_at, named_below, named_value, length-variables, operand_runs, expr_room}
+use Rattle.strc_work.proofs.Expressions.{Arrives, StandsAt, Ready, machine_at, named_value, length-variables, operand_runs, expr_room}
 use Rattle.strc_work.proofs.ExpressionRuns.{expr_runs}
 
 -- the machine stands where the store is, among these names
@@ -166,8 +163,8 @@ pushed_reaches names slots store after (Err cause) roomy names_are holds same = 
 printed_reaches : (names : List (List ℕ)) (slots : List ℤ) (ends_line : Bool) (slot : ℕ) (given : ℤ × Store) (after : Machine) → length names ≤ length slots → StandsAt names slot (length names) slots given after → Reaches names (length slots) (record given.1 { traffic = printed (record { value = given.0; ends_line = ends_line }) given.1.traffic }) (record after { traffic = printed (record { value = slot_value after slot; ends_line = ends_line }) after.traffic })
 printed_reaches names slots ends_line slot given after roomy stands = record {
   traffic =
-    ap (λ v. printed (record { value = v; ends_line = ends_line }) after.traffic) stands.value
-    ∙ ap (printed (record { value = given.0; ends_line = ends_line })) stands.traffic;
+      ap (λ v. printed (record { value = v; ends_line = ends_line }) after.traffic) stands.value
+      ∙ ap (printed (record { value = given.0; ends_line = ends_line })) stands.traffic;
   names_are = stands.names_are;
   holds = stands.holds;
   same = stands.size;
@@ -190,11 +187,11 @@ push_runs port e names store slots closed ready room =
     let slot = operand_slot names true e (length names) in
     let meant : ℤ × Store → Result Store Cause = λ given. then_do (pushed_to port given.0 given.1.traffic) (λ traffic. Ok (record given.1 { traffic = traffic })) in
     used_runs port e act.Push meant names store slots closed ready room (λ given m stands.
-      let done_is : step_done port (act.Push slot) m ≡ then_do (pushed_to port given.0 given.1.traffic) (λ traffic. Ok (record m { traffic = traffic })) =
-        ap (λ v. then_do (pushed_to port v m.traffic) (λ traffic. Ok (record m { traffic = traffic }))) stands.value
-        ∙ ap (λ t. then_do (pushed_to port given.0 t) (λ traffic. Ok (record m { traffic = traffic }))) stands.traffic in
-      subst (Related (Reaches names (length slots)) (meant given)) (sym done_is)
-      (pushed_reaches names slots given.1 m (pushed_to port given.0 given.1.traffic) roomy stands.names_are stands.holds stands.size))
+    let done_is : step_done port (act.Push slot) m ≡ then_do (pushed_to port given.0 given.1.traffic) (λ traffic. Ok (record m { traffic = traffic })) =
+    ap (λ v. then_do (pushed_to port v m.traffic) (λ traffic. Ok (record m { traffic = traffic }))) stands.value
+    ∙ ap (λ t. then_do (pushed_to port given.0 t) (λ traffic. Ok (record m { traffic = traffic }))) stands.traffic in
+    subst (Related (Reaches names (length slots)) (meant given)) (sym done_is)
+    (pushed_reaches names slots given.1 m (pushed_to port given.0 given.1.traffic) roomy stands.names_are stands.holds stands.size))
 
 -- the inner variables of a block are left
 pub left_reaches : (names : List (List ℕ)) (slots : List ℤ) (store inner : Store) (after : Machine) → Ready names (length names) store slots → ReachesOn names (length slots) inner after → Reaches names (length slots) (block_left store inner) after

@@ -1,7 +1,7 @@
 -- Variables whose values stand in slots.
-use Rattle.std.proofs.Common.{◌≡◌, ◌≢◌, ℕ, zero, suc, ◌+◌, ◌-◌, ◌<◌, ◌≤◌, Bool, true, false, ◌||◌, cond, ℤ, pos, List, [], ◌∷◌, ◌++◌, length, take, drop, map, reverse, get_or, set, Option, Some, None, refl, sym, ap, ◌∙◌, subst, arith, add-one}
-use Rattle.std.specs.Prelude.{if◌then◌else◌, unwrap_or, bytes_eq}
-use Rattle.std.proofs.lemmas.List.{get_or-set_same, get_or-set_other, length-map, reverse-append, take_more, drop-map}
+use Rattle.std.proofs.Common.{◌≡◌, ◌≢◌, ℕ, zero, suc, ◌+◌, ◌<◌, ◌≤◌, Bool, true, false, ◌||◌, cond, ℤ, pos, List, [], ◌∷◌, length, take, drop, map, reverse, get_or, set, Some, refl, sym, ap, ◌∙◌, subst, arith, add-one}
+use Rattle.std.specs.Prelude.{unwrap_or, bytes_eq}
+use Rattle.std.proofs.lemmas.List.{get_or-set_same, get_or-set_other, length-map, reverse-append, take_more}
 use Rattle.std.proofs.lemmas.Bool.{false≢true}
 use Rattle.strc_work.specs.Names.{has_name, value_named}
 use Rattle.strc_work.specs.Lowering.{slot_named, slot_of}

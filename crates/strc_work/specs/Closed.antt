@@ -1,5 +1,5 @@
 -- Texts in which each name of a variable is declared.
-use Rattle.std.specs.Prelude.{ℕ, ◌≡◌, true, List, [], ◌∷◌, reverse, Option, Some, None}
+use Rattle.std.specs.Prelude.{ℕ, ◌≡◌, true, List, [], ◌∷◌, reverse, Some, None}
 use Rattle.strc_parse.specs.Tree as tree
 use Rattle.strc_work.specs.Names.{has_name}
 use Rattle.strc_work.specs.Filters.{Filter, field_names}

@@ -12,3 +12,6 @@ pub mod Copies
 pub mod Running
 pub mod Verdicts
 pub mod Closed
+pub mod Answers
+pub mod StartErrors
+pub mod Causes

@@ -1,7 +1,8 @@
 // Lowered code: a filter's tree with its constants put in, and the steps that mean it.
 
-ghost use Rattle.std.specs.Prelude.{◌≡◌, IfOk, length};
+ghost use Rattle.std.specs.Prelude.{◌≡◌, [], IfOk, length};
 ghost use Rattle.strc_work.specs.Filters as filters;
+ghost use Rattle.strc_work.specs.StartErrors.{start_error_of};
 
 use crate::fault::{Cause, Halt};
 use crate::frame::{Frame, Tape};
@@ -68,12 +69,17 @@ pub enum StartError {
 
 impl Code {
     ghost use Rattle.strc_work.specs.Lowering.{start_steps, work_steps};
+    ghost use Rattle.strc_work.specs.Closed.{IsClosedFilter};
     ghost use Rattle.strc_work.specs.States.{IsStateOf, IsFrameOf};
+    ghost use Rattle.strc_work.specs.Firing.{started, fired};
+    ghost use Rattle.strc_work.specs.Answers.{Starts, Fires};
+    ghost use Rattle.strc_work.specs.Running.{MoreWords, WantsOnlyWords};
 
     /// The code of a resolved tree and its steps.
     pub(crate) fn of_parts(tree: FilterTree, start: Vec<Step>, work: Vec<Step>) -> Code
         requires start { start.items ≡ start_steps (filters.filter_of tree) }
         requires work { work.items ≡ work_steps (filters.filter_of tree) }
+        requires closed { IsClosedFilter (filters.filter_of tree) }
         ensures { result ≡ tree }
     {
         let fields = members::field_count(&tree.members);
@@ -102,6 +108,7 @@ impl Code {
 
     /// The fields at 0, then their initialisers in order.
     pub fn start(&self, alloc: Global) -> Result<State, StartError>
+        ensures values { Starts (started (filters.filter_of self.now)) result }
         ensures state { IfOk result (λ state. IsStateOf (filters.filter_of self.now) state) }
     {
         let Ok(mut slots) = Vec::from_elem(alloc, 0, self.slots) else {
@@ -119,14 +126,14 @@ impl Code {
                 slots,
                 fields: self.fields,
             }),
-            Err(Halt::Fault(cause)) => Err(StartError::ConstFault { cause }),
-            Err(Halt::NoMemory) => Err(StartError::NoMemory),
+            Err(halt) => Err(start_error(halt)),
         }
     }
 
     /// Room for the pushes of one firing.
     pub fn frame(&self, alloc: Global) -> Result<Frame, NoMemory>
-        ensures { IfOk result (λ frame. IsFrameOf (filters.filter_of self.now) frame) }
+        ensures frame { IfOk result (λ frame. IsFrameOf (filters.filter_of self.now) frame) }
+        ensures pushes { IfOk result (λ frame. frame.items ≡ []) }
     {
         let rates = self.rates(Body::Work);
         let buffer = Vec::from_elem(alloc, 0, members::item_count(rates.push) as usize)?;
@@ -140,16 +147,20 @@ impl Code {
     }
 
     /// One firing. The state and the frame are of this code. It takes no memory but for the words.
-    pub fn fire(
+    pub fn fire<W: Window>(
         &self,
         body: Body,
         state: &mut State,
         frame: &mut Frame,
-        window: &impl Window,
+        window: &W,
         words: &mut Vec<Word>,
     ) -> Result<(), Halt>
         requires state { IsStateOf (filters.filter_of self.now) state.old }
         requires frame { IsFrameOf (filters.filter_of self.now) frame.old }
+        ensures fired { Fires (fired (filters.filter_of self.now) body state.old.fields (W.items window.now))
+            result state.new.fields frame.new.items words.old.items words.new.items }
+        ensures memory { WantsOnlyWords (filters.filter_prints (filters.filter_of self.now)) result }
+        ensures words { MoreWords words.old.items words.new.items }
         ensures state { IsStateOf (filters.filter_of self.now) state.new }
         ensures frame { IsFrameOf (filters.filter_of self.now) frame.new }
     {
@@ -200,5 +211,15 @@ impl Code {
         ensures { result ≡ filters.filter_prints (filters.filter_of self.now) }
     {
         members::work_prints(&self.tree.members)
+    }
+}
+
+/// What a halt means at the start.
+fn start_error(halt: Halt) -> StartError
+    ensures { result ≡ start_error_of halt }
+{
+    match halt {
+        Halt::Fault(cause) => StartError::ConstFault { cause },
+        Halt::NoMemory => StartError::NoMemory,
     }
 }

@@ -5,6 +5,7 @@ ghost use Rattle.strc_parse.specs.View.{expr_view, stmt_view};
 ghost use Rattle.strc_work.specs.Filters.{members_of, field_names, work_block, filter_of};
 ghost use Rattle.strc_work.specs.Lowering as steps_of;
 ghost use Rattle.strc_work.specs.Resolution.{names_after};
+ghost use Rattle.strc_work.specs.Closed.{IsClosedFilter};
 ghost use Rattle.strc_work.specs.Firing.{assigned_value};
 ghost use Rattle.strc_work.specs.Emission.{compound_of, operand_slot, operand_steps, old_slot, old_steps};
 
@@ -21,7 +22,10 @@ use strc_parse::tree::{
 };
 
 /// The code of a filter that keeps the rules.
-pub fn emit_filter(alloc: Global, tree: FilterTree) -> Result<Code, NoMemory> {
+pub fn emit_filter(alloc: Global, tree: FilterTree) -> Result<Code, NoMemory>
+    requires { IsClosedFilter (filter_of tree) }
+    ensures { IfOk result (λ code. code ≡ tree) }
+{
     let mut names = resolution::field_scope(alloc, &tree.members)?;
     let start = emit_initials(alloc, &names, &tree.members)?;
     let work = emit_work(alloc, &mut names, &tree.members)?;

@@ -16,6 +16,11 @@ pub enum Cause {
 }
 
 impl fmt::Display for Cause {
+    ghost use Rattle.std.specs.Prelude.{Some};
+    ghost use Rattle.strc_work.specs.Causes.{cause_name};
+
+    ghost output = { λ cause. Some (cause_name cause) };
+
     fn fmt<W: fmt::Write>(&self, f: &mut fmt::Formatter<W>) -> fmt::Result {
         match self {
             Cause::DivZero => write!(f, "DivZero"),

@@ -19,8 +19,7 @@ mod resolution;
 mod scope;
 pub mod state;
 mod step;
-pub mod window;
-pub mod word;
-
 #[cfg(test)]
 mod tests;
+pub mod window;
+pub mod word;

@@ -1,5 +1,9 @@
 // From a filter's syntax tree to its code.
 
+ghost use Rattle.strc_work.specs.Filters.{filter_of};
+ghost use Rattle.strc_work.specs.Resolution.{filter_resolved};
+ghost use Rattle.strc_work.specs.Verdicts.{IsVerdict};
+
 use crate::code::Code;
 use crate::constants::Constants;
 use crate::fault::Cause;
@@ -56,7 +60,9 @@ impl<T: Drop> From<AllocFailed<T>> for LowerError {
 }
 
 /// The code of a filter, with its constants put in.
-pub fn lower(alloc: Global, tree: &FilterTree, constants: &Constants) -> Result<Code, LowerError> {
+pub fn lower(alloc: Global, tree: &FilterTree, constants: &Constants) -> Result<Code, LowerError>
+    ensures { IsVerdict filter_of (filter_resolved constants.now (filter_of tree.now)) result }
+{
     let tree = resolution::resolve_filter(alloc, tree, constants)?;
     let code = emission::emit_filter(alloc, tree)?;
     Ok(code)

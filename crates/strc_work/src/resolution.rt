@@ -11,11 +11,10 @@ ghost use Rattle.strc_work.specs.Resolution as judged;
 ghost use Rattle.strc_work.specs.Verdicts.{IsVerdict, site_of, Statements};
 
 use crate::constants::Constants;
-use crate::copies;
 use crate::lowering::LowerError;
-use crate::members;
 use crate::memory::NoMemory;
 use crate::scope::Scope;
+use crate::{copies, members};
 use std::alloc::Global;
 use strc_lex::token::Name;
 use strc_parse::tree::{
@@ -128,7 +127,12 @@ fn resolve_work(
 }
 
 /// The statements of a work, among the fields.
-fn resolve_block(alloc: Global, site: &Site, names: &mut Scope, block: &[Stmt]) -> Result<Vec<Stmt>, LowerError>
+fn resolve_block(
+    alloc: Global,
+    site: &Site,
+    names: &mut Scope,
+    block: &[Stmt],
+) -> Result<Vec<Stmt>, LowerError>
     ensures verdict { IsVerdict (λ (block : Statements). block_view block.items)
         (judged.stmts_resolved (site_of site.now) names.old (length names.old) (block_view block.now))
         result }
@@ -236,12 +240,7 @@ fn resolve_stmt(
     }
 }
 
-fn resolve_expr(
-    alloc: Global,
-    site: &Site,
-    names: &Scope,
-    value: &Expr,
-) -> Result<Expr, LowerError>
+fn resolve_expr(alloc: Global, site: &Site, names: &Scope, value: &Expr) -> Result<Expr, LowerError>
     ensures { IsVerdict expr_view (judged.expr_resolved (site_of site.now) names.now (expr_view value.now)) result }
 {
     match value {

@@ -10,8 +10,8 @@ use std::process::Abort;
 use std::test::Fail;
 use strc_lex::token::Name;
 use strc_parse::tree::{
-    AssignOperator, BinaryOperator, Expr, FilterTree, ItemType, Lvalue, Member, RateKind, RateTree, Stmt, StepOperator, UnaryOperator,
-    Variable, WorkTree,
+    AssignOperator, BinaryOperator, Expr, FilterTree, ItemType, Lvalue, Member, RateKind, RateTree,
+    StepOperator, Stmt, UnaryOperator, Variable, WorkTree,
 };
 
 fn name(alloc: Global, text: &str) -> Result<Name, AllocError> {
@@ -37,12 +37,23 @@ fn unary(alloc: Global, operator: UnaryOperator, operand: Expr) -> Result<Expr, 
     Ok(Expr::Unary(operator, Box::new(alloc, operand)?))
 }
 
-fn binary(alloc: Global, operator: BinaryOperator, left: Expr, right: Expr) -> Result<Expr, AllocError> {
+fn binary(
+    alloc: Global,
+    operator: BinaryOperator,
+    left: Expr,
+    right: Expr,
+) -> Result<Expr, AllocError> {
     Ok(Expr::Binary(operator, Box::new(alloc, left)?, Box::new(alloc, right)?))
 }
 
 /// `int->int filter { FIELDS work push PUSH pop POP { BLOCK } }`
-fn filter(alloc: Global, fields: Vec<Variable>, push: i32, pop: i32, block: Vec<Stmt>) -> Result<FilterTree, AllocError> {
+fn filter(
+    alloc: Global,
+    fields: Vec<Variable>,
+    push: i32,
+    pop: i32,
+    block: Vec<Stmt>,
+) -> Result<FilterTree, AllocError> {
     let mut members = Vec::new(alloc);
     for field in fields {
         members.push(Member::Field(field))?;
@@ -70,7 +81,11 @@ fn lowered(alloc: Global, tree: &FilterTree) -> Result<Code, LowerError> {
 }
 
 /// What a first firing over the items 10, 20, 30 pushes, or how it halts.
-fn pushed(rt: &impl Abort, alloc: Global, tree: &FilterTree) -> Result<Result<Vec<i32>, Halt>, AllocError> {
+fn pushed(
+    rt: &impl Abort,
+    alloc: Global,
+    tree: &FilterTree,
+) -> Result<Result<Vec<i32>, Halt>, AllocError> {
     let code = lowered(alloc, tree).expect(rt, "lower");
     let mut state = code.start(alloc).expect(rt, "start");
     let mut frame = code.frame(alloc).expect(rt, "frame");
@@ -83,7 +98,11 @@ fn pushed(rt: &impl Abort, alloc: Global, tree: &FilterTree) -> Result<Result<Ve
 }
 
 /// What `push(VALUE);` pushes, or how it halts.
-fn value_of(rt: &impl Abort, alloc: Global, value: Expr) -> Result<Result<Vec<i32>, Halt>, AllocError> {
+fn value_of(
+    rt: &impl Abort,
+    alloc: Global,
+    value: Expr,
+) -> Result<Result<Vec<i32>, Halt>, AllocError> {
     let mut block = Vec::new(alloc);
     block.push(Stmt::Push(value))?;
     let tree = filter(alloc, Vec::new(alloc), 1, 3, block)?;
@@ -114,7 +133,12 @@ fn operators_have_their_values(rt: HostRuntime) -> Result<(), Fail> {
         (BinaryOperator::And, -4, 6, 4),
     ];
     for (operator, left, right, expected) in table {
-        let value = binary(rt.alloc(), operator, Expr::Number(left), Expr::Number(right))?;
+        let value = binary(
+            rt.alloc(),
+            operator,
+            Expr::Number(left),
+            Expr::Number(right),
+        )?;
         let pushes = value_of(&rt, rt.alloc(), value)?.expect(&rt, "a value");
         assert_eq!(rt; pushes.as_slice(), [expected].as_slice());
     }

@@ -9,5 +9,5 @@ use Rattle.strc_work.proofs.resolution.+resolve_stmt.Given as goal
 abbrev pub invariant-loop-inner : goal.invariant-loop-inner
 invariant-loop-inner l = record {
   left : block_behind l.resolved.items (stmts_resolved (site_of l.site) l.names l.inner_start (block_view (drop l.inner-index l.inner-items))) ≡ stmts_resolved (site_of l.site) l.initial.names l.inner_start (block_view l.inner-items);
-  names : StandsOn l.initial.names l.names
+  names : StandsOn l.initial.names l.names;
 }

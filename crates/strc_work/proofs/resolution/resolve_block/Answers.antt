@@ -1,8 +1,8 @@
-use Rattle.std.proofs.Common.{◌≡◌, ◌<◌, ◌+◌, ◌++◌, ◌∷◌, [], Ok, length, drop, sym, ap, ◌∙◌, arith, rules}
+use Rattle.std.proofs.Common.{◌<◌, ◌+◌, Ok, length, drop, sym, ap, ◌∙◌, arith}
 use Rattle.std.proofs.Math.ListN.{drop_of_length-le}
 use Rattle.std.proofs.lemmas.Result.{err_from_is_err_and}
 use Rattle.strc_parse.specs.View.{stmt_view, block_view}
-use Rattle.strc_work.specs.Resolution.{stmts_resolved, names_after}
+use Rattle.strc_work.specs.Resolution.{stmts_resolved}
 use Rattle.strc_work.specs.Verdicts.{site_of}
 use Rattle.strc_work.proofs.Blocks.{block_view-drop}
 use Rattle.strc_work.proofs.Growth.{stands_on_after}
@@ -22,10 +22,10 @@ loop-inner-preserved c =
     let names = c.in_ok-resolve_stmt.ensures.names in
     record {
       left =
-        ap (λ l. block_behind l (stmts_resolved site c.resolve_stmt.new.names start rest)) c.in_ok-push.ensures.items
-        ∙ block_behind_step site c.loop-inner.names c.resolve_stmt.new.names start c.loop-inner.resolved.items (stmt_view x) y rest c.in_ok-resolve_stmt.ensures.verdict names
-        ∙ ap (λ b. block_behind c.loop-inner.resolved.items (stmts_resolved site c.loop-inner.names start b)) (sym (block_view-drop items i x lt c.inner-item.is))
-        ∙ c.loop-inner.invariant.left;
+          ap (λ l. block_behind l (stmts_resolved site c.resolve_stmt.new.names start rest)) c.in_ok-push.ensures.items
+          ∙ block_behind_step site c.loop-inner.names c.resolve_stmt.new.names start c.loop-inner.resolved.items (stmt_view x) y rest c.in_ok-resolve_stmt.ensures.verdict names
+          ∙ ap (λ b. block_behind c.loop-inner.resolved.items (stmts_resolved site c.loop-inner.names start b)) (sym (block_view-drop items i x lt c.inner-item.is))
+          ∙ c.loop-inner.invariant.left;
       names = rw names (stands_on_after c.args.names.now c.loop-inner.names (stmt_view x) c.loop-inner.invariant.names);
     }
 

@@ -9,5 +9,5 @@ use Rattle.strc_work.proofs.resolution.resolve_block.Given as goal
 abbrev pub invariant-loop-inner : goal.invariant-loop-inner
 invariant-loop-inner l = record {
   left : block_behind l.resolved.items (stmts_resolved (site_of l.site) l.names l.start (block_view (drop l.inner-index l.block))) ≡ stmts_resolved (site_of l.site) l.initial.names l.start (block_view l.block);
-  names : StandsOn l.initial.names l.names
+  names : StandsOn l.initial.names l.names;
 }

@@ -7,5 +7,5 @@ use Rattle.strc_work.proofs.resolution.resolve_filter.Given as goal
 abbrev pub invariant-loop-member : goal.invariant-loop-member
 invariant-loop-member l = record {
   left : members_behind l.resolved.items (members_resolved l.constants l.tree.input l.tree.output l.fields l.before (members_of (drop l.member-index l.member-items))) ≡ members_resolved l.constants l.tree.input l.tree.output l.initial.fields l.initial.before (members_of l.member-items);
-  fields : l.fields ≡ l.initial.fields
+  fields : l.fields ≡ l.initial.fields;
 }

@@ -1,0 +1,5 @@
+use Rattle.strc_cli.proofs.FiringRates.{pops_counted, firing_counted}
+use Rattle.strc_cli.proofs.laws.firings_keep_counted_rates.Goals as goal
+
+pub returns : goal.returns
+returns c filter fields window = (pops_counted filter fields window, firing_counted filter fields window)

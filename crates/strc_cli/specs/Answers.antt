@@ -1,0 +1,72 @@
+-- What a run of rounds means in the generic layer of streams: the answer of the pipeline.
+use Rattle.std.specs.Prelude.{◌≡◌, ℕ, suc, ◌≤◌, ℤ, true, false, List, [], ◌∷◌, ◌++◌, length, Ok, IfOk}
+use Rattle.strc_parse.specs.declared.tree.ItemType.{ItemType}
+use Rattle.strc_parse.specs.declared.tree.ItemType.TheVariants as item
+use Rattle.strc_work.specs.declared.fault.Cause.{Cause}
+use Rattle.strc_work.specs.declared.word.Word.{Word}
+use Rattle.strc_work.specs.declared.code.Body.TheVariants as body
+use Rattle.strc_work.specs.Filters.{Filter, work_block, filter_prints}
+use Rattle.strc_work.specs.Firing.{fired, stmts_done, port_of, store_at}
+use Rattle.strc_dataflow.specs.Pipelines.{pipeline_of, nodes_from, once_each}
+use Rattle.strc_dataflow.specs.Answer.{Outcome, Outcome.Done, Outcome.RoundFault, IsAnswer}
+use Rattle.strc_cli.specs.Rates.{stmts_pushes, stmts_pops, declared_pushes, declared_pops, rates_checked}
+use Rattle.strc_cli.specs.Pipeline.{filter_meaning, Ending, Ending.Ended, Ending.Faulted, laps, loaded}
+
+-- a firing that doesn't fault has popped and pushed what is counted from its text, and has printed only where its text prints
+abbrev pub FiringsKeepCountedRates : Type 0
+FiringsKeepCountedRates =
+    (filter : Filter) (fields window : List ℤ)
+    → IfOk (stmts_done (port_of filter window) (work_block filter.members) (store_at filter fields)) (λ store. store.traffic.popped ≡ stmts_pops (work_block filter.members))
+    × IfOk (fired filter body.Work fields window) (λ done. (length done.pushes ≡ stmts_pushes (work_block filter.members)) × (filter_prints filter ≡ false → done.words ≡ []))
+
+-- each filter takes what the one before it gives
+abbrev pub IsJoined : Filter → List Filter → Type 0
+IsJoined first [] = Unit {0}
+IsJoined first (next ∷ others) = (next.input ≡ first.output) × IsJoined next others
+
+-- the highest rate on a side: one item, and none on a void side
+abbrev pub highest_rate : ItemType → ℕ
+highest_rate item.Int = 1
+highest_rate item.Void = 0
+
+-- no declared rate is above the highest one
+abbrev pub AreLowRates : List Filter → Type 0
+AreLowRates [] = Unit {0}
+AreLowRates (filter ∷ others) =
+    (declared_pops filter ≤ highest_rate filter.input) × (declared_pushes filter ≤ highest_rate filter.output) × AreLowRates others
+
+-- no filter prints
+abbrev pub PrintsNothing : List Filter → Type 0
+PrintsNothing [] = Unit {0}
+PrintsNothing (filter ∷ others) = (filter_prints filter ≡ false) × PrintsNothing others
+
+-- at most one filter prints
+abbrev pub PrintsAtMostOnce : List Filter → Type 0
+PrintsAtMostOnce [] = Unit {0}
+PrintsAtMostOnce (filter ∷ others) = (filter_prints filter ≡ true → PrintsNothing others) × PrintsAtMostOnce others
+
+-- the words of these nodes, one node after another
+abbrev pub words_in_order : List ℕ → (ℕ → List Word) → List Word
+words_in_order [] words = []
+words_in_order (node ∷ nodes) words = words node ++ words_in_order nodes words
+
+-- an outcome of n nodes is this ending: the same words; or a fault in the same round, of the same node, in the firing of that round's
+-- number, with the same cause, and the same words before
+abbrev pub Tells : ℕ → Outcome Cause Word → Ending → Type 0
+Tells n (Done words) (Ended printed) = printed ≡ words_in_order (nodes_from 0 n) words
+Tells n (RoundFault q stop words) (Faulted round blame printed) =
+    (q ≡ round) × (stop.node ≡ blame.node) × (stop.firing ≡ q) × (stop.cause ≡ blame.cause) × (printed ≡ words_in_order (nodes_from 0 n) words)
+Tells n _ _ = ⊥
+
+-- the rounds of a pipeline of filters, a source first, whose rates are checked and of which at most one prints, end as its answer says
+abbrev pub LapsAreAnswers : Type 0
+LapsAreAnswers =
+    (first : Filter) (others : List Filter) (k : ℕ)
+    → first.input ≡ item.Void
+    → IsJoined first others
+    → rates_checked 0 (first ∷ others) ≡ Ok tt
+    → AreLowRates (first ∷ others)
+    → PrintsAtMostOnce (first ∷ others)
+    → (outcome : Outcome Cause Word)
+    × IsAnswer filter_meaning (pipeline_of first others) [] (λ node. 0) (once_each (suc (length others))) [] (nodes_from 0 (suc (length others))) k outcome
+    × Tells (suc (length others)) outcome (laps k 0 (loaded (first ∷ others)) [])

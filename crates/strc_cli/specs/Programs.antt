@@ -1,0 +1,56 @@
+-- Which texts are accepted, with which filters, and which are refused, with which refusal.
+use Rattle.std.specs.Prelude.{◌≡◌, ℕ, ◌<◌, ◌≤◌, List, length, Option, Ok, Err}
+use Rattle.strc_lex.specs.Text.{Lexes, StopsAt, text_limit}
+use Rattle.strc_lex.specs.declared.token.Token.{Token}
+use Rattle.strc_parse.specs.Tree.{Declaration}
+use Rattle.strc_parse.specs.Grammar as grammar
+use Rattle.strc_parse.specs.declared.error.ParseError.{ParseError}
+use Rattle.strc_parse.specs.declared.error.ParseError.TheVariants as parsing
+use Rattle.strc_work.specs.Filters.{Filter}
+use Rattle.strc_cli.specs.declared.refusal.Refusal.{Refusal}
+use Rattle.strc_cli.specs.declared.refusal.Refusal.TheVariants as refusal
+use Rattle.strc_cli.specs.Elaboration.{compiled}
+
+-- the tokens of a text that isn't too long
+pub record HasTokens (text : List ℕ) (tokens : List Token) : Type 0 where
+  pub short : length text ≤ text_limit
+  pub lexes : Lexes text tokens
+
+-- the text spells this program
+pub record IsText (text : List ℕ) (program : List Declaration) : Type 0 where
+  pub tokens : List Token
+  pub has_tokens : HasTokens text tokens
+  pub parses : grammar.Parses (grammar.kinds tokens) program
+
+-- the text is accepted, with these filters
+pub record Accepts (text : List ℕ) (main : Option (List ℕ)) (filters : List Filter) : Type 0 where
+  pub program : List Declaration
+  pub is_text : IsText text program
+  pub compiles : compiled program main ≡ Ok filters
+
+-- the text's tokens are refused so by the grammar
+abbrev pub IsNoProgram : List ℕ → ParseError → Type 0
+IsNoProgram text broken = (tokens : List Token) × HasTokens text tokens × grammar.Refuses (grammar.kinds tokens) broken
+
+-- the text spells a program that breaks this rule
+abbrev pub BreaksRule : List ℕ → Option (List ℕ) → Refusal → Type 0
+BreaksRule text main refused = (program : List Declaration) × IsText text program × (compiled program main ≡ Err refused)
+
+-- the text is refused so: the length first, then tokens, tree, and the rules in order of execution
+abbrev pub Refuses : List ℕ → Option (List ℕ) → Refusal → Type 0
+Refuses text main refusal.TextTooLong = text_limit < length text
+Refuses text main (refusal.Lex at) = (length text ≤ text_limit) × StopsAt text at
+Refuses text main (refusal.Parse token) = IsNoProgram text (parsing.Parse token)
+Refuses text main refusal.Nesting = IsNoProgram text parsing.Nesting
+Refuses text main refusal.NoMemory = ⊥
+Refuses text main refusal.RoundsNeeded = ⊥
+Refuses text main refused = BreaksRule text main refused
+
+-- a refusal that was answered is the text's; want of memory says nothing of it
+abbrev pub IsTrueOf : List ℕ → Option (List ℕ) → Refusal → Type 0
+IsTrueOf text main refusal.NoMemory = Unit {0}
+IsTrueOf text main refused = Refuses text main refused
+
+-- no text is both accepted and refused
+abbrev pub AcceptedOrRefused : Type 0
+AcceptedOrRefused = (text : List ℕ) (main : Option (List ℕ)) (filters : List Filter) (refused : Refusal) → Accepts text main filters → Refuses text main refused → ⊥

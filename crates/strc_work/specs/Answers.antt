@@ -1,0 +1,28 @@
+-- How a firing and a start answer.
+use Rattle.std.specs.Prelude.{◌≡◌, ℤ, List, ◌++◌, Result, Ok, Err}
+use Rattle.strc_work.specs.declared.fault.Cause.{Cause}
+use Rattle.strc_work.specs.declared.fault.Halt.{Halt}
+use Rattle.strc_work.specs.declared.fault.Halt.TheVariants as halt
+use Rattle.strc_work.specs.declared.code.StartError.{StartError}
+use Rattle.strc_work.specs.declared.code.StartError.TheVariants as start
+use Rattle.strc_work.specs.declared.word.Word.{Word}
+use Rattle.strc_work.specs.Kept.{Kept}
+use Rattle.strc_work.specs.Firing.{Fired}
+
+-- a firing gave these values of the fields and these pushes, and its words stand behind those before it
+pub record HasGiven (outcome : Result Fired Cause) (fields pushes : List ℤ) (before after : List Word) : Type 0 where
+  pub words : List Word
+  pub is : outcome ≡ Ok (record { fields = fields; pushes = pushes; words = words })
+  pub printed : after ≡ before ++ words
+
+-- an answer tells what a firing gave, or its fault; want of memory tells nothing
+abbrev pub Fires : Result Fired Cause → Result (Unit {0}) Halt → (fields pushes : List ℤ) (before after : List Word) → Type 0
+Fires outcome (Ok done) fields pushes before after = HasGiven outcome fields pushes before after
+Fires outcome (Err (halt.Fault cause)) fields pushes before after = outcome ≡ Err cause
+Fires outcome (Err halt.NoMemory) fields pushes before after = Unit {0}
+
+-- an answer tells the values of the fields at the start, or the fault of an initialiser
+abbrev pub Starts : Result (List ℤ) Cause → Result Kept StartError → Type 0
+Starts outcome (Ok state) = outcome ≡ Ok state.fields
+Starts outcome (Err (start.ConstFault cause)) = outcome ≡ Err cause
+Starts outcome (Err start.NoMemory) = Unit {0}
