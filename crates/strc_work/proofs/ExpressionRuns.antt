@@ -13,7 +13,8 @@ use Rattle.strc_work.specs.declared.fault.Cause.{Cause}
 use Rattle.strc_work.specs.Arithmetic.{wrapped, unary_value, binary_value}
 use Rattle.strc_work.specs.Closed.{IsNamed, IsClosed}
 use Rattle.strc_work.specs.Firing.{Port, Store, Traffic, then_do, value_in, value_of, popped_from, assigned, with_value}
-use Rattle.strc_work.specs.Lowering.{Machine, slot_value, slot_written, step_done, steps_done, steps_room, slot_of, variable_slot, changes_none, stands_at, unary_step, binary_step, unary_done, binary_done}
+use Rattle.strc_work.specs.Machine.{Machine, slot_value, slot_written, step_done, steps_done, steps_room, unary_done, binary_done}
+use Rattle.strc_work.specs.Lowering.{slot_of, variable_slot, changes_none, stands_at, unary_step, binary_step}
 use Rattle.strc_work.specs.Emission.{operand_slot, operand_steps}
 use Rattle.strc_work.proofs.Variables.{names_of, at, Holds, Holds-set_above, Holds-with_value, names_of-with_value, length-names_of}
 use Rattle.strc_work.proofs.Related.{Related, then_related, steps_done-append, steps_room-append, then_last}

@@ -14,7 +14,8 @@ use Rattle.strc_work.specs.declared.fault.Cause.{Cause}
 use Rattle.strc_work.specs.Arithmetic.{unary_value, binary_value}
 use Rattle.strc_work.specs.Closed.{IsNamed, IsClosed}
 use Rattle.strc_work.specs.Firing.{Port, Store, Traffic, then_do, value_in, value_of, popped_from}
-use Rattle.strc_work.specs.Lowering.{Machine, steps_done, step_room, steps_room, slot_of, variable_slot, changes_none, stands_at, unless_there, unary_step, binary_step, step_steps, expr_steps}
+use Rattle.strc_work.specs.Machine.{Machine, steps_done, step_room, steps_room}
+use Rattle.strc_work.specs.Lowering.{slot_of, variable_slot, changes_none, stands_at, unless_there, unary_step, binary_step, step_steps, expr_steps}
 use Rattle.strc_work.specs.Emission.{operand_slot, operand_steps}
 use Rattle.strc_work.proofs.Variables.{Variables, names_of, at, Holds, Holds-set_above, slot_of-below, slot_of-value, length-names_of}
 use Rattle.strc_work.proofs.Related.{Related, weaker_related, steps_room-append}

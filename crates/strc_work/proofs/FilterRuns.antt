@@ -7,7 +7,8 @@ use Rattle.strc_work.specs.declared.code.Body.{Body}
 use Rattle.strc_work.specs.Filters.{Filter, field_names, work_block}
 use Rattle.strc_work.specs.Closed.{AreClosed, AreClosedMembers, IsClosedFilter}
 use Rattle.strc_work.specs.Firing.{Store, Traffic, then_do, value_of, assigned, block_left, stmts_done, bound_onto, no_traffic, store_at, field_values, shut, members_started, zeros_for, started, Fired, port_of, fired}
-use Rattle.strc_work.specs.Lowering.{Machine, steps_done, steps_room, slot_of, expr_steps, field_scope, initial_steps, start_steps, work_steps, slot_count}
+use Rattle.strc_work.specs.Machine.{Machine, steps_done, steps_room}
+use Rattle.strc_work.specs.Lowering.{slot_of, expr_steps, field_scope, initial_steps, start_steps, work_steps, slot_count}
 use Rattle.strc_work.proofs.Variables.{Variables, names_of, at, Holds, length-names_of, values-Holds}
 use Rattle.strc_work.proofs.Related.{Related, then_related, steps_done-append, steps_room-append}
 use Rattle.strc_work.proofs.Expressions.{Arrives, Ready, machine_at}

@@ -12,7 +12,8 @@ use Rattle.strc_work.specs.Arithmetic.{wrapped}
 use Rattle.strc_work.specs.Resolution.{names_after}
 use Rattle.strc_work.specs.Closed.{IsNamed, IsClosed, IsClosedStmt, AreClosed}
 use Rattle.strc_work.specs.Firing.{Port, Store, Traffic, then_do, value_in, value_of, pushed_to, printed, assigned, assigned_value, with_value, block_left, stmt_done, stmts_done}
-use Rattle.strc_work.specs.Lowering.{Machine, slot_value, slot_written, step_done, steps_done, steps_room, slot_of, expr_steps, stmt_steps, stmts_steps, used_steps}
+use Rattle.strc_work.specs.Machine.{Machine, slot_value, slot_written, step_done, steps_done, steps_room}
+use Rattle.strc_work.specs.Lowering.{slot_of, expr_steps, stmt_steps, stmts_steps, used_steps}
 use Rattle.strc_work.specs.Emission.{operand_slot, operand_steps}
 use Rattle.strc_work.proofs.Growth.{StandsOn, stands_on_itself, stands_on_after, drop_inner}
 use Rattle.strc_work.proofs.Variables.{Variables, names_of, at, Holds, Holds-set_above, Holds-with_value, Holds-drop, names_of-with_value, length-names_of}

@@ -3,6 +3,7 @@ pub mod Names
 pub mod Filters
 pub mod Resolution
 pub mod Firing
+pub mod Machine
 pub mod Lowering
 pub mod Kept
 pub mod States

@@ -189,8 +189,10 @@ impl Code {
 
     /// The rates of a body as they are declared.
     pub fn rates(&self, body: Body) -> DeclaredRates
-        ensures push { result.push ≡ filters.push_rate (filters.work_rates (filters.filter_of self.now).members) }
-        ensures pop { result.pop ≡ filters.pop_rate (filters.work_rates (filters.filter_of self.now).members) }
+        ensures push { result.push
+            ≡ filters.push_rate (filters.work_rates (filters.filter_of self.now).members) }
+        ensures pop { result.pop
+            ≡ filters.pop_rate (filters.work_rates (filters.filter_of self.now).members) }
         ensures peek { result.peek ≡ result.pop }
     {
         match body {

@@ -50,7 +50,8 @@ fn emit_initials(alloc: Global, names: &Scope, members: &[Member]) -> Result<Vec
 
 /// The steps of the first work.
 fn emit_work(alloc: Global, names: &mut Scope, members: &[Member]) -> Result<Vec<Step>, NoMemory>
-    ensures { IfOk result (λ steps. steps.items ≡ steps_of.stmts_steps names.old (work_block (members_of members.now))) }
+    ensures { IfOk result
+        (λ steps. steps.items ≡ steps_of.stmts_steps names.old (work_block (members_of members.now))) }
 {
     let mut steps = Vec::new(alloc);
     for member in members {
@@ -66,7 +67,8 @@ fn emit_work(alloc: Global, names: &mut Scope, members: &[Member]) -> Result<Vec
 
 /// The steps of a statement.
 fn emit_stmt(steps: &mut Vec<Step>, names: &mut Scope, statement: &Stmt) -> Result<(), NoMemory>
-    ensures steps { OnOk result (steps.new.items ≡ steps.old.items ++ steps_of.stmt_steps names.old (stmt_view statement.now)) }
+    ensures steps { OnOk result
+        (steps.new.items ≡ steps.old.items ++ steps_of.stmt_steps names.old (stmt_view statement.now)) }
     ensures names { OnOk result (names.new ≡ names_after names.old (stmt_view statement.now)) }
 {
     let free = names.len();
@@ -110,7 +112,8 @@ fn emit_evaluation(
     value: &Expr,
     free: u32,
 ) -> Result<(), NoMemory>
-    ensures { OnOk result (steps.new.items ≡ steps.old.items ++ steps_of.evaluation_steps names.now (expr_view value.now) free) }
+    ensures { OnOk result
+        (steps.new.items ≡ steps.old.items ++ steps_of.evaluation_steps names.now (expr_view value.now) free) }
 {
     match value {
         Expr::Step(operator, place) => {
@@ -148,7 +151,9 @@ fn emit_assign(
 
 /// The steps that keep a variable's value, and its slot. Where it `stays`, it stays in its own slot.
 fn emit_old(steps: &mut Vec<Step>, slot: u32, stays: bool, free: u32) -> Result<u32, NoMemory>
-    ensures { IfOk result (λ at. (at ≡ old_slot stays slot free) × (steps.new.items ≡ steps.old.items ++ old_steps stays slot free)) }
+    ensures { IfOk result
+        (λ at. (at ≡ old_slot stays slot free)
+        × (steps.new.items ≡ steps.old.items ++ old_steps stays slot free)) }
 {
     if stays {
         return Ok(slot);
@@ -180,7 +185,8 @@ fn emit_expr(
     into: u32,
     free: u32,
 ) -> Result<(), NoMemory>
-    ensures { OnOk result (steps.new.items ≡ steps.old.items ++ steps_of.expr_steps names.now (expr_view value.now) into free) }
+    ensures { OnOk result
+        (steps.new.items ≡ steps.old.items ++ steps_of.expr_steps names.now (expr_view value.now) into free) }
 {
     match value {
         Expr::Number(number) => put(steps, Step::Const(into, *number)),
@@ -216,7 +222,9 @@ fn emit_operand(
     stays: bool,
     free: u32,
 ) -> Result<u32, NoMemory>
-    ensures { IfOk result (λ at. (at ≡ operand_slot names.now stays (expr_view value.now) free) × (steps.new.items ≡ steps.old.items ++ operand_steps names.now stays (expr_view value.now) free)) }
+    ensures { IfOk result
+        (λ at. (at ≡ operand_slot names.now stays (expr_view value.now) free)
+        × (steps.new.items ≡ steps.old.items ++ operand_steps names.now stays (expr_view value.now) free)) }
 {
     if stays {
         if let Some(slot) = variable_slot(names, value) {

@@ -16,7 +16,10 @@ impl Model for Frame {
 
     ghost Value = { Pushed };
 
-    ghost view = { λ f. record { items = take f.tape.pushed f.tape.buffer.items; room = length f.tape.buffer.items } };
+    ghost view = { λ f. record {
+      items = take f.tape.pushed f.tape.buffer.items;
+      room = length f.tape.buffer.items;
+    } };
 
     ghost invariant = { λ f. f.tape.pushed ≤ length f.tape.buffer.items };
 }

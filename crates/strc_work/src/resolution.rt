@@ -77,7 +77,8 @@ fn resolve_member(
     member: &Member,
 ) -> Result<Member, LowerError>
     ensures verdict { IsVerdict member_view
-        (judged.member_resolved constants.now tree.now.input tree.now.output fields.old before.old (member_view member.now))
+        (judged.member_resolved constants.now tree.now.input tree.now.output fields.old before.old
+        (member_view member.now))
         result }
     ensures fields { OnOk result (fields.new ≡ fields.old) }
     ensures before { OnOk result (before.new ≡ judged.fields_after before.old (member_view member.now)) }
@@ -109,7 +110,8 @@ fn resolve_work(
     work: &WorkTree,
 ) -> Result<WorkTree, LowerError>
     ensures verdict { IsVerdict (λ (work : Work). member_view (member.Work work))
-        (judged.member_resolved constants.now tree.now.input tree.now.output fields.old [] (member_view (member.Work work.now)))
+        (judged.member_resolved constants.now tree.now.input tree.now.output fields.old []
+        (member_view (member.Work work.now)))
         result }
     ensures fields { OnOk result (fields.new ≡ fields.old) }
 {
@@ -201,7 +203,9 @@ fn resolve_stmt(
     start: u32,
     statement: &Stmt,
 ) -> Result<Stmt, LowerError>
-    ensures verdict { IsVerdict stmt_view (judged.stmt_resolved (site_of site.now) names.old start (stmt_view statement.now)) result }
+    ensures verdict { IsVerdict stmt_view
+        (judged.stmt_resolved (site_of site.now) names.old start (stmt_view statement.now))
+        result }
     ensures names { OnOk result (names.new ≡ judged.names_after names.old (stmt_view statement.now)) }
 {
     match statement {
@@ -241,7 +245,9 @@ fn resolve_stmt(
 }
 
 fn resolve_expr(alloc: Global, site: &Site, names: &Scope, value: &Expr) -> Result<Expr, LowerError>
-    ensures { IsVerdict expr_view (judged.expr_resolved (site_of site.now) names.now (expr_view value.now)) result }
+    ensures { IsVerdict expr_view
+        (judged.expr_resolved (site_of site.now) names.now (expr_view value.now))
+        result }
 {
     match value {
         Expr::Number(number) => Ok(Expr::Number(*number)),
@@ -294,7 +300,9 @@ fn resolve_name(site: &Site, names: &Scope, name: &Name) -> Result<Expr, LowerEr
 
 /// A name that is written: a variable, and no constant.
 fn resolve_place(site: &Site, names: &Scope, place: &Lvalue) -> Result<Lvalue, LowerError>
-    ensures { IsVerdict (λ (place : Place). place.name) (judged.write_resolved (site_of site.now) names.now place.now.name) result }
+    ensures { IsVerdict (λ (place : Place). place.name)
+        (judged.write_resolved (site_of site.now) names.now place.now.name)
+        result }
 {
     let name = place.name.copy()?;
     if names.has(&name) {

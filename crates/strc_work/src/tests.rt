@@ -177,3 +177,227 @@ fn operands_are_evaluated_from_left_to_right(rt: HostRuntime) -> Result<(), Fail
     assert_eq!(rt; pushes.as_slice(), [-10].as_slice());
     Ok(())
 }
+
+/// `int x = 7;`
+fn seven(alloc: Global) -> Result<Stmt, AllocError> {
+    Ok(Stmt::Declare(variable(alloc, "x", Some(Expr::Number(7)))?))
+}
+
+/// `push(x);`
+fn push_x(alloc: Global) -> Result<Stmt, AllocError> {
+    Ok(Stmt::Push(read(alloc, "x")?))
+}
+
+/// `int x = 7; STATEMENT push(x);`
+fn between(alloc: Global, statement: Stmt) -> Result<FilterTree, AllocError> {
+    let mut block = Vec::new(alloc);
+    block.push(seven(alloc)?)?;
+    block.push(statement)?;
+    block.push(push_x(alloc)?)?;
+    filter(alloc, Vec::new(alloc), 2, 2, block)
+}
+
+/// `x++` and its like.
+fn step(alloc: Global, operator: StepOperator) -> Result<Expr, AllocError> {
+    Ok(Expr::Step(operator, place(alloc, "x")?))
+}
+
+/// `TEXT OPERATOR VALUE;`
+fn assign(
+    alloc: Global,
+    text: &str,
+    operator: AssignOperator,
+    value: Expr,
+) -> Result<Stmt, AllocError> {
+    Ok(Stmt::Assign(place(alloc, text)?, operator, value))
+}
+
+#[test]
+fn assignments_have_their_values(rt: HostRuntime) -> Result<(), Fail> {
+    let table = [
+        (AssignOperator::Set, 5),
+        (AssignOperator::Add, 12),
+        (AssignOperator::Subtract, 2),
+        (AssignOperator::Multiply, 35),
+        (AssignOperator::Divide, 1),
+        (AssignOperator::Remainder, 2),
+    ];
+    for (operator, expected) in table {
+        let statement = assign(rt.alloc(), "x", operator, Expr::Number(5))?;
+        let tree = between(rt.alloc(), statement)?;
+        let pushes = pushed(&rt, rt.alloc(), &tree)?.expect(&rt, "a value");
+        assert_eq!(rt; pushes.as_slice(), [expected].as_slice());
+    }
+    Ok(())
+}
+
+#[test]
+fn steps_have_their_values(rt: HostRuntime) -> Result<(), Fail> {
+    let table = [
+        (StepOperator::IncrementFirst, 8, 8),
+        (StepOperator::DecrementFirst, 6, 6),
+        (StepOperator::IncrementAfter, 7, 8),
+        (StepOperator::DecrementAfter, 7, 6),
+    ];
+    for (operator, value, after) in table {
+        let tree = between(rt.alloc(), Stmt::Push(step(rt.alloc(), operator)?))?;
+        let pushes = pushed(&rt, rt.alloc(), &tree)?.expect(&rt, "two values");
+        assert_eq!(rt; pushes.as_slice(), [value, after].as_slice());
+    }
+    Ok(())
+}
+
+#[test]
+fn a_variable_is_read_before_what_steps_it(rt: HostRuntime) -> Result<(), Fail> {
+    let stepped = step(rt.alloc(), StepOperator::IncrementFirst)?;
+    let sum = binary(
+        rt.alloc(),
+        BinaryOperator::Add,
+        read(rt.alloc(), "x")?,
+        stepped,
+    )?;
+    let tree = between(rt.alloc(), Stmt::Push(sum))?;
+    let pushes = pushed(&rt, rt.alloc(), &tree)?.expect(&rt, "two values");
+    assert_eq!(rt; pushes.as_slice(), [15, 8].as_slice());
+    Ok(())
+}
+
+/// `{ int x = x + 1; push(x); }`
+fn hiding(alloc: Global) -> Result<Stmt, AllocError> {
+    let more = binary(
+        alloc,
+        BinaryOperator::Add,
+        read(alloc, "x")?,
+        Expr::Number(1),
+    )?;
+    let mut block = Vec::new(alloc);
+    block.push(Stmt::Declare(variable(alloc, "x", Some(more))?))?;
+    block.push(push_x(alloc)?)?;
+    Ok(Stmt::Block(block))
+}
+
+#[test]
+fn an_inner_name_hides_an_outer_one(rt: HostRuntime) -> Result<(), Fail> {
+    let tree = between(rt.alloc(), hiding(rt.alloc())?)?;
+    let pushes = pushed(&rt, rt.alloc(), &tree)?.expect(&rt, "two values");
+    assert_eq!(rt; pushes.as_slice(), [8, 7].as_slice());
+    Ok(())
+}
+
+#[test]
+fn more_than_the_rates_is_a_fault(rt: HostRuntime) -> Result<(), Fail> {
+    let pops = value_of(&rt, rt.alloc(), Expr::Pop)?.expect(&rt, "a value");
+    assert_eq!(rt; pops.as_slice(), [10].as_slice());
+    let mut block = Vec::new(rt.alloc());
+    block.push(Stmt::Evaluate(Expr::Pop))?;
+    let tree = filter(rt.alloc(), Vec::new(rt.alloc()), 0, 0, block)?;
+    let halt = pushed(&rt, rt.alloc(), &tree)?.expect_err(&rt, "a fault");
+    assert_eq!(rt; halt, Halt::Fault(Cause::PeekRange));
+    Ok(())
+}
+
+/// `int x = limit; work { print(x); x++; }`, with the constant `limit`.
+fn counter(rt: &impl Abort, alloc: Global) -> Result<Code, AllocError> {
+    let mut fields = Vec::new(alloc);
+    fields.push(variable(alloc, "x", Some(read(alloc, "limit")?))?)?;
+    let mut block = Vec::new(alloc);
+    block.push(Stmt::Print(read(alloc, "x")?))?;
+    block.push(Stmt::Evaluate(step(alloc, StepOperator::IncrementAfter)?))?;
+    let tree = filter(alloc, fields, 0, 0, block)?;
+    Ok(with_limit(rt, alloc, &tree)?.expect(rt, "lower"))
+}
+
+/// A filter lowered with the constant `limit`, 8.
+fn with_limit(
+    rt: &impl Abort,
+    alloc: Global,
+    tree: &FilterTree,
+) -> Result<Result<Code, LowerError>, AllocError> {
+    let mut constants = Constants::new(alloc);
+    constants.push(name(alloc, "limit")?, 8).expect(rt, "room");
+    Ok(lowering::lower(alloc, tree, &constants))
+}
+
+#[test]
+fn fields_are_kept_and_words_are_printed(rt: HostRuntime) -> Result<(), Fail> {
+    let code = counter(&rt, rt.alloc())?
+        .copy(rt.alloc())
+        .expect(&rt, "copy");
+    let mut state = code.start(rt.alloc()).expect(&rt, "start");
+    let mut frame = code.frame(rt.alloc()).expect(&rt, "frame");
+    let mut words = Vec::new(rt.alloc());
+    let window: &[i32] = &[];
+    let first = code.fire(Body::Prework, &mut state, &mut frame, &window, &mut words);
+    let second = code.fire(Body::Work, &mut state, &mut frame, &window, &mut words);
+    assert_eq!(rt; (first, second), (Ok(()), Ok(())));
+    let expected = [
+        Word {
+            value: 8,
+            ends_line: false,
+        },
+        Word {
+            value: 9,
+            ends_line: false,
+        },
+    ];
+    assert_eq!(rt; words.as_slice(), expected.as_slice());
+    Ok(())
+}
+
+#[test]
+fn readers_tell_the_declaration(rt: HostRuntime) -> Result<(), Fail> {
+    let code = counter(&rt, rt.alloc())?;
+    assert!(rt; code.prints());
+    assert_eq!(rt; code.rates(Body::Work).peek, 0);
+    assert_eq!(rt; code.tree().members.len(), 2);
+    Ok(())
+}
+
+#[test]
+fn a_fault_of_an_initialiser_is_the_starts(rt: HostRuntime) -> Result<(), Fail> {
+    let value = binary(
+        rt.alloc(),
+        BinaryOperator::Divide,
+        Expr::Number(1),
+        read(rt.alloc(), "x")?,
+    )?;
+    let mut fields = Vec::new(rt.alloc());
+    fields.push(variable(rt.alloc(), "x", Some(value))?)?;
+    let tree = filter(rt.alloc(), fields, 0, 0, Vec::new(rt.alloc()))?;
+    let code = lowered(rt.alloc(), &tree).expect(&rt, "lower");
+    let error = code.start(rt.alloc()).expect_err(&rt, "a fault");
+    assert_eq!(rt;
+        error,
+        StartError::ConstFault {
+            cause: Cause::DivZero
+        }
+    );
+    Ok(())
+}
+
+#[test]
+fn an_unknown_name_is_refused(rt: HostRuntime) -> Result<(), Fail> {
+    let own = variable(rt.alloc(), "y", Some(read(rt.alloc(), "y")?))?;
+    let tree = between(rt.alloc(), Stmt::Declare(own))?;
+    match with_limit(&rt, rt.alloc(), &tree)?.expect_err(&rt, "a refusal") {
+        LowerError::UnknownName { name } => assert_eq!(rt; name.as_bytes(), b"y".as_slice()),
+        LowerError::TypeMismatch | LowerError::ConstFault { .. } | LowerError::NoMemory => {
+            panic!(rt; "another refusal")
+        }
+    }
+    Ok(())
+}
+
+#[test]
+fn broken_rules_are_refused(rt: HostRuntime) -> Result<(), Fail> {
+    let mut statements = Vec::new(rt.alloc());
+    statements.push(seven(rt.alloc())?)?;
+    statements.push(assign(rt.alloc(), "limit", AssignOperator::Set, Expr::Number(1))?)?;
+    statements.push(Stmt::Evaluate(unary(rt.alloc(), UnaryOperator::Not, Expr::Number(1))?))?;
+    for statement in statements {
+        let tree = between(rt.alloc(), statement)?;
+        let error = with_limit(&rt, rt.alloc(), &tree)?.expect_err(&rt, "a refusal");
+        assert!(rt; matches!(&error, LowerError::TypeMismatch));
+    }
+    Ok(())
+}
