@@ -1,5 +1,5 @@
 -- Which texts are accepted, with which filters, and which are refused, with which refusal.
-use Rattle.std.specs.Prelude.{◌≡◌, ℕ, ◌<◌, ◌≤◌, List, length, Option, Ok, Err}
+use Rattle.std.specs.Prelude.{◌≡◌, ℕ, ◌<◌, ◌≤◌, ◌⊎◌, List, length, Option, Ok, Err}
 use Rattle.strc_lex.specs.Text.{Lexes, StopsAt, text_limit}
 use Rattle.strc_lex.specs.declared.token.Token.{Token}
 use Rattle.strc_parse.specs.Tree.{Declaration}
@@ -36,20 +36,27 @@ IsNoProgram text broken = (tokens : List Token) × HasTokens text tokens × gram
 abbrev pub BreaksRule : List ℕ → Option (List ℕ) → Refusal → Type 0
 BreaksRule text main refused = (program : List Declaration) × IsText text program × (compiled program main ≡ Err refused)
 
--- the text is refused so: the length first, then tokens, tree, and the rules in order of execution
+-- the text is refused so before there is a program: for its length, its tokens or its tree
+abbrev pub IsUnreadable : List ℕ → Refusal → Type 0
+IsUnreadable text refusal.TextTooLong = text_limit < length text
+IsUnreadable text (refusal.Lex at) = (length text ≤ text_limit) × StopsAt text at
+IsUnreadable text (refusal.Parse token) = IsNoProgram text (parsing.Parse token)
+IsUnreadable text refusal.Nesting = IsNoProgram text parsing.Nesting
+IsUnreadable text refused = ⊥
+
+-- the text is refused so: it can't be read, or it breaks a rule
 abbrev pub Refuses : List ℕ → Option (List ℕ) → Refusal → Type 0
-Refuses text main refusal.TextTooLong = text_limit < length text
-Refuses text main (refusal.Lex at) = (length text ≤ text_limit) × StopsAt text at
-Refuses text main (refusal.Parse token) = IsNoProgram text (parsing.Parse token)
-Refuses text main refusal.Nesting = IsNoProgram text parsing.Nesting
-Refuses text main refusal.NoMemory = ⊥
-Refuses text main refusal.RoundsNeeded = ⊥
-Refuses text main refused = BreaksRule text main refused
+Refuses text main refused = IsUnreadable text refused ⊎ BreaksRule text main refused
 
 -- a refusal that was answered is the text's; want of memory says nothing of it
 abbrev pub IsTrueOf : List ℕ → Option (List ℕ) → Refusal → Type 0
 IsTrueOf text main refusal.NoMemory = Unit {0}
 IsTrueOf text main refused = Refuses text main refused
+
+-- the same before there is a program
+abbrev pub IsReadRefusal : List ℕ → Refusal → Type 0
+IsReadRefusal text refusal.NoMemory = Unit {0}
+IsReadRefusal text refused = IsUnreadable text refused
 
 -- no text is both accepted and refused
 abbrev pub AcceptedOrRefused : Type 0

@@ -1,11 +1,12 @@
 // From the text to the filters that are run, or the first refusal.
 
-ghost use Rattle.std.specs.Prelude.{◌≡◌, IfOk, true, false};
+ghost use Rattle.std.specs.Prelude.{◌≡◌, IfOk, IfErr, true, false};
 ghost use Rattle.std.specs.Option.{option_map};
 ghost use Rattle.strc_parse.specs.View.{program_view};
 ghost use Rattle.strc_cli.specs.Elaboration as spec;
 ghost use Rattle.strc_cli.specs.Loading.{filters_in, all_loaded_in};
 ghost use Rattle.strc_cli.specs.Pipeline.{loaded};
+ghost use Rattle.strc_cli.specs.Programs.{Accepts, IsTrueOf, IsText, IsReadRefusal};
 ghost use Rattle.strc_cli.specs.Verdicts.{IsVerdict};
 
 use crate::elaborate::elaborate;
@@ -24,7 +25,11 @@ pub(crate) fn compile(
     alloc: Global,
     text: &[u8],
     main: Option<&str>,
-) -> Result<Vec<Instance>, Refusal> {
+) -> Result<Vec<Instance>, Refusal>
+    ensures accepted { IfOk result (λ v. Accepts text.now (option_map (λ n. n.now) main.entry) (filters_in v.items)) }
+    ensures refused { IfErr result (λ e. IsTrueOf text.now (option_map (λ n. n.now) main.entry) e) }
+    ensures loaded { IfOk result (λ v. all_loaded_in v.items ≡ loaded (filters_in v.items)) }
+{
     match read_program(alloc, text) {
         Ok(program) => compile_program(alloc, &program, main),
         Err(refusal) => Err(refusal),
@@ -64,7 +69,10 @@ fn check_filters(filters: &[Instance]) -> Result<(), Refusal>
     }
 }
 
-fn read_program(alloc: Global, text: &[u8]) -> Result<Program, Refusal> {
+fn read_program(alloc: Global, text: &[u8]) -> Result<Program, Refusal>
+    ensures read { IfOk result (λ program. IsText text.now (program_view program)) }
+    ensures refused { IfErr result (λ e. IsReadRefusal text.now e) }
+{
     let tokens = match lex(alloc, text) {
         Ok(tokens) => tokens,
         Err(LexError::Lex { at }) => return Err(Refusal::Lex { at }),
