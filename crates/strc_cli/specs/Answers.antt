@@ -1,5 +1,5 @@
 -- What a run of rounds means in the generic layer of streams: the answer of the pipeline.
-use Rattle.std.specs.Prelude.{◌≡◌, ℕ, suc, ◌≤◌, ℤ, true, false, List, [], ◌∷◌, ◌++◌, length, Ok, IfOk}
+use Rattle.std.specs.Prelude.{◌≡◌, ℕ, suc, ◌≤◌, ℤ, true, false, List, [], ◌∷◌, ◌++◌, length, Option, Ok, IfOk}
 use Rattle.strc_parse.specs.declared.tree.ItemType.{ItemType}
 use Rattle.strc_parse.specs.declared.tree.ItemType.TheVariants as item
 use Rattle.strc_work.specs.declared.fault.Cause.{Cause}
@@ -10,6 +10,7 @@ use Rattle.strc_work.specs.Firing.{fired, stmts_done, port_of, store_at}
 use Rattle.strc_dataflow.specs.Pipelines.{pipeline_of, nodes_from, once_each}
 use Rattle.strc_dataflow.specs.Answer.{Outcome, Outcome.Done, Outcome.RoundFault, IsAnswer}
 use Rattle.strc_cli.specs.Rates.{stmts_pushes, stmts_pops, declared_pushes, declared_pops, rates_checked}
+use Rattle.strc_cli.specs.Programs.{Accepts}
 use Rattle.strc_cli.specs.Pipeline.{filter_meaning, Ending, Ending.Ended, Ending.Faulted, laps, loaded}
 
 -- a firing that doesn't fault has popped and pushed what is counted from its text, and has printed only where its text prints
@@ -70,3 +71,17 @@ LapsAreAnswers =
     → (outcome : Outcome Cause Word)
     × IsAnswer filter_meaning (pipeline_of first others) [] (λ node. 0) (once_each (suc (length others))) [] (nodes_from 0 (suc (length others))) k outcome
     × Tells (suc (length others)) outcome (laps k 0 (loaded (first ∷ others)) [])
+
+-- so many rounds of these filters, a first one and others, end as the answer of their pipeline says
+abbrev pub EndsAsAnswered : List Filter → ℕ → Type 0
+EndsAsAnswered filters k =
+    (first : Filter) × (others : List Filter)
+    × (filters ≡ first ∷ others)
+    × (outcome : Outcome Cause Word)
+    × IsAnswer filter_meaning (pipeline_of first others) [] (λ node. 0) (once_each (suc (length others))) [] (nodes_from 0 (suc (length others))) k outcome
+    × Tells (suc (length others)) outcome (laps k 0 (loaded filters) [])
+
+-- the rounds of an accepted text end as its answer says
+abbrev pub AcceptedRunsAreAnswers : Type 0
+AcceptedRunsAreAnswers =
+    (text : List ℕ) (main : Option (List ℕ)) (filters : List Filter) (k : ℕ) → Accepts text main filters → EndsAsAnswered filters k

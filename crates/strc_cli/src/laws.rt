@@ -1,6 +1,7 @@
 // What the meaning of a program stands on, as laws about all filters.
 
-ghost use Rattle.strc_cli.specs.Answers.{FiringsKeepCountedRates, LapsAreAnswers};
+ghost use Rattle.strc_cli.specs.Answers.{FiringsKeepCountedRates, LapsAreAnswers, AcceptedRunsAreAnswers};
+ghost use Rattle.strc_cli.specs.Programs.{AcceptedOrRefused};
 
 /// A firing that doesn't fault pops and pushes what is counted from its text, and prints only where its text does.
 pub fn firings_keep_counted_rates()
@@ -10,4 +11,14 @@ pub fn firings_keep_counted_rates()
 /// The rounds of a pipeline of filters end as the answer of its stream equations says: the same words, or the same fault in the same round.
 pub fn laps_are_answers()
     ensures { LapsAreAnswers }
+{}
+
+/// No text is both accepted and refused.
+pub fn accepted_or_refused()
+    ensures { AcceptedOrRefused }
+{}
+
+/// The rounds of an accepted text end as the answer of its pipeline says.
+pub fn accepted_runs_are_answers()
+    ensures { AcceptedRunsAreAnswers }
 {}
