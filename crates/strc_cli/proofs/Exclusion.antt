@@ -1,5 +1,5 @@
 -- No text is both accepted and refused: its tokens and its tree are the only ones.
-use Rattle.std.proofs.Common.{◌≡◌, ℕ, List, Option, Result, Ok, Err, ap, ◌∙◌, sym, subst, arith}
+use Rattle.std.proofs.Common.{◌≡◌, ℕ, List, Option, Result, Ok, Err, ap, ◌∙◌, sym, subst, arith, inl, inr}
 use Rattle.strc_lex.specs.declared.token.Token.{Token}
 use Rattle.strc_lex.proofs.Lexing.{lexes_only, stuck_lexes}
 use Rattle.strc_parse.specs.Tree.{Declaration}
@@ -9,7 +9,7 @@ use Rattle.strc_work.specs.Filters.{Filter}
 use Rattle.strc_cli.specs.declared.refusal.Refusal.{Refusal}
 use Rattle.strc_cli.specs.declared.refusal.Refusal.TheVariants as refusal
 use Rattle.strc_cli.specs.Elaboration.{compiled}
-use Rattle.strc_cli.specs.Programs.{HasTokens, IsText, Accepts, BreaksRule, AcceptedOrRefused}
+use Rattle.strc_cli.specs.Programs.{HasTokens, IsText, Accepts, BreaksRule, IsUnreadable, AcceptedOrRefused}
 
 -- one text has one token list
 same_tokens : (text : List ℕ) (one other : List Token) → HasTokens text one → HasTokens text other → one ≡ other
@@ -28,16 +28,19 @@ breaks_none text main filters refused accepted broken =
     let both : ◌≡◌ {A = Result (List Filter) Refusal} (Ok filters) (Err refused) = sym accepted.compiles ∙ ap (λ (program : List Declaration). compiled program main) same ∙ broken.2 in
     absurd (cc)
 
-pub excluded : AcceptedOrRefused
-excluded text main filters refusal.TextTooLong accepted long = let short = accepted.is_text.has_tokens.short in omega arith
-excluded text main filters (refusal.Lex at) accepted stops =
+-- a text with an accepted program can be read
+readable : (text : List ℕ) (main : Option (List ℕ)) (filters : List Filter) (refused : Refusal) → Accepts text main filters → IsUnreadable text refused → ⊥
+readable text main filters refusal.TextTooLong accepted long = let short = accepted.is_text.has_tokens.short in omega arith
+readable text main filters (refusal.Lex at) accepted stops =
     stuck_lexes text 0 at stops.1.tokens accepted.is_text.tokens stops.1.front stops.1.stuck accepted.is_text.has_tokens.lexes
-excluded text main filters (refusal.Parse token) accepted none =
+readable text main filters (refusal.Parse token) accepted none =
     let same = same_tokens text none.0 accepted.is_text.tokens none.1 accepted.is_text.has_tokens in
     none.2.1 accepted.program accepted.is_text.parses.1 (ap grammar.kinds same ∙ accepted.is_text.parses.0)
-excluded text main filters refusal.Nesting accepted none =
+readable text main filters refusal.Nesting accepted none =
     let same = same_tokens text accepted.is_text.tokens none.0 accepted.is_text.has_tokens none.1 in
     none.2.1 accepted.program (subst (λ (tokens : List Token). grammar.Parses (grammar.kinds tokens) accepted.program) same accepted.is_text.parses)
-excluded text main filters refusal.NoMemory accepted never = never
-excluded text main filters refusal.RoundsNeeded accepted never = never
-excluded text main filters refused accepted broken = breaks_none text main filters refused accepted broken
+readable text main filters refused accepted never = never
+
+pub excluded : AcceptedOrRefused
+excluded text main filters refused accepted (inl unreadable) = readable text main filters refused accepted unreadable
+excluded text main filters refused accepted (inr broken) = breaks_none text main filters refused accepted broken

@@ -1,5 +1,5 @@
 -- Filters before those that come later.
-use Rattle.std.proofs.Common.{◌≡◌, ◌<◌, ◌+◌, ℕ, suc, List, [], ◌∷◌, ◌++◌, length, drop, map, get_or, Result, Ok, Err, refl, ap, ◌∙◌, sym, append_assoc, add-one, length-append}
+use Rattle.std.proofs.Common.{◌≡◌, ◌<◌, ◌+◌, ℕ, suc, List, [], ◌∷◌, ◌++◌, length, drop, get_or, Result, Ok, Err, refl, ap, ◌∙◌, sym, append_assoc, add-one, length-append}
 use Rattle.std.proofs.Math.Seq.{drop-cons}
 use Rattle.strc_parse.specs.Tree.{Declaration}
 use Rattle.strc_parse.specs.declared.tree.ItemType.{ItemType}

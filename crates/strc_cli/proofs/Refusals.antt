@@ -1,5 +1,5 @@
 -- What was refused is refused by the definitions.
-use Rattle.std.proofs.Common.{◌≡◌, List, ℕ, Option, Result, Ok, Err, IfErr, inl, inr, Vec, Global}
+use Rattle.std.proofs.Common.{List, ℕ, Option, Result, Ok, Err, IfErr, inl, inr, Vec, Global}
 use Rattle.strc_parse.specs.View.{program_view}
 use Rattle.strc_parse.specs.declared.tree.Program.{Program}
 use Rattle.strc_cli.specs.declared.instance.Instance.{Instance}
@@ -7,7 +7,7 @@ use Rattle.strc_cli.specs.declared.refusal.Refusal.{Refusal}
 use Rattle.strc_cli.specs.declared.refusal.Refusal.TheVariants as refusal
 use Rattle.strc_cli.specs.Elaboration.{compiled}
 use Rattle.strc_cli.specs.Loading.{filters_in}
-use Rattle.strc_cli.specs.Programs.{IsText, Refuses, IsTrueOf, IsReadRefusal, IsUnreadable}
+use Rattle.strc_cli.specs.Programs.{IsText, IsTrueOf, IsReadRefusal}
 use Rattle.strc_cli.specs.Verdicts.{IsVerdict, IsRefusal}
 
 true_of : (text : List ℕ) (main : Option (List ℕ)) (program : Program) (refused : Refusal) → IsText text (program_view program) → IsRefusal (compiled (program_view program) main) refused → IsTrueOf text main refused

@@ -1,5 +1,5 @@
 -- Filters that are ready to fire, as the definitions see them.
-use Rattle.std.specs.Prelude.{◌≡◌, List, map}
+use Rattle.std.specs.Prelude.{List, map}
 use Rattle.strc_work.specs.Filters.{Filter, filter_of}
 use Rattle.strc_cli.specs.declared.instance.Instance.{Instance}
 use Rattle.strc_cli.specs.Pipeline.{Loaded}

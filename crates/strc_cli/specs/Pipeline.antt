@@ -1,6 +1,6 @@
 -- Pipelines of filters: what a filter means in the generic layer of streams, and a run round by round.
-use Rattle.std.specs.Prelude.{◌≡◌, ℕ, zero, suc, ◌+◌, ℤ, List, [], ◌∷◌, ◌++◌, Result, Ok, Err, if◌then◌else◌}
-use Rattle.strc_dataflow.specs.Node.{Meaning, Fired, Fired.Fires, Fired.Faults, ByPort, at_port_0}
+use Rattle.std.specs.Prelude.{ℕ, zero, suc, ◌+◌, ℤ, List, [], ◌∷◌, ◌++◌, Result, Ok, Err, if◌then◌else◌}
+use Rattle.strc_dataflow.specs.Node.{Meaning, Fired, Fired.Fires, Fired.Faults, at_port_0}
 use Rattle.strc_work.specs.Filters.{Filter}
 use Rattle.strc_work.specs.Firing as firing
 use Rattle.strc_work.specs.declared.fault.Cause.{Cause}

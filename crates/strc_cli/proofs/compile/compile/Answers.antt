@@ -1,4 +1,3 @@
-use Rattle.std.proofs.Common.{◌≡◌, rules, IfErr, Ok, Err}
 use Rattle.strc_cli.proofs.Refusals.{compile_refused, read_refused}
 use Rattle.strc_cli.proofs.compile.compile.Goals as goal
 
