@@ -1,4 +1,5 @@
 pub mod Wrapping
+pub mod Tables
 pub mod Scopes
 pub mod Growth
 pub mod Blocks

@@ -5,6 +5,8 @@ pub mod Resolution
 pub mod Firing
 pub mod Machine
 pub mod Lowering
+pub mod Tables
+pub mod Scopes
 pub mod Kept
 pub mod States
 pub mod Lowered

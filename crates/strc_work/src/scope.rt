@@ -1,29 +1,44 @@
 // The names of variables that can be seen at a place of the text.
 
-ghost use Rattle.std.specs.Prelude.{◌≡◌, ◌-◌, ◌<◌, ◌≤◌, ◌^◌, [], ◌∷◌, OnOk, OnErr, IfErr, length, drop, take};
+ghost use Rattle.std.specs.Prelude.{◌≡◌, ◌-◌, ◌<◌, ◌≤◌, ◌^◌, [], ◌∷◌, OnOk, OnErr, IfErr, IsSome, length, drop, take};
+ghost use Rattle.strc_work.specs.Tables.{slot_in, IsUpdated};
 
 use crate::memory::NoMemory;
 use std::alloc::Global;
+use std::collections::HashMap;
 use std::marker::Model;
 use strc_lex::token::Name;
 
+/// A name, and the slot of the variable of this name that it hides.
+#[derive(Debug, Drop)]
+struct Declared {
+    name: Vec<u8>,
+    hides: Option<u32>,
+}
+
 /// Names in the order in which they were declared. A name's slot is its place. Contracts see the list of the names,
-/// the innermost first.
+/// the innermost first. A look-up takes expected constant time.
 #[derive(Debug, Drop)]
 pub struct Scope {
-    names: Vec<Name>,
+    declared: Vec<Declared>,
+    /// The slot of the innermost variable of each name.
+    innermost: HashMap<Vec<u8>, u32>,
 }
 
 impl Model for Scope {
-    ghost use Rattle.std.specs.Prelude.{List, ℕ, reverse, length, ◌<◌, ◌^◌};
+    ghost use Rattle.std.specs.Prelude.{List, ℕ, reverse};
 
     ghost Value = { List (List ℕ) };
 
-    ghost view = { λ s. reverse s.names.items };
+    ghost use Rattle.strc_work.specs.Tables.{slot_in};
+    ghost use Rattle.strc_work.specs.Scopes.{names_of, IsScope};
 
-    ghost invariant = { λ s. length s.names.items < 2 ^ 32 };
+    ghost view = { λ s. names_of s.declared.items };
+
+    ghost invariant = { λ s. IsScope (reverse s.declared.items) (slot_in s.innermost) };
 }
 
+#[tactic(auto, unfolding(crate::specs::Scopes::names_of, crate::specs::Scopes::IsScope))]
 impl Scope {
     ghost use Rattle.strc_work.specs.Names.{has_name};
     ghost use Rattle.strc_work.specs.Lowering.{slot_named};
@@ -33,7 +48,8 @@ impl Scope {
         ensures { result ≡ [] }
     {
         Scope {
-            names: Vec::new(alloc),
+            declared: Vec::new(alloc),
+            innermost: HashMap::new(alloc),
         }
     }
 
@@ -41,21 +57,14 @@ impl Scope {
     pub fn len(&self) -> u32
         ensures { result ≡ length self.now }
     {
-        self.names.len() as u32
+        self.declared.len() as u32
     }
 
     /// The slot of the innermost variable of this name.
     pub fn slot_of(&self, name: &Name) -> Option<u32>
         ensures { result ≡ slot_named self.now name.now }
     {
-        let mut i = self.names.len();
-        while i > 0 {
-            i -= 1;
-            if self.names[i].is(name) {
-                return Some(i as u32);
-            }
-        }
-        None
+        self.innermost.get(name.as_bytes()).copied()
     }
 
     /// Whether one of the names is this one.
@@ -69,14 +78,10 @@ impl Scope {
     pub fn has_since(&self, start: u32, name: &Name) -> bool
         ensures { result ≡ has_name (take (length self.now - start) self.now) name.now }
     {
-        let mut i = self.names.len();
-        while i > start as usize {
-            i -= 1;
-            if self.names[i].is(name) {
-                return true;
-            }
+        match self.slot_of(name) {
+            Some(slot) => slot >= start,
+            None => false,
         }
-        false
     }
 
     /// One more name, inside all others.
@@ -84,11 +89,18 @@ impl Scope {
         ensures ok { OnOk result (self.new ≡ name.now ∷ self.old) }
         ensures err { OnErr result (self.new ≡ self.old) }
     {
-        if self.names.len() >= u32::MAX as usize {
+        if self.declared.len() >= u32::MAX as usize {
             return Err(NoMemory);
         }
-        let name = name.copy()?;
-        self.names.push(name)?;
+        let alloc = *self.declared.allocator();
+        let slot = self.declared.len() as u32;
+        let hides = self.innermost.get(name.as_bytes()).copied();
+        let key = name.as_bytes().to_vec(alloc)?;
+        let name = name.as_bytes().to_vec(alloc)?;
+        // What can fail comes before the change of the table.
+        self.declared.reserve(1)?;
+        put_in(&mut self.innermost, key, slot)?;
+        self.declared.push(Declared { name, hides })?;
         Ok(())
     }
 
@@ -96,6 +108,36 @@ impl Scope {
     pub fn leave(&mut self, start: u32)
         ensures { self.new ≡ drop (length self.old - start) self.old }
     {
-        self.names.truncate(start as usize);
+        while self.declared.len() > start as usize {
+            if let Some(last) = self.declared.pop() {
+                let Declared { name, hides } = last;
+                put_back(&mut self.innermost, name, hides);
+            }
+        }
+    }
+}
+
+/// Writes the slot of a name into a table. For want of memory the table stays as it was.
+fn put_in(table: &mut HashMap<Vec<u8>, u32>, name: Vec<u8>, slot: u32) -> Result<(), NoMemory>
+    ensures ok { OnOk result (IsUpdated (slot_in table.old) name.items (Some slot) (slot_in table.new)) }
+    ensures err { OnErr result (table.new.entries ≡ table.old.entries) }
+{
+    table.insert(name, slot)?;
+    Ok(())
+}
+
+/// Writes the slot that a table had for a name before its newest one, or takes the name out. The name is there, so
+/// this cannot want memory.
+fn put_back(table: &mut HashMap<Vec<u8>, u32>, name: Vec<u8>, slot: Option<u32>)
+    requires { IsSome (slot_in table.old name.items) }
+    ensures { IsUpdated (slot_in table.old) name.items slot (slot_in table.new) }
+{
+    match slot {
+        Some(slot) => {
+            let _ = table.insert(name, slot);
+        }
+        None => {
+            table.remove(name.as_slice());
+        }
     }
 }
