@@ -6,4 +6,5 @@ pub mod Output
 pub mod Pipeline
 pub mod Programs
 pub mod Rates
+pub mod Running
 pub mod Verdicts

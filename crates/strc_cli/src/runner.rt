@@ -1,5 +1,13 @@
 // Runs a pipeline of filters, round by round.
 
+ghost use Rattle.std.specs.Prelude.{◌≡◌, ◌++◌, [], List, ℤ, Ok, Err, IfOk, MatchResult};
+ghost use Rattle.strc_work.specs.Answers.{Fires};
+ghost use Rattle.strc_work.specs.Firing.{fired};
+ghost use Rattle.strc_work.specs.Running.{MoreWords};
+ghost use Rattle.strc_cli.specs.Loading.{filter_in, all_loaded_in};
+ghost use Rattle.strc_cli.specs.Pipeline.{laps, lap_from};
+ghost use Rattle.strc_cli.specs.Running.{Laps, IsEnding};
+
 use crate::instance::Instance;
 use crate::outcome::{Fault, Outcome};
 use std::alloc::{AllocError, Global};
@@ -8,6 +16,7 @@ use strc_work::fault::{Cause, Halt};
 use strc_work::word::Word;
 
 // Why a round ends early.
+#[derive(Drop)]
 enum Stop {
     Fault { node: usize, cause: Cause },
     NoMemory,
@@ -18,7 +27,9 @@ pub(crate) fn run(
     alloc: Global,
     filters: &mut [Instance],
     rounds: u32,
-) -> Result<Outcome, AllocError> {
+) -> Result<Outcome, AllocError>
+    ensures { IfOk result (λ outcome. IsEnding outcome (laps rounds 0 (all_loaded_in filters.old) [])) }
+{
     let mut words = Vec::new(alloc);
     let mut channel = Vec::with_capacity(alloc, 1)?;
     for round in 0..rounds {
@@ -46,10 +57,12 @@ fn run_round(
     filters: &mut [Instance],
     channel: &mut Vec<i32>,
     words: &mut Vec<Word>,
-) -> Result<(), Stop> {
+) -> Result<(), Stop>
+    ensures { Laps (lap_from 0 (all_loaded_in filters.old) []) result (all_loaded_in filters.new) words.old.items words.new.items }
+{
     channel.clear();
-    for (node, filter) in filters.iter_mut().enumerate() {
-        match fire(filter, channel, words) {
+    for node in 0..filters.len() {
+        match fire(&mut filters[node], channel, words) {
             Ok(()) => {}
             Err(Halt::Fault(cause)) => return Err(Stop::Fault { node, cause }),
             Err(Halt::NoMemory) => return Err(Stop::NoMemory),
@@ -59,7 +72,11 @@ fn run_round(
 }
 
 // One firing, from the items on the channel before the filter to those behind it.
-fn fire(filter: &mut Instance, channel: &mut Vec<i32>, words: &mut Vec<Word>) -> Result<(), Halt> {
+fn fire(filter: &mut Instance, channel: &mut Vec<i32>, words: &mut Vec<Word>) -> Result<(), Halt>
+    ensures fires { Fires (fired (filter_in filter.old) Body.Work filter.old.state.fields channel.old.items) result filter.new.state.fields channel.new.items words.old.items words.new.items }
+    ensures words { MoreWords words.old.items words.new.items }
+    ensures same { filter_in filter.new ≡ filter_in filter.old }
+{
     let window = channel.as_slice();
     filter.code.fire(
         Body::Work,
