@@ -14,7 +14,9 @@ use strc_cli::words::{command, complaint};
 
 // The exit statuses that no answer of `execute` has.
 const WORDS: u8 = 1;
+
 const NO_MEMORY: u8 = 4;
+
 const FAILED: u8 = 5;
 
 fn main(rt: HostRuntime) -> ExitCode {
