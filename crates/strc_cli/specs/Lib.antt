@@ -1,3 +1,4 @@
+pub mod Answering
 pub mod Answers
 pub mod Elaboration
 pub mod Loading
@@ -7,4 +8,5 @@ pub mod Pipeline
 pub mod Programs
 pub mod Rates
 pub mod Running
+pub mod Statuses
 pub mod Verdicts

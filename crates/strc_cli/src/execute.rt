@@ -1,5 +1,10 @@
 // From the bytes of a text to the bytes of the output.
 
+ghost use Rattle.std.specs.Option.{option_map};
+ghost use Rattle.std.specs.Prelude.{◌≡◌};
+ghost use Rattle.strc_cli.specs.Answering.{IsAnswered, main_of, rounds_of};
+ghost use Rattle.strc_cli.specs.Statuses.{status_number};
+
 use crate::compile::compile;
 use crate::device::{Sink, Source};
 use crate::line::Command;
@@ -24,7 +29,9 @@ pub enum Status {
 
 impl Status {
     /// The number of the status.
-    pub fn number(self) -> u8 {
+    pub fn number(self) -> u8
+        ensures { result ≡ status_number self }
+    {
         match self {
             Status::Done => 0,
             Status::Refused => 2,
@@ -69,20 +76,37 @@ enum Stop {
     NoMemory,
 }
 
-fn answer(alloc: Global, text: &[u8], command: &Command) -> Result<Outcome, Stop> {
-    let Command::Run { rounds, main } = command;
-    let name = main.as_ref().map(|name| name.as_str());
-    let mut filters = match compile(alloc, text, name) {
+fn answer(alloc: Global, text: &[u8], command: &Command) -> Result<Outcome, Stop>
+    ensures { IsAnswered text.now (main_of command.now) (rounds_of command.now) result }
+{
+    let mut filters = match compile(alloc, text, main_name(command)) {
         Ok(filters) => filters,
         Err(refusal) => return Err(Stop::Refused(refusal)),
     };
-    let Some(rounds) = *rounds else {
+    let Some(rounds) = round_count(command) else {
         return Err(Stop::Refused(Refusal::RoundsNeeded));
     };
     match run(alloc, &mut filters, rounds) {
         Ok(outcome) => Ok(outcome),
         Err(_) => Err(Stop::NoMemory),
     }
+}
+
+fn main_name(command: &Command) -> Option<&str>
+    ensures { option_map (λ name. name.now) result ≡ main_of command.now }
+{
+    let Command::Run { rounds: _, main } = command;
+    match main {
+        Some(name) => Some(name.as_str()),
+        None => None,
+    }
+}
+
+fn round_count(command: &Command) -> Option<u32>
+    ensures { result ≡ rounds_of command.now }
+{
+    let Command::Run { rounds, main: _ } = command;
+    *rounds
 }
 
 fn tell_outcome(

@@ -1,0 +1,38 @@
+-- What is answered for a text and the words of a command, before anything is written.
+use Rattle.std.specs.Prelude.{◌≡◌, ℕ, ◌⊎◌, List, [], Option, Some, None, Result, Ok, Err, string_bytes}
+use Rattle.std.specs.Option.{option_map}
+use Rattle.strc_work.specs.Filters.{Filter}
+use Rattle.strc_cli.specs.declared.execute.Stop.{Stop}
+use Rattle.strc_cli.specs.declared.execute.Stop.TheVariants as stop
+use Rattle.strc_cli.specs.declared.line.Command.{Command}
+use Rattle.strc_cli.specs.declared.line.Command.TheVariants as command
+use Rattle.strc_cli.specs.declared.outcome.Outcome.{Outcome}
+use Rattle.strc_cli.specs.declared.refusal.Refusal.{Refusal}
+use Rattle.strc_cli.specs.declared.refusal.Refusal.TheVariants as refusal
+use Rattle.strc_cli.specs.Pipeline.{laps, loaded}
+use Rattle.strc_cli.specs.Programs.{Accepts, IsTrueOf}
+use Rattle.strc_cli.specs.Running.{IsEnding}
+
+-- the name of the main stream that a command gives
+abbrev pub main_of : Command → Option (List ℕ)
+main_of (command.Run rounds main) = option_map string_bytes main
+
+-- the number of rounds that a command gives
+abbrev pub rounds_of : Command → Option ℕ
+rounds_of (command.Run rounds main) = rounds
+
+-- the text is accepted, and so many rounds of its filters end so
+pub record RunsTo (text : List ℕ) (main : Option (List ℕ)) (rounds : ℕ) (outcome : Outcome) : Type 0 where
+  pub filters : List Filter
+  pub accepted : Accepts text main filters
+  pub ends : IsEnding outcome (laps rounds 0 (loaded filters) [])
+
+-- the text is accepted, and nobody said how many rounds
+abbrev pub LacksRounds : List ℕ → Option (List ℕ) → Option ℕ → Refusal → Type 0
+LacksRounds text main rounds refused = (refused ≡ refusal.RoundsNeeded) × (rounds ≡ None) × ((filters : List Filter) × Accepts text main filters)
+
+-- the outcome of the run, or the refusal that holds
+abbrev pub IsAnswered : List ℕ → Option (List ℕ) → Option ℕ → Result Outcome Stop → Type 0
+IsAnswered text main rounds (Ok outcome) = (count : ℕ) × (rounds ≡ Some count) × RunsTo text main count outcome
+IsAnswered text main rounds (Err (stop.Refused refused)) = IsTrueOf text main refused ⊎ LacksRounds text main rounds refused
+IsAnswered text main rounds (Err stop.NoMemory) = Unit {0}
