@@ -9,4 +9,5 @@ pub mod Programs
 pub mod Rates
 pub mod Running
 pub mod Statuses
+pub mod Telling
 pub mod Verdicts

@@ -1,9 +1,11 @@
 // From the bytes of a text to the bytes of the output.
 
 ghost use Rattle.std.specs.Option.{option_map};
-ghost use Rattle.std.specs.Prelude.{◌≡◌};
+ghost use Rattle.std.specs.Prelude.{◌≡◌, IfOk, IfSome};
 ghost use Rattle.strc_cli.specs.Answering.{IsAnswered, main_of, rounds_of};
 ghost use Rattle.strc_cli.specs.Statuses.{status_number};
+ghost use Rattle.strc_cli.specs.Telling as spec;
+ghost use Rattle.strc_cli.specs.Telling.{Executes, TellsAnswer, Writes, device_of};
 
 use crate::compile::compile;
 use crate::device::{Sink, Source};
@@ -12,7 +14,7 @@ use crate::outcome::Outcome;
 use crate::output::{outcome_text, refusal_text};
 use crate::refusal::Refusal;
 use crate::runner::run;
-use std::alloc::Global;
+use std::alloc::{AllocError, Global};
 
 /// How a call of `execute` went: what the program's exit status tells.
 #[derive(Clone, Copy, Debug, PartialEq, Eq)]
@@ -53,24 +55,77 @@ pub enum CliError {
 }
 
 /// Runs a program's text, and writes what it prints; or one line that names a refusal.
-pub fn execute(
+pub fn execute<I: Source, O: Sink>(
     alloc: Global,
     text: &[u8],
     command: &Command,
-    _input: &mut impl Source,
-    output: &mut impl Sink,
-) -> Result<Status, CliError> {
-    match answer(alloc, text, command) {
-        Ok(outcome) => tell_outcome(alloc, &outcome, output),
-        Err(Stop::Refused(refusal)) => tell_refusal(alloc, &refusal, output),
-        Err(Stop::NoMemory) => {
-            write_all(output, b"refused S3 NoMemory\n")?;
-            Ok(Status::NoMemory)
-        }
+    _input: &mut I,
+    output: &mut O,
+) -> Result<Status, CliError>
+    ensures told { Executes text.now (main_of command.now) (rounds_of command.now) result (device_of (O.contents output.old) (O.has_failed output.old)) (device_of (O.contents output.new) (O.has_failed output.new)) }
+    // The input isn't read.
+    ensures input { _input.new ≡ _input.old }
+{
+    let answered = answer(alloc, text, command);
+    tell(alloc, &answered, output)
+}
+
+// Writes what is told of an answer.
+fn tell<O: Sink>(
+    alloc: Global,
+    answered: &Result<Outcome, Stop>,
+    output: &mut O,
+) -> Result<Status, CliError>
+    ensures { TellsAnswer answered.now result (device_of (O.contents output.old) (O.has_failed output.old)) (device_of (O.contents output.new) (O.has_failed output.new)) }
+{
+    if let Some(line) = memory_line(answered) {
+        write_all(output, line)?;
+        return Ok(Status::NoMemory);
+    }
+    let Ok(text) = told_text(alloc, answered) else {
+        return Err(CliError::Memory);
+    };
+    write_all(output, &text)?;
+    Ok(told_status(answered))
+}
+
+// The line that tells want of memory, which takes none.
+fn memory_line(answered: &Result<Outcome, Stop>) -> Option<&'static [u8]>
+    ensures { IfSome result (λ line. (line.now ≡ spec.told_text answered.now) × (spec.told_status answered.now ≡ Status.NoMemory)) }
+{
+    match answered {
+        Err(Stop::Refused(Refusal::NoMemory)) => Some(b"refused E25 NoMemory\n"),
+        Err(Stop::NoMemory) => Some(b"refused S3 NoMemory\n"),
+        _ => None,
+    }
+}
+
+// The text of an answer.
+fn told_text(alloc: Global, answered: &Result<Outcome, Stop>) -> Result<Vec<u8>, AllocError>
+    ensures { IfOk result (λ text. text.items ≡ spec.told_text answered.now) }
+{
+    match answered {
+        Ok(outcome) => outcome_text(alloc, outcome),
+        Err(Stop::Refused(refusal)) => refusal_text(alloc, refusal),
+        Err(Stop::NoMemory) => Ok(b"refused S3 NoMemory\n".to_vec(alloc)?),
+    }
+}
+
+// The status of an answer.
+fn told_status(answered: &Result<Outcome, Stop>) -> Status
+    ensures { result ≡ spec.told_status answered.now }
+{
+    match answered {
+        Ok(Outcome::Done(_)) => Status::Done,
+        Ok(Outcome::Fault { .. }) => Status::Fault,
+        Err(Stop::Refused(Refusal::NoMemory)) => Status::NoMemory,
+        Err(Stop::Refused(_)) => Status::Refused,
+        Err(Stop::NoMemory) => Status::NoMemory,
     }
 }
 
 // Why there is no outcome: a refusal, or want of memory in the run.
+#[derive(Drop)]
 enum Stop {
     Refused(Refusal),
     NoMemory,
@@ -109,39 +164,10 @@ fn round_count(command: &Command) -> Option<u32>
     *rounds
 }
 
-fn tell_outcome(
-    alloc: Global,
-    outcome: &Outcome,
-    output: &mut impl Sink,
-) -> Result<Status, CliError> {
-    let Ok(text) = outcome_text(alloc, outcome) else {
-        return Err(CliError::Memory);
-    };
-    write_all(output, &text)?;
-    match outcome {
-        Outcome::Done(_) => Ok(Status::Done),
-        Outcome::Fault { .. } => Ok(Status::Fault),
-    }
-}
-
-fn tell_refusal(
-    alloc: Global,
-    refusal: &Refusal,
-    output: &mut impl Sink,
-) -> Result<Status, CliError> {
-    if let Refusal::NoMemory = refusal {
-        write_all(output, b"refused E25 NoMemory\n")?;
-        return Ok(Status::NoMemory);
-    }
-    let Ok(text) = refusal_text(alloc, refusal) else {
-        return Err(CliError::Memory);
-    };
-    write_all(output, &text)?;
-    Ok(Status::Refused)
-}
-
 // Writes all bytes, however few the output takes at a time.
-fn write_all(output: &mut impl Sink, bytes: &[u8]) -> Result<(), CliError> {
+fn write_all<O: Sink>(output: &mut O, bytes: &[u8]) -> Result<(), CliError>
+    ensures { Writes bytes.now result (device_of (O.contents output.old) (O.has_failed output.old)) (device_of (O.contents output.new) (O.has_failed output.new)) }
+{
     let mut rest = bytes;
     while !rest.is_empty() {
         match output.write(rest) {
