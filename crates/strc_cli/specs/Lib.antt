@@ -1,6 +1,7 @@
 pub mod Answering
 pub mod Answers
 pub mod Elaboration
+pub mod Lines
 pub mod Loading
 pub mod Names
 pub mod Output

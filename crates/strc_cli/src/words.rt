@@ -1,5 +1,8 @@
 // The words of the command line.
 
+ghost use Rattle.std.specs.Prelude.{◌≡◌, ◌≤◌, Ok, length};
+ghost use Rattle.strc_cli.specs.Lines.{bare_line};
+
 use crate::line::{Command, Line, LineFault};
 use clap::error::ErrorKind;
 use clap::{Arg, ArgMatches, Error, value_parser};
@@ -12,7 +15,9 @@ const BARE_ROUNDS: u32 = 5;
 ///
 /// With no words after the name the text comes from standard input and runs for 5 rounds.
 /// Words that the program doesn't know, or a number past its bounds, are `Words`.
-pub fn command<'a>(alloc: Global, words: &'a [&'a str]) -> Result<Line, LineFault> {
+pub fn command<'a>(alloc: Global, words: &'a [&'a str]) -> Result<Line, LineFault>
+    ensures bare { length words.now ≤ 1 → result ≡ Ok bare_line }
+{
     if words.len() <= 1 {
         return Ok(Line {
             file: None,
