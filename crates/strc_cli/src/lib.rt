@@ -1,6 +1,6 @@
 // Takes the words of the command line, a program's text and its input.
 // Gives the printed numbers, or one named fault and the numbers before its round, or one named refusal.
-// The theorem to rely on: `answer` gives the outcome of an accepted text's rounds, or a refusal that the definitions give; `laws` says what rounds are.
+// The theorem to rely on: `execute` tells exactly the answer of a text: an outcome of its rounds, or a refusal that holds.
 // Stands on strc_lex, strc_parse and strc_work, and on clap for the command line.
 #![tactic(auto)]
 
