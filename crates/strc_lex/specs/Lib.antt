@@ -3,3 +3,4 @@ pub mod Marks
 pub mod Scanning
 pub mod Text
 pub mod Words
+pub mod Sentences

@@ -19,6 +19,11 @@ pub enum LexError {
 }
 
 impl fmt::Display for LexError {
+    ghost use Rattle.std.specs.Prelude.{Some};
+    ghost use Rattle.strc_lex.specs.Sentences.{lex_sentence};
+
+    ghost output = { λ error. Some (lex_sentence error) };
+
     fn fmt<W: fmt::Write>(&self, f: &mut fmt::Formatter<W>) -> fmt::Result {
         match self {
             LexError::Lex { at } => write!(f, "no token begins at byte {at}"),

@@ -3,3 +3,4 @@ pub mod View
 pub mod Grammar
 pub mod Seen
 pub mod Reading
+pub mod Sentences

@@ -20,6 +20,11 @@ pub enum ParseError {
 }
 
 impl fmt::Display for ParseError {
+    ghost use Rattle.std.specs.Prelude.{Some};
+    ghost use Rattle.strc_parse.specs.Sentences.{parse_sentence};
+
+    ghost output = { λ error. Some (parse_sentence error) };
+
     fn fmt<W: fmt::Write>(&self, f: &mut fmt::Formatter<W>) -> fmt::Result {
         match self {
             ParseError::Parse { token } => write!(f, "no program has token {token} there"),
