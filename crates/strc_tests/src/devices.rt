@@ -1,7 +1,7 @@
 // Readers and writers that fail, and that take little at a time.
 
 use crate::programs::{MINIMAL, rounds};
-use std::alloc::Global;
+use std::alloc::{AllocError, Global};
 use std::io;
 use std::io::{ErrorKind, Read, Write};
 use std::test::Fail;
@@ -40,13 +40,18 @@ impl Write for Writer {
     }
 }
 
-fn told_writer(alloc: Global, at_once: usize, calls_left: u32, fails: bool) -> Told<Writer> {
-    Told::new(Writer {
-        taken: Vec::new(alloc),
+fn told_writer(
+    alloc: Global,
+    at_once: usize,
+    calls_left: u32,
+    fails: bool,
+) -> Result<Told<Writer>, AllocError> {
+    Ok(Told::new(Writer {
+        taken: Vec::with_capacity(alloc, 64)?,
         at_once,
         calls_left,
         fails,
-    })
+    }))
 }
 
 // Gives at most so many bytes at a time, and fails at one call.
@@ -75,7 +80,7 @@ impl Read for Reader<'_> {
 fn a_partial_write_goes_on(rt: HostRuntime) -> Result<(), Fail> {
     let nothing: &[u8] = &[];
     let mut input = Told::new(nothing);
-    let mut output = told_writer(rt.alloc(), 3, 1000, true);
+    let mut output = told_writer(rt.alloc(), 3, 1000, true)?;
     let status = execute(
         rt.alloc(),
         MINIMAL.as_bytes(),
@@ -94,12 +99,12 @@ fn a_partial_write_goes_on(rt: HostRuntime) -> Result<(), Fail> {
 }
 
 #[test]
-fn a_writer_that_fails_or_takes_nothing_is_told(rt: HostRuntime) {
+fn a_writer_that_fails_or_takes_nothing_is_told(rt: HostRuntime) -> Result<(), Fail> {
     for fails in [true, false] {
         for calls in 0..3 {
             let nothing: &[u8] = &[];
             let mut input = Told::new(nothing);
-            let mut output = told_writer(rt.alloc(), 3, calls, fails);
+            let mut output = told_writer(rt.alloc(), 3, calls, fails)?;
             let outcome = execute(
                 rt.alloc(),
                 MINIMAL.as_bytes(),
@@ -112,6 +117,7 @@ fn a_writer_that_fails_or_takes_nothing_is_told(rt: HostRuntime) {
             assert!(rt; output.write(b"x").is_err() && output.failed());
         }
     }
+    Ok(())
 }
 
 #[test]
@@ -121,23 +127,16 @@ fn a_text_is_read_to_its_end(rt: HostRuntime) -> Result<(), Fail> {
         at_once: 7,
         calls_left: 1000,
     };
-    let text = read_text(rt.alloc(), &mut reader);
-    let same = match text {
-        Ok(text) => text.as_slice() == MINIMAL.as_bytes(),
-        Err(_) => false,
-    };
-    assert!(rt; same);
+    let text = read_text(rt.alloc(), &mut reader)?;
+    assert_eq!(rt; text.as_slice(), MINIMAL.as_bytes());
     Ok(())
 }
 
 #[test]
 fn a_text_is_read_no_further_than_its_limit(rt: HostRuntime) -> Result<(), Fail> {
     let endless = vec![in rt.alloc(); b' '; 2000000]?;
-    let length = match read_text(rt.alloc(), &mut endless.as_slice()) {
-        Ok(text) => text.len(),
-        Err(_) => 0,
-    };
-    assert_eq!(rt; length, 1048577);
+    let text = read_text(rt.alloc(), &mut endless.as_slice())?;
+    assert_eq!(rt; text.len(), 1048577);
     Ok(())
 }
 
@@ -149,11 +148,11 @@ fn a_reader_that_fails_is_told(rt: HostRuntime) {
             at_once: 50,
             calls_left: calls,
         };
-        let failed = match read_text(rt.alloc(), &mut reader) {
-            Err(TextFault::Failed(_)) => true,
-            _ => false,
-        };
-        assert!(rt; failed, "after {calls} calls");
+        match read_text(rt.alloc(), &mut reader) {
+            Err(TextFault::Failed(_)) => {}
+            Err(TextFault::NoMemory) => panic!(rt; "NoMemory after {calls} calls"),
+            Ok(_) => panic!(rt; "a text after {calls} calls"),
+        }
     }
 }
 

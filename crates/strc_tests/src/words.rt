@@ -59,11 +59,8 @@ fn other_words_are_not(rt: HostRuntime) -> Result<(), Fail> {
         &["strc", "run", "a.str", "--ways", "2"],
     ];
     for words in lines {
-        let refused = match command(rt.alloc(), words) {
-            Ok(_) => false,
-            Err(fault) => fault == LineFault::Words,
-        };
-        assert!(rt; refused, "at {words:?}");
+        let fault = command(rt.alloc(), words).err();
+        assert_eq!(rt; fault, Some(LineFault::Words), "at {words:?}");
         let text = complaint(rt.alloc(), words)?;
         assert!(rt; !text.as_str().is_empty(), "at {words:?}");
     }
