@@ -1,14 +1,15 @@
 -- A text has one token list, and where the lexer stops none goes on.
-use Rattle.std.proofs.Common.{◌≡◌, ℕ, suc, ◌+◌, ◌-◌, ◌<◌, ◌≤◌, false, List, [], ◌∷◌, ◌++◌, length, take, drop, refl, ap, arith, ◌∙◌, sym, subst, Option, Some, None, IfSome, IfNone, get_or, length-drop}
+use Rattle.std.proofs.Common.{◌≡◌, ℕ, ◌+◌, ◌-◌, ◌<◌, ◌≤◌, List, [], ◌∷◌, ◌++◌, length, take, drop, refl, ap, arith, ◌∙◌, sym, subst, Option, Some, None, inl, inr, IfSome, IfNone, length-drop}
 use Rattle.std.proofs.lemmas.Bool.{both_ways}
-use Rattle.std.proofs.Math.Seq.{drop-cons}
 use Rattle.strc_lex.specs.Characters.{is_white}
-use Rattle.strc_lex.specs.Text.{IsLexeme, IsToken, IsGap, StandsAt, LexesBetween, IsStuck}
+use Rattle.strc_lex.specs.Gaps.{IsComment, IsBlank, IsPiece, IsGap}
+use Rattle.strc_lex.specs.Text.{IsToken, StandsAt, LexesBetween, IsStuck}
 use Rattle.strc_lex.specs.Scanning.{token_at}
 use Rattle.strc_lex.specs.declared.token.TokenKind.{TokenKind}
 use Rattle.strc_lex.specs.declared.token.Token.{Token}
 use Rattle.strc_lex.proofs.Finding.{some_same, none_is_not_some}
 use Rattle.strc_lex.proofs.Lexemes.{lexeme_begins, begins_black}
+use Rattle.strc_lex.proofs.Gaps.{gap_end, bare_end}
 use Rattle.strc_lex.proofs.Only.{token_only}
 use Rattle.strc_lex.proofs.Tokens.{token_meets}
 
@@ -16,28 +17,33 @@ use Rattle.strc_lex.proofs.Tokens.{token_meets}
 pub stands_within : (text : List ℕ) (item : Token) → StandsAt text item → item.span.end ≤ length text
 stands_within text item stands = let within = stands.token.within in let rest = length-drop item.span.start text in let ordered = stands.ordered in omega arith
 
--- no token begins with white space
-pub stands_black : (text : List ℕ) (item : Token) → StandsAt text item → is_white (get_or text item.span.start 0) ≡ false
-stands_black text item stands =
-    let ends = stands_within text item stands in
-    let ordered = stands.ordered in
-    let inside : item.span.start < length text = omega arith in
-    let lexeme : IsLexeme item.kind (take (item.span.end - item.span.start) (get_or text item.span.start 0 ∷ drop (suc item.span.start) text)) = subst (λ bytes. IsLexeme item.kind (take (item.span.end - item.span.start) bytes)) (drop-cons text item.span.start 0 inside) stands.token.lexeme in
-    begins_black item.kind (get_or text item.span.start 0) (lexeme_begins item.kind (get_or text item.span.start 0) (drop (suc item.span.start) text) (item.span.end - item.span.start) lexeme).1
+-- where white space or a comment stands, no token begins
+
+token_not_blank : (text : List ℕ) (kind : TokenKind) (len size : ℕ) → IsToken text kind len → IsBlank text size → ⊥
+token_not_blank [] kind len size token blank = absurd blank
+token_not_blank (b ∷ rest) kind len size token blank = both_ways (is_white b) (begins_black kind b (lexeme_begins kind b rest len token.lexeme).1) blank.0
+
+opened : (a b : ℕ) (text : List ℕ) → take 2 text ≡ a ∷ b ∷ [] → text ≡ a ∷ b ∷ drop 2 text
+opened a b [] e = absurd (cc)
+opened a b (x ∷ []) e = absurd (cc)
+opened a b (x ∷ y ∷ rest) e = cc
+
+-- the scanner finds nothing where a comment begins
+token_at_comment : (text : List ℕ) (len : ℕ) → IsComment text len → token_at text ≡ None
+token_at_comment text len (inl line) = subst (λ bytes. token_at bytes ≡ None) (sym (opened 47 47 text line.opens)) refl
+token_at_comment text len (inr block) = subst (λ bytes. token_at bytes ≡ None) (sym (opened 47 42 text block.opens)) refl
+
+token_bare : (text : List ℕ) (kind : TokenKind) (len size : ℕ) → IsToken text kind len → IsPiece text size → ⊥
+token_bare text kind len size token (inl blank) = token_not_blank text kind len size token blank
+token_bare text kind len size token (inr comment) = none_is_not_some (kind, len) (sym (token_at_comment text size comment) ∙ token_only text kind len token)
+
+pub stands_bare : (text : List ℕ) (item : Token) → StandsAt text item → (size : ℕ) → IsPiece (drop item.span.start text) size → ⊥
+stands_bare text item stands size piece = token_bare (drop item.span.start text) item.kind (item.span.end - item.span.start) size stands.token piece
 
 -- one more token, and the gap behind it
 pub lexes_push : (text : List ℕ) (from : ℕ) (tokens : List Token) (item : Token) (to : ℕ) → LexesBetween text from tokens item.span.start → StandsAt text item → IsGap text item.span.end to → LexesBetween text from (tokens ++ item ∷ []) to
 lexes_push text from [] item to front stands gap = (front, stands, gap)
 lexes_push text from (first ∷ tokens) item to front stands gap = (front.0, front.1, lexes_push text first.span.end tokens item to front.2 stands gap)
-
--- two gaps from one place end at one place, where no white space stands
-gap_end : (text : List ℕ) (from a b : ℕ) → IsGap text from a → IsGap text from b → is_white (get_or text a 0) ≡ false → is_white (get_or text b 0) ≡ false → a ≡ b
-gap_end text from a b first second black_a black_b =
-    let reach_a = first.ordered in
-    let reach_b = second.ordered in
-    let not_less : a < b → ⊥ = λ less. both_ways (is_white (get_or text a 0)) black_a (second.white a reach_a less) in
-    let not_more : b < a → ⊥ = λ more. both_ways (is_white (get_or text b 0)) black_b (first.white b reach_b more) in
-    omega (arith, not_less, not_more)
 
 abbrev made : TokenKind → ℕ → ℕ → Token
 made kind start end = record { kind = kind; span = record { start = start; end = end } }
@@ -48,10 +54,10 @@ token_same t u kind start end = ap (λ k. made k t.span.start t.span.end) kind �
 -- two tokens behind one place are one
 same_token : (text : List ℕ) (from : ℕ) (t u : Token) → IsGap text from t.span.start → StandsAt text t → IsGap text from u.span.start → StandsAt text u → t ≡ u
 same_token text from t u gap_t stands_t gap_u stands_u =
-    let start = gap_end text from t.span.start u.span.start gap_t gap_u (stands_black text t stands_t) (stands_black text u stands_u) in
+    let start = gap_end text from t.span.start u.span.start gap_t gap_u (stands_bare text t stands_t) (stands_bare text u stands_u) in
     let here = token_only (drop t.span.start text) t.kind (t.span.end - t.span.start) stands_t.token in
     let there = token_only (drop u.span.start text) u.kind (u.span.end - u.span.start) stands_u.token in
-    let pair : (t.kind, t.span.end - t.span.start) ≡ (u.kind, u.span.end - u.span.start) = some_same (sym here ∙ ap (λ s. token_at (drop s text)) start ∙ there) in
+    let pair : ◌≡◌ {A = TokenKind × ℕ} (t.kind, t.span.end - t.span.start) (u.kind, u.span.end - u.span.start) = some_same (sym here ∙ ap (λ s. token_at (drop s text)) start ∙ there) in
     let size : t.span.end - t.span.start ≡ u.span.end - u.span.start = ap (λ (p : TokenKind × ℕ). p.1) pair in
     let order_t = stands_t.ordered in
     let order_u = stands_u.ordered in
@@ -62,8 +68,8 @@ no_token_in_gap : (text : List ℕ) (from : ℕ) (u : Token) → IsGap text from
 no_token_in_gap text from u gap gap_u stands =
     let ends = stands_within text u stands in
     let ordered = stands.ordered in
-    let inside : u.span.start < length text = omega arith in
-    both_ways (is_white (get_or text u.span.start 0)) (stands_black text u stands) (gap.white u.span.start gap_u.ordered inside)
+    let start = gap_end text from (length text) u.span.start gap gap_u (λ len piece. bare_end text (length text) len (omega arith) piece) (stands_bare text u stands) in
+    omega arith
 
 -- one text has one token list
 pub lexes_only : (text : List ℕ) (from : ℕ) (ts us : List Token) → LexesBetween text from ts (length text) → LexesBetween text from us (length text) → ts ≡ us
@@ -77,9 +83,12 @@ lexes_only text from (t ∷ ts) (u ∷ us) h g =
 
 -- a text where the lexer stops has no token list
 pub stuck_lexes : (text : List ℕ) (from at : ℕ) (ts us : List Token) → LexesBetween text from ts at → IsStuck text at → LexesBetween text from us (length text) → ⊥
-stuck_lexes text from at [] [] h stuck g = both_ways (is_white (get_or text at 0)) stuck.black (g.white at h.ordered stuck.within)
+stuck_lexes text from at [] [] h stuck g =
+    let within = stuck.within in
+    let end = gap_end text from at (length text) h g stuck.bare (λ len piece. bare_end text (length text) len (omega arith) piece) in
+    absurd (omega arith)
 stuck_lexes text from at [] (u ∷ us) h stuck g =
-    let start = gap_end text from at u.span.start h g.0 stuck.black (stands_black text u g.1) in
+    let start = gap_end text from at u.span.start h g.0 stuck.bare (stands_bare text u g.1) in
     stuck.none u.kind (u.span.end - u.span.start) (subst (λ s. IsToken (drop s text) u.kind (u.span.end - u.span.start)) (sym start) g.1.token)
 stuck_lexes text from at (t ∷ ts) [] h stuck g = no_token_in_gap text from t g h.0 h.1
 stuck_lexes text from at (t ∷ ts) (u ∷ us) h stuck g =

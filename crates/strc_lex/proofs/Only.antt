@@ -6,48 +6,56 @@ use Rattle.std.proofs.lemmas.List.Folds.{length-prefix_len}
 use Rattle.std.proofs.lemmas.List.Sums.{prefix_len-le-length, prefix_len_passes}
 use Rattle.std.proofs.lemmas.Bool.{both_ways, le-leb}
 use Rattle.std.proofs.Math.Seq.{drop-cons, take-nil}
-use Rattle.strc_lex.specs.Characters.{is_digit, is_letter, is_name_byte}
+use Rattle.strc_lex.specs.Characters.{is_digit, is_letter, is_name_byte, is_quote}
 use Rattle.strc_lex.specs.Marks.{mark_text}
 use Rattle.strc_lex.specs.Text.{IsNumeral, IsLexeme, IsApart, IsToken, number_from}
 use Rattle.strc_lex.specs.Scanning.{word_of, name_at, number_at, number_with_length, bounded, is_plain, ends_number, mark_at, mark_of, opens_comment, mark_with_length, token_at}
 use Rattle.strc_lex.specs.declared.token.TokenKind.{TokenKind}
-use Rattle.strc_lex.specs.declared.token.TokenKind.TheVariants.{Name, Number, Word, Mark}
+use Rattle.strc_lex.specs.declared.token.TokenKind.TheVariants.{Name, Number, Word, Mark, Text}
 use Rattle.strc_lex.specs.declared.token.Mark as marks
 use Rattle.strc_lex.specs.declared.token.Mark.TheVariants as mark
-use Rattle.strc_lex.proofs.Finding.{either, pick_true, pick_false, or_false, some_same, same-pointwise}
-use Rattle.strc_lex.proofs.Lexemes.{lexeme_begins, no_empty_lexeme, digit_is_name_byte}
+use Rattle.strc_lex.proofs.Finding.{either, pick_true, pick_false, or_false, some_is_not_none, some_same, same-pointwise}
+use Rattle.strc_lex.proofs.Lexemes.{Begins, lexeme_begins, no_empty_lexeme, digit_is_name_byte, digit_no_letter, quote_no_letter, quote_no_digit}
 use Rattle.strc_lex.proofs.Runs.{take-run}
-use Rattle.strc_lex.proofs.Tokens.{word_again, letter_no_digit, number_longest, zero_plain, apart_ends, mark_again, mark_not_missed, size_of_mark, token_meets}
+use Rattle.strc_lex.proofs.Tokens.{word_again, number_longest, zero_plain, apart_ends, mark_again, mark_not_missed, size_of_mark, at_letter, at_digit, at_quote, at_other, token_meets}
+use Rattle.strc_lex.proofs.Strings.{string_only, missed_string}
 
 mark_of_text : (m : marks.Mark) → mark_of (mark_text m) ≡ Some m
 mark_of_text mark.Arrow = refl
 mark_of_text m = refl
 
+-- kinds that can begin alike
+abbrev family : TokenKind → ℕ
+family (Name name) = 0
+family (Word w) = 0
+family (Number value) = 1
+family (Mark m) = 2
+family (Text inner) = 3
+
+abbrev family_at : ℕ → ℕ
+family_at b = cond (is_letter b) 0 (cond (is_digit b) 1 (cond (is_quote b) 3 2))
+
+begins_family : (kind : TokenKind) (b : ℕ) → Begins kind b → family_at b ≡ family kind
+begins_family (Name name) b letter = rw letter refl
+begins_family (Word w) b letter = rw letter refl
+begins_family (Number value) b digit = rw (digit_no_letter b digit, digit) refl
+begins_family (Mark m) b none = rw (none.0, none.1, none.3) refl
+begins_family (Text inner) b quote = rw (quote_no_letter b quote, quote_no_digit b quote, quote) refl
+
 -- the same bytes are of one kind
 kind_only : (b : ℕ) (rest : List ℕ) (n : ℕ) (k l : TokenKind) → IsLexeme k (take n (b ∷ rest)) → IsLexeme l (take n (b ∷ rest)) → k ≡ l
 kind_only b rest n (Name x) (Name y) h g = ap Name (h.0 ∙ sym g.0)
 kind_only b rest n (Name x) (Word w) h g = absurd (h.2 w g)
-kind_only b rest n (Name x) (Number v) h g = absurd (letter_no_digit b (lexeme_begins (Name x) b rest n h).1 (lexeme_begins (Number v) b rest n g).1)
-kind_only b rest n (Name x) (Mark m) h g = absurd (both_ways (is_letter b) (lexeme_begins (Mark m) b rest n g).1.0 (lexeme_begins (Name x) b rest n h).1)
 kind_only b rest n (Word w) (Name x) h g = absurd (g.2 w h)
 kind_only b rest n (Word w) (Word v) h g = ap Word (some_same (sym (word_again w) ∙ ap word_of (h ∙ sym g) ∙ word_again v))
-kind_only b rest n (Word w) (Number v) h g = absurd (letter_no_digit b (lexeme_begins (Word w) b rest n h).1 (lexeme_begins (Number v) b rest n g).1)
-kind_only b rest n (Word w) (Mark m) h g = absurd (both_ways (is_letter b) (lexeme_begins (Mark m) b rest n g).1.0 (lexeme_begins (Word w) b rest n h).1)
-kind_only b rest n (Number v) (Name x) h g = absurd (letter_no_digit b (lexeme_begins (Name x) b rest n g).1 (lexeme_begins (Number v) b rest n h).1)
-kind_only b rest n (Number v) (Word w) h g = absurd (letter_no_digit b (lexeme_begins (Word w) b rest n g).1 (lexeme_begins (Number v) b rest n h).1)
 kind_only b rest n (Number u) (Number v) h g = ap Number (h.2 ∙ sym g.2)
-kind_only b rest n (Number v) (Mark m) h g = absurd (both_ways (is_digit b) (lexeme_begins (Mark m) b rest n g).1.1 (lexeme_begins (Number v) b rest n h).1)
-kind_only b rest n (Mark m) (Name x) h g = absurd (both_ways (is_letter b) (lexeme_begins (Mark m) b rest n h).1.0 (lexeme_begins (Name x) b rest n g).1)
-kind_only b rest n (Mark m) (Word w) h g = absurd (both_ways (is_letter b) (lexeme_begins (Mark m) b rest n h).1.0 (lexeme_begins (Word w) b rest n g).1)
-kind_only b rest n (Mark m) (Number v) h g = absurd (both_ways (is_digit b) (lexeme_begins (Mark m) b rest n h).1.1 (lexeme_begins (Number v) b rest n g).1)
 kind_only b rest n (Mark m) (Mark l) h g = ap Mark (some_same (sym (mark_of_text m) ∙ ap mark_of (h ∙ sym g) ∙ mark_of_text l))
-
-some_is_not_none : {X : Type 0} (x : X) → Some x ≡ None → ⊥
-some_is_not_none x e = absurd (cc)
+kind_only b rest n (Text x) (Text y) h g = ap Text (string_only b rest n x y h g)
+kind_only b rest n k l h g = let same : family k ≡ family l = sym (begins_family k b (lexeme_begins k b rest n h).1) ∙ begins_family l b (lexeme_begins l b rest n g).1 in absurd (cc)
 
 -- where a letter stands, the scanner finds something
 missed_letter : (b : ℕ) (rest : List ℕ) → is_letter b ≡ true → token_at (b ∷ rest) ≡ None → ⊥
-missed_letter b rest letter e = some_is_not_none (name_at (b ∷ rest)) (pick_true (is_letter b) (Some (name_at (b ∷ rest))) (cond (is_digit b) (number_at (b ∷ rest)) (mark_at (b ∷ rest))) None e letter)
+missed_letter b rest letter e = some_is_not_none (name_at (b ∷ rest)) (sym (at_letter b rest letter) ∙ e)
 
 numeral_plain : (bytes : List ℕ) → IsNumeral bytes → is_plain bytes ≡ true
 numeral_plain [] h = absurd h
@@ -147,15 +155,15 @@ missed : (text : List ℕ) (k : TokenKind) (n : ℕ) → IsToken text k n → to
 missed [] k n t e = no_empty_lexeme k (subst (IsLexeme k) (take-nil n) t.lexeme)
 missed (b ∷ rest) (Name name) n t e = missed_letter b rest (lexeme_begins (Name name) b rest n t.lexeme).1 e
 missed (b ∷ rest) (Word w) n t e = missed_letter b rest (lexeme_begins (Word w) b rest n t.lexeme).1 e
-missed (b ∷ rest) (Number v) n t e = elim (either (is_letter b)) [
-  | inl letter ↦ letter_no_digit b letter (lexeme_begins (Number v) b rest n t.lexeme).1
-  | inr other ↦
-      let digit = (lexeme_begins (Number v) b rest n t.lexeme).1 in
-      missed_number b rest v n digit t (pick_true (is_digit b) (number_at (b ∷ rest)) (mark_at (b ∷ rest)) None (pick_false (is_letter b) (Some (name_at (b ∷ rest))) (cond (is_digit b) (number_at (b ∷ rest)) (mark_at (b ∷ rest))) None e other) digit)
-]
+missed (b ∷ rest) (Number v) n t e =
+    let digit = (lexeme_begins (Number v) b rest n t.lexeme).1 in
+    missed_number b rest v n digit t (sym (at_digit b rest (digit_no_letter b digit) digit) ∙ e)
 missed (b ∷ rest) (Mark m) n t e =
     let begins = (lexeme_begins (Mark m) b rest n t.lexeme).1 in
-    missed_mark b rest m n t (pick_false (is_digit b) (number_at (b ∷ rest)) (mark_at (b ∷ rest)) None (pick_false (is_letter b) (Some (name_at (b ∷ rest))) (cond (is_digit b) (number_at (b ∷ rest)) (mark_at (b ∷ rest))) None e begins.0) begins.1)
+    missed_mark b rest m n t (sym (at_other b rest begins.0 begins.1 begins.3) ∙ e)
+missed (b ∷ rest) (Text inner) n t e =
+    let quote = (lexeme_begins (Text inner) b rest n t.lexeme).1 in
+    missed_string b rest inner n t.within t.lexeme (sym (at_quote b rest (quote_no_letter b quote) (quote_no_digit b quote) quote) ∙ e)
 
 -- a token at the front is what the scanner finds
 pub token_only : (text : List ℕ) (k : TokenKind) (n : ℕ) → IsToken text k n → token_at text ≡ Some (k, n)

@@ -8,21 +8,21 @@ use Rattle.std.proofs.lemmas.Bool.{both_ways, eqb-true, eq-eqb, leb-true}
 use Rattle.std.proofs.lemmas.List.{length-take, length-take-le}
 use Rattle.std.proofs.lemmas.Option.{cond_some}
 use Rattle.std.specs.Cmp.Lexicographic.{pointwise}
-use Rattle.strc_lex.specs.Characters.{is_digit, is_letter, is_name_byte}
+use Rattle.strc_lex.specs.Characters.{is_digit, is_letter, is_name_byte, is_quote}
 use Rattle.strc_lex.specs.Words.{word_text, all_words}
 use Rattle.strc_lex.specs.Marks.{mark_text, paired_marks, single_marks}
 use Rattle.strc_lex.specs.Text.{IsNameText, IsNumeral, IsLexeme, IsApart, IsToken, number_from}
-use Rattle.strc_lex.specs.Scanning.{word_of, word_or_name, name_at, number_at, number_with_length, bounded, is_plain, ends_number, mark_at, mark_of, or_single, pair_of, single_of, opens_comment, mark_with_length, token_at}
+use Rattle.strc_lex.specs.Scanning.{word_of, word_or_name, name_at, number_at, number_with_length, bounded, is_plain, ends_number, mark_at, mark_of, or_single, pair_of, single_of, opens_comment, mark_with_length, string_at, token_at}
 use Rattle.strc_lex.specs.declared.token.TokenKind.{TokenKind}
-use Rattle.strc_lex.specs.declared.token.TokenKind.TheVariants.{Name, Number, Word, Mark}
+use Rattle.strc_lex.specs.declared.token.TokenKind.TheVariants.{Name, Number, Word, Mark, Text}
 use Rattle.strc_lex.specs.declared.token.Word as words
 use Rattle.strc_lex.specs.declared.token.Word.TheVariants as word
 use Rattle.strc_lex.specs.declared.token.Mark as marks
 use Rattle.strc_lex.specs.declared.token.Mark.TheVariants as mark
 use Rattle.strc_lex.proofs.Finding.{either, both_parts, find_passes, find_all, find_none, pick_true, pick_false, none_is_not_some, some_same, same-pointwise, pointwise-same}
-use Rattle.std.proofs.lemmas.Bool.Decides.{nat_tests}
 use Rattle.strc_lex.proofs.Runs.{run_head, run_positive, take-run, list_all-take_while}
-use Rattle.strc_lex.proofs.Lexemes.{lexeme_begins, run_bound, word_runs, name_runs, letter_is_name_byte}
+use Rattle.strc_lex.proofs.Lexemes.{Meets, lexeme_begins, run_bound, word_runs, name_runs, letter_is_name_byte, letter_no_digit, quote_no_letter, quote_no_digit}
+use Rattle.strc_lex.proofs.Strings.{string_meets}
 
 -- a word's text finds the word
 pub word_again : (w : words.Word) → word_of (word_text w) ≡ Some w
@@ -35,16 +35,13 @@ no_word bytes none w e =
     let fails : pointwise nat_eq (word_text w) bytes ≡ false = find_none (λ v. pointwise nat_eq (word_text v) (word_text w)) (λ v. pointwise nat_eq (word_text v) bytes) all_words w (word_again w) none in
     both_ways (pointwise nat_eq (word_text w) bytes) fails (pointwise-same (word_text w) bytes e)
 
--- no letter is a digit
-pub letter_no_digit : (b : ℕ) → is_letter b ≡ true → is_digit b ≡ true → ⊥
-letter_no_digit b letter digit = grind (arith, nat_tests)
-
 -- at a letter nothing is longer than the run of name bytes
 name_longest : (b : ℕ) (rest : List ℕ) → is_letter b ≡ true → (other : TokenKind) (size : ℕ) → size ≤ length (b ∷ rest) → IsLexeme other (take size (b ∷ rest)) → size ≤ prefix_len is_name_byte (b ∷ rest)
 name_longest b rest letter (Name name) size within h = run_bound is_name_byte (b ∷ rest) size within (name_runs (take size (b ∷ rest)) h.1)
 name_longest b rest letter (Word w) size within h = run_bound is_name_byte (b ∷ rest) size within (subst (λ bytes. list_all is_name_byte bytes ≡ true) h (word_runs w))
 name_longest b rest letter (Number value) size within h = absurd (letter_no_digit b letter (lexeme_begins (Number value) b rest size h).1)
 name_longest b rest letter (Mark m) size within h = absurd (both_ways (is_letter b) (lexeme_begins (Mark m) b rest size h).1.0 letter)
+name_longest b rest letter (Text inner) size within h = absurd (both_ways (is_letter b) (quote_no_letter b (lexeme_begins (Text inner) b rest size h).1) letter)
 
 -- a run that begins with a letter is a name, and isn't empty
 name_text : (b : ℕ) (rest : List ℕ) → is_letter b ≡ true → IsNameText (take_while is_name_byte (b ∷ rest))
@@ -68,10 +65,6 @@ name_meets_by b rest letter (Some w) found =
       apart = tt;
       longest = λ other size within h. rw (length-prefix_len is_name_byte (b ∷ rest)) (name_longest b rest letter other size within h);
     }
-
--- the scanner's answer, as a token that isn't empty
-abbrev pub Meets : List ℕ → TokenKind × ℕ → Type 0
-Meets text found = IsToken text found.0 found.1 × (0 < found.1)
 
 name_meets : (b : ℕ) (rest : List ℕ) → is_letter b ≡ true → Meets (b ∷ rest) (name_at (b ∷ rest))
 name_meets b rest letter =
@@ -116,6 +109,7 @@ number_longest b rest digit (Name name) size within h = absurd (letter_no_digit 
 number_longest b rest digit (Word w) size within h = absurd (letter_no_digit b (lexeme_begins (Word w) b rest size h).1 digit)
 number_longest b rest digit (Number value) size within h = run_bound is_digit (b ∷ rest) size within (digit_runs (take size (b ∷ rest)) h.0)
 number_longest b rest digit (Mark m) size within h = absurd (both_ways (is_digit b) (lexeme_begins (Mark m) b rest size h).1.1 digit)
+number_longest b rest digit (Text inner) size within h = absurd (both_ways (is_digit b) (quote_no_digit b (lexeme_begins (Text inner) b rest size h).1) digit)
 
 numeral_text : (b : ℕ) (rest : List ℕ) → is_digit b ≡ true → is_plain (take_while is_digit (b ∷ rest)) ≡ true → IsNumeral (take_while is_digit (b ∷ rest))
 numeral_text b rest digit plain =
@@ -227,15 +221,16 @@ mark_apart : (m : marks.Mark) (b : ℕ) (rest : List ℕ) → mark_text m ≡ ta
 mark_apart mark.Slash b rest e plain = let head : 47 ≡ b = cc in slash_apart b rest (sym head) plain
 mark_apart m b rest e plain = tt
 
-lexeme_longest : (b : ℕ) (rest : List ℕ) (m : marks.Mark) → is_letter b ≡ false → is_digit b ≡ false → mark_of (b ∷ rest) ≡ Some m → (other : TokenKind) (size : ℕ) → size ≤ length (b ∷ rest) → IsLexeme other (take size (b ∷ rest)) → size ≤ length (mark_text m)
-lexeme_longest b rest m letter digit found (Name name) size within h = absurd (both_ways (is_letter b) letter (lexeme_begins (Name name) b rest size h).1)
-lexeme_longest b rest m letter digit found (Word w) size within h = absurd (both_ways (is_letter b) letter (lexeme_begins (Word w) b rest size h).1)
-lexeme_longest b rest m letter digit found (Number value) size within h = absurd (both_ways (is_digit b) digit (lexeme_begins (Number value) b rest size h).1)
-lexeme_longest b rest m letter digit found (Mark other) size within h = mark_longest (b ∷ rest) m found other size within h
+lexeme_longest : (b : ℕ) (rest : List ℕ) (m : marks.Mark) → is_letter b ≡ false → is_digit b ≡ false → is_quote b ≡ false → mark_of (b ∷ rest) ≡ Some m → (other : TokenKind) (size : ℕ) → size ≤ length (b ∷ rest) → IsLexeme other (take size (b ∷ rest)) → size ≤ length (mark_text m)
+lexeme_longest b rest m letter digit quote found (Name name) size within h = absurd (both_ways (is_letter b) letter (lexeme_begins (Name name) b rest size h).1)
+lexeme_longest b rest m letter digit quote found (Word w) size within h = absurd (both_ways (is_letter b) letter (lexeme_begins (Word w) b rest size h).1)
+lexeme_longest b rest m letter digit quote found (Number value) size within h = absurd (both_ways (is_digit b) digit (lexeme_begins (Number value) b rest size h).1)
+lexeme_longest b rest m letter digit quote found (Mark other) size within h = mark_longest (b ∷ rest) m found other size within h
+lexeme_longest b rest m letter digit quote found (Text inner) size within h = absurd (both_ways (is_quote b) quote (lexeme_begins (Text inner) b rest size h).1)
 
-mark_meets_by : (b : ℕ) (rest : List ℕ) (k : TokenKind) (n : ℕ) → is_letter b ≡ false → is_digit b ≡ false → opens_comment (b ∷ rest) ≡ false → (o : Option marks.Mark) → mark_of (b ∷ rest) ≡ o → mark_with_length o ≡ Some (k, n) → Meets (b ∷ rest) (k, n)
-mark_meets_by b rest k n letter digit plain None found e = absurd (cc)
-mark_meets_by b rest k n letter digit plain (Some m) found e =
+mark_meets_by : (b : ℕ) (rest : List ℕ) (k : TokenKind) (n : ℕ) → is_letter b ≡ false → is_digit b ≡ false → is_quote b ≡ false → opens_comment (b ∷ rest) ≡ false → (o : Option marks.Mark) → mark_of (b ∷ rest) ≡ o → mark_with_length o ≡ Some (k, n) → Meets (b ∷ rest) (k, n)
+mark_meets_by b rest k n letter digit quote plain None found e = absurd (cc)
+mark_meets_by b rest k n letter digit quote plain (Some m) found e =
     let stands = mark_stands (b ∷ rest) m found in
     let short = mark_short m in
     let cut : length (mark_text m) ≡ length (take (length (mark_text m)) (b ∷ rest)) = ap length stands in
@@ -246,30 +241,40 @@ mark_meets_by b rest k n letter digit plain (Some m) found e =
         within = omega arith;
         lexeme = stands;
         apart = mark_apart m b rest stands plain;
-        longest = lexeme_longest b rest m letter digit found;
+        longest = lexeme_longest b rest m letter digit quote found;
       },
       short.0,
     )
 
-mark_meets : (b : ℕ) (rest : List ℕ) (k : TokenKind) (n : ℕ) → is_letter b ≡ false → is_digit b ≡ false → mark_at (b ∷ rest) ≡ Some (k, n) → Meets (b ∷ rest) (k, n)
-mark_meets b rest k n letter digit e = elim (either (opens_comment (b ∷ rest))) [
+mark_meets : (b : ℕ) (rest : List ℕ) (k : TokenKind) (n : ℕ) → is_letter b ≡ false → is_digit b ≡ false → is_quote b ≡ false → mark_at (b ∷ rest) ≡ Some (k, n) → Meets (b ∷ rest) (k, n)
+mark_meets b rest k n letter digit quote e = elim (either (opens_comment (b ∷ rest))) [
   | inl opens ↦ absurd (none_is_not_some (k, n) (pick_true (opens_comment (b ∷ rest)) None (mark_with_length (mark_of (b ∷ rest))) (Some (k, n)) e opens))
-  | inr plain ↦ mark_meets_by b rest k n letter digit plain (mark_of (b ∷ rest)) refl (pick_false (opens_comment (b ∷ rest)) None (mark_with_length (mark_of (b ∷ rest))) (Some (k, n)) e plain)
+  | inr plain ↦ mark_meets_by b rest k n letter digit quote plain (mark_of (b ∷ rest)) refl (pick_false (opens_comment (b ∷ rest)) None (mark_with_length (mark_of (b ∷ rest))) (Some (k, n)) e plain)
 ]
 
+-- what the scanner reads at a letter, a digit, a quote and any other byte
+pub at_letter : (b : ℕ) (rest : List ℕ) → is_letter b ≡ true → token_at (b ∷ rest) ≡ Some (name_at (b ∷ rest))
+at_letter b rest letter = rw letter refl
+
+pub at_digit : (b : ℕ) (rest : List ℕ) → is_letter b ≡ false → is_digit b ≡ true → token_at (b ∷ rest) ≡ number_at (b ∷ rest)
+at_digit b rest letter digit = rw (letter, digit) refl
+
+pub at_quote : (b : ℕ) (rest : List ℕ) → is_letter b ≡ false → is_digit b ≡ false → is_quote b ≡ true → token_at (b ∷ rest) ≡ string_at (b ∷ rest)
+at_quote b rest letter digit quote = rw (letter, digit, quote) refl
+
+pub at_other : (b : ℕ) (rest : List ℕ) → is_letter b ≡ false → is_digit b ≡ false → is_quote b ≡ false → token_at (b ∷ rest) ≡ mark_at (b ∷ rest)
+at_other b rest letter digit quote = rw (letter, digit, quote) refl
+
 -- what the scanner finds is the token at the front
-pub token_meets : (text : List ℕ) (k : TokenKind) (n : ℕ) → token_at text ≡ Some (k, n) → IsToken text k n × (0 < n)
+pub token_meets : (text : List ℕ) (k : TokenKind) (n : ℕ) → token_at text ≡ Some (k, n) → Meets text (k, n)
 token_meets [] k n e = absurd (none_is_not_some (k, n) e)
-token_meets (b ∷ rest) k n e =
-    let named = Some (name_at (b ∷ rest)) in
-    let numbered = number_at (b ∷ rest) in
-    let marked = mark_at (b ∷ rest) in
-    elim (either (is_letter b)) [
-      | inl letter ↦ let same : name_at (b ∷ rest) ≡ (k, n) = some_same (pick_true (is_letter b) named (cond (is_digit b) numbered marked) (Some (k, n)) e letter) in subst (Meets (b ∷ rest)) same (name_meets b rest letter)
-      | inr no_letter ↦
-          let left = pick_false (is_letter b) named (cond (is_digit b) numbered marked) (Some (k, n)) e no_letter in
-          elim (either (is_digit b)) [
-            | inl digit ↦ number_meets b rest k n digit (pick_true (is_digit b) numbered marked (Some (k, n)) left digit)
-            | inr no_digit ↦ mark_meets b rest k n no_letter no_digit (pick_false (is_digit b) numbered marked (Some (k, n)) left no_digit)
-          ]
+token_meets (b ∷ rest) k n e = elim (either (is_letter b)) [
+  | inl letter ↦ let same : name_at (b ∷ rest) ≡ (k, n) = some_same (sym (at_letter b rest letter) ∙ e) in subst (Meets (b ∷ rest)) same (name_meets b rest letter)
+  | inr no_letter ↦ elim (either (is_digit b)) [
+    | inl digit ↦ number_meets b rest k n digit (sym (at_digit b rest no_letter digit) ∙ e)
+    | inr no_digit ↦ elim (either (is_quote b)) [
+      | inl quote ↦ string_meets b rest k n quote (sym (at_quote b rest no_letter no_digit quote) ∙ e)
+      | inr no_quote ↦ mark_meets b rest k n no_letter no_digit no_quote (sym (at_other b rest no_letter no_digit no_quote) ∙ e)
     ]
+  ]
+]

@@ -1,4 +1,5 @@
 pub mod Characters
+pub mod Gaps
 pub mod Marks
 pub mod Scanning
 pub mod Text

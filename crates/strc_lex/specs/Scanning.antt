@@ -1,14 +1,14 @@
 -- Reading the token at the front of a text: what the scanner computes. `Text` says what a token is.
-use Rattle.std.specs.Prelude.{ℕ, Bool, true, false, List, [], ◌∷◌, length, drop, take_while, find, nat_le, nat_eq, codes, ◌||◌, Option, Some, None, if◌then◌else◌, ◌==◌, ◌&&◌}
+use Rattle.std.specs.Prelude.{ℕ, Bool, true, false, List, [], ◌∷◌, ◌+◌, length, drop, take_while, find, nat_le, nat_eq, codes, ◌||◌, Option, Some, None, if◌then◌else◌, ◌==◌, ◌&&◌}
 use Rattle.std.specs.List.{starts_with}
 use Rattle.std.specs.Cmp.Lexicographic.{pointwise}
 use Rattle.std.specs.Int.{w32, cast_signed}
-use Rattle.strc_lex.specs.Characters.{is_digit, is_letter, is_name_byte}
+use Rattle.strc_lex.specs.Characters.{is_digit, is_letter, is_name_byte, is_quote, is_string_byte}
 use Rattle.strc_lex.specs.Words.{word_text, all_words}
 use Rattle.strc_lex.specs.Marks.{mark_text, paired_marks, single_marks}
 use Rattle.strc_lex.specs.Text.{number_from}
 use Rattle.strc_lex.specs.declared.token.TokenKind.{TokenKind}
-use Rattle.strc_lex.specs.declared.token.TokenKind.TheVariants.{Name, Number, Word, Mark}
+use Rattle.strc_lex.specs.declared.token.TokenKind.TheVariants.{Name, Number, Word, Mark, Text}
 use Rattle.strc_lex.specs.declared.token.Word as words
 use Rattle.strc_lex.specs.declared.token.Mark as marks
 
@@ -76,10 +76,23 @@ mark_at text =
     if opens_comment text then None
     else mark_with_length (mark_of text)
 
+-- whether a quote stands first
+abbrev pub is_closed : List ℕ → Bool
+is_closed [] = false
+is_closed (b ∷ rest) = is_quote b
+
+-- the string at the front, whose opening quote is known to be there
+abbrev pub string_at : List ℕ → Option (TokenKind × ℕ)
+string_at [] = None
+string_at (b ∷ rest) =
+    let inner = take_while is_string_byte rest in
+    if is_closed (drop (length inner) rest) then Some (Text inner, length inner + 2) else None
+
 -- the token at the front of the text, and its length
 abbrev pub token_at : List ℕ → Option (TokenKind × ℕ)
 token_at [] = None
 token_at (b ∷ rest) =
     if is_letter b then Some (name_at (b ∷ rest))
     else if is_digit b then number_at (b ∷ rest)
+    else if is_quote b then string_at (b ∷ rest)
     else mark_at (b ∷ rest)

@@ -1,13 +1,14 @@
 -- The tokens of a text: gaps and tokens in turn, each token the longest that can stand there.
-use Rattle.std.specs.Prelude.{◌≡◌, ◌≢◌, ℕ, ◌+◌, ◌-◌, ◌*◌, ◌<◌, ◌≤◌, true, false, List, [], ◌∷◌, length, take, drop, slice_index}
+use Rattle.std.specs.Prelude.{◌≡◌, ◌≢◌, ℕ, ◌+◌, ◌-◌, ◌*◌, ◌<◌, ◌≤◌, true, false, List, [], ◌∷◌, ◌++◌, length, take, drop}
 use Rattle.std.specs.List.{list_all}
 use Rattle.std.specs.Int.{w32, cast_signed}
-use Rattle.strc_lex.specs.Characters.{is_white, is_digit, is_letter, is_name_byte}
+use Rattle.strc_lex.specs.Characters.{is_digit, is_letter, is_name_byte, is_string_byte}
 use Rattle.strc_lex.specs.Words.{word_text}
 use Rattle.strc_lex.specs.Marks.{mark_text}
+use Rattle.strc_lex.specs.Gaps.{IsPiece, IsGap}
 use Rattle.strc_lex.specs.declared.token.Token.{Token}
 use Rattle.strc_lex.specs.declared.token.TokenKind.{TokenKind}
-use Rattle.strc_lex.specs.declared.token.TokenKind.TheVariants.{Name, Number, Word, Mark}
+use Rattle.strc_lex.specs.declared.token.TokenKind.TheVariants.{Name, Number, Word, Mark, Text}
 use Rattle.strc_lex.specs.declared.token.Word as words
 use Rattle.strc_lex.specs.declared.token.Mark.TheVariants as mark
 
@@ -36,6 +37,7 @@ IsLexeme (Name name) bytes = (name ≡ bytes) × IsNameText bytes × ((w : words
 IsLexeme (Number value) bytes = IsNumeral bytes × (number_from 0 bytes ≤ 2147483648) × (value ≡ cast_signed w32 (number_from 0 bytes))
 IsLexeme (Word w) bytes = word_text w ≡ bytes
 IsLexeme (Mark m) bytes = mark_text m ≡ bytes
+IsLexeme (Text inner) bytes = (bytes ≡ 34 ∷ inner ++ 34 ∷ []) × (list_all is_string_byte inner ≡ true)
 
 -- No digit, letter or `_` stands right behind a number. No `/` or `*` stands right behind `/`: a comment begins there.
 abbrev pub IsApart : TokenKind → List ℕ → Type 0
@@ -49,12 +51,6 @@ pub record IsToken (text : List ℕ) (kind : TokenKind) (len : ℕ) : Type 0 whe
   pub lexeme : IsLexeme kind (take len text)
   pub apart : IsApart kind (drop len text)
   pub longest : (other : TokenKind) (size : ℕ) → size ≤ length text → IsLexeme other (take size text) → size ≤ len
-
--- white space from one place up to another
-pub record IsGap (text : List ℕ) (from to : ℕ) : Type 0 where
-  pub ordered : from ≤ to
-  pub within : to ≤ length text
-  pub white : (k : ℕ) → from ≤ k → k < to → is_white (slice_index text k) ≡ true
 
 -- a token of the text stands at its span
 pub record StandsAt (text : List ℕ) (item : Token) : Type 0 where
@@ -71,10 +67,10 @@ LexesBetween text from (token ∷ tokens) to =
 abbrev pub Lexes : List ℕ → List Token → Type 0
 Lexes text tokens = LexesBetween text 0 tokens (length text)
 
--- at this place stands no white space, and no token begins
+-- at this place stands no white space, no comment begins that is closed, and no token begins
 pub record IsStuck (text : List ℕ) (at : ℕ) : Type 0 where
   pub within : at < length text
-  pub black : is_white (slice_index text at) ≡ false
+  pub bare : (len : ℕ) → IsPiece (drop at text) len → ⊥
   pub none : (kind : TokenKind) (len : ℕ) → IsToken (drop at text) kind len → ⊥
 
 -- what stands before the place is gaps and tokens, and no token goes on there

@@ -1,4 +1,4 @@
-// Which bytes are white space, digits, and parts of names.
+// Which bytes are white space, digits, and parts of names and strings.
 
 ghost use Rattle.std.specs.Prelude.{◌≡◌};
 ghost use Rattle.strc_lex.specs.Characters as spec;
@@ -29,4 +29,18 @@ pub fn is_name_byte(byte: u8) -> bool
     ensures { result ≡ spec.is_name_byte byte }
 {
     is_letter(byte) || is_digit(byte)
+}
+
+/// `"`, which opens and closes a string.
+pub fn is_quote(byte: u8) -> bool
+    ensures { result ≡ spec.is_quote byte }
+{
+    byte == 34
+}
+
+/// What a string has between its quotes: all but `"`, backslash and line feed.
+pub fn is_string_byte(byte: u8) -> bool
+    ensures { result ≡ spec.is_string_byte byte }
+{
+    !(byte == 34 || byte == 92 || byte == 10)
 }

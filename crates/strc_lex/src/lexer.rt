@@ -1,13 +1,12 @@
 // From the text to its tokens.
 
-ghost use Rattle.std.specs.Prelude.{◌≡◌, ◌+◌, ◌<◌, ◌≤◌, ◌↔◌, length, drop, slice_index, false, ℕ, List, IfOk, IfSome, IfNone, IsErrOf, MatchResult};
-ghost use Rattle.strc_lex.specs.Characters as spec_of;
+ghost use Rattle.std.specs.Prelude.{◌≡◌, ◌+◌, ◌<◌, ◌≤◌, ◌↔◌, length, drop, ℕ, List, IfOk, IfSome, IfNone, IsErrOf, MatchResult};
 ghost use Rattle.strc_lex.specs.declared.token.Token.{Token};
 ghost use Rattle.strc_lex.specs.declared.token.TokenKind.{TokenKind};
-ghost use Rattle.strc_lex.specs.Text.{Lexes, StopsAt, text_limit, IsGap, IsToken};
+ghost use Rattle.strc_lex.specs.Text.{Lexes, StopsAt, text_limit, IsToken};
 
-use crate::characters::is_white;
 use crate::error::LexError;
+use crate::gap::gap_end;
 use crate::scan::token_at;
 use crate::token::{Span, Token, TokenKind};
 use std::alloc::{AllocError, Global};
@@ -17,7 +16,8 @@ const TEXT_LIMIT: usize = 1048576;
 
 /// The tokens of a text, each with its place.
 ///
-/// A text longer than 1,048,576 bytes is `TextTooLong`. Where no token goes on, `Lex` names the byte.
+/// White space and comments part tokens. A text longer than 1,048,576 bytes is `TextTooLong`. Where no token goes on, also
+/// where a comment or a string isn't closed, `Lex` names the byte.
 pub fn lex(alloc: Global, text: &[u8]) -> Result<Vec<Token>, LexError>
     ensures ok { IfOk result (λ tokens. Lexes text.now tokens.items) }
     // What has tokens is read, unless memory runs out.
@@ -59,20 +59,6 @@ fn first_token(
     let rest = &text[at..];
     let found = token_at(alloc, rest)?;
     Ok(found)
-}
-
-// Where the white space that begins at a place ends.
-fn gap_end(text: &[u8], from: usize) -> usize
-    requires { from ≤ length text.now }
-    ensures gap { IsGap text.now from result }
-    ensures ends { result < length text.now → spec_of.is_white (slice_index text.now result) ≡ false }
-{
-    for at in from..text.len() {
-        if !is_white(text[at]) {
-            return at;
-        }
-    }
-    text.len()
 }
 
 /// A text has one token list.

@@ -6,6 +6,7 @@
 
 mod characters;
 pub mod error;
+mod gap;
 pub mod lexer;
 pub mod mark;
 mod scan;

@@ -6,8 +6,8 @@ ghost use Rattle.strc_lex.specs.Characters as spec_of;
 ghost use Rattle.strc_lex.specs.Scanning as spec;
 ghost use Rattle.strc_lex.specs.Text.{number_from};
 
-use crate::characters::{is_digit, is_letter, is_name_byte};
-use crate::token::{Mark, Name, TokenKind, Word};
+use crate::characters::{is_digit, is_letter, is_name_byte, is_quote, is_string_byte};
+use crate::token::{Mark, Name, Text, TokenKind, Word};
 use std::alloc::{AllocError, Global};
 
 // The greatest number that a text can write.
@@ -24,6 +24,8 @@ pub(crate) fn token_at(alloc: Global, text: &[u8]) -> Result<Option<(TokenKind, 
         Ok(Some(name_at(alloc, text)?))
     } else if is_digit(first) {
         Ok(number_at(text))
+    } else if is_quote(first) {
+        string_at(alloc, text)
     } else {
         Ok(mark_at(text))
     }
@@ -164,4 +166,46 @@ fn single_of(text: &[u8]) -> Option<Mark>
         .iter()
         .copied()
         .find(|mark| text.starts_with(mark.text()))
+}
+
+// A string, whose opening quote is known to be there.
+fn string_at(alloc: Global, text: &[u8]) -> Result<Option<(TokenKind, usize)>, AllocError>
+    ensures { IfOk result (λ found. found ≡ spec.string_at text.now) }
+{
+    let [_quote, rest @ ..] = text else {
+        return Ok(None);
+    };
+    let inner = string_bytes(rest);
+    if is_closed(&rest[inner.len()..]) {
+        let text = Text::new(inner.to_vec(alloc)?);
+        Ok(Some((TokenKind::Text(text), inner.len() + 2)))
+    } else {
+        Ok(None)
+    }
+}
+
+// The front that a string may have between its quotes.
+fn string_bytes(text: &[u8]) -> &[u8]
+    ensures { result.now ≡ take_while spec_of.is_string_byte text.now }
+{
+    &text[..string_length(text)]
+}
+
+fn string_length(text: &[u8]) -> usize
+    ensures within { result ≤ length text.now }
+    ensures run { result ≡ length (take_while spec_of.is_string_byte text.now) }
+{
+    text.iter()
+        .take_while(|byte| is_string_byte(**byte))
+        .count()
+}
+
+// Whether a quote stands first.
+fn is_closed(rest: &[u8]) -> bool
+    ensures { result ≡ spec.is_closed rest.now }
+{
+    match rest {
+        [] => false,
+        [next, ..] => is_quote(*next),
+    }
 }

@@ -1,4 +1,4 @@
-// What a token is: a name, a number, a reserved word or a mark, and its place in the text.
+// What a token is: a name, a number, a reserved word, a mark or a string, and its place in the text.
 
 use std::alloc::AllocError;
 use std::marker::Model;
@@ -17,7 +17,7 @@ pub struct Span {
     pub end: usize,
 }
 
-/// What kind of token it is, with the name or the number that it carries.
+/// What kind of token it is, with the name, the number or the text that it carries.
 #[derive(Debug, Drop)]
 pub enum TokenKind {
     Name(Name),
@@ -25,6 +25,8 @@ pub enum TokenKind {
     Number(i32),
     Word(Word),
     Mark(Mark),
+    /// A string.
+    Text(Text),
 }
 
 /// A name: a letter or `_`, then letters, digits and `_`. Contracts see it as the list of its bytes.
@@ -70,6 +72,45 @@ impl Name {
         ensures { IsTrue result ↔ (self.now ≡ other.now) }
     {
         self.as_bytes() == other.as_bytes()
+    }
+}
+
+/// What a string has between its quotes. Contracts see it as the list of its bytes.
+#[derive(Debug, Drop)]
+pub struct Text {
+    bytes: Vec<u8>,
+}
+
+impl Model for Text {
+    ghost use Rattle.std.specs.Prelude.{List, ℕ};
+
+    ghost Value = { List ℕ };
+
+    ghost view = { λ t. t.bytes.items };
+}
+
+impl Text {
+    ghost use Rattle.std.specs.Prelude.{◌≡◌, IfOk};
+
+    /// The text that these bytes are. It takes no memory.
+    pub fn new(bytes: Vec<u8>) -> Text
+        ensures { result ≡ bytes.items }
+    {
+        Text { bytes }
+    }
+
+    /// The bytes of the text.
+    pub fn as_bytes(&self) -> &[u8]
+        ensures { result.now ≡ self.now }
+    {
+        &self.bytes
+    }
+
+    /// An equal text.
+    pub fn copy(&self) -> Result<Text, AllocError>
+        ensures { IfOk result (λ text. text ≡ self.now) }
+    {
+        Ok(Text::new(self.bytes.clone()?))
     }
 }
 

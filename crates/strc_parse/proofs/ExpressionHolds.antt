@@ -73,6 +73,7 @@ operator_is r (token.Mark found ∷ rest) o e =
 operator_is r (token.Name x ∷ rest) o e = absurd cc
 operator_is r (token.Number n ∷ rest) o e = absurd cc
 operator_is r (token.Word w ∷ rest) o e = absurd cc
+operator_is r (token.Text t ∷ rest) o e = absurd cc
 
 -- ---- operands
 
@@ -160,6 +161,7 @@ module _ (d : ℕ) where
     operand_holds (token.Mark m ∷ rest) = marked_holds m rest
     operand_holds (token.Word word.Pop ∷ rest) = pop_holds 0 rest
     operand_holds (token.Word _ ∷ rest) = omega arith
+    operand_holds (token.Text t ∷ rest) = omega arith
 
     -- ---- operators between operands
 

@@ -52,6 +52,7 @@ expect_cases wanted (token.Mark found ∷ rest) = elim (mark_cases wanted found 
 expect_cases wanted (token.Name x ∷ rest) = inr refl
 expect_cases wanted (token.Number n ∷ rest) = inr refl
 expect_cases wanted (token.Word w ∷ rest) = inr refl
+expect_cases wanted (token.Text t ∷ rest) = inr refl
 
 word_cases : (wanted found : Word) (rest : List TokenKind)
     → ((token.Word found ∷ rest ≡ token.Word wanted ∷ rest) × (expect_word wanted (token.Word found ∷ rest) ≡ Ok rest)) ⊎ (expect_word wanted (token.Word found ∷ rest) ≡ unexpected (token.Word found ∷ rest))
@@ -70,6 +71,7 @@ expect_word_cases wanted (token.Word found ∷ rest) = elim (word_cases wanted f
 expect_word_cases wanted (token.Name x ∷ rest) = inr refl
 expect_word_cases wanted (token.Number n ∷ rest) = inr refl
 expect_word_cases wanted (token.Mark m ∷ rest) = inr refl
+expect_word_cases wanted (token.Text t ∷ rest) = inr refl
 
 pub name_cases : (tokens : List TokenKind)
     → ((x : List ℕ) × (rest : List TokenKind) × (tokens ≡ token.Name x ∷ rest) × (name tokens ≡ Ok (x, rest))) ⊎ (name tokens ≡ unexpected tokens)
@@ -79,6 +81,7 @@ name_cases (token.Name x ∷ rest) = inl (x, rest, refl, refl)
 name_cases (token.Mark found ∷ rest) = inr refl
 name_cases (token.Number n ∷ rest) = inr refl
 name_cases (token.Word w ∷ rest) = inr refl
+name_cases (token.Text t ∷ rest) = inr refl
 
 module _ {B : Type 0} (Q : B → Type 0) (deep : ℕ) (all : List TokenKind) where
   pub Holds-expect : (wanted : Mark) (tokens : List TokenKind) (f : List TokenKind → Result B Fault) → length tokens ≤ length all
@@ -145,6 +148,7 @@ mark_is wanted (token.Mark found ∷ rest) e = ap (λ (m : Mark). token.Mark m �
 mark_is wanted (token.Name x ∷ rest) e = absurd cc
 mark_is wanted (token.Number n ∷ rest) e = absurd cc
 mark_is wanted (token.Word w ∷ rest) e = absurd cc
+mark_is wanted (token.Text t ∷ rest) e = absurd cc
 
 pub brace_is : (tokens after : List TokenKind) → brace tokens ≡ Some after → tokens ≡ token.Mark mark.CloseBrace ∷ after
 unfolding brace

@@ -302,6 +302,7 @@ module _ (d : ℕ) (inner : Inner) (holds : (tokens : List TokenKind) → Holds 
   shallow_holds (token.Word w ∷ rest) = worded_holds d w rest
   shallow_holds (token.Name x ∷ rest) = named_holds d x rest
   shallow_holds (token.Number n ∷ rest) = evaluate_holds d (token.Number n ∷ rest)
+  shallow_holds (token.Text t ∷ rest) = evaluate_holds d (token.Text t ∷ rest)
 
 -- what is read at a depth
 pub statement_holds : (depth : ℕ) (tokens : List TokenKind) → Holds (StmtRead depth tokens) (depth - 1) tokens (statement depth tokens)

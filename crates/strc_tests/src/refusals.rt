@@ -7,13 +7,15 @@ use strc_cli::line::Command;
 
 #[test]
 fn each_refusal_has_its_line(rt: HostRuntime) -> Result<(), Fail> {
-    let cases: [(&str, &str); 34] = [
+    let cases: [(&str, &str); 36] = [
         ("", "refused E6 NoMain"),
         ("@", "refused E1 Lex at 0"),
-        ("/* a comment */", "refused E1 Lex at 0"),
+        ("/* a comment */", "refused E6 NoMain"),
+        ("/* no comment", "refused E1 Lex at 0"),
         ("007", "refused E1 Lex at 0"),
         ("2147483649", "refused E1 Lex at 0"),
         ("2147483648", "refused E2 Parse token 0"),
+        ("// a comment\n\"a string\"", "refused E2 Parse token 0"),
         ("float->float filter F { }", "refused E2 Parse token 0"),
         ("void->void pipeline M { add", "refused E2 Parse token 7"),
         (

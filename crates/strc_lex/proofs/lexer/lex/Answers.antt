@@ -1,14 +1,34 @@
 use Rattle.std.proofs.Common.{◌≡◌, length, arith, subst}
-use Rattle.strc_lex.specs.Text.{LexesBetween}
+use Rattle.strc_lex.specs.Text.{LexesBetween, StopsAt}
+use Rattle.strc_lex.proofs.Gaps.{gap_ordered}
 use Rattle.strc_lex.proofs.Lexing.{lexes_only, stuck_lexes, lexes_push, stands_at}
 use Rattle.strc_lex.proofs.lexer.lex.Goals as goal
 
 pub returns-in_default-clause-only : goal.returns-in_default-clause-only
 returns-in_default-clause-only c = λ tokens h short. absurd (stuck_lexes c.args.text.now 0 c.loop-at.at c.loop-at.tokens.items tokens c.loop-at.invariant.front (record {
   within = c.loop-at-test.true;
-  black = c.loop-at.invariant.black c.loop-at-test.true;
+  bare = c.loop-at.invariant.bare;
   none = rw c.in_default.is at c.in_ok-kind.ensures.none;
 }) h)
+
+pub returns-in_default-clause-stuck : goal.returns-in_default-clause-stuck
+returns-in_default-clause-stuck c = λ at e.
+    let same : c.loop-at.at ≡ at = cc e in
+    subst (StopsAt c.args.text.now) same (record {
+      tokens = c.loop-at.tokens.items;
+      front = c.loop-at.invariant.front;
+      stuck = record {
+        within = c.loop-at-test.true;
+        bare = c.loop-at.invariant.bare;
+        none = rw c.in_default.is at c.in_ok-kind.ensures.none;
+      };
+    })
+
+pub loop-at-smaller : goal.loop-at-smaller
+loop-at-smaller c =
+    let found = rw c.in-Some.is at c.in_ok-kind.ensures.found in
+    let on = gap_ordered c.args.text.now _ _ c.gap_end-at-in-loop-at.ensures.gap in
+    omega (arith, found.1, found.2, on)
 
 pub loop-at-preserved : goal.loop-at-preserved
 loop-at-preserved c =
@@ -16,7 +36,7 @@ loop-at-preserved c =
     let stands = stands_at c.args.text.now c.loop-at.at c.in-Some.len c.in-Some.kind found.0 found.1 in
     record {
       front = rw c.in_ok-push.ensures.items (lexes_push c.args.text.now 0 c.loop-at.tokens.items _ c.gap_end-at-in-loop-at.result c.loop-at.invariant.front stands c.gap_end-at-in-loop-at.ensures.gap);
-      black = c.gap_end-at-in-loop-at.ensures.ends;
+      bare = c.gap_end-at-in-loop-at.ensures.bare;
       within = c.gap_end-at-in-loop-at.ensures.gap.within;
     }
 
