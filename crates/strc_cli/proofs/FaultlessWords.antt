@@ -73,16 +73,16 @@ abbrev IsRead : Reading → Text → Type 0
 IsRead reading value = (reading ≡ WithoutMinus) × (accepts false (Signed (pos 0) (pos 4294967295)) value ≡ true)
 
 -- a row of one value, which is a number where the row is that of `--rounds`
-pub record IsGood (row : Row) : Type 0 where
-  pub value : Text
-  pub values : row.values ≡ value ∷ []
-  pub number : bytes_eq row.id (codes "rounds") ≡ true → IsRead row.reading value
+record IsGood (row : Row) : Type 0 where
+  value : Text
+  values : row.values ≡ value ∷ []
+  number : bytes_eq row.id (codes "rounds") ≡ true → IsRead row.reading value
 
 -- an argument that one use gives one value
-pub record TakesOne (rule : Rule) : Type 0 where
-  pub action : rule.action ≡ Some action.Set
-  pub range : rule.range ≡ Some (record { start_inclusive = 1; end_inclusive = 1 })
-  pub number : bytes_eq rule.id (codes "rounds") ≡ true → (value : Text) → accepts rule.ignore_case (parser_of_value rule.parser) value ≡ true
+record TakesOne (rule : Rule) : Type 0 where
+  action : rule.action ≡ Some action.Set
+  range : rule.range ≡ Some (record { start_inclusive = 1; end_inclusive = 1 })
+  number : bytes_eq rule.id (codes "rounds") ≡ true → (value : Text) → accepts rule.ignore_case (parser_of_value rule.parser) value ≡ true
       → IsRead (reading_by rule) value
 
 -- an argument of one value, or one that shows the help
