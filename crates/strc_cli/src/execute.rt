@@ -62,7 +62,9 @@ pub fn execute<I: Source, O: Sink>(
     _input: &mut I,
     output: &mut O,
 ) -> Result<Status, CliError>
-    ensures told { Executes text.now (main_of command.now) (rounds_of command.now) result (device_of (O.contents output.old) (O.has_failed output.old)) (device_of (O.contents output.new) (O.has_failed output.new)) }
+    ensures told { Executes text.now (main_of command.now) (rounds_of command.now) result
+        (device_of (O.contents output.old) (O.has_failed output.old))
+        (device_of (O.contents output.new) (O.has_failed output.new)) }
     // The input isn't read.
     ensures input { _input.new ≡ _input.old }
 {
@@ -76,7 +78,8 @@ fn tell<O: Sink>(
     answered: &Result<Outcome, Stop>,
     output: &mut O,
 ) -> Result<Status, CliError>
-    ensures { TellsAnswer answered.now result (device_of (O.contents output.old) (O.has_failed output.old)) (device_of (O.contents output.new) (O.has_failed output.new)) }
+    ensures { TellsAnswer answered.now result (device_of (O.contents output.old) (O.has_failed output.old))
+        (device_of (O.contents output.new) (O.has_failed output.new)) }
 {
     if let Some(line) = memory_line(answered) {
         write_all(output, line)?;
@@ -91,7 +94,8 @@ fn tell<O: Sink>(
 
 // The line that tells want of memory, which takes none.
 fn memory_line(answered: &Result<Outcome, Stop>) -> Option<&'static [u8]>
-    ensures { IfSome result (λ line. (line.now ≡ spec.told_text answered.now) × (spec.told_status answered.now ≡ Status.NoMemory)) }
+    ensures { IfSome result (λ line. (line.now ≡ spec.told_text answered.now)
+        × (spec.told_status answered.now ≡ Status.NoMemory)) }
 {
     match answered {
         Err(Stop::Refused(Refusal::NoMemory)) => Some(b"refused E25 NoMemory\n"),
@@ -166,7 +170,8 @@ fn round_count(command: &Command) -> Option<u32>
 
 // Writes all bytes, however few the output takes at a time.
 fn write_all<O: Sink>(output: &mut O, bytes: &[u8]) -> Result<(), CliError>
-    ensures { Writes bytes.now result (device_of (O.contents output.old) (O.has_failed output.old)) (device_of (O.contents output.new) (O.has_failed output.new)) }
+    ensures { Writes bytes.now result (device_of (O.contents output.old) (O.has_failed output.old))
+        (device_of (O.contents output.new) (O.has_failed output.new)) }
 {
     let mut rest = bytes;
     while !rest.is_empty() {

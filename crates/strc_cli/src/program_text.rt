@@ -1,5 +1,9 @@
 // Reading a program's text.
 
+ghost use Rattle.std.specs.Prelude.{◌≡◌, ◌≢◌, ◌+◌, IfOk, IfSome, take};
+ghost use Rattle.std.specs.IoError.{error_kind};
+ghost use Rattle.strc_lex.specs.Text.{text_limit};
+
 use std::alloc::Global;
 use std::io;
 use std::io::{ErrorKind, Read};
@@ -17,7 +21,11 @@ pub enum TextFault {
 }
 
 /// The bytes of a text, as many as the reader has but at most 1,048,577: one more than a text may have.
-pub fn read_text<R: Read>(alloc: Global, reader: &mut R) -> Result<Vec<u8>, TextFault> {
+pub fn read_text<R: Read>(alloc: Global, reader: &mut R) -> Result<Vec<u8>, TextFault>
+    ensures read { IfOk result (λ text. IfSome (R.remaining reader.old) (λ bytes.
+        text.items ≡ take (text_limit + 1) bytes)) }
+    ensures failed { (error : _) → result ≡ Err (TextFault.Failed error) → error_kind error ≢ ErrorKind.OutOfMemory }
+{
     let mut text = Vec::new(alloc);
     match reader.take(MOST_BYTES).read_to_end(&mut text) {
         Ok(_) => Ok(text),

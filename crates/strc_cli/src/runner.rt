@@ -58,7 +58,8 @@ fn run_round(
     channel: &mut Vec<i32>,
     words: &mut Vec<Word>,
 ) -> Result<(), Stop>
-    ensures { Laps (lap_from 0 (all_loaded_in filters.old) []) result (all_loaded_in filters.new) words.old.items words.new.items }
+    ensures { Laps (lap_from 0 (all_loaded_in filters.old) []) result (all_loaded_in filters.new)
+        words.old.items words.new.items }
 {
     channel.clear();
     for node in 0..filters.len() {
@@ -73,7 +74,8 @@ fn run_round(
 
 // One firing, from the items on the channel before the filter to those behind it.
 fn fire(filter: &mut Instance, channel: &mut Vec<i32>, words: &mut Vec<Word>) -> Result<(), Halt>
-    ensures fires { Fires (fired (filter_in filter.old) Body.Work filter.old.state.fields channel.old.items) result filter.new.state.fields channel.new.items words.old.items words.new.items }
+    ensures fires { Fires (fired (filter_in filter.old) Body.Work filter.old.state.fields channel.old.items) result
+        filter.new.state.fields channel.new.items words.old.items words.new.items }
     ensures words { MoreWords words.old.items words.new.items }
     ensures same { filter_in filter.new ≡ filter_in filter.old }
 {

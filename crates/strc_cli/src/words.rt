@@ -1,7 +1,12 @@
 // The words of the command line.
 
-ghost use Rattle.std.specs.Prelude.{◌≡◌, ◌≤◌, Ok, length};
-ghost use Rattle.strc_cli.specs.Lines.{bare_line};
+ghost use Rattle.std.specs.Prelude.{◌≡◌, ◌≢◌, ◌<◌, ◌≤◌, IfErr, IfOk, Ok, Err, [], false, length};
+ghost use Rattle.std.specs.Prelude.{option_map, string_bytes};
+ghost use Rattle.clap.specs.Words.{app_of, kind_of, rule_of, subcommand_rows_of};
+ghost use Rattle.clap.specs.Walk.{texts};
+ghost use Rattle.clap.specs.declared.builder.command.Command.TheViews.{out-Command as fields_of};
+ghost use Rattle.strc_cli.specs.Lines.{AsksFor, IsLineIn, IsRun, bare_line, fault_by, faults};
+ghost use Rattle.strc_cli.specs.Lines.{file_rule, main_rule, rounds_rule, run_app, strc_app};
 
 use crate::line::{Command, Line, LineFault};
 use clap::error::ErrorKind;
@@ -17,6 +22,8 @@ const BARE_ROUNDS: u32 = 5;
 /// Words that the program doesn't know, or a number past its bounds, are `Words`.
 pub fn command<'a>(alloc: Global, words: &'a [&'a str]) -> Result<Line, LineFault>
     ensures bare { length words.now ≤ 1 → result ≡ Ok bare_line }
+    ensures told { 1 < length words.now → IfOk result (AsksFor (texts words.now)) }
+    ensures refused { result ≡ Err LineFault.Words → faults (texts words.now) ≢ [] }
 {
     if words.len() <= 1 {
         return Ok(Line {
@@ -45,55 +52,104 @@ pub fn complaint<'a>(alloc: Global, words: &'a [&'a str]) -> Result<String, Allo
 }
 
 // The words that the program knows.
-fn parser<'a>(alloc: Global) -> Result<clap::Command<'a>, AllocError> {
-    let file = Arg::new(alloc, "FILE")
-        .required(true)
-        .help("The file of the program's text");
-    let rounds = Arg::new(alloc, "rounds")
-        .long("rounds")
-        .value_name("N")
-        .value_parser(value_parser!(u32))
-        .help("How many rounds to run after start-up");
-    let main = Arg::new(alloc, "main")
-        .long("main")
-        .value_name("NAME")
-        .help("The main stream, where several could be it");
-    let run = clap::Command::new(alloc, "run")
-        .about("Runs a StreamIt program")
-        .arg(file)?
-        .arg(rounds)?
-        .arg(main)?;
+fn parser<'a>(alloc: Global) -> Result<clap::Command<'a>, AllocError>
+    ensures { IfOk result (λ parser. app_of parser ≡ strc_app) }
+{
     clap::Command::new(alloc, "strc")
         .about("A compiler of StreamIt programs")
         .subcommand_required(true)
-        .subcommand(run)
+        .subcommand(run_command(alloc)?)
+}
+
+// The words `run FILE [--rounds N] [--main NAME]`.
+fn run_command<'a>(alloc: Global) -> Result<clap::Command<'a>, AllocError>
+    ensures app { IfOk result (λ run. app_of run ≡ run_app) }
+    ensures local { IfOk result (λ run. (fields_of run).has_globals ≡ false) }
+{
+    clap::Command::new(alloc, "run")
+        .about("Runs a StreamIt program")
+        .arg(file_argument(alloc))?
+        .arg(rounds_option(alloc))?
+        .arg(main_option(alloc))
+}
+
+fn file_argument<'a>(alloc: Global) -> Arg<'a>
+    ensures rule { rule_of result ≡ file_rule }
+    ensures local { result.global ≡ false }
+{
+    Arg::new(alloc, "FILE")
+        .required(true)
+        .help("The file of the program's text")
+}
+
+fn rounds_option<'a>(alloc: Global) -> Arg<'a>
+    ensures rule { rule_of result ≡ rounds_rule }
+    ensures local { result.global ≡ false }
+{
+    Arg::new(alloc, "rounds")
+        .long("rounds")
+        .value_name("N")
+        .value_parser(value_parser!(u32))
+        .help("How many rounds to run after start-up")
+}
+
+fn main_option<'a>(alloc: Global) -> Arg<'a>
+    ensures rule { rule_of result ≡ main_rule }
+    ensures local { result.global ≡ false }
+{
+    Arg::new(alloc, "main")
+        .long("main")
+        .value_name("NAME")
+        .help("The main stream, where several could be it")
 }
 
 // The line that the matches of the words are.
-fn line_of(alloc: Global, matches: &ArgMatches) -> Result<Line, LineFault> {
+fn line_of(alloc: Global, matches: &ArgMatches) -> Result<Line, LineFault>
+    ensures told { IfOk result (IsLineIn (subcommand_rows_of matches.now)) }
+    ensures refused { result ≡ Err LineFault.Words → IsRun (subcommand_rows_of matches.now) → ⊥ }
+{
     let Some(run) = matches.subcommand_matches("run") else {
         return Err(LineFault::Words);
     };
+    let Some(file) = run.get_str("FILE") else {
+        return Err(LineFault::Words);
+    };
+    let Ok(rounds) = run.try_get_one::<u32>("rounds") else {
+        return Err(LineFault::Words);
+    };
     Ok(Line {
-        file: owned(alloc, run.get_str("FILE"))?,
+        file: Some(owned(alloc, file)?),
         command: Command::Run {
-            rounds: run.get_one::<u32>("rounds"),
-            main: owned(alloc, run.get_str("main"))?,
+            rounds,
+            main: owned_if_given(alloc, run.get_str("main"))?,
         },
     })
 }
 
-fn owned(alloc: Global, text: Option<&str>) -> Result<Option<String>, LineFault> {
+fn owned_if_given(alloc: Global, text: Option<&str>) -> Result<Option<String>, LineFault>
+    ensures same { IfOk result (λ owned.
+        option_map string_bytes owned ≡ option_map (λ given. given.now) text.entry) }
+    ensures memory { IfErr result (λ fault. fault ≡ LineFault.Memory) }
+{
     match text {
+        Some(text) => Ok(Some(owned(alloc, text)?)),
         None => Ok(None),
-        Some(text) => match String::from_str(alloc, text) {
-            Ok(text) => Ok(Some(text)),
-            Err(_) => Err(LineFault::Memory),
-        },
     }
 }
 
-fn fault_of(error: &Error) -> LineFault {
+fn owned(alloc: Global, text: &str) -> Result<String, LineFault>
+    ensures same { IfOk result (λ owned. string_bytes owned ≡ text.now) }
+    ensures memory { IfErr result (λ fault. fault ≡ LineFault.Memory) }
+{
+    match String::from_str(alloc, text) {
+        Ok(text) => Ok(text),
+        Err(_) => Err(LineFault::Memory),
+    }
+}
+
+fn fault_of(error: &Error) -> LineFault
+    ensures { result ≡ fault_by (kind_of error.now) }
+{
     match error.kind() {
         ErrorKind::OutOfMemory => LineFault::Memory,
         _ => LineFault::Words,
