@@ -95,8 +95,8 @@ fn takes_any_byte_in_comments_and_strings(rt: HostRuntime) -> Result<(), Fail> {
         _ => false,
     };
     assert!(rt; found);
-    let outcome = lex(rt.alloc(), b"x \x80");
-    assert!(rt; is_refused_at(&outcome, 2));
+    let refused = lex(rt.alloc(), b"x \x80").err();
+    assert_eq!(rt; refused, Some(LexError::Lex { at: 2 }));
     Ok(())
 }
 
@@ -123,15 +123,8 @@ fn names_the_byte_where_no_token_begins(rt: HostRuntime) {
         ("a\u{e4}", 1),
     ];
     for (text, at) in cases {
-        let outcome = lex(rt.alloc(), text.as_bytes());
-        assert!(rt; is_refused_at(&outcome, at), "at {text:?}");
-    }
-}
-
-fn is_refused_at(outcome: &Result<Vec<Token>, LexError>, at: usize) -> bool {
-    match outcome {
-        Err(error) => *error == LexError::Lex { at },
-        Ok(_) => false,
+        let refused = lex(rt.alloc(), text.as_bytes()).err();
+        assert_eq!(rt; refused, Some(LexError::Lex { at }), "at {text:?}");
     }
 }
 

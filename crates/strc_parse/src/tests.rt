@@ -290,7 +290,7 @@ fn groups_operators(rt: HostRuntime) -> Result<(), Fail> {
     ];
     for (text, want) in cases {
         let tokens = repeated(alloc, BEGIN, text, 1, "; } }")?;
-        let program = parse(alloc, &tokens).ok().ok_or("no program")?;
+        let program = parse(alloc, &tokens)?;
         let mut shown = String::new(alloc);
         show(
             only_expression(&program).ok_or("no expression")?,
