@@ -225,7 +225,7 @@ module _ (graph : Graph Filter) (first : Filter) (others : List Filter) (chain :
       subst (λ progress. IsLap graph now q node (filter ∷ filters) (fifo_then (fifo_go filter_meaning graph (nodes_from (suc node) (length filters))) progress) (lap_from node (member ∷ members) items))
       (sym (fires_items now q node filter filters member members items fit stands exacts all))
       (lap_by now q node filter filters member members items fit stands exacts all (firing.fired member.filter body.Work member.fields items)
-      (subst (λ (f : Filter). IfOk (firing.fired f body.Work member.fields items) (λ done. (length done.pushes ≡ stmts_pushes (work_block filter.members)) × (filter_prints filter ≡ false → done.words ≡ []))) (sym stands.0.is) (firing_counted filter member.fields items))
+      (subst (λ (f : Filter). IfOk (firing.fired f body.Work member.fields items) (λ done. (length done.pushes ≡ stmts_pushes (work_block filter.members)) × (filter_prints filter ≡ false → done.words ≡ []))) (sym stands.0.is) (firing_counted filter member.fields items exacts.0.straight))
       (λ next more others_now fits. lap_is q filters members next (suc node) more (omega arith) exacts.3 fits others_now))
 
   module _ (filters : List Filter) (size : length filters ≡ suc (length others)) (exacts : AreExact filters) where
@@ -298,8 +298,8 @@ module _ (graph : Graph Filter) (first : Filter) (others : List Filter) (chain :
 
 -- the laps of a pipeline are its answer
 pub laps_answer : LapsAreAnswers
-laps_answer first others k void joined checked low once =
-    let exacts = are_exact 0 first others joined checked low once in
+laps_answer first others k void joined checked fits once =
+    let exacts = are_exact 0 first others joined checked fits once in
     let chain = pipeline_is_chain first others in
     let matched = are_matched first others void exacts in
     let graph = flat (pipeline_of first others) in

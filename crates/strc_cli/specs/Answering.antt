@@ -1,5 +1,5 @@
 -- What is answered for a text and the words of a command, before anything is written.
-use Rattle.std.specs.Prelude.{◌≡◌, ℕ, ◌⊎◌, List, [], Option, Some, None, Result, Ok, Err, string_bytes}
+use Rattle.std.specs.Prelude.{◌≡◌, ℕ, ◌⊎◌, true, false, List, [], Option, Some, None, Result, Ok, Err, string_bytes}
 use Rattle.std.specs.Option.{option_map}
 use Rattle.strc_work.specs.Filters.{Filter}
 use Rattle.strc_cli.specs.declared.execute.Stop.{Stop}
@@ -9,6 +9,7 @@ use Rattle.strc_cli.specs.declared.line.Command.TheVariants as command
 use Rattle.strc_cli.specs.declared.outcome.Outcome.{Outcome}
 use Rattle.strc_cli.specs.declared.refusal.Refusal.{Refusal}
 use Rattle.strc_cli.specs.declared.refusal.Refusal.TheVariants as refusal
+use Rattle.strc_cli.specs.Answers.{are_settled}
 use Rattle.strc_cli.specs.Pipeline.{laps, loaded}
 use Rattle.strc_cli.specs.Programs.{Accepts, IsTrueOf}
 use Rattle.strc_cli.specs.Running.{IsEnding}
@@ -21,18 +22,24 @@ main_of (command.Run rounds main) = option_map string_bytes main
 abbrev pub rounds_of : Command → Option ℕ
 rounds_of (command.Run rounds main) = rounds
 
--- the text is accepted, and so many rounds of its filters end so
+-- the text is accepted, its filters are settled, and so many rounds of them end so
 pub record RunsTo (text : List ℕ) (main : Option (List ℕ)) (rounds : ℕ) (outcome : Outcome) : Type 0 where
   pub filters : List Filter
   pub accepted : Accepts text main filters
+  pub settled : are_settled filters ≡ true
   pub ends : IsEnding outcome (laps rounds 0 (loaded filters) [])
 
 -- the text is accepted, and nobody said how many rounds
 abbrev pub LacksRounds : List ℕ → Option (List ℕ) → Option ℕ → Refusal → Type 0
 LacksRounds text main rounds refused = (refused ≡ refusal.RoundsNeeded) × (rounds ≡ None) × ((filters : List Filter) × Accepts text main filters)
 
+-- the text is accepted, and somebody said how many rounds, but not all of its filters are run so far
+abbrev pub WaitsForMore : List ℕ → Option (List ℕ) → Option ℕ → Refusal → Type 0
+WaitsForMore text main rounds refused =
+    (refused ≡ refusal.NotYet) × ((count : ℕ) × (rounds ≡ Some count)) × ((filters : List Filter) × Accepts text main filters × (are_settled filters ≡ false))
+
 -- the outcome of the run, or the refusal that holds
 abbrev pub IsAnswered : List ℕ → Option (List ℕ) → Option ℕ → Result Outcome Stop → Type 0
 IsAnswered text main rounds (Ok outcome) = (count : ℕ) × (rounds ≡ Some count) × RunsTo text main count outcome
-IsAnswered text main rounds (Err (stop.Refused refused)) = IsTrueOf text main refused ⊎ LacksRounds text main rounds refused
+IsAnswered text main rounds (Err (stop.Refused refused)) = IsTrueOf text main refused ⊎ (LacksRounds text main rounds refused ⊎ WaitsForMore text main rounds refused)
 IsAnswered text main rounds (Err stop.NoMemory) = Unit {0}

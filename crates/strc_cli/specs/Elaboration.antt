@@ -86,18 +86,19 @@ abbrev pub told_of : ℕ → LowerError → Refusal
 told_of number (lowering.UnknownName name) = refusal.UnknownName name
 told_of number lowering.TypeMismatch = refusal.TypeMismatch number
 told_of number (lowering.ConstFault cause) = refusal.ConstFault cause
+told_of number lowering.NotYet = refusal.NotYet
 told_of number lowering.NoMemory = refusal.NoMemory
 
 abbrev pub lowered_as : ℕ → Result Filter LowerError → Result Filter Refusal
 lowered_as number (Ok filter) = Ok filter
 lowered_as number (Err broken) = Err (told_of number broken)
 
--- a filter whose initialisers don't fault
+-- a filter whose start doesn't fault
 abbrev pub started_as : {A : Type 0} → Filter → Result A Cause → Result Filter Refusal
 started_as filter (Ok fields) = Ok filter
 started_as filter (Err cause) = Err (refusal.ConstFault cause)
 
--- an instance of a filter: its text is checked, then its initialisers run
+-- an instance of a filter: its text is checked, and then its initialisers and `init` run
 abbrev pub instance_of : ℕ → Filter → Result Filter Refusal
 instance_of number filter =
     then_do (lowered_as number (filter_resolved [] filter)) (λ resolved. started_as resolved (started resolved))

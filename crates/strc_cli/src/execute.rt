@@ -14,6 +14,7 @@ use crate::outcome::Outcome;
 use crate::output::{outcome_text, refusal_text};
 use crate::refusal::Refusal;
 use crate::runner::run;
+use crate::settled::are_settled;
 use std::alloc::{AllocError, Global};
 
 /// How a call of `execute` went: what the program's exit status tells.
@@ -145,6 +146,9 @@ fn answer(alloc: Global, text: &[u8], command: &Command) -> Result<Outcome, Stop
     let Some(rounds) = round_count(command) else {
         return Err(Stop::Refused(Refusal::RoundsNeeded));
     };
+    if !are_settled(&filters) {
+        return Err(Stop::Refused(Refusal::NotYet));
+    }
     match run(alloc, &mut filters, rounds) {
         Ok(outcome) => Ok(outcome),
         Err(_) => Err(Stop::NoMemory),

@@ -3,12 +3,12 @@
 ghost use Rattle.strc_cli.specs.Answers.{FiringsKeepCountedRates, LapsAreAnswers, AcceptedRunsAreAnswers};
 ghost use Rattle.strc_cli.specs.Programs.{AcceptedOrRefused};
 
-/// A firing that doesn't fault pops and pushes what is counted from its text, and prints only where its text does.
+/// A firing of a straight work that doesn't fault pops and pushes what is counted from its text, and prints only where its text does.
 pub fn firings_keep_counted_rates()
     ensures { FiringsKeepCountedRates }
 {}
 
-/// The rounds of a pipeline of filters end as the answer of its stream equations says: the same words, or the same fault in the same round.
+/// The rounds of a pipeline of settled filters end as the answer of its stream equations says: the same words, or the same fault in the same round.
 pub fn laps_are_answers()
     ensures { LapsAreAnswers }
 {}
@@ -18,7 +18,7 @@ pub fn accepted_or_refused()
     ensures { AcceptedOrRefused }
 {}
 
-/// The rounds of an accepted text end as the answer of its pipeline says.
+/// The rounds of an accepted text whose filters are settled end as the answer of its pipeline says.
 pub fn accepted_runs_are_answers()
     ensures { AcceptedRunsAreAnswers }
 {}

@@ -5,6 +5,7 @@
 #![tactic(auto)]
 
 mod compile;
+mod counts;
 pub mod device;
 mod elaborate;
 pub mod execute;
@@ -18,5 +19,7 @@ pub mod program_text;
 mod rates;
 pub mod refusal;
 mod runner;
+mod settled;
+mod straight;
 mod text;
 pub mod words;

@@ -1,30 +1,25 @@
 // The rates of a filter: declared against counted.
 
-ghost use Rattle.std.specs.Prelude.{◌≡◌, ◌≤◌, ◌+◌, ℕ, map};
-ghost use Rattle.strc_parse.specs.View.{expr_view, stmt_view, block_view};
+ghost use Rattle.std.specs.Prelude.{◌≡◌, ◌&&◌, map};
 ghost use Rattle.strc_work.specs.Filters as filters;
-ghost use Rattle.strc_work.specs.Filters.{filter_of, members_of, work_block};
+ghost use Rattle.strc_work.specs.Filters.{filter_of};
 ghost use Rattle.strc_cli.specs.Rates as spec;
 
+use crate::counts::block_counts;
 use crate::instance::Instance;
 use crate::refusal::Refusal;
-use strc_parse::tree::{Expr, ItemType, Member, Stmt};
-use strc_work::code::{Body, Code};
+use crate::straight::block_is_straight;
+use strc_parse::tree::ItemType;
+use strc_work::code::{Body, Code, DeclaredRates};
 
-// From here on a count is held.
-const COUNT_LIMIT: u32 = 65537;
-
-/// What a firing pushes and pops, counted from its text and held at 65,537.
-#[derive(Clone, Copy, Debug, PartialEq, Eq)]
-pub(crate) struct Counts {
-    pub pushes: u32,
-    pub pops: u32,
-}
+// The highest rate that may be declared.
+const RATE_LIMIT: i32 = 65536;
 
 /// Tests the rates of each filter, in order.
 ///
-/// A rate 0 on a side with items is `RateLimit`; a declared rate that isn't the counted one is
-/// `RateMismatch`, pushes before pops.
+/// Of each filter the prework is tested before the work. A rate below 0 or above 65,536, and a rate 0 of a work on a side
+/// with items, is `RateLimit`; a declared rate that isn't the counted one is `RateMismatch`, pushes before pops. A body
+/// whose pushes and pops aren't counted yet isn't tested further.
 pub(crate) fn check_rates(filters: &[Instance]) -> Result<(), Refusal>
     ensures { result ≡ spec.rates_checked 0 (map (λ i. filter_of i.code) filters.now) }
 {
@@ -40,22 +35,54 @@ pub(crate) fn check_rates(filters: &[Instance]) -> Result<(), Refusal>
 fn check_filter(node: usize, code: &Code) -> Result<(), Refusal>
     ensures { result ≡ spec.filter_rates_checked node (filter_of code.now) }
 {
-    let declared = code.rates(Body::Work);
-    let pushes = item_count(declared.push);
-    let pops = item_count(declared.pop);
+    if code.has_prework() {
+        match check_body(node, code, Body::Prework, false) {
+            Ok(()) => {}
+            Err(refusal) => return Err(refusal),
+        }
+    }
+    let rates = code.rates(Body::Work);
     let tree = code.tree();
-    if lacks_rate(tree.input, pops) || lacks_rate(tree.output, pushes) {
+    let lacks = lacks_rate(tree.input, item_count(rates.pop))
+        || lacks_rate(tree.output, item_count(rates.push));
+    check_body(node, code, Body::Work, lacks)
+}
+
+// The rates of a body: a rate past its limits or lacking, and then the counts, where the body is straight.
+fn check_body(node: usize, code: &Code, body: Body, lacks: bool) -> Result<(), Refusal>
+    ensures { result ≡ spec.body_checked node lacks (filters.body_rates body (filter_of code.now).members)
+        (filters.body_block body (filter_of code.now).members) }
+{
+    let rates = code.rates(body);
+    if !are_within_limit(rates) || lacks {
         return Err(Refusal::RateLimit { node });
     }
-    let counted = work_counts(&tree.members);
-    match check_rate(node, pushes, counted.pushes) {
-        Ok(()) => check_rate(node, pops, counted.pops),
+    let block = code.block(body);
+    if !block_is_straight(block) {
+        return Ok(());
+    }
+    let counted = block_counts(block);
+    match check_rate(node, item_count(rates.push), counted.pushes) {
+        Ok(()) => check_rate(node, item_count(rates.pop), counted.pops),
         Err(refusal) => Err(refusal),
     }
 }
 
-// A rate as a number of items: none where it is below 0.
-fn item_count(rate: i32) -> u32
+// Whether no rate is below 0 or above the limit.
+fn are_within_limit(rates: DeclaredRates) -> bool
+    ensures { result ≡ spec.within_limit rates.push && (spec.within_limit rates.pop && spec.within_limit rates.peek) }
+{
+    is_within_limit(rates.push) && (is_within_limit(rates.pop) && is_within_limit(rates.peek))
+}
+
+fn is_within_limit(rate: i32) -> bool
+    ensures { result ≡ spec.within_limit rate }
+{
+    !(rate < 0) && !(RATE_LIMIT < rate)
+}
+
+/// A rate as a number of items: none where it is below 0.
+pub(crate) fn item_count(rate: i32) -> u32
     ensures { result ≡ filters.item_count rate }
 {
     if rate < 0 { 0 } else { rate as u32 }
@@ -82,87 +109,4 @@ fn check_rate(node: usize, declared: u32, counted: u32) -> Result<(), Refusal>
             counted,
         })
     }
-}
-
-// The counts of the first work.
-fn work_counts(members: &[Member]) -> Counts
-    ensures pushes { result.pushes ≡ spec.held (spec.stmts_pushes (work_block (members_of members.now))) }
-    ensures pops { result.pops ≡ spec.held (spec.stmts_pops (work_block (members_of members.now))) }
-{
-    for member in members {
-        if let Member::Work(work) = member {
-            return block_counts(&work.block);
-        }
-    }
-    Counts { pushes: 0, pops: 0 }
-}
-
-#[cycle(counts)]
-fn block_counts(statements: &[Stmt]) -> Counts
-    ensures pushes { result.pushes ≡ spec.held (spec.stmts_pushes (block_view statements.now)) }
-    ensures pops { result.pops ≡ spec.held (spec.stmts_pops (block_view statements.now)) }
-{
-    let mut counts = Counts { pushes: 0, pops: 0 };
-    for statement in statements {
-        counts = both(counts, statement_counts(statement));
-    }
-    counts
-}
-
-#[cycle(counts)]
-fn statement_counts(statement: &Stmt) -> Counts
-    ensures pushes { result.pushes ≡ spec.held (spec.stmt_pushes (stmt_view statement.now)) }
-    ensures pops { result.pops ≡ spec.held (spec.stmt_pops (stmt_view statement.now)) }
-{
-    match statement {
-        Stmt::Empty => Counts { pushes: 0, pops: 0 },
-        Stmt::Block(body) => block_counts(body),
-        Stmt::Declare(variable) => match &variable.initial {
-            None => Counts { pushes: 0, pops: 0 },
-            Some(value) => Counts {
-                pushes: 0,
-                pops: expression_pops(value),
-            },
-        },
-        Stmt::Evaluate(value)
-        | Stmt::Assign(_, _, value)
-        | Stmt::Print(value)
-        | Stmt::Println(value) => Counts {
-            pushes: 0,
-            pops: expression_pops(value),
-        },
-        Stmt::Push(value) => Counts {
-            pushes: 1,
-            pops: expression_pops(value),
-        },
-    }
-}
-
-fn expression_pops(value: &Expr) -> u32
-    ensures { result ≡ spec.held (spec.expr_pops (expr_view value.now)) }
-{
-    match value {
-        Expr::Number(_) | Expr::Read(_) | Expr::Step(_, _) => 0,
-        Expr::Pop => 1,
-        Expr::Group(inner) => expression_pops(inner),
-        Expr::Unary(_, operand) => expression_pops(operand),
-        Expr::Binary(_, left, right) => held_sum(expression_pops(left), expression_pops(right)),
-    }
-}
-
-// One after the other.
-fn both(first: Counts, second: Counts) -> Counts
-    ensures pushes { (m n : ℕ) → first.pushes ≡ spec.held m → second.pushes ≡ spec.held n → result.pushes ≡ spec.held (m + n) }
-    ensures pops { (m n : ℕ) → first.pops ≡ spec.held m → second.pops ≡ spec.held n → result.pops ≡ spec.held (m + n) }
-{
-    Counts {
-        pushes: held_sum(first.pushes, second.pushes),
-        pops: held_sum(first.pops, second.pops),
-    }
-}
-
-fn held_sum(left: u32, right: u32) -> u32
-    ensures { (m n : ℕ) → left ≡ spec.held m → right ≡ spec.held n → result ≡ spec.held (m + n) }
-{
-    left.saturating_add(right).min(COUNT_LIMIT)
 }

@@ -1,42 +1,97 @@
 -- An expression's spelling is read again, whatever stops it.
-use Rattle.std.proofs.Common.{◌≡◌, ℕ, zero, suc, ◌+◌, ◌-◌, ◌<◌, ◌≤◌, max, true, false, eqb, List, ◌∷◌, length, Option, Some, None, Ok, Err, refl, ap, subst, ◌∙◌, arith, inl, inr}
+use Rattle.std.proofs.Common.{◌≡◌, ℕ, zero, suc, ◌+◌, ◌-◌, ◌<◌, ◌≤◌, max, Bool, true, false, eqb, List, ◌∷◌, length, Option, Some, None, Result, Ok, Err, refl, ap, subst, ◌∙◌, arith, inl, inr}
 use Rattle.std.proofs.lemmas.Bool.{cases_lt, ne_eqb, eq-eqb}
+use denote.Enum.Bare.{sameb}
+use Rattle.strc_lex.specs.contracts.token.Mark.{the_type as mark_type}
 use Rattle.strc_lex.specs.declared.token.TokenKind.{TokenKind}
 use Rattle.strc_lex.specs.declared.token.TokenKind.TheVariants as token
+use Rattle.strc_lex.specs.declared.token.Word.{Word}
 use Rattle.strc_lex.specs.declared.token.Mark.{Mark}
 use Rattle.strc_lex.specs.declared.token.Mark.TheVariants as mark
 use Rattle.strc_parse.specs.declared.tree.UnaryOperator.{UnaryOperator}
 use Rattle.strc_parse.specs.declared.tree.UnaryOperator.TheVariants as unary
 use Rattle.strc_parse.specs.declared.tree.StepOperator.{StepOperator}
 use Rattle.strc_parse.specs.declared.tree.StepOperator.TheVariants as step
+use Rattle.strc_parse.specs.declared.tree.AssignOperator.{AssignOperator}
+use Rattle.strc_parse.specs.declared.tree.AssignOperator.TheVariants as assign
 use Rattle.strc_parse.specs.declared.tree.BinaryOperator.{BinaryOperator}
 use Rattle.strc_parse.specs.declared.tree.BinaryOperator.TheVariants as binary
+use Rattle.strc_parse.specs.declared.error.Fault.{Fault}
 use Rattle.strc_parse.specs.declared.error.Fault.TheVariants.{Nesting}
 use Rattle.strc_parse.specs.Tree as tree
-use Rattle.strc_parse.specs.Grammar.{binary_mark, step_spelled, expr_spelled, looseness, rank, IsExpr, expr_height}
-use Rattle.strc_parse.specs.Reading.{Below, tail, mark_at, binary_of, binary_by, of_rank, operator, step_after, after_name, name, step_first, pop_brackets, loosest, group, sign, marked, operand, chain, climb, expression}
+use Rattle.strc_parse.specs.Grammar.{binary_mark, assign_mark, step_spelled, expr_spelled, looseness, loosest, rank, IsExpr, expr_height}
+use Rattle.strc_parse.specs.Reading.{◌>>=◌, raised, Below, tail, mark_at, is_mark, binary_of, of_rank, operator, step_of, step_after, closed, index, read_of, step_of_place, after_place, after_name, name, step_first, pop_brackets, peek_brackets, group, sign, marked, worded, operand, chain, climb, choice, loosest_binary, conditional, ranked, expression}
 use Rattle.strc_parse.proofs.Again.{Again, Again-then, Again-inside, Again-leaf, Again-raised, expect_mark, raised_low, raised_high}
 
 -- what follows an expression of this rank and stops it
 pub record Stops (r : ℕ) (rest : List TokenKind) : Type 0 where
   pub no_step : step_after rest ≡ None
+  pub no_index : is_mark mark.OpenSquare rest ≡ false
   pub no_operator : (k : ℕ) → k ≤ r → operator k rest ≡ None
+  pub no_choice : loosest ≤ r → is_mark mark.Question rest ≡ false
 
 pub Stops-le : {r : ℕ} {rest : List TokenKind} (k : ℕ) → k ≤ r → Stops r rest → Stops k rest
-Stops-le k le stops = record { no_step = stops.no_step; no_operator = λ j h. stops.no_operator j (omega arith) }
+Stops-le k le stops = record {
+  no_step = stops.no_step;
+  no_index = stops.no_index;
+  no_operator = λ j h. stops.no_operator j (omega arith);
+  no_choice = λ h. stops.no_choice (omega arith);
+}
+
+-- a mark that is none of an expression's behind an operand
+Stops-mark : (m : Mark) → binary_of m ≡ None → step_of (Some m) ≡ None → sameb mark_type m mark.OpenSquare ≡ false → sameb mark_type m mark.Question ≡ false
+    → (r : ℕ) (rest : List TokenKind) → Stops r (token.Mark m ∷ rest)
+unfolding step_after operator mark_at is_mark
+Stops-mark m no_binary no_step no_index no_choice r rest =
+    record { no_step = no_step; no_index = no_index; no_operator = λ k h. rw no_binary refl; no_choice = λ h. no_choice }
 
 pub Stops-semicolon : (r : ℕ) (rest : List TokenKind) → Stops r (token.Mark mark.Semicolon ∷ rest)
-unfolding step_after operator mark_at
-Stops-semicolon r rest = record { no_step = refl; no_operator = λ k h. refl }
+Stops-semicolon = Stops-mark mark.Semicolon refl refl refl refl
+
+pub Stops-comma : (r : ℕ) (rest : List TokenKind) → Stops r (token.Mark mark.Comma ∷ rest)
+Stops-comma = Stops-mark mark.Comma refl refl refl refl
 
 pub Stops-bracket : (r : ℕ) (rest : List TokenKind) → Stops r (token.Mark mark.CloseBracket ∷ rest)
-unfolding step_after operator mark_at
-Stops-bracket r rest = record { no_step = refl; no_operator = λ k h. refl }
+Stops-bracket = Stops-mark mark.CloseBracket refl refl refl refl
 
-pub looseness_some : (o : BinaryOperator) → (1 ≤ looseness o) × (looseness o ≤ 6)
+pub Stops-square : (r : ℕ) (rest : List TokenKind) → Stops r (token.Mark mark.CloseSquare ∷ rest)
+Stops-square = Stops-mark mark.CloseSquare refl refl refl refl
+
+pub Stops-colon : (r : ℕ) (rest : List TokenKind) → Stops r (token.Mark mark.Colon ∷ rest)
+Stops-colon = Stops-mark mark.Colon refl refl refl refl
+
+pub Stops-brace : (r : ℕ) (rest : List TokenKind) → Stops r (token.Mark mark.OpenBrace ∷ rest)
+Stops-brace = Stops-mark mark.OpenBrace refl refl refl refl
+
+pub Stops-assign : (o : AssignOperator) (r : ℕ) (rest : List TokenKind) → Stops r (token.Mark (assign_mark o) ∷ rest)
+Stops-assign assign.Set = Stops-mark mark.Assign refl refl refl refl
+Stops-assign assign.Add = Stops-mark mark.PlusAssign refl refl refl refl
+Stops-assign assign.Subtract = Stops-mark mark.MinusAssign refl refl refl refl
+Stops-assign assign.Multiply = Stops-mark mark.StarAssign refl refl refl refl
+Stops-assign assign.Divide = Stops-mark mark.SlashAssign refl refl refl refl
+Stops-assign assign.Remainder = Stops-mark mark.PercentAssign refl refl refl refl
+
+pub Stops-word : (w : Word) (r : ℕ) (rest : List TokenKind) → Stops r (token.Word w ∷ rest)
+unfolding step_after operator mark_at is_mark
+Stops-word w r rest = record { no_step = refl; no_index = refl; no_operator = λ k h. refl; no_choice = λ h. refl }
+
+-- a question mark stops what has no tighter rank
+Stops-question : (rest : List TokenKind) → Stops loosest_binary (token.Mark mark.Question ∷ rest)
+unfolding step_after operator mark_at is_mark
+Stops-question rest = record { no_step = refl; no_index = refl; no_operator = λ k h. refl; no_choice = λ h. absurd (omega arith) }
+
+pub looseness_some : (o : BinaryOperator) → (1 ≤ looseness o) × (looseness o ≤ 10)
+looseness_some binary.LogicalOr = (omega arith, omega arith)
+looseness_some binary.LogicalAnd = (omega arith, omega arith)
 looseness_some binary.Or = (omega arith, omega arith)
 looseness_some binary.ExclusiveOr = (omega arith, omega arith)
 looseness_some binary.And = (omega arith, omega arith)
+looseness_some binary.Equal = (omega arith, omega arith)
+looseness_some binary.NotEqual = (omega arith, omega arith)
+looseness_some binary.Less = (omega arith, omega arith)
+looseness_some binary.LessOrEqual = (omega arith, omega arith)
+looseness_some binary.Greater = (omega arith, omega arith)
+looseness_some binary.GreaterOrEqual = (omega arith, omega arith)
 looseness_some binary.ShiftLeft = (omega arith, omega arith)
 looseness_some binary.ShiftRight = (omega arith, omega arith)
 looseness_some binary.Add = (omega arith, omega arith)
@@ -47,9 +102,17 @@ looseness_some binary.Remainder = (omega arith, omega arith)
 
 operator_mark : (k : ℕ) (o : BinaryOperator) (rest : List TokenKind) → operator k (token.Mark (binary_mark o) ∷ rest) ≡ of_rank k (Some o)
 unfolding operator mark_at
+operator_mark k binary.LogicalOr rest = refl
+operator_mark k binary.LogicalAnd rest = refl
 operator_mark k binary.Or rest = refl
 operator_mark k binary.ExclusiveOr rest = refl
 operator_mark k binary.And rest = refl
+operator_mark k binary.Equal rest = refl
+operator_mark k binary.NotEqual rest = refl
+operator_mark k binary.Less rest = refl
+operator_mark k binary.LessOrEqual rest = refl
+operator_mark k binary.Greater rest = refl
+operator_mark k binary.GreaterOrEqual rest = refl
 operator_mark k binary.ShiftLeft rest = refl
 operator_mark k binary.ShiftRight rest = refl
 operator_mark k binary.Add rest = refl
@@ -60,9 +123,17 @@ operator_mark k binary.Remainder rest = refl
 
 no_step_mark : (o : BinaryOperator) (rest : List TokenKind) → step_after (token.Mark (binary_mark o) ∷ rest) ≡ None
 unfolding step_after mark_at
+no_step_mark binary.LogicalOr rest = refl
+no_step_mark binary.LogicalAnd rest = refl
 no_step_mark binary.Or rest = refl
 no_step_mark binary.ExclusiveOr rest = refl
 no_step_mark binary.And rest = refl
+no_step_mark binary.Equal rest = refl
+no_step_mark binary.NotEqual rest = refl
+no_step_mark binary.Less rest = refl
+no_step_mark binary.LessOrEqual rest = refl
+no_step_mark binary.Greater rest = refl
+no_step_mark binary.GreaterOrEqual rest = refl
 no_step_mark binary.ShiftLeft rest = refl
 no_step_mark binary.ShiftRight rest = refl
 no_step_mark binary.Add rest = refl
@@ -71,16 +142,29 @@ no_step_mark binary.Multiply rest = refl
 no_step_mark binary.Divide rest = refl
 no_step_mark binary.Remainder rest = refl
 
+no_index_mark : (o : BinaryOperator) (rest : List TokenKind) → is_mark mark.OpenSquare (token.Mark (binary_mark o) ∷ rest) ≡ false
+unfolding is_mark
+no_index_mark binary.LogicalOr rest = refl
+no_index_mark binary.LogicalAnd rest = refl
+no_index_mark binary.Or rest = refl
+no_index_mark binary.ExclusiveOr rest = refl
+no_index_mark binary.And rest = refl
+no_index_mark binary.Equal rest = refl
+no_index_mark binary.NotEqual rest = refl
+no_index_mark binary.Less rest = refl
+no_index_mark binary.LessOrEqual rest = refl
+no_index_mark binary.Greater rest = refl
+no_index_mark binary.GreaterOrEqual rest = refl
+no_index_mark binary.ShiftLeft rest = refl
+no_index_mark binary.ShiftRight rest = refl
+no_index_mark binary.Add rest = refl
+no_index_mark binary.Subtract rest = refl
+no_index_mark binary.Multiply rest = refl
+no_index_mark binary.Divide rest = refl
+no_index_mark binary.Remainder rest = refl
+
 of_rank_other : (k : ℕ) (o : BinaryOperator) → k < looseness o → of_rank k (Some o) ≡ None
 of_rank_other k o lt = let ne : eqb (looseness o) k ≡ false = ne_eqb (looseness o) k (λ e. absurd (omega arith)) in rw ne refl
-
-no_rank_of : (k : ℕ) → k ≤ 0 → (o : Option BinaryOperator) → of_rank k o ≡ None
-no_rank_of k le None = refl
-no_rank_of k le (Some o) = of_rank_other k o (omega (arith, looseness_some o))
-
-no_rank_0 : (k : ℕ) → k ≤ 0 → (found : Option Mark) → of_rank k (binary_by found) ≡ None
-no_rank_0 k le None = refl
-no_rank_0 k le (Some found) = no_rank_of k le (binary_of found)
 
 of_rank_same : (o : BinaryOperator) → of_rank (looseness o) (Some o) ≡ Some o
 of_rank_same o = let same : eqb (looseness o) (looseness o) ≡ true = eq-eqb (looseness o) (looseness o) refl in rw same refl
@@ -88,35 +172,52 @@ of_rank_same o = let same : eqb (looseness o) (looseness o) ≡ true = eq-eqb (l
 Stops-operator : (r : ℕ) (o : BinaryOperator) (rest : List TokenKind) → r < looseness o → Stops r (token.Mark (binary_mark o) ∷ rest)
 Stops-operator r o rest lt = record {
   no_step = no_step_mark o rest;
+  no_index = no_index_mark o rest;
   no_operator = λ k h. operator_mark k o rest ∙ of_rank_other k o (omega arith);
+  no_choice = λ h. absurd (omega (arith, (looseness_some o).1));
 }
 
 pub height_some : (e : tree.Expr) → 1 ≤ expr_height e
 height_some (tree.Number value) = omega arith
+height_some (tree.Truth value) = omega arith
 height_some (tree.Read name) = omega arith
+height_some (tree.Element name at) = omega arith
 height_some tree.Pop = omega arith
+height_some (tree.Peek at) = omega arith
 height_some (tree.Group inner) = omega arith
 height_some (tree.Unary o operand) = omega arith
 height_some (tree.Step o name) = omega arith
+height_some (tree.StepElement o name at) = omega arith
 height_some (tree.Binary o left right) = omega arith
+height_some (tree.Conditional condition chosen other) = omega arith
 
 -- a tree has no more height than tokens
 pub expr_length : (e : tree.Expr) (rest : List TokenKind) → expr_height e + length rest ≤ length (expr_spelled e rest)
 expr_length (tree.Number value) rest = omega arith
+expr_length (tree.Truth value) rest = omega arith
 expr_length (tree.Read name) rest = omega arith
+expr_length (tree.Element name at) rest = omega (arith, expr_length at (token.Mark mark.CloseSquare ∷ rest))
 expr_length tree.Pop rest = omega arith
+expr_length (tree.Peek at) rest = omega (arith, expr_length at (token.Mark mark.CloseBracket ∷ rest))
 expr_length (tree.Group inner) rest = omega (arith, expr_length inner (token.Mark mark.CloseBracket ∷ rest))
 expr_length (tree.Unary o operand) rest = omega (arith, expr_length operand rest)
 expr_length (tree.Step step.IncrementFirst name) rest = omega arith
 expr_length (tree.Step step.DecrementFirst name) rest = omega arith
 expr_length (tree.Step step.IncrementAfter name) rest = omega arith
 expr_length (tree.Step step.DecrementAfter name) rest = omega arith
+expr_length (tree.StepElement step.IncrementFirst name at) rest = omega (arith, expr_length at (token.Mark mark.CloseSquare ∷ rest))
+expr_length (tree.StepElement step.DecrementFirst name at) rest = omega (arith, expr_length at (token.Mark mark.CloseSquare ∷ rest))
+expr_length (tree.StepElement step.IncrementAfter name at) rest = omega (arith, expr_length at (token.Mark mark.CloseSquare ∷ token.Mark mark.PlusPlus ∷ rest))
+expr_length (tree.StepElement step.DecrementAfter name at) rest = omega (arith, expr_length at (token.Mark mark.CloseSquare ∷ token.Mark mark.MinusMinus ∷ rest))
 expr_length (tree.Binary o left right) rest = omega (arith, expr_length left (token.Mark (binary_mark o) ∷ expr_spelled right rest), expr_length right rest)
+expr_length (tree.Conditional condition chosen other) rest =
+    let behind : List TokenKind = token.Mark mark.Colon ∷ expr_spelled other rest in
+    omega (arith, expr_length condition (token.Mark mark.Question ∷ expr_spelled chosen behind), expr_length chosen behind, expr_length other rest)
 
 abbrev Triple : Type 0
 Triple = tree.Expr × ℕ × List TokenKind
 
-abbrev found : tree.Expr → List TokenKind → Triple
+abbrev pub found : tree.Expr → List TokenKind → Triple
 found e rest = (e, expr_height e, rest)
 
 chain_stops : (depth : ℕ) (below : Below) (r turns : ℕ) (e : tree.Expr) (h : ℕ) (rest : List TokenKind) → operator r rest ≡ None → chain depth below r turns e h rest ≡ Ok (e, h, rest)
@@ -140,7 +241,7 @@ climb_on depth below j (suc k) tokens e rest le stops again =
 
 -- read by the climb to a rank
 abbrev IsClimbed : tree.Expr → Type 0
-IsClimbed e = (d k : ℕ) (rest : List TokenKind) → rank e ≤ k → Stops k rest
+IsClimbed e = (d k : ℕ) (rest : List TokenKind) → rank e ≤ k → k < loosest → Stops k rest
     → Again (suc d) (expr_height e) (found e rest) (climb (suc d) (expression d) k (expr_spelled e rest))
 
 -- read from its leftmost operand on, up to where the loop of its rank stands behind it
@@ -152,31 +253,49 @@ record Spine (d k : ℕ) (e : tree.Expr) (rest : List TokenKind) : Type 0 where
 
 record Facts (e : tree.Expr) : Type 0 where
   climbed : IsClimbed e
-  spine : (d k : ℕ) (rest : List TokenKind) → rank e ≤ suc k → Stops k rest → Spine d k e rest
+  spine : (d k : ℕ) (rest : List TokenKind) → rank e ≤ suc k → suc k < loosest → Stops k rest → Spine d k e rest
 
 -- an expression of a tighter rank is the leftmost operand itself
-leaf_spine : (e : tree.Expr) → IsClimbed e → (d k : ℕ) (rest : List TokenKind) → rank e ≤ k → Stops k rest → Spine d k e rest
+leaf_spine : (e : tree.Expr) → IsClimbed e → (d k : ℕ) (rest : List TokenKind) → rank e ≤ k → k < loosest → Stops k rest → Spine d k e rest
 unfolding climb
-leaf_spine e climbed d k rest le stops =
-    let again = climbed d k rest le stops in
+leaf_spine e climbed d k rest le lt stops =
+    let again = climbed d k rest le lt stops in
     record { turns = length rest; enough = omega arith; fits = λ h. rw (again.fits h) refl; over = λ h. rw (again.over h) refl }
 
--- the facts of an expression without a binary operator
+-- the facts of an expression with no operator between operands
 operand_facts : (e : tree.Expr) → rank e ≡ 0
-    → ((d : ℕ) (rest : List TokenKind) → step_after rest ≡ None → Again (suc d) (expr_height e) (found e rest) (operand (suc d) (expression d) (expr_spelled e rest))) → Facts e
+    → ((d : ℕ) (rest : List TokenKind) → Stops 0 rest → Again (suc d) (expr_height e) (found e rest) (operand (suc d) (expression d) (expr_spelled e rest))) → Facts e
 unfolding climb
 operand_facts e is_zero again =
-    let climbed : IsClimbed e = λ d k rest le stops. climb_on (suc d) (expression d) 0 k (expr_spelled e rest) e rest (omega arith) stops (again d rest stops.no_step) in
-    record { climbed = climbed; spine = λ d k rest le stops. leaf_spine e climbed d k rest (omega arith) stops }
+    let climbed : IsClimbed e = λ d k rest le lt stops. climb_on (suc d) (expression d) 0 k (expr_spelled e rest) e rest (omega arith) stops (again d rest (Stops-le 0 (omega arith) stops)) in
+    record { climbed = climbed; spine = λ d k rest le lt stops. leaf_spine e climbed d k rest (omega arith) (omega arith) stops }
 
--- read at a depth and a rank
-abbrev pub IsReadAgain : tree.Expr → Type 0
-IsReadAgain e = (depth r : ℕ) (rest : List TokenKind) → rank e ≤ r → Stops r rest → Again depth (expr_height e) (found e rest) (expression depth r (expr_spelled e rest))
+-- read at a depth, by the climb to a rank and as a whole
+record IsReadAgain (e : tree.Expr) : Type 0 where
+  climbs : (depth r : ℕ) (rest : List TokenKind) → rank e ≤ r → r < loosest → Stops r rest → Again depth (expr_height e) (found e rest) (expression depth r (expr_spelled e rest))
+  whole : (depth : ℕ) (rest : List TokenKind) → Stops loosest rest → Again depth (expr_height e) (found e rest) (expression depth loosest (expr_spelled e rest))
 
-read_again : (e : tree.Expr) → Facts e → IsReadAgain e
-unfolding expression
-read_again e facts zero r rest le stops = record { fits = λ h. absurd (omega (arith, height_some e)); over = λ h. refl }
-read_again e facts (suc d) r rest le stops = facts.climbed d r rest le stops
+no_depth : {X : Type 0} (e : tree.Expr) (x : X) → Again 0 (expr_height e) x (Err Nesting)
+no_depth e x = record { fits = λ h. absurd (omega (arith, height_some e)); over = λ h. refl }
+
+climbs_again : (e : tree.Expr) → Facts e → (depth r : ℕ) (rest : List TokenKind) → rank e ≤ r → r < loosest → Stops r rest
+    → Again depth (expr_height e) (found e rest) (expression depth r (expr_spelled e rest))
+unfolding expression ranked
+climbs_again e facts zero r rest le lt stops = no_depth e (found e rest)
+climbs_again e facts (suc d) r rest le lt stops =
+    let ne : eqb r loosest ≡ false = ne_eqb r loosest (λ same. absurd (omega arith)) in rw ne (facts.climbed d r rest le lt stops)
+
+whole_again : (e : tree.Expr) → rank e < loosest → Facts e → (depth : ℕ) (rest : List TokenKind) → Stops loosest rest
+    → Again depth (expr_height e) (found e rest) (expression depth loosest (expr_spelled e rest))
+unfolding expression ranked conditional
+whole_again e low facts zero rest stops = no_depth e (found e rest)
+whole_again e low facts (suc d) rest stops =
+    Again-then (suc d) (expr_height e) (expr_height e) (found e rest) (found e rest) (climb (suc d) (expression d) loosest_binary (expr_spelled e rest)) _
+    (facts.climbed d loosest_binary rest (omega arith) (omega arith) (Stops-le loosest_binary (omega arith) stops)) (omega arith)
+    (λ fits. rw (stops.no_choice (omega arith)) (record { fits = λ h. refl; over = λ h. absurd (omega arith) }))
+
+read_again : (e : tree.Expr) → rank e < loosest → Facts e → IsReadAgain e
+read_again e low facts = record { climbs = climbs_again e facts; whole = whole_again e low facts }
 
 -- the facts of a binary operation, by those of its sides
 module _ (o : BinaryOperator) (left right : tree.Expr) (left_low : rank left ≤ looseness o) (right_low : rank right < looseness o) (lefts : Facts left) (rights : IsReadAgain right) where
@@ -191,7 +310,7 @@ module _ (o : BinaryOperator) (left right : tree.Expr) (left_low : rank left ≤
   turn_fits d k turns rest at low stops =
       let ahead : operator (suc k) (token.Mark (binary_mark o) ∷ expr_spelled right rest) ≡ Some o = operator_mark (suc k) o (expr_spelled right rest) ∙ subst (λ (n : ℕ). of_rank n (Some o) ≡ Some o) at (of_rank_same o) in
       let less : suc k - 1 ≡ k = omega arith in
-      let read = (rights d k rest (omega arith) stops).fits (omega arith) in
+      let read = (rights.climbs d k rest (omega arith) (omega (arith, looseness_some o)) stops).fits (omega arith) in
       let up = raised_low (suc d) (max (expr_height left) (expr_height right)) (omega arith) in
       rw (ahead, less, read, up) refl
 
@@ -201,7 +320,7 @@ module _ (o : BinaryOperator) (left right : tree.Expr) (left_low : rank left ≤
   turn_over d k turns rest at low high stops =
       let ahead : operator (suc k) (token.Mark (binary_mark o) ∷ expr_spelled right rest) ≡ Some o = operator_mark (suc k) o (expr_spelled right rest) ∙ subst (λ (n : ℕ). of_rank n (Some o) ≡ Some o) at (of_rank_same o) in
       let less : suc k - 1 ≡ k = omega arith in
-      let again = rights d k rest (omega arith) stops in
+      let again = rights.climbs d k rest (omega arith) (omega (arith, looseness_some o)) stops in
       elim (cases_lt d (expr_height right)) [
         | inl deep ↦ let read = again.over deep in rw (ahead, less, read) refl
         | inr shallow ↦
@@ -213,7 +332,7 @@ module _ (o : BinaryOperator) (left right : tree.Expr) (left_low : rank left ≤
   own_spine : (d k : ℕ) (rest : List TokenKind) → looseness o ≡ suc k → Stops k rest → Spine d k both rest
   own_spine d k rest at stops =
       let behind : List TokenKind = token.Mark (binary_mark o) ∷ expr_spelled right rest in
-      let s = lefts.spine d k behind (omega arith) (Stops-operator k o (expr_spelled right rest) (omega arith)) in
+      let s = lefts.spine d k behind (omega arith) (omega (arith, looseness_some o)) (Stops-operator k o (expr_spelled right rest) (omega arith)) in
       let long : length rest + 1 ≤ length (expr_spelled right rest) = omega (arith, expr_length right rest, height_some right) in
       let enough : 1 + length (expr_spelled right rest) ≤ s.turns = omega (arith, s.enough) in
       let one : s.turns ≡ suc (s.turns - 1) = omega arith in
@@ -238,87 +357,204 @@ module _ (o : BinaryOperator) (left right : tree.Expr) (left_low : rank left ≤
   binary_facts : Facts both
   binary_facts =
       let own : looseness o ≡ suc (looseness o - 1) = omega (arith, looseness_some o) in
-      let climbed : IsClimbed both = λ d k rest le stops. climb_on (suc d) (expression d) (suc (looseness o - 1)) k (expr_spelled both rest) both rest (omega arith) stops
+      let climbed : IsClimbed both = λ d k rest le lt stops. climb_on (suc d) (expression d) (suc (looseness o - 1)) k (expr_spelled both rest) both rest (omega arith) stops
       (own_climb d (looseness o - 1) rest own (Stops-le (suc (looseness o - 1)) (omega arith) stops)) in
       record {
         climbed = climbed;
-        spine = λ d k rest le stops. elim (cases_lt k (looseness o)) [
+        spine = λ d k rest le bound stops. elim (cases_lt k (looseness o)) [
           | inl lt ↦ own_spine d k rest (omega arith) stops
-          | inr ge ↦ leaf_spine both climbed d k rest ge stops
+          | inr ge ↦ leaf_spine both climbed d k rest ge (omega arith) stops
         ];
       }
 
 -- ---- the operands
 
-pub rank_low : (e : tree.Expr) → rank e ≤ loosest
-rank_low (tree.Number value) = omega arith
-rank_low (tree.Read name) = omega arith
-rank_low tree.Pop = omega arith
-rank_low (tree.Group inner) = omega arith
-rank_low (tree.Unary o operand) = omega arith
-rank_low (tree.Step o name) = omega arith
-rank_low (tree.Binary o left right) = (looseness_some o).1
+-- an index with its brackets, or nothing
+abbrev pub index_spelled : Option tree.Expr → List TokenKind → List TokenKind
+index_spelled None rest = rest
+index_spelled (Some at) rest = token.Mark mark.OpenSquare ∷ expr_spelled at (token.Mark mark.CloseSquare ∷ rest)
+
+-- the height of a variable or of an element
+abbrev pub place_height : Option tree.Expr → ℕ
+place_height None = 1
+place_height (Some at) = expr_height at + 1
+
+abbrev IsIndexAgain : Option tree.Expr → Type 0
+IsIndexAgain None = Unit {0}
+IsIndexAgain (Some at) = IsReadAgain at
+
+closed_by : (e : tree.Expr) → IsReadAgain e → (d : ℕ) (m : Mark) (rest : List TokenKind) → Stops loosest (token.Mark m ∷ rest)
+    → Again d (expr_height e) (found e rest) (closed (expression d) m (expr_spelled e (token.Mark m ∷ rest)))
+unfolding closed
+closed_by e again d m rest stops =
+    Again-then d (expr_height e) (expr_height e) (found e (token.Mark m ∷ rest)) (found e rest) _ _ (again.whole d (token.Mark m ∷ rest) stops) (omega arith)
+    (λ low. rw (expect_mark m rest) (record { fits = λ h. refl; over = λ h. absurd (omega arith) }))
 
 module _ (d : ℕ) (rest : List TokenKind) where
+  -- a node above an expression in brackets
+  enclosed_again : (e : tree.Expr) → IsReadAgain e → (m : Mark) → Stops loosest (token.Mark m ∷ rest) → {Y : Type 0} (y : Y) (make : tree.Expr → ℕ → List TokenKind → Result Y Fault)
+      → make e (expr_height e + 1) rest ≡ Ok y
+      → Again (suc d) (expr_height e + 1) y (closed (expression d) m (expr_spelled e (token.Mark m ∷ rest)) >>= λ value. raised (suc d) value.1 >>= λ height. make value.0 height value.2)
+  enclosed_again e again m stops y make is =
+      Again-inside d (expr_height e) (expr_height e + 1) (found e rest) y _ _ (closed_by e again d m rest stops) (omega arith)
+      (λ low. Again-raised (suc d) (expr_height e) y _ is)
+
+  index_again : (at : Option tree.Expr) → IsIndexAgain at → is_mark mark.OpenSquare rest ≡ false
+      → Again (suc d) (place_height at) (at, place_height at, rest) (index (suc d) (expression d) (index_spelled at rest))
+  unfolding index is_mark
+  index_again None again none = rw none (Again-leaf d _ _ refl)
+  index_again (Some at) again none =
+      enclosed_again at again mark.CloseSquare (Stops-square loosest rest) (Some at, expr_height at + 1, rest) (λ value height after. Ok (Some value, height, after)) refl
+
   group_again : (inner : tree.Expr) → IsReadAgain inner
       → Again (suc d) (expr_height (tree.Group inner)) (found (tree.Group inner) rest) (group (suc d) (expression d) (expr_spelled inner (token.Mark mark.CloseBracket ∷ rest)))
   unfolding group
   group_again inner again =
-      Again-inside d (expr_height inner) (expr_height inner + 1) (found inner (token.Mark mark.CloseBracket ∷ rest)) (found (tree.Group inner) rest) _ _
-      (again d loosest (token.Mark mark.CloseBracket ∷ rest) (rank_low inner) (Stops-bracket loosest rest)) (omega arith)
-      (λ low. rw (expect_mark mark.CloseBracket rest) (Again-raised (suc d) (expr_height inner) (found (tree.Group inner) rest) _ refl))
+      enclosed_again inner again mark.CloseBracket (Stops-bracket loosest rest) (found (tree.Group inner) rest) (λ value height after. Ok (tree.Group value, height, after)) refl
 
-  sign_again : (o : UnaryOperator) (inner : tree.Expr) → IsReadAgain inner → rank inner ≡ 0 → step_after rest ≡ None
+  peek_again : (at : tree.Expr) → IsReadAgain at
+      → Again (suc d) (expr_height (tree.Peek at)) (found (tree.Peek at) rest) (peek_brackets (suc d) (expression d) (token.Mark mark.OpenBracket ∷ expr_spelled at (token.Mark mark.CloseBracket ∷ rest)))
+  unfolding peek_brackets
+  peek_again at again =
+      rw (expect_mark mark.OpenBracket (expr_spelled at (token.Mark mark.CloseBracket ∷ rest)))
+      (enclosed_again at again mark.CloseBracket (Stops-bracket loosest rest) (found (tree.Peek at) rest) (λ value height after. Ok (tree.Peek value, height, after)) refl)
+
+  sign_again : (o : UnaryOperator) (inner : tree.Expr) → IsReadAgain inner → rank inner ≡ 0 → Stops 0 rest
       → Again (suc d) (expr_height (tree.Unary o inner)) (found (tree.Unary o inner) rest) (sign (suc d) (expression d) o (expr_spelled inner rest))
-  unfolding sign operator
-  sign_again o inner again at no_step =
-      let stops : Stops 0 rest = record { no_step = no_step; no_operator = λ k h. no_rank_0 k (omega arith) (mark_at rest) } in
+  unfolding sign
+  sign_again o inner again at stops =
       Again-inside d (expr_height inner) (expr_height inner + 1) (found inner rest) (found (tree.Unary o inner) rest) _ _
-      (again d 0 rest (omega arith) stops) (omega arith)
+      (again.climbs d 0 rest (omega arith) (omega arith) stops) (omega arith)
       (λ low. Again-raised (suc d) (expr_height inner) (found (tree.Unary o inner) rest) _ refl)
 
   pop_again : pop_brackets (token.Mark mark.OpenBracket ∷ token.Mark mark.CloseBracket ∷ rest) ≡ Ok (found tree.Pop rest)
   unfolding pop_brackets
   pop_again = rw (expect_mark mark.OpenBracket (token.Mark mark.CloseBracket ∷ rest), expect_mark mark.CloseBracket rest) refl
 
-  name_again : (named : List ℕ) → step_after rest ≡ None → after_name (suc d) named rest ≡ Ok (found (tree.Read named) rest)
-  unfolding after_name
-  name_again named no_step = rw no_step refl
+module _ (d : ℕ) (named : List ℕ) (at : Option tree.Expr) (again : IsIndexAgain at) (rest : List TokenKind) where
+  name_again : Stops 0 rest → Again (suc d) (place_height at) (read_of named at, place_height at, rest) (after_name (suc d) (expression d) named (index_spelled at rest))
+  unfolding after_name after_place
+  name_again stops =
+      Again-then (suc d) (place_height at) (place_height at) (at, place_height at, rest) (read_of named at, place_height at, rest) _ _ (index_again d rest at again stops.no_index) (omega arith)
+      (λ low. rw stops.no_step (record { fits = λ h. refl; over = λ h. absurd (omega arith) }))
 
-  step_after_again : (o : StepOperator) (named : List ℕ) (behind : List TokenKind) → step_after behind ≡ Some o → tail behind ≡ rest
-      → Again (suc d) 2 (found (tree.Step o named) rest) (after_name (suc d) named behind)
-  unfolding after_name
-  step_after_again o named behind stands is_rest = rw (stands, is_rest) (Again-raised (suc d) 1 (found (tree.Step o named) rest) _ refl)
+  step_after_again : (o : StepOperator) (behind : List TokenKind) → is_mark mark.OpenSquare behind ≡ false → step_after behind ≡ Some o → tail behind ≡ rest
+      → Again (suc d) (place_height at + 1) (step_of_place o named at, place_height at + 1, rest) (after_name (suc d) (expression d) named (index_spelled at behind))
+  unfolding after_name after_place
+  step_after_again o behind no_index stands is_rest =
+      Again-then (suc d) (place_height at) (place_height at + 1) (at, place_height at, behind) (step_of_place o named at, place_height at + 1, rest) _ _ (index_again d behind at again no_index) (omega arith)
+      (λ low. rw (stands, is_rest) (Again-raised (suc d) (place_height at) (step_of_place o named at, place_height at + 1, rest) _ refl))
 
-  step_first_again : (o : StepOperator) (named : List ℕ) → Again (suc d) 2 (found (tree.Step o named) rest) (step_first (suc d) o (token.Name named ∷ rest))
+  step_first_again : (o : StepOperator) → Stops 0 rest
+      → Again (suc d) (place_height at + 1) (step_of_place o named at, place_height at + 1, rest) (step_first (suc d) (expression d) o (token.Name named ∷ index_spelled at rest))
   unfolding step_first name
-  step_first_again o named = Again-raised (suc d) 1 (found (tree.Step o named) rest) _ refl
+  step_first_again o stops =
+      Again-then (suc d) (place_height at) (place_height at + 1) (at, place_height at, rest) (step_of_place o named at, place_height at + 1, rest) _ _ (index_again d rest at again stops.no_index) (omega arith)
+      (λ low. Again-raised (suc d) (place_height at) (step_of_place o named at, place_height at + 1, rest) _ refl)
 
-  step_again : (o : StepOperator) (named : List ℕ) → Again (suc d) 2 (found (tree.Step o named) rest) (operand (suc d) (expression d) (step_spelled o named rest))
-  unfolding operand marked step_after mark_at
-  step_again step.IncrementFirst named = step_first_again step.IncrementFirst named
-  step_again step.DecrementFirst named = step_first_again step.DecrementFirst named
-  step_again step.IncrementAfter named = step_after_again step.IncrementAfter named (token.Mark mark.PlusPlus ∷ rest) refl refl
-  step_again step.DecrementAfter named = step_after_again step.DecrementAfter named (token.Mark mark.MinusMinus ∷ rest) refl refl
+  step_again : (o : StepOperator) → Stops 0 rest
+      → Again (suc d) (place_height at + 1) (step_of_place o named at, place_height at + 1, rest)
+      (operand (suc d) (expression d) (step_spelled o (λ after. token.Name named ∷ index_spelled at after) rest))
+  unfolding operand marked step_after mark_at is_mark
+  step_again step.IncrementFirst stops = step_first_again step.IncrementFirst stops
+  step_again step.DecrementFirst stops = step_first_again step.DecrementFirst stops
+  step_again step.IncrementAfter stops = step_after_again step.IncrementAfter (token.Mark mark.PlusPlus ∷ rest) refl refl refl
+  step_again step.DecrementAfter stops = step_after_again step.DecrementAfter (token.Mark mark.MinusMinus ∷ rest) refl refl refl
 
-  unary_again : (o : UnaryOperator) (inner : tree.Expr) → IsReadAgain inner → rank inner ≡ 0 → step_after rest ≡ None
+-- the height of a step is two more than the index's
+element_step : (d : ℕ) (named : List ℕ) (at : tree.Expr) → IsReadAgain at → (rest : List TokenKind) (o : StepOperator) → Stops 0 rest
+    → Again (suc d) (expr_height (tree.StepElement o named at)) (found (tree.StepElement o named at) rest)
+    (operand (suc d) (expression d) (expr_spelled (tree.StepElement o named at) rest))
+element_step d named at again rest o stops =
+    let two : expr_height at + 1 + 1 ≡ expr_height at + 2 = omega arith in
+    let read = step_again d named (Some at) again rest o stops in
+    rw two at read
+
+module _ (d : ℕ) (rest : List TokenKind) where
+  unary_again : (o : UnaryOperator) (inner : tree.Expr) → IsReadAgain inner → rank inner ≡ 0 → Stops 0 rest
       → Again (suc d) (expr_height (tree.Unary o inner)) (found (tree.Unary o inner) rest) (operand (suc d) (expression d) (expr_spelled (tree.Unary o inner) rest))
   unfolding operand marked
-  unary_again unary.Negate inner again at no_step = sign_again unary.Negate inner again at no_step
-  unary_again unary.Not inner again at no_step = sign_again unary.Not inner again at no_step
-  unary_again unary.Complement inner again at no_step = sign_again unary.Complement inner again at no_step
+  unary_again unary.Negate inner again at stops = sign_again d rest unary.Negate inner again at stops
+  unary_again unary.Not inner again at stops = sign_again d rest unary.Not inner again at stops
+  unary_again unary.Complement inner again at stops = sign_again d rest unary.Complement inner again at stops
 
-facts_of : (e : tree.Expr) → IsExpr e → Facts e
-unfolding operand marked
-facts_of (tree.Number value) shape = operand_facts (tree.Number value) refl (λ d rest no_step. Again-leaf d _ _ refl)
-facts_of (tree.Read named) shape = operand_facts (tree.Read named) refl (λ d rest no_step. Again-leaf d _ _ (name_again d rest named no_step))
-facts_of tree.Pop shape = operand_facts tree.Pop refl (λ d rest no_step. Again-leaf d _ _ (pop_again d rest))
-facts_of (tree.Group inner) shape = operand_facts (tree.Group inner) refl (λ d rest no_step. group_again d rest inner (read_again inner (facts_of inner shape)))
-facts_of (tree.Unary o inner) shape =
-    operand_facts (tree.Unary o inner) refl (λ d rest no_step. unary_again d rest o inner (read_again inner (facts_of inner shape.1)) shape.0 no_step)
-facts_of (tree.Step o named) shape = operand_facts (tree.Step o named) refl (λ d rest no_step. step_again d rest o named)
-facts_of (tree.Binary o left right) shape = binary_facts o left right shape.0 shape.1 (facts_of left shape.2) (read_again right (facts_of right shape.3))
+  truth_again : (value : Bool) → operand (suc d) (expression d) (expr_spelled (tree.Truth value) rest) ≡ Ok (found (tree.Truth value) rest)
+  unfolding operand worded
+  truth_again true = refl
+  truth_again false = refl
 
--- an expression is read again at each rank that takes it, where what follows stops it
-pub expression_again : (e : tree.Expr) → IsExpr e → IsReadAgain e
-expression_again e shape = read_again e (facts_of e shape)
+-- ---- the choice between two
+
+module _ (condition chosen other : tree.Expr) where
+  abbrev choose : tree.Expr
+  choose = tree.Conditional condition chosen other
+
+  choice_again : IsReadAgain chosen → IsReadAgain other → (d : ℕ) (rest : List TokenKind) → Stops loosest rest
+      → Again (suc d) (expr_height choose) (found choose rest)
+      (choice (suc d) (expression d) condition (expr_height condition) (expr_spelled chosen (token.Mark mark.Colon ∷ expr_spelled other rest)))
+  unfolding choice
+  choice_again chosens others d rest stops =
+      Again-inside d (expr_height chosen) (expr_height choose) (found chosen (expr_spelled other rest)) (found choose rest) _ _
+      (closed_by chosen chosens d mark.Colon (expr_spelled other rest) (Stops-colon loosest (expr_spelled other rest))) (omega arith) (λ low.
+      Again-inside d (expr_height other) (expr_height choose) (found other rest) (found choose rest) _ _ (others.whole d rest stops) (omega arith) (λ both.
+      Again-raised (suc d) (max (expr_height condition) (max (expr_height chosen) (expr_height other))) (found choose rest) _ refl))
+
+  choose_whole : rank condition < loosest → Facts condition → IsReadAgain chosen → IsReadAgain other → (depth : ℕ) (rest : List TokenKind) → Stops loosest rest
+      → Again depth (expr_height choose) (found choose rest) (expression depth loosest (expr_spelled choose rest))
+  unfolding expression ranked conditional is_mark
+  choose_whole low facts chosens others zero rest stops = no_depth choose (found choose rest)
+  choose_whole low facts chosens others (suc d) rest stops =
+      let behind = expr_spelled chosen (token.Mark mark.Colon ∷ expr_spelled other rest) in
+      Again-then (suc d) (expr_height condition) (expr_height choose) (found condition (token.Mark mark.Question ∷ behind)) (found choose rest) _ _
+      (facts.climbed d loosest_binary (token.Mark mark.Question ∷ behind) (omega arith) (omega arith) (Stops-question behind)) (omega arith)
+      (λ fits. choice_again chosens others d rest stops)
+
+  choose_facts : Facts choose
+  choose_facts = record { climbed = λ d k rest le lt stops. absurd (omega arith); spine = λ d k rest le lt stops. absurd (omega arith) }
+
+-- ---- every expression
+
+record Known (e : tree.Expr) : Type 0 where
+  facts : Facts e
+  reads : IsReadAgain e
+
+known_facts : (e : tree.Expr) → rank e < loosest → Facts e → Known e
+known_facts e low facts = record { facts = facts; reads = read_again e low facts }
+
+known_operand : (e : tree.Expr) → rank e ≡ 0
+    → ((d : ℕ) (rest : List TokenKind) → Stops 0 rest → Again (suc d) (expr_height e) (found e rest) (operand (suc d) (expression d) (expr_spelled e rest))) → Known e
+known_operand e is_zero again = known_facts e (omega arith) (operand_facts e is_zero again)
+
+known : (e : tree.Expr) → IsExpr e → Known e
+unfolding operand worded marked
+known (tree.Number value) shape = known_operand (tree.Number value) refl (λ d rest stops. Again-leaf d _ _ refl)
+known (tree.Truth value) shape = known_operand (tree.Truth value) refl (λ d rest stops. Again-leaf d _ _ (truth_again d rest value))
+known (tree.Read named) shape = known_operand (tree.Read named) refl (λ d rest stops. name_again d named None tt rest stops)
+known (tree.Element named at) shape =
+    let inside = (known at shape).reads in known_operand (tree.Element named at) refl (λ d rest stops. name_again d named (Some at) inside rest stops)
+known tree.Pop shape = known_operand tree.Pop refl (λ d rest stops. Again-leaf d _ _ (pop_again d rest))
+known (tree.Peek at) shape = let inside = (known at shape).reads in known_operand (tree.Peek at) refl (λ d rest stops. peek_again d rest at inside)
+known (tree.Group inner) shape = let inside = (known inner shape).reads in known_operand (tree.Group inner) refl (λ d rest stops. group_again d rest inner inside)
+known (tree.Unary o inner) shape =
+    let inside = (known inner shape.1).reads in known_operand (tree.Unary o inner) refl (λ d rest stops. unary_again d rest o inner inside shape.0 stops)
+known (tree.Step o named) shape = known_operand (tree.Step o named) refl (λ d rest stops. step_again d named None tt rest o stops)
+known (tree.StepElement o named at) shape =
+    let inside = (known at shape).reads in known_operand (tree.StepElement o named at) refl (λ d rest stops. element_step d named at inside rest o stops)
+known (tree.Binary o left right) shape =
+    known_facts (tree.Binary o left right) (omega (arith, (looseness_some o).1)) (binary_facts o left right shape.0 shape.1 (known left shape.2).facts (known right shape.3).reads)
+known (tree.Conditional condition chosen other) shape = record {
+  facts = choose_facts condition chosen other;
+  reads = record {
+    climbs = λ depth r rest le lt stops. absurd (omega arith);
+    whole = choose_whole condition chosen other shape.0 (known condition shape.1).facts (known chosen shape.2).reads (known other shape.3).reads;
+  };
+}
+
+-- an expression is read again where what follows stops it
+pub expression_again : (e : tree.Expr) → IsExpr e → (depth : ℕ) (rest : List TokenKind) → Stops loosest rest
+    → Again depth (expr_height e) (found e rest) (expression depth loosest (expr_spelled e rest))
+expression_again e shape = (known e shape).reads.whole
+
+pub closed_again : (e : tree.Expr) → IsExpr e → (d : ℕ) (m : Mark) (rest : List TokenKind) → Stops loosest (token.Mark m ∷ rest)
+    → Again d (expr_height e) (found e rest) (closed (expression d) m (expr_spelled e (token.Mark m ∷ rest)))
+closed_again e shape = closed_by e (known e shape).reads

@@ -1,11 +1,13 @@
 -- What is read as an expression is one, and these are its tokens.
-use Rattle.std.proofs.Common.{◌≡◌, ℕ, zero, suc, ◌+◌, ◌-◌, ◌<◌, ◌≤◌, max, Bool, true, false, cond, eqb, List, [], ◌∷◌, length, Option, Some, None, Ok, refl, sym, ap, subst, ◌∙◌, arith, inl, inr}
+use Rattle.std.proofs.Common.{◌≡◌, ℕ, zero, suc, ◌+◌, ◌-◌, ◌<◌, ◌≤◌, max, Bool, true, false, cond, eqb, List, [], ◌∷◌, length, Option, Some, None, Result, Ok, refl, sym, ap, subst, ◌∙◌, arith, inl, inr}
 use Rattle.std.proofs.lemmas.Bool.{cases_Bool, eqb-true}
 use Rattle.strc_lex.specs.declared.token.TokenKind.{TokenKind}
 use Rattle.strc_lex.specs.declared.token.TokenKind.TheVariants as token
+use Rattle.strc_lex.specs.declared.token.Word.{Word}
 use Rattle.strc_lex.specs.declared.token.Word.TheVariants as word
 use Rattle.strc_lex.specs.declared.token.Mark.{Mark}
 use Rattle.strc_lex.specs.declared.token.Mark.TheVariants as mark
+use Rattle.strc_parse.specs.declared.error.Fault.{Fault}
 use Rattle.strc_parse.specs.declared.tree.UnaryOperator.{UnaryOperator}
 use Rattle.strc_parse.specs.declared.tree.UnaryOperator.TheVariants as unary
 use Rattle.strc_parse.specs.declared.tree.StepOperator.{StepOperator}
@@ -13,10 +15,13 @@ use Rattle.strc_parse.specs.declared.tree.StepOperator.TheVariants as step
 use Rattle.strc_parse.specs.declared.tree.BinaryOperator.{BinaryOperator}
 use Rattle.strc_parse.specs.declared.tree.BinaryOperator.TheVariants as binary
 use Rattle.strc_parse.specs.Tree as tree
-use Rattle.strc_parse.specs.Grammar.{unary_mark, binary_mark, step_spelled, expr_spelled, looseness, rank, IsExpr, expr_height}
-use Rattle.strc_parse.specs.Reading.{◌>>=◌, Below, Tall, tail, mark_at, binary_of, of_rank, operator, step_after, after_name_by, after_name, step_first, pop_brackets, loosest, group, sign, marked, operand, chain_by, chain, climb, expression, raised}
-use Rattle.strc_parse.proofs.ExpressionAgain.{expr_length, height_some}
-use Rattle.strc_parse.proofs.Holds.{Holds, Holds-then, Holds-on, Holds-expect, Holds-name, Holds-raised}
+use Rattle.strc_parse.specs.Grammar.{unary_mark, binary_mark, step_spelled, expr_spelled, looseness, loosest, rank, IsExpr, IsOptional, expr_height}
+use Rattle.strc_parse.specs.Reading.{◌>>=◌, Below, Tall, tail, mark_at, is_mark, binary_of, of_rank, operator, step_after, closed, index, read_of, step_of_place, after_place_by, after_place, after_name, step_first, pop_brackets, peek_brackets, group, sign, marked, worded, operand, chain_by, chain, climb, choice, loosest_binary, conditional, ranked, expression, raised}
+use Rattle.strc_parse.proofs.ExpressionAgain.{expr_length, height_some, index_spelled, place_height}
+use Rattle.strc_parse.proofs.Holds.{Holds, Holds-then, Holds-on, Holds-expect, Holds-name, Holds-raised, mark_is}
+
+abbrev count : List TokenKind → ℕ
+count ts = length ts
 
 -- an expression, its height and what follows it, read from these tokens
 pub record ExprRead (depth r : ℕ) (tokens : List TokenKind) (x : tree.Expr × ℕ × List TokenKind) : Type 0 where
@@ -34,16 +39,26 @@ ExprRead-some {depth} {r} {tokens} {x} read = omega (arith, height_some x.0, rea
 
 -- ---- what stands first
 
-step_is : (o : StepOperator) (x : List ℕ) (behind : List TokenKind) → step_after behind ≡ Some o → token.Name x ∷ behind ≡ step_spelled o x (tail behind)
+step_is : (o : StepOperator) (target : List TokenKind → List TokenKind) (behind : List TokenKind) → step_after behind ≡ Some o → target behind ≡ step_spelled o target (tail behind)
 unfolding step_after mark_at
-step_is o x (token.Mark mark.PlusPlus ∷ rest) e = let same : step.IncrementAfter ≡ o = cc in subst (λ (p : StepOperator). token.Name x ∷ token.Mark mark.PlusPlus ∷ rest ≡ step_spelled p x rest) same refl
-step_is o x (token.Mark mark.MinusMinus ∷ rest) e = let same : step.DecrementAfter ≡ o = cc in subst (λ (p : StepOperator). token.Name x ∷ token.Mark mark.MinusMinus ∷ rest ≡ step_spelled p x rest) same refl
-step_is o x _ e = absurd cc
+step_is o target (token.Mark mark.PlusPlus ∷ rest) e =
+    let same : step.IncrementAfter ≡ o = cc in subst (λ (p : StepOperator). target (token.Mark mark.PlusPlus ∷ rest) ≡ step_spelled p target rest) same refl
+step_is o target (token.Mark mark.MinusMinus ∷ rest) e =
+    let same : step.DecrementAfter ≡ o = cc in subst (λ (p : StepOperator). target (token.Mark mark.MinusMinus ∷ rest) ≡ step_spelled p target rest) same refl
+step_is o target _ e = absurd cc
 
 binary_is : (found : Mark) (o : BinaryOperator) → binary_of found ≡ Some o → found ≡ binary_mark o
+binary_is mark.OrOr o e = let same : binary.LogicalOr ≡ o = cc in ap binary_mark same
+binary_is mark.AndAnd o e = let same : binary.LogicalAnd ≡ o = cc in ap binary_mark same
 binary_is mark.Or o e = let same : binary.Or ≡ o = cc in ap binary_mark same
 binary_is mark.Caret o e = let same : binary.ExclusiveOr ≡ o = cc in ap binary_mark same
 binary_is mark.And o e = let same : binary.And ≡ o = cc in ap binary_mark same
+binary_is mark.Equal o e = let same : binary.Equal ≡ o = cc in ap binary_mark same
+binary_is mark.NotEqual o e = let same : binary.NotEqual ≡ o = cc in ap binary_mark same
+binary_is mark.Less o e = let same : binary.Less ≡ o = cc in ap binary_mark same
+binary_is mark.LessEqual o e = let same : binary.LessOrEqual ≡ o = cc in ap binary_mark same
+binary_is mark.Greater o e = let same : binary.Greater ≡ o = cc in ap binary_mark same
+binary_is mark.GreaterEqual o e = let same : binary.GreaterOrEqual ≡ o = cc in ap binary_mark same
 binary_is mark.ShiftLeft o e = let same : binary.ShiftLeft ≡ o = cc in ap binary_mark same
 binary_is mark.ShiftRight o e = let same : binary.ShiftRight ≡ o = cc in ap binary_mark same
 binary_is mark.Plus o e = let same : binary.Add ≡ o = cc in ap binary_mark same
@@ -72,45 +87,196 @@ operator_is r (token.Mark found ∷ rest) o e =
     let is = of_rank_is r (binary_of found) o e in (ap (λ (m : Mark). token.Mark m ∷ rest) (binary_is found o is.0), is.1)
 operator_is r (token.Name x ∷ rest) o e = absurd cc
 operator_is r (token.Number n ∷ rest) o e = absurd cc
-operator_is r (token.Word w ∷ rest) o e = absurd cc
 operator_is r (token.Text t ∷ rest) o e = absurd cc
+operator_is r (token.Word w ∷ rest) o e = absurd cc
 
 -- ---- operands
 
+-- a variable or an element, and its step
+place_spelled : (x : List ℕ) (at : Option tree.Expr) (rest : List TokenKind) → token.Name x ∷ index_spelled at rest ≡ expr_spelled (read_of x at) rest
+place_spelled x None rest = refl
+place_spelled x (Some at) rest = refl
+
+place_shape : (x : List ℕ) (at : Option tree.Expr) → IsOptional at → IsExpr (read_of x at)
+place_shape x None shape = tt
+place_shape x (Some at) shape = shape
+
+place_rank : (x : List ℕ) (at : Option tree.Expr) → rank (read_of x at) ≡ 0
+place_rank x None = refl
+place_rank x (Some at) = refl
+
+place_high : (x : List ℕ) (at : Option tree.Expr) → place_height at ≡ expr_height (read_of x at)
+place_high x None = refl
+place_high x (Some at) = refl
+
+step_of_place_spelled : (o : StepOperator) (x : List ℕ) (at : Option tree.Expr) (rest : List TokenKind)
+    → step_spelled o (λ after. token.Name x ∷ index_spelled at after) rest ≡ expr_spelled (step_of_place o x at) rest
+step_of_place_spelled o x None rest = refl
+step_of_place_spelled o x (Some at) rest = refl
+
+step_of_place_shape : (o : StepOperator) (x : List ℕ) (at : Option tree.Expr) → IsOptional at → IsExpr (step_of_place o x at)
+step_of_place_shape o x None shape = tt
+step_of_place_shape o x (Some at) shape = shape
+
+step_of_place_rank : (o : StepOperator) (x : List ℕ) (at : Option tree.Expr) → rank (step_of_place o x at) ≡ 0
+step_of_place_rank o x None = refl
+step_of_place_rank o x (Some at) = refl
+
+step_of_place_high : (o : StepOperator) (x : List ℕ) (at : Option tree.Expr) → place_height at + 1 ≡ expr_height (step_of_place o x at)
+step_of_place_high o x None = refl
+step_of_place_high o x (Some at) = omega arith
+
+index_length : (at : Option tree.Expr) (rest : List TokenKind) → place_height at + length rest ≤ length (index_spelled at rest) + 1
+index_length None rest = omega arith
+index_length (Some at) rest = omega (arith, expr_length at (token.Mark mark.CloseSquare ∷ rest))
+
+-- an expression and the mark that closes it
+pub record ClosedRead (depth : ℕ) (m : Mark) (tokens : List TokenKind) (x : tree.Expr × ℕ × List TokenKind) : Type 0 where
+  pub spelled : tokens ≡ expr_spelled x.0 (token.Mark m ∷ x.2)
+  pub shape : IsExpr x.0
+  pub high : x.1 ≡ expr_height x.0
+  pub low : x.1 ≤ depth
+
+pub ClosedRead-long : {depth : ℕ} {m : Mark} {tokens : List TokenKind} {x : tree.Expr × ℕ × List TokenKind} → ClosedRead depth m tokens x → x.1 + length x.2 + 1 ≤ length tokens
+ClosedRead-long {depth} {m} {tokens} {x} read = omega (arith, expr_length x.0 (token.Mark m ∷ x.2), read.high, ap count read.spelled)
+
+abbrev IsReader : ℕ → Below → Type 0
+IsReader d below = (r : ℕ) (tokens : List TokenKind) → Holds (ExprRead d r tokens) d tokens (below r tokens)
+
+pub closed_holds : (d : ℕ) (below : Below) → IsReader d below → (m : Mark) (tokens : List TokenKind) → Holds (ClosedRead d m tokens) d tokens (closed below m tokens)
+unfolding closed
+closed_holds d below holds m tokens =
+    Holds-then (ExprRead d loosest tokens) (ClosedRead d m tokens) d tokens (below loosest tokens) _ (holds loosest tokens) (λ x read.
+    Holds-expect (ClosedRead d m tokens) d tokens m x.2 _ (omega (arith, ExprRead-long read)) (λ rest e.
+    record { spelled = read.spelled ∙ ap (λ (ts : List TokenKind). expr_spelled x.0 ts) e; shape = read.shape; high = read.high; low = read.low }))
+
+-- an index, or nothing, behind a name
+record IndexRead (depth : ℕ) (tokens : List TokenKind) (x : Option tree.Expr × ℕ × List TokenKind) : Type 0 where
+  spelled : tokens ≡ index_spelled x.0 x.2
+  shape : IsOptional x.0
+  high : x.1 ≡ place_height x.0
+  low : x.1 ≤ depth
+
 module _ (d : ℕ) where
-  step_holds : (r : ℕ) (all : List TokenKind) (o : StepOperator) (x : List ℕ) (rest : List TokenKind) → all ≡ step_spelled o x rest → 1 ≤ length all
-      → Holds (ExprRead (suc d) r all) (suc d) all (raised (suc d) 1 >>= λ height. Ok (tree.Step o x, height, rest))
-  step_holds r all o x rest e some =
-      Holds-raised (ExprRead (suc d) r all) (suc d) all (suc d) 1 (λ height. Ok (tree.Step o x, height, rest))
-      (λ lt. record { spelled = e; shape = tt; ranked = omega arith; high = refl; low = omega arith }) (λ le. omega arith)
+  after_place_by_holds : (x : List ℕ) (at : Option tree.Expr) (all behind : List TokenKind) → all ≡ token.Name x ∷ index_spelled at behind → IsOptional at → place_height at ≤ suc d
+      → (o : Option StepOperator) → step_after behind ≡ o → Holds (ExprRead (suc d) 0 all) (suc d) all (after_place_by (suc d) x at (place_height at) behind o)
+  after_place_by_holds x at all behind is shape low None e = record {
+    spelled = is ∙ place_spelled x at behind;
+    shape = place_shape x at shape;
+    ranked = omega (arith, place_rank x at);
+    high = place_high x at;
+    low = low;
+  }
+  after_place_by_holds x at all behind is shape low (Some o) e =
+      Holds-raised (ExprRead (suc d) 0 all) (suc d) all (suc d) (place_height at) (λ high. Ok (step_of_place o x at, high, tail behind))
+      (λ lt. record {
+        spelled = is ∙ step_is o (λ after. token.Name x ∷ index_spelled at after) behind e ∙ step_of_place_spelled o x at (tail behind);
+        shape = step_of_place_shape o x at shape;
+        ranked = omega (arith, step_of_place_rank o x at);
+        high = step_of_place_high o x at;
+        low = omega arith;
+      }) (λ le. omega (arith, ap count is, index_length at behind))
 
-  after_name_by_holds : (r : ℕ) (x : List ℕ) (behind : List TokenKind) (o : Option StepOperator) → step_after behind ≡ o
-      → Holds (ExprRead (suc d) r (token.Name x ∷ behind)) (suc d) (token.Name x ∷ behind) (after_name_by (suc d) x behind o)
-  after_name_by_holds r x behind None e = record { spelled = refl; shape = tt; ranked = omega arith; high = refl; low = omega arith }
-  after_name_by_holds r x behind (Some o) e = step_holds r (token.Name x ∷ behind) o x (tail behind) (step_is o x behind e) (omega arith)
+  after_place_holds : (x : List ℕ) (all : List TokenKind) (read : Option tree.Expr × ℕ × List TokenKind) → all ≡ token.Name x ∷ index_spelled read.0 read.2 → IsOptional read.0
+      → read.1 ≡ place_height read.0 → read.1 ≤ suc d → Holds (ExprRead (suc d) 0 all) (suc d) all (after_place (suc d) x read.0 read.1 read.2)
+  unfolding after_place
+  after_place_holds x all read is shape high low =
+      rw high (after_place_by_holds x read.0 all read.2 is shape (omega arith) (step_after read.2) refl)
 
-  after_name_holds : (r : ℕ) (x : List ℕ) (behind : List TokenKind) → Holds (ExprRead (suc d) r (token.Name x ∷ behind)) (suc d) (token.Name x ∷ behind) (after_name (suc d) x behind)
-  unfolding after_name
-  after_name_holds r x behind = after_name_by_holds r x behind (step_after behind) refl
-
-  pop_holds : (r : ℕ) (behind : List TokenKind) → Holds (ExprRead (suc d) r (token.Word word.Pop ∷ behind)) (suc d) (token.Word word.Pop ∷ behind) (pop_brackets behind)
+  pop_holds : (behind : List TokenKind) → Holds (ExprRead (suc d) 0 (token.Word word.Pop ∷ behind)) (suc d) (token.Word word.Pop ∷ behind) (pop_brackets behind)
   unfolding pop_brackets
-  pop_holds r behind =
+  pop_holds behind =
       let all : List TokenKind = token.Word word.Pop ∷ behind in
-      Holds-expect (ExprRead (suc d) r all) (suc d) all mark.OpenBracket behind _ (omega arith) (λ inside e.
-      Holds-expect (ExprRead (suc d) r all) (suc d) all mark.CloseBracket inside _ (omega (arith, ap (λ (ts : List TokenKind). length ts) e)) (λ rest f.
+      Holds-expect (ExprRead (suc d) 0 all) (suc d) all mark.OpenBracket behind _ (omega arith) (λ inside e.
+      Holds-expect (ExprRead (suc d) 0 all) (suc d) all mark.CloseBracket inside _ (omega (arith, ap count e)) (λ rest f.
       record { spelled = ap (λ (ts : List TokenKind). token.Word word.Pop ∷ ts) (e ∙ ap (λ (ts : List TokenKind). token.Mark mark.OpenBracket ∷ ts) f); shape = tt; ranked = omega arith; high = refl; low = omega arith }))
 
-  step_first_holds : (r : ℕ) (m : Mark) (o : StepOperator) (behind : List TokenKind)
-      → ((x : List ℕ) (rest : List TokenKind) → token.Mark m ∷ token.Name x ∷ rest ≡ step_spelled o x rest)
-      → Holds (ExprRead (suc d) r (token.Mark m ∷ behind)) (suc d) (token.Mark m ∷ behind) (step_first (suc d) o behind)
-  unfolding step_first
-  step_first_holds r m o behind spells =
-      let all : List TokenKind = token.Mark m ∷ behind in
-      Holds-name (ExprRead (suc d) r all) (suc d) all behind _ (omega arith) (λ x rest e.
-      step_holds r all o x rest (ap (λ (ts : List TokenKind). token.Mark m ∷ ts) e ∙ spells x rest) (omega arith))
+  module _ (below : Below) (holds : IsReader d below) where
+    -- an expression and the mark that closes it, somewhere within these tokens, in a node of its own
+    enclosed_holds : {B : Type 0} (Q : B → Type 0) (m : Mark) (all tokens : List TokenKind) (make : tree.Expr → ℕ → List TokenKind → Result B Fault) → length tokens + 1 ≤ length all
+        → ((x : tree.Expr × ℕ × List TokenKind) → ClosedRead d m tokens x → Holds Q (suc d) all (make x.0 (x.1 + 1) x.2))
+        → Holds Q (suc d) all (closed below m tokens >>= λ value. raised (suc d) value.1 >>= λ height. make value.0 height value.2)
+    enclosed_holds Q m all tokens make le then =
+        Holds-then (ClosedRead d m tokens) Q (suc d) all (closed below m tokens) _
+        (Holds-on (ClosedRead d m tokens) (ClosedRead d m tokens) d (suc d) tokens all (closed below m tokens) (omega arith) (omega arith) (closed_holds d below holds m tokens) (λ x h. h)) (λ x read.
+        Holds-raised Q (suc d) all (suc d) x.1 (λ height. make x.0 height x.2) (λ lt. then x read) (λ le. absurd (omega (arith, read.low))))
 
-  module _ (below : Below) (holds : (r : ℕ) (tokens : List TokenKind) → Holds (ExprRead d r tokens) d tokens (below r tokens)) where
+    index_holds : (tokens : List TokenKind) → Holds (IndexRead (suc d) tokens) (suc d) tokens (index (suc d) below tokens)
+    unfolding index
+    index_holds tokens =
+        let Q : Option tree.Expr × ℕ × List TokenKind → Type 0 = IndexRead (suc d) tokens in
+        elim (cases_Bool (is_mark mark.OpenSquare tokens)) [
+          | inl is ↦
+              let stands = mark_is mark.OpenSquare tokens is in
+              let one : length tokens ≡ suc (length (tail tokens)) = ap count stands in
+              let read = enclosed_holds Q mark.CloseSquare tokens (tail tokens) (λ value height after. Ok (Some value, height, after)) (omega arith)
+              (λ x closed. record {
+                spelled = stands ∙ ap (λ (ts : List TokenKind). token.Mark mark.OpenSquare ∷ ts) closed.spelled;
+                shape = closed.shape;
+                high = ap (λ (n : ℕ). n + 1) closed.high;
+                low = omega (arith, closed.low);
+              }) in
+              rw is read
+          | inr is ↦
+              let none : Q (None, 1, tokens) = record { spelled = refl; shape = tt; high = refl; low = omega arith } in
+              rw is none
+        ]
+
+    after_name_holds : (x : List ℕ) (behind : List TokenKind) → Holds (ExprRead (suc d) 0 (token.Name x ∷ behind)) (suc d) (token.Name x ∷ behind) (after_name (suc d) below x behind)
+    unfolding after_name
+    after_name_holds x behind =
+        let all : List TokenKind = token.Name x ∷ behind in
+        Holds-then (IndexRead (suc d) behind) (ExprRead (suc d) 0 all) (suc d) all (index (suc d) below behind) _
+        (Holds-on (IndexRead (suc d) behind) (IndexRead (suc d) behind) (suc d) (suc d) behind all (index (suc d) below behind) (omega arith) (omega arith) (index_holds behind) (λ r h. h))
+        (λ r at. after_place_holds x all r (ap (λ (ts : List TokenKind). token.Name x ∷ ts) at.spelled) at.shape at.high at.low)
+
+    step_first_holds : (m : Mark) (o : StepOperator) (behind : List TokenKind)
+        → ((target : List TokenKind → List TokenKind) (rest : List TokenKind) → token.Mark m ∷ target rest ≡ step_spelled o target rest)
+        → Holds (ExprRead (suc d) 0 (token.Mark m ∷ behind)) (suc d) (token.Mark m ∷ behind) (step_first (suc d) below o behind)
+    unfolding step_first
+    step_first_holds m o behind spells =
+        let all : List TokenKind = token.Mark m ∷ behind in
+        let Q : tree.Expr × ℕ × List TokenKind → Type 0 = ExprRead (suc d) 0 all in
+        Holds-name Q (suc d) all behind _ (omega arith) (λ x after e.
+        let one : length behind ≡ suc (length after) = ap count e in
+        Holds-then (IndexRead (suc d) after) Q (suc d) all (index (suc d) below after) _
+        (Holds-on (IndexRead (suc d) after) (IndexRead (suc d) after) (suc d) (suc d) after all (index (suc d) below after) (omega arith) (omega arith) (index_holds after) (λ r h. h)) (λ r at.
+        Holds-raised Q (suc d) all (suc d) r.1 _
+        (λ lt. record {
+          spelled = ap (λ (ts : List TokenKind). token.Mark m ∷ ts) (e ∙ ap (λ (ts : List TokenKind). token.Name x ∷ ts) at.spelled)
+              ∙ spells (λ rest. token.Name x ∷ index_spelled r.0 rest) r.2 ∙ step_of_place_spelled o x r.0 r.2;
+          shape = step_of_place_shape o x r.0 at.shape;
+          ranked = omega (arith, step_of_place_rank o x r.0);
+          high = ap (λ (n : ℕ). n + 1) at.high ∙ step_of_place_high o x r.0;
+          low = omega arith;
+        }) (λ le. omega (arith, at.high, ap count at.spelled, index_length r.0 r.2))))
+
+    peek_holds : (behind : List TokenKind) → Holds (ExprRead (suc d) 0 (token.Word word.Peek ∷ behind)) (suc d) (token.Word word.Peek ∷ behind) (peek_brackets (suc d) below behind)
+    unfolding peek_brackets
+    peek_holds behind =
+        let all : List TokenKind = token.Word word.Peek ∷ behind in
+        let Q : tree.Expr × ℕ × List TokenKind → Type 0 = ExprRead (suc d) 0 all in
+        Holds-expect Q (suc d) all mark.OpenBracket behind _ (omega arith) (λ inside e.
+        enclosed_holds Q mark.CloseBracket all inside (λ value height after. Ok (tree.Peek value, height, after)) (omega (arith, ap count e)) (λ x at. record {
+          spelled = ap (λ (ts : List TokenKind). token.Word word.Peek ∷ ts) (e ∙ ap (λ (ts : List TokenKind). token.Mark mark.OpenBracket ∷ ts) at.spelled);
+          shape = at.shape;
+          ranked = omega arith;
+          high = ap (λ (n : ℕ). n + 1) at.high;
+          low = omega (arith, at.low);
+        }))
+
+    group_holds : (behind : List TokenKind) → Holds (ExprRead (suc d) 0 (token.Mark mark.OpenBracket ∷ behind)) (suc d) (token.Mark mark.OpenBracket ∷ behind) (group (suc d) below behind)
+    unfolding group
+    group_holds behind =
+        let all : List TokenKind = token.Mark mark.OpenBracket ∷ behind in
+        enclosed_holds (ExprRead (suc d) 0 all) mark.CloseBracket all behind (λ value height after. Ok (tree.Group value, height, after)) (omega arith) (λ x inner. record {
+          spelled = ap (λ (ts : List TokenKind). token.Mark mark.OpenBracket ∷ ts) inner.spelled;
+          shape = inner.shape;
+          ranked = omega arith;
+          high = ap (λ (n : ℕ). n + 1) inner.high;
+          low = omega (arith, inner.low);
+        })
+
     sign_holds : (m : Mark) (o : UnaryOperator) (behind : List TokenKind) → m ≡ unary_mark o
         → Holds (ExprRead (suc d) 0 (token.Mark m ∷ behind)) (suc d) (token.Mark m ∷ behind) (sign (suc d) below o behind)
     unfolding sign
@@ -127,41 +293,32 @@ module _ (d : ℕ) where
           low = omega arith;
         }) (λ le. absurd (omega (arith, read.low))))
 
-    group_holds : (behind : List TokenKind) → Holds (ExprRead (suc d) 0 (token.Mark mark.OpenBracket ∷ behind)) (suc d) (token.Mark mark.OpenBracket ∷ behind) (group (suc d) below behind)
-    unfolding group
-    group_holds behind =
-        let all : List TokenKind = token.Mark mark.OpenBracket ∷ behind in
-        Holds-then (ExprRead d loosest behind) (ExprRead (suc d) 0 all) (suc d) all (below loosest behind) _
-        (Holds-on (ExprRead d loosest behind) (ExprRead d loosest behind) d (suc d) behind all (below loosest behind) (omega arith) (omega arith) (holds loosest behind) (λ x h. h)) (λ x read.
-        Holds-expect (ExprRead (suc d) 0 all) (suc d) all mark.CloseBracket x.2 _ (omega (arith, ExprRead-long read)) (λ rest closed.
-        Holds-raised (ExprRead (suc d) 0 all) (suc d) all (suc d) x.1 _
-        (λ lt. record {
-          spelled = ap (λ (ts : List TokenKind). token.Mark mark.OpenBracket ∷ ts) (read.spelled ∙ ap (λ (ts : List TokenKind). expr_spelled x.0 ts) closed);
-          shape = read.shape;
-          ranked = omega arith;
-          high = ap (λ (n : ℕ). n + 1) read.high;
-          low = omega arith;
-        }) (λ le. absurd (omega (arith, read.low)))))
-
     marked_holds : (m : Mark) (behind : List TokenKind) → Holds (ExprRead (suc d) 0 (token.Mark m ∷ behind)) (suc d) (token.Mark m ∷ behind) (marked (suc d) below m (token.Mark m ∷ behind))
     unfolding marked
     marked_holds mark.OpenBracket behind = group_holds behind
     marked_holds mark.Minus behind = sign_holds mark.Minus unary.Negate behind refl
     marked_holds mark.Not behind = sign_holds mark.Not unary.Not behind refl
     marked_holds mark.Tilde behind = sign_holds mark.Tilde unary.Complement behind refl
-    marked_holds mark.PlusPlus behind = step_first_holds 0 mark.PlusPlus step.IncrementFirst behind (λ x rest. refl)
-    marked_holds mark.MinusMinus behind = step_first_holds 0 mark.MinusMinus step.DecrementFirst behind (λ x rest. refl)
+    marked_holds mark.PlusPlus behind = step_first_holds mark.PlusPlus step.IncrementFirst behind (λ target rest. refl)
+    marked_holds mark.MinusMinus behind = step_first_holds mark.MinusMinus step.DecrementFirst behind (λ target rest. refl)
     marked_holds _ behind = omega arith
+
+    worded_holds : (w : Word) (behind : List TokenKind) → Holds (ExprRead (suc d) 0 (token.Word w ∷ behind)) (suc d) (token.Word w ∷ behind) (worded (suc d) below w (token.Word w ∷ behind))
+    unfolding worded
+    worded_holds word.True behind = record { spelled = refl; shape = tt; ranked = omega arith; high = refl; low = omega arith }
+    worded_holds word.False behind = record { spelled = refl; shape = tt; ranked = omega arith; high = refl; low = omega arith }
+    worded_holds word.Pop behind = pop_holds behind
+    worded_holds word.Peek behind = peek_holds behind
+    worded_holds _ behind = omega arith
 
     operand_holds : (tokens : List TokenKind) → Holds (ExprRead (suc d) 0 tokens) (suc d) tokens (operand (suc d) below tokens)
     unfolding operand
     operand_holds [] = omega arith
     operand_holds (token.Number n ∷ rest) = record { spelled = refl; shape = tt; ranked = omega arith; high = refl; low = omega arith }
-    operand_holds (token.Name x ∷ rest) = after_name_holds 0 x rest
-    operand_holds (token.Mark m ∷ rest) = marked_holds m rest
-    operand_holds (token.Word word.Pop ∷ rest) = pop_holds 0 rest
-    operand_holds (token.Word _ ∷ rest) = omega arith
     operand_holds (token.Text t ∷ rest) = omega arith
+    operand_holds (token.Name x ∷ rest) = after_name_holds x rest
+    operand_holds (token.Mark m ∷ rest) = marked_holds m rest
+    operand_holds (token.Word w ∷ rest) = worded_holds w rest
 
     -- ---- operators between operands
 
@@ -215,8 +372,54 @@ module _ (d : ℕ) where
         Holds-then (ExprRead (suc d) r tokens) (ExprRead (suc d) (suc r) tokens) (suc d) tokens (climb (suc d) below r tokens) _ (climb_holds r tokens) (λ x read.
         chain_holds (length x.2) r tokens x.2 x.0 x.1 (record { spelled = read.spelled; shape = read.shape; ranked = omega (arith, read.ranked); high = read.high; low = read.low }))
 
+    -- ---- the choice between two
+
+    choice_holds : (all tokens : List TokenKind) (c : tree.Expr) (h : ℕ) → all ≡ expr_spelled c (token.Mark mark.Question ∷ tokens) → IsExpr c → rank c < loosest → h ≡ expr_height c → h ≤ suc d
+        → Holds (ExprRead (suc d) loosest all) (suc d) all (choice (suc d) below c h tokens)
+    unfolding choice
+    choice_holds all tokens c h spelled shape ranked high low =
+        let Q : tree.Expr × ℕ × List TokenKind → Type 0 = ExprRead (suc d) loosest all in
+        let long : h + length tokens + 1 ≤ length all = omega (arith, high, ap count spelled, expr_length c (token.Mark mark.Question ∷ tokens)) in
+        Holds-then (ClosedRead d mark.Colon tokens) Q (suc d) all (closed below mark.Colon tokens) _
+        (Holds-on (ClosedRead d mark.Colon tokens) (ClosedRead d mark.Colon tokens) d (suc d) tokens all (closed below mark.Colon tokens) (omega arith) (omega arith) (closed_holds d below holds mark.Colon tokens) (λ x k. k)) (λ x chosen.
+        let nearer : x.1 + length x.2 + 1 ≤ length tokens = ClosedRead-long chosen in
+        Holds-then (ExprRead d loosest x.2) Q (suc d) all (below loosest x.2) _
+        (Holds-on (ExprRead d loosest x.2) (ExprRead d loosest x.2) d (suc d) x.2 all (below loosest x.2) (omega arith) (omega arith) (holds loosest x.2) (λ y k. k)) (λ y other.
+        Holds-raised Q (suc d) all (suc d) (max h (max x.1 y.1)) _
+        (λ lt. record {
+          spelled = spelled ∙ ap (λ (ts : List TokenKind). expr_spelled c (token.Mark mark.Question ∷ ts)) (chosen.spelled ∙ ap (λ (ts : List TokenKind). expr_spelled x.0 (token.Mark mark.Colon ∷ ts)) other.spelled);
+          shape = (ranked, shape, chosen.shape, other.shape);
+          ranked = omega arith;
+          high = omega (arith, high, chosen.high, other.high);
+          low = omega arith;
+        }) (λ le. omega (arith, chosen.low, other.low))))
+
+    conditional_holds : (tokens : List TokenKind) → Holds (ExprRead (suc d) loosest tokens) (suc d) tokens (conditional (suc d) below tokens)
+    unfolding conditional
+    conditional_holds tokens =
+        Holds-then (ExprRead (suc d) loosest_binary tokens) (ExprRead (suc d) loosest tokens) (suc d) tokens (climb (suc d) below loosest_binary tokens) _ (climb_holds loosest_binary tokens) (λ x read.
+        elim (cases_Bool (is_mark mark.Question x.2)) [
+          | inl is ↦
+              let spelled = read.spelled ∙ ap (λ (ts : List TokenKind). expr_spelled x.0 ts) (mark_is mark.Question x.2 is) in
+              let chosen = choice_holds tokens (tail x.2) x.0 x.1 spelled read.shape (omega (arith, read.ranked)) read.high read.low in
+              rw is chosen
+          | inr is ↦
+              let alone : ExprRead (suc d) loosest tokens (x.0, x.1, x.2) = record { spelled = read.spelled; shape = read.shape; ranked = omega (arith, read.ranked); high = read.high; low = read.low } in
+              rw is alone
+        ])
+
+    ranked_holds : (r : ℕ) (tokens : List TokenKind) → Holds (ExprRead (suc d) r tokens) (suc d) tokens (ranked (suc d) below r tokens)
+    unfolding ranked
+    ranked_holds r tokens =
+        elim (cases_Bool (eqb r loosest)) [
+          | inl is ↦
+              let whole = subst (λ (n : ℕ). Holds (ExprRead (suc d) n tokens) (suc d) tokens (conditional (suc d) below tokens)) (sym (eqb-true r loosest is)) (conditional_holds tokens) in
+              rw is whole
+          | inr is ↦ rw is (climb_holds r tokens)
+        ]
+
 -- what is read at a depth and a rank
 pub expression_holds : (depth r : ℕ) (tokens : List TokenKind) → Holds (ExprRead depth r tokens) depth tokens (expression depth r tokens)
 unfolding expression
 expression_holds zero r tokens = omega arith
-expression_holds (suc d) r tokens = climb_holds d (expression d) (λ k rest. expression_holds d k rest) r tokens
+expression_holds (suc d) r tokens = ranked_holds d (expression d) (λ k rest. expression_holds d k rest) r tokens

@@ -51,8 +51,8 @@ expect_cases wanted [] = inr refl
 expect_cases wanted (token.Mark found ∷ rest) = elim (mark_cases wanted found rest) [ inl both ↦ inl (rest, both.0, both.1) | inr e ↦ inr e ]
 expect_cases wanted (token.Name x ∷ rest) = inr refl
 expect_cases wanted (token.Number n ∷ rest) = inr refl
-expect_cases wanted (token.Word w ∷ rest) = inr refl
 expect_cases wanted (token.Text t ∷ rest) = inr refl
+expect_cases wanted (token.Word w ∷ rest) = inr refl
 
 word_cases : (wanted found : Word) (rest : List TokenKind)
     → ((token.Word found ∷ rest ≡ token.Word wanted ∷ rest) × (expect_word wanted (token.Word found ∷ rest) ≡ Ok rest)) ⊎ (expect_word wanted (token.Word found ∷ rest) ≡ unexpected (token.Word found ∷ rest))
@@ -70,8 +70,8 @@ expect_word_cases wanted [] = inr refl
 expect_word_cases wanted (token.Word found ∷ rest) = elim (word_cases wanted found rest) [ inl both ↦ inl (rest, both.0, both.1) | inr e ↦ inr e ]
 expect_word_cases wanted (token.Name x ∷ rest) = inr refl
 expect_word_cases wanted (token.Number n ∷ rest) = inr refl
-expect_word_cases wanted (token.Mark m ∷ rest) = inr refl
 expect_word_cases wanted (token.Text t ∷ rest) = inr refl
+expect_word_cases wanted (token.Mark m ∷ rest) = inr refl
 
 pub name_cases : (tokens : List TokenKind)
     → ((x : List ℕ) × (rest : List TokenKind) × (tokens ≡ token.Name x ∷ rest) × (name tokens ≡ Ok (x, rest))) ⊎ (name tokens ≡ unexpected tokens)
@@ -80,8 +80,8 @@ name_cases [] = inr refl
 name_cases (token.Name x ∷ rest) = inl (x, rest, refl, refl)
 name_cases (token.Mark found ∷ rest) = inr refl
 name_cases (token.Number n ∷ rest) = inr refl
-name_cases (token.Word w ∷ rest) = inr refl
 name_cases (token.Text t ∷ rest) = inr refl
+name_cases (token.Word w ∷ rest) = inr refl
 
 module _ {B : Type 0} (Q : B → Type 0) (deep : ℕ) (all : List TokenKind) where
   pub Holds-expect : (wanted : Mark) (tokens : List TokenKind) (f : List TokenKind → Result B Fault) → length tokens ≤ length all
@@ -147,8 +147,8 @@ mark_is wanted [] e = absurd cc
 mark_is wanted (token.Mark found ∷ rest) e = ap (λ (m : Mark). token.Mark m ∷ rest) (same_true mark_type tt found wanted e)
 mark_is wanted (token.Name x ∷ rest) e = absurd cc
 mark_is wanted (token.Number n ∷ rest) e = absurd cc
-mark_is wanted (token.Word w ∷ rest) e = absurd cc
 mark_is wanted (token.Text t ∷ rest) e = absurd cc
+mark_is wanted (token.Word w ∷ rest) e = absurd cc
 
 pub brace_is : (tokens after : List TokenKind) → brace tokens ≡ Some after → tokens ≡ token.Mark mark.CloseBrace ∷ after
 unfolding brace

@@ -1,12 +1,14 @@
 pub mod Rounds
 pub mod Repeated
-pub mod Steps
 pub mod Again
 pub mod ExpressionAgain
+pub mod Lists
+pub mod SimpleAgain
 pub mod StatementAgain
 pub mod ProgramAgain
 pub mod Holds
 pub mod ExpressionHolds
+pub mod SimpleHolds
 pub mod StatementHolds
 pub mod ProgramHolds
 pub mod Exact

@@ -1,5 +1,5 @@
 -- A program's spelling is read again.
-use Rattle.std.proofs.Common.{◌≡◌, ℕ, zero, suc, ℤ, pos, ◌+◌, ◌<◌, ◌≤◌, true, false, List, [], ◌∷◌, ◌++◌, length, Option, Some, None, Ok, Err, refl, sym, ap, ◌∙◌, arith, inl, inr, append_assoc, ◌⊎◌}
+use Rattle.std.proofs.Common.{◌≡◌, ℕ, zero, suc, ◌+◌, ◌<◌, ◌≤◌, max, false, List, [], ◌∷◌, ◌++◌, length, Option, Some, None, Ok, Err, refl, sym, ap, ◌∙◌, arith, inl, inr, append_assoc}
 use Rattle.std.proofs.lemmas.Bool.{cases_lt}
 use Rattle.std.proofs.lemmas.List.{append-nil}
 use Rattle.std.proofs.lemmas.List.Folds.{list_any-append}
@@ -14,15 +14,15 @@ use Rattle.strc_parse.specs.declared.tree.ItemType.TheVariants as item
 use Rattle.strc_parse.specs.declared.tree.RateKind.{RateKind}
 use Rattle.strc_parse.specs.declared.tree.RateKind.TheVariants as rate
 use Rattle.strc_parse.specs.contracts.tree.RateKind.{the_type as rate_type}
-use Rattle.strc_parse.specs.declared.tree.RateTree.{RateTree}
 use Rattle.strc_parse.specs.declared.error.Fault.TheVariants.{Nesting}
 use Rattle.strc_parse.specs.Tree as tree
-use Rattle.strc_parse.specs.Grammar.{variable_spelled, row_spelled, rate_word, rate_spelled, each_spelled, member_spelled, child_spelled, type_word, stream_spelled, declaration_spelled, spelling, IsInitial, AreStmts, AreRates, IsMember, IsStream, IsTree, initial_height, row_height, member_height, highest, stream_height, declaration_height, height}
-use Rattle.strc_parse.specs.Reading.{Read, tail, is_mark, name, expect, repeated, one_more, brace, item_type, rate_kind, is_rate, rate_number, has_rate, rate_of, rate_turn, no_rate, rates, work, field, member, members, child, children, stream_type, heading, filter, pipeline, stream, declaration, at_end, declarations}
+use Rattle.strc_parse.specs.Grammar.{expr_spelled, declared_spelled, row_spelled, block_spelled, rate_word, rate_spelled, each_spelled, member_spelled, child_spelled, type_word, stream_spelled, declaration_spelled, spelling, loosest, IsExpr, IsVariableType, AreVariables, AreStmts, AreRates, IsMember, IsStream, IsTree, declared_height, row_height, rate_height, member_height, highest, stream_height, declaration_height, height}
+use Rattle.strc_parse.specs.Reading.{◌>>=◌, Read, is_mark, name, expect, repeated, one_more, brace, item_type, rate_kind, has_rate, rate_of, rate_turn, no_rate, rates, braced, init, phase, fields, member, members, child, children, stream_type, heading, filter, pipeline, stream, declaration, at_end, declarations}
 use Rattle.strc_parse.proofs.Again.{Again, Again-then, expect_mark, expect_word_lem}
 use Rattle.strc_parse.proofs.Repeated.{no_rate_stays, rate_turn_at}
-use Rattle.strc_parse.proofs.ExpressionAgain.{expr_length}
-use Rattle.strc_parse.proofs.StatementAgain.{variable_again, listed, row_listed, row_length, statements_again}
+use Rattle.strc_parse.proofs.ExpressionAgain.{Stops, Stops-word, Stops-brace, expr_length, expression_again, found}
+use Rattle.strc_parse.proofs.SimpleAgain.{Again-done, declared_length, fields_again}
+use Rattle.strc_parse.proofs.StatementAgain.{listed, row_listed, row_length, statements_again}
 
 -- ---- items one after the other
 
@@ -73,19 +73,22 @@ module _ {A : Type 0} (spelled : A → List TokenKind → List TokenKind) (heigh
 -- ---- rates
 
 -- rates of kinds that none of these has
-abbrev AreFresh : List RateTree → List RateTree → Type 0
+abbrev AreFresh : List tree.Rate → List tree.Rate → Type 0
 AreFresh front others = AllByRecursion (λ r. has_rate r.kind front ≡ false) others
 
-still_fresh : (front : List RateTree) (a : RateTree) (others : List RateTree) → AreFresh front others → AllByRecursion (λ other. a.kind ≡ other.kind → ⊥) others
+fresh_behind : (front : List tree.Rate) (a r : tree.Rate) → has_rate r.kind front ≡ false → (a.kind ≡ r.kind → ⊥) → has_rate r.kind (front ++ a ∷ []) ≡ false
+unfolding has_rate
+fresh_behind front a r kept apart =
+    let differs : sameb rate_type a.kind r.kind ≡ false = false_same rate_type tt a.kind r.kind apart in
+    list_any-append (λ x. sameb rate_type x.kind r.kind) front (a ∷ []) ∙ rw (kept, differs) refl
+
+still_fresh : (front : List tree.Rate) (a : tree.Rate) (others : List tree.Rate) → AreFresh front others → AllByRecursion (λ other. a.kind ≡ other.kind → ⊥) others
     → AreFresh (front ++ a ∷ []) others
 still_fresh front a [] fresh apart = tt
-still_fresh front a (r ∷ others) fresh apart =
-    let kept = fresh.0 in
-    let differs : sameb rate_type a.kind r.kind ≡ false = false_same rate_type tt a.kind r.kind apart.0 in
-    let one : has_rate r.kind (front ++ a ∷ []) ≡ false = list_any-append (λ x. sameb rate_type x.kind r.kind) front (a ∷ []) ∙ rw (kept, differs) refl in
-    (one, still_fresh front a others fresh.1 apart.1)
+still_fresh front a (r ∷ others) fresh apart = (fresh_behind front a r fresh.0 apart.0, still_fresh front a others fresh.1 apart.1)
 
-all_fresh : (others : List RateTree) → AreFresh [] others
+all_fresh : (others : List tree.Rate) → AreFresh [] others
+unfolding has_rate
 all_fresh [] = tt
 all_fresh (r ∷ others) = (refl, all_fresh others)
 
@@ -93,83 +96,147 @@ rate_stands : (kind : RateKind) (rest : List TokenKind) → rate_kind (rate_word
 unfolding rate_kind
 rate_stands rate.Push rest = refl
 rate_stands rate.Pop rest = refl
+rate_stands rate.Peek rest = refl
 
-is_rate_true : (value : ℤ) → (value ≡ pos 0) ⊎ (value ≡ pos 1) → is_rate value ≡ true
-is_rate_true value (inl e) = ap is_rate e
-is_rate_true value (inr e) = ap is_rate e
+-- a rate stands before another or before the block
+abbrev Stopping : List TokenKind → Type 0
+Stopping rest = Stops loosest rest
 
-rate_of_again : (a : RateTree) (front : List RateTree) (behind : List TokenKind) → (a.rate ≡ pos 0) ⊎ (a.rate ≡ pos 1) → has_rate a.kind front ≡ false
-    → rate_of a.kind front (rate_spelled a behind) ≡ Ok (a.rate, behind)
-unfolding rate_number
-rate_of_again a front behind small fresh =
-    let is = is_rate_true a.rate small in rw (fresh, is) refl
+rate_word_stops : (kind : RateKind) (rest : List TokenKind) → Stopping (rate_word kind ∷ rest)
+rate_word_stops rate.Push rest = Stops-word word.Push loosest rest
+rate_word_stops rate.Pop rest = Stops-word word.Pop loosest rest
+rate_word_stops rate.Peek rest = Stops-word word.Peek loosest rest
 
-rate_on : (a : RateTree) (front : List RateTree) (t : ℕ) (behind : List TokenKind) → (a.rate ≡ pos 0) ⊎ (a.rate ≡ pos 1) → has_rate a.kind front ≡ false
-    → repeated no_rate rate_turn (suc t) front (rate_spelled a behind) ≡ repeated no_rate rate_turn t (front ++ a ∷ []) behind
-unfolding repeated
-rate_on a front t behind small fresh =
-    let stands = rate_stands a.kind (token.Number a.rate ∷ behind) in
-    let goes_on = no_rate_stays (rate_spelled a behind) a.kind stands in
-    let turn = rate_turn_at front (rate_spelled a behind) a.kind a.rate behind stands (rate_of_again a front behind small fresh) in
-    rw (goes_on, turn) refl
+rates_stop : (items : List tree.Rate) (rest : List TokenKind) → Stopping rest → Stopping (each_spelled rate_spelled items rest)
+rates_stop [] rest stops = stops
+rates_stop (a ∷ others) rest stops = rate_word_stops a.kind (expr_spelled a.rate (each_spelled rate_spelled others rest))
 
-rates_end : (front : List RateTree) (t : ℕ) (rest : List TokenKind) → rate_kind rest ≡ None → repeated no_rate rate_turn (suc t) front rest ≡ Ok (front, rest)
-unfolding repeated no_rate
-rates_end front t rest none = rw none refl
-
-rates_long : (items : List RateTree) (rest : List TokenKind) → length rest ≤ length (each_spelled rate_spelled items rest)
+rates_long : (items : List tree.Rate) (rest : List TokenKind) → length rest ≤ length (each_spelled rate_spelled items rest)
 rates_long [] rest = omega arith
-rates_long (a ∷ others) rest = omega (arith, rates_long others rest)
-
-rates_on : (items : List RateTree) → AreRates items → (front : List RateTree) → AreFresh front items → (turns : ℕ) (rest : List TokenKind) → rate_kind rest ≡ None
-    → length (each_spelled rate_spelled items rest) + 1 ≤ turns + length rest
-    → repeated no_rate rate_turn turns front (each_spelled rate_spelled items rest) ≡ Ok (front ++ items, rest)
-rates_on [] shape front fresh zero rest none le = absurd (omega arith)
-rates_on [] shape front fresh (suc t) rest none le = rates_end front t rest none ∙ ap (λ (xs : List RateTree). Ok (xs, rest)) (sym (append-nil front))
-rates_on (a ∷ others) shape front fresh zero rest none le = absurd (omega (arith, rates_long others rest))
-rates_on (a ∷ others) shape front fresh (suc t) rest none le =
-    rate_on a front t (each_spelled rate_spelled others rest) shape.0 fresh.0
-    ∙ rates_on others shape.2 (front ++ a ∷ []) (still_fresh front a others fresh.1 shape.1) t rest none (omega arith)
-    ∙ ap (λ (xs : List RateTree). Ok (xs, rest)) (append_assoc front (a ∷ []) others)
-
-rates_again : (items : List RateTree) → AreRates items → (rest : List TokenKind) → rate_kind rest ≡ None → rates (each_spelled rate_spelled items rest) ≡ Ok (items, rest)
-unfolding rates
-rates_again items shape rest none = rates_on items shape [] (all_fresh items) (length (each_spelled rate_spelled items rest) + 1) rest none (omega arith)
+rates_long (a ∷ others) rest = omega (arith, expr_length a.rate (each_spelled rate_spelled others rest), rates_long others rest)
 
 module _ (limit : ℕ) where
+  rate_of_again : (a : tree.Rate) → IsExpr a.rate → (front : List tree.Rate) (behind : List TokenKind) → has_rate a.kind front ≡ false → Stopping behind
+      → Again limit (rate_height a) (found a.rate behind) (rate_of limit a.kind front (rate_spelled a behind))
+  unfolding rate_of
+  rate_of_again a shape front behind fresh stops = rw fresh (expression_again a.rate shape limit behind stops)
+
+  rate_fits : (a : tree.Rate) → IsExpr a.rate → (front : List tree.Rate) (t : ℕ) (behind : List TokenKind) → has_rate a.kind front ≡ false → Stopping behind → rate_height a ≤ limit
+      → repeated no_rate (rate_turn limit) (suc t) front (rate_spelled a behind) ≡ repeated no_rate (rate_turn limit) t (front ++ a ∷ []) behind
+  unfolding repeated
+  rate_fits a shape front t behind fresh stops low =
+      let stands = rate_stands a.kind (expr_spelled a.rate behind) in
+      let goes_on = no_rate_stays (rate_spelled a behind) a.kind stands in
+      let turn = rate_turn_at limit front (rate_spelled a behind) a.kind a.rate (rate_height a) behind stands ((rate_of_again a shape front behind fresh stops).fits low) in
+      rw (goes_on, turn) refl
+
+  rate_over : (a : tree.Rate) → IsExpr a.rate → (front : List tree.Rate) (t : ℕ) (behind : List TokenKind) → has_rate a.kind front ≡ false → Stopping behind → limit < rate_height a
+      → repeated no_rate (rate_turn limit) (suc t) front (rate_spelled a behind) ≡ Err Nesting
+  unfolding repeated rate_turn
+  rate_over a shape front t behind fresh stops deep =
+      let stands = rate_stands a.kind (expr_spelled a.rate behind) in
+      let goes_on = no_rate_stays (rate_spelled a behind) a.kind stands in
+      let read = (rate_of_again a shape front behind fresh stops).over deep in
+      rw (goes_on, stands, read) refl
+
+  rates_end : (front : List tree.Rate) (t : ℕ) (rest : List TokenKind) → rate_kind rest ≡ None → repeated no_rate (rate_turn limit) (suc t) front rest ≡ Ok (front, rest)
+  unfolding repeated no_rate
+  rates_end front t rest none = rw none refl
+
+  rates_on : (items : List tree.Rate) → AreRates items → (front : List tree.Rate) → AreFresh front items → (turns : ℕ) (rest : List TokenKind) → rate_kind rest ≡ None → Stopping rest
+      → length (each_spelled rate_spelled items rest) + 1 ≤ turns + length rest
+      → Again limit (highest rate_height items) (front ++ items, rest) (repeated no_rate (rate_turn limit) turns front (each_spelled rate_spelled items rest))
+  rates_on [] shape front fresh zero rest none stops le = absurd (omega arith)
+  rates_on [] shape front fresh (suc t) rest none stops le =
+      record { fits = λ h. rates_end front t rest none ∙ ap (λ (xs : List tree.Rate). Ok (xs, rest)) (sym (append-nil front)); over = λ h. absurd (omega arith) }
+  rates_on (a ∷ others) shape front fresh zero rest none stops le = absurd (omega (arith, expr_length a.rate (each_spelled rate_spelled others rest), rates_long others rest))
+  rates_on (a ∷ others) shape front fresh (suc t) rest none stops le =
+      let behind = each_spelled rate_spelled others rest in
+      let next = rates_stop others rest stops in
+      let more = rates_on others shape.2 (front ++ a ∷ []) (still_fresh front a others fresh.1 shape.1) t rest none stops (omega (arith, expr_length a.rate behind)) in record {
+        fits = λ h. rate_fits a shape.0 front t behind fresh.0 next (omega arith) ∙ more.fits (omega arith) ∙ ap (λ (xs : List tree.Rate). Ok (xs, rest)) (append_assoc front (a ∷ []) others);
+        over = λ h. elim (cases_lt limit (rate_height a)) [
+          | inl lt ↦ rate_over a shape.0 front t behind fresh.0 next lt
+          | inr low ↦ rate_fits a shape.0 front t behind fresh.0 next low ∙ more.over (omega arith)
+        ];
+      }
+
   -- ---- members
 
-  work_again : (declared : List RateTree) (body : tree.Stmts) → AreRates declared → AreStmts body → (rest : List TokenKind)
-      → Again limit (row_height body) (tree.Work declared body, rest)
-      (work limit (each_spelled rate_spelled declared (token.Mark mark.OpenBrace ∷ row_spelled body (token.Mark mark.CloseBrace ∷ rest))))
-  unfolding work rate_kind
-  work_again declared body rated shape rest =
-      let opened = row_spelled body (token.Mark mark.CloseBrace ∷ rest) in
-      let behind : List TokenKind = token.Mark mark.OpenBrace ∷ opened in
-      rw (rates_again declared rated behind refl, expect_mark mark.OpenBrace opened)
-      (Again-then limit (row_height body) (row_height body) ((listed body, row_height body), rest) (tree.Work declared body, rest) _ _
-      (statements_again body shape limit rest) (omega arith)
-      (λ low. rw (row_listed body) (record { fits = λ h. refl; over = λ h. absurd (omega arith) })))
+  braced_again : (block : tree.Stmts) → AreStmts block → (rest : List TokenKind) → Again limit (row_height block) (block, rest) (braced limit (block_spelled block rest))
+  unfolding braced
+  braced_again block shape rest =
+      rw (expect_mark mark.OpenBrace (row_spelled block (token.Mark mark.CloseBrace ∷ rest)))
+      (Again-then limit (row_height block) (row_height block) ((listed block, row_height block), rest) (block, rest) _ _ (statements_again block shape limit rest) (omega arith)
+      (λ low. rw (row_listed block) (Again-done limit (row_height block) (block, rest) _ low refl)))
 
-  field_again : (x : List ℕ) (begun : Option tree.Expr) → IsInitial begun → (rest : List TokenKind)
-      → Again limit (initial_height begun) (tree.Field x begun, rest) (field limit (tail (variable_spelled x begun rest)))
-  unfolding field
-  field_again x begun shape rest =
-      Again-then limit (initial_height begun) (initial_height begun) ((x, begun), initial_height begun, rest) (tree.Field x begun, rest) _ _
-      (variable_again x begun shape limit rest) (omega arith) (λ low. record { fits = λ h. refl; over = λ h. absurd (omega arith) })
+  no_rate_block : (block : tree.Stmts) (rest : List TokenKind) → rate_kind (block_spelled block rest) ≡ None
+  unfolding rate_kind
+  no_rate_block block rest = refl
+
+  rates_again : (declared : List tree.Rate) → AreRates declared → (block : tree.Stmts) (rest : List TokenKind)
+      → Again limit (highest rate_height declared) (declared, block_spelled block rest) (rates limit (each_spelled rate_spelled declared (block_spelled block rest)))
+  unfolding rates
+  rates_again declared shape block rest =
+      let behind = block_spelled block rest in
+      rates_on declared shape [] (all_fresh declared) (length (each_spelled rate_spelled declared behind) + 1) behind (no_rate_block block rest)
+      (Stops-brace loosest (row_spelled block (token.Mark mark.CloseBrace ∷ rest))) (omega arith)
+
+  phase_again : (declared : List tree.Rate) (block : tree.Stmts) → AreRates declared → AreStmts block → (rest : List TokenKind)
+      → Again limit (max (highest rate_height declared) (row_height block)) ((declared, block), rest) (phase limit (each_spelled rate_spelled declared (block_spelled block rest)))
+  unfolding phase
+  phase_again declared block rated shape rest =
+      let high : ℕ = max (highest rate_height declared) (row_height block) in
+      Again-then limit (highest rate_height declared) high (declared, block_spelled block rest) ((declared, block), rest) _ _ (rates_again declared rated block rest) (omega arith) (λ one.
+      Again-then limit (row_height block) high (block, rest) ((declared, block), rest) _ _ (braced_again block shape rest) (omega arith) (λ two.
+      Again-done limit high ((declared, block), rest) _ (omega arith) refl))
+
+  phase_member_again : (make : List tree.Rate → tree.Stmts → tree.Member) (declared : List tree.Rate) (block : tree.Stmts) → AreRates declared → AreStmts block → (rest : List TokenKind)
+      → Again limit (max (highest rate_height declared) (row_height block)) {X = tree.Member × List TokenKind} (make declared block, rest)
+      (phase limit (each_spelled rate_spelled declared (block_spelled block rest)) >>= λ read. Ok (make read.0.0 read.0.1, read.1))
+  phase_member_again make declared block rated shape rest =
+      let high : ℕ = max (highest rate_height declared) (row_height block) in
+      Again-then limit high high ((declared, block), rest) (make declared block, rest) _ _ (phase_again declared block rated shape rest) (omega arith)
+      (λ low. Again-done limit high (make declared block, rest) _ low refl)
+
+  init_again : (block : tree.Stmts) → AreStmts block → (rest : List TokenKind) → Again limit (row_height block) (tree.Init block, rest) (init limit (block_spelled block rest))
+  unfolding init
+  init_again block shape rest =
+      Again-then limit (row_height block) (row_height block) (block, rest) (tree.Init block, rest) _ _ (braced_again block shape rest) (omega arith)
+      (λ low. Again-done limit (row_height block) (tree.Init block, rest) _ low refl)
+
+  field_again : (kind : tree.VariableType) (vs : List tree.Variable) → IsVariableType kind → AreVariables vs → (rest : List TokenKind)
+      → Again limit (declared_height kind vs) (tree.Fields kind vs, rest) (fields limit (declared_spelled kind vs (token.Mark mark.Semicolon ∷ rest)))
+  unfolding fields
+  field_again kind vs typed shape rest =
+      let high : ℕ = declared_height kind vs in
+      Again-then limit high high ((kind, vs), high, token.Mark mark.Semicolon ∷ rest) (tree.Fields kind vs, rest) _ _ (fields_again kind vs typed shape limit rest) (omega arith)
+      (λ low. rw (expect_mark mark.Semicolon rest) (Again-done limit high (tree.Fields kind vs, rest) _ low refl))
 
   abbrev IsMemberAgain : tree.Member → Type 0
   IsMemberAgain m = ItemAgain member_spelled member_height (member limit) brace limit m
 
+  block_long : (block : tree.Stmts) → AreStmts block → (rest : List TokenKind) → length rest + 2 ≤ length (block_spelled block rest)
+  block_long block shape rest = omega (arith, row_length block shape (token.Mark mark.CloseBrace ∷ rest))
+
   member_again : (m : tree.Member) → IsMember m → IsMemberAgain m
   unfolding member brace is_mark
-  member_again (tree.Field x None) shape = record { reads = λ rest. field_again x None shape rest; stays = λ rest. refl; long = λ rest. omega arith }
-  member_again (tree.Field x (Some e)) shape =
-      record { reads = λ rest. field_again x (Some e) shape rest; stays = λ rest. refl; long = λ rest. omega (arith, expr_length e (token.Mark mark.Semicolon ∷ rest)) }
-  member_again (tree.Work declared body) shape = record {
-    reads = λ rest. work_again declared body shape.0 shape.1 rest;
+  member_again (tree.Fields tree.Boolean vs) shape =
+      record { reads = λ rest. field_again tree.Boolean vs shape.0 shape.1 rest; stays = λ rest. refl; long = λ rest. omega (arith, declared_length tree.Boolean vs (token.Mark mark.Semicolon ∷ rest)) }
+  member_again (tree.Fields tree.Int vs) shape =
+      record { reads = λ rest. field_again tree.Int vs shape.0 shape.1 rest; stays = λ rest. refl; long = λ rest. omega (arith, declared_length tree.Int vs (token.Mark mark.Semicolon ∷ rest)) }
+  member_again (tree.Fields (tree.Array size) vs) shape =
+      record { reads = λ rest. field_again (tree.Array size) vs shape.0 shape.1 rest; stays = λ rest. refl; long = λ rest. omega (arith, declared_length (tree.Array size) vs (token.Mark mark.Semicolon ∷ rest)) }
+  member_again (tree.Init block) shape = record { reads = λ rest. init_again block shape rest; stays = λ rest. refl; long = λ rest. omega (arith, block_long block shape rest) }
+  member_again (tree.Prework declared block) shape = record {
+    reads = λ rest. phase_member_again tree.Prework declared block shape.0 shape.1 rest;
     stays = λ rest. refl;
-    long = λ rest. omega (arith, rates_long declared (token.Mark mark.OpenBrace ∷ row_spelled body (token.Mark mark.CloseBrace ∷ rest)), row_length body (token.Mark mark.CloseBrace ∷ rest));
+    long = λ rest. omega (arith, rates_long declared (block_spelled block rest), block_long block shape.1 rest);
+  }
+  member_again (tree.Work declared block) shape = record {
+    reads = λ rest. phase_member_again tree.Work declared block shape.0 shape.1 rest;
+    stays = λ rest. refl;
+    long = λ rest. omega (arith, rates_long declared (block_spelled block rest), block_long block shape.1 rest);
   }
 
   members_facts : (items : List tree.Member) → AllByRecursion IsMember items → AllByRecursion IsMemberAgain items

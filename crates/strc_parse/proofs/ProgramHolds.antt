@@ -1,25 +1,28 @@
 -- What is read as a program is one, and these are its tokens.
-use Rattle.std.proofs.Common.{◌≡◌, ℕ, zero, suc, ℤ, pos, ◌+◌, ◌≤◌, Bool, true, false, cond, List, [], ◌∷◌, ◌++◌, length, Option, Some, None, Ok, refl, sym, ap, subst, ◌∙◌, arith, inl, inr, ◌⊎◌}
+use Rattle.std.proofs.Common.{◌≡◌, ℕ, suc, ◌+◌, ◌≤◌, max, Bool, true, false, List, [], ◌∷◌, ◌++◌, length, Option, Some, None, Ok, refl, sym, ap, ◌∙◌, arith, inl, inr}
 use Rattle.std.specs.Prelude.{◌||◌}
 use Rattle.std.proofs.lemmas.Bool.{cases_Bool}
-use Rattle.std.specs.List.{AllByRecursion}
+use Rattle.std.specs.List.{AllByRecursion, list_any}
 use denote.Enum.Bare.{sameb, same_false}
 use Rattle.strc_lex.specs.declared.token.TokenKind.{TokenKind}
 use Rattle.strc_lex.specs.declared.token.TokenKind.TheVariants as token
+use Rattle.strc_lex.specs.declared.token.Word.{Word}
 use Rattle.strc_lex.specs.declared.token.Word.TheVariants as word
 use Rattle.strc_lex.specs.declared.token.Mark.TheVariants as mark
 use Rattle.strc_parse.specs.declared.tree.ItemType.{ItemType}
 use Rattle.strc_parse.specs.declared.tree.RateKind.{RateKind}
 use Rattle.strc_parse.specs.declared.tree.RateKind.TheVariants as rate
 use Rattle.strc_parse.specs.contracts.tree.RateKind.{the_type as rate_type}
-use Rattle.strc_parse.specs.declared.tree.RateTree.{RateTree}
 use Rattle.strc_parse.specs.Tree as tree
-use Rattle.strc_parse.specs.Grammar.{variable_spelled, row_spelled, rate_word, rate_spelled, each_spelled, member_spelled, child_spelled, type_word, declaration_spelled, AreRates, IsMember, IsDeclaration, IsTree, member_height, highest, declaration_height, height, height_limit, Parses}
-use Rattle.strc_parse.specs.Reading.{◌>>=◌, Read, unexpected, tail, row, repeated, one_more, brace, statements, statement, variable, item_type, rate_kind, is_rate, rate_number, has_rate, rate_by, rate_turn, no_rate_by, no_rate, rates, work, field, member, members, child, children, stream_type, heading, filter, pipeline, stream, declaration, at_end, declarations}
+use Rattle.strc_parse.specs.Grammar.{declared_spelled, block_spelled, rate_word, rate_spelled, each_spelled, member_spelled, child_spelled, type_word, declaration_spelled, loosest, IsExpr, AreStmts, AreRates, IsMember, IsDeclaration, IsTree, row_height, rate_height, member_height, highest, declaration_height, height, height_limit, Parses}
+use Rattle.strc_parse.specs.Reading.{◌>>=◌, Read, tail, repeated, one_more, brace, statements, statement, expression, declared, item_type, rate_kind, has_rate, rate_of, rate_by, rate_turn, no_rate_by, no_rate, rates, braced, init, phase, fields, member, members, child, children, stream_type, heading, filter, pipeline, stream, declaration, at_end, declarations}
 use Rattle.strc_parse.proofs.ExpressionAgain.{expr_length}
 use Rattle.strc_parse.proofs.StatementAgain.{row_length}
-use Rattle.strc_parse.proofs.Holds.{Holds, Holds-then, Holds-on, Holds-expect, Holds-expect_word, Holds-name, Stopped, repeated_holds, brace_is, each_spelled-push, All-push}
-use Rattle.strc_parse.proofs.StatementHolds.{VariableRead, variable_holds, BodyRead, statements_holds, statement_holds}
+use Rattle.strc_parse.proofs.Holds.{Holds, Holds-then, Holds-on, Holds-expect, Holds-expect_word, Holds-name, Stopped, repeated_holds, brace_is, each_spelled-push, highest-push, All-push}
+use Rattle.strc_parse.proofs.SimpleAgain.{declared_length}
+use Rattle.strc_parse.proofs.ExpressionHolds.{ExprRead, expression_holds}
+use Rattle.strc_parse.proofs.SimpleHolds.{DeclaredRead, declared_holds}
+use Rattle.strc_parse.proofs.StatementHolds.{BodyRead, statements_holds, statement_holds}
 
 abbrev count : List TokenKind → ℕ
 count ts = length ts
@@ -67,77 +70,64 @@ or_false : (p q : Bool) → (p || q) ≡ false → (p ≡ false) × (q ≡ false
 or_false true q e = absurd cc
 or_false false q e = (refl, e)
 
-abbrev IsSmall : ℤ → Type 0
-IsSmall value = (value ≡ pos 0) ⊎ (value ≡ pos 1)
+has_none : (a : tree.Rate) (x : tree.Rate) (others : List tree.Rate) → has_rate a.kind (x ∷ others) ≡ false → (sameb rate_type x.kind a.kind ≡ false) × (has_rate a.kind others ≡ false)
+unfolding has_rate
+has_none a x others fresh = or_false (sameb rate_type x.kind a.kind) (list_any (λ r. sameb rate_type r.kind a.kind) others) fresh
 
-is_small : (value : ℤ) → is_rate value ≡ true → IsSmall value
-is_small (pos zero) e = inl refl
-is_small (pos (suc zero)) e = inr refl
-is_small _ e = absurd cc
-
-AreRates-push : (front : List RateTree) (a : RateTree) → AreRates front → IsSmall a.rate → has_rate a.kind front ≡ false → AreRates (front ++ a ∷ [])
-AreRates-push [] a shape small fresh = (small, tt, tt)
-AreRates-push (x ∷ others) a shape small fresh =
-    let parts = or_false (sameb rate_type x.kind a.kind) (has_rate a.kind others) fresh in (
+AreRates-push : (front : List tree.Rate) (a : tree.Rate) → AreRates front → IsExpr a.rate → has_rate a.kind front ≡ false → AreRates (front ++ a ∷ [])
+AreRates-push [] a shape is_expr fresh = (is_expr, tt, tt)
+AreRates-push (x ∷ others) a shape is_expr fresh =
+    let parts = has_none a x others fresh in (
       shape.0,
       All-push (λ other. x.kind ≡ other.kind → ⊥) others a shape.1 (same_false rate_type x.kind a.kind parts.0),
-      AreRates-push others a shape.2 small parts.1,
+      AreRates-push others a shape.2 is_expr parts.1,
     )
 
 kind_is : (kind : RateKind) (tokens : List TokenKind) → rate_kind tokens ≡ Some kind → tokens ≡ rate_word kind ∷ tail tokens
 unfolding rate_kind
 kind_is kind (token.Word word.Push ∷ rest) e = let same : rate.Push ≡ kind = cc in ap (λ (k : RateKind). rate_word k ∷ rest) same
 kind_is kind (token.Word word.Pop ∷ rest) e = let same : rate.Pop ≡ kind = cc in ap (λ (k : RateKind). rate_word k ∷ rest) same
+kind_is kind (token.Word word.Peek ∷ rest) e = let same : rate.Peek ≡ kind = cc in ap (λ (k : RateKind). rate_word k ∷ rest) same
 kind_is kind _ e = absurd cc
 
-record NumberRead (tokens : List TokenKind) (x : ℤ × List TokenKind) : Type 0 where
-  spelled : tokens ≡ token.Number x.0 ∷ x.1
-  small : IsSmall x.0
-
-rate_number_holds : (tokens : List TokenKind) → Holds (NumberRead tokens) least tokens (rate_number tokens)
-unfolding rate_number
-rate_number_holds (token.Number n ∷ rest) =
-    let all : List TokenKind = token.Number n ∷ rest in
-    elim (cases_Bool (is_rate n)) [
-      | inl is ↦ subst (λ (b : Bool). Holds (NumberRead all) least all (cond b (Ok (n, rest)) (unexpected all))) (sym is) (record { spelled = refl; small = is_small n is })
-      | inr is ↦ subst (λ (b : Bool). Holds (NumberRead all) least all (cond b (Ok (n, rest)) (unexpected all))) (sym is) (omega arith)
-    ]
-rate_number_holds _ = omega arith
-
 -- the rates so far, and where the next one begins
-record RatesRead (all : List TokenKind) (front : List RateTree) (rest : List TokenKind) : Type 0 where
+record RatesRead (all : List TokenKind) (front : List tree.Rate) (rest : List TokenKind) : Type 0 where
   spelled : all ≡ each_spelled rate_spelled front rest
   shape : AreRates front
+  low : highest rate_height front ≤ height_limit
 
-module _ (all : List TokenKind) (front : List RateTree) (tokens : List TokenKind) (kept : RatesRead all front tokens) (le : length tokens ≤ length all) where
-  abbrev Next : List RateTree × List TokenKind → Type 0
+module _ (all : List TokenKind) (front : List tree.Rate) (tokens : List TokenKind) (kept : RatesRead all front tokens) (le : length tokens ≤ length all) where
+  abbrev Next : List tree.Rate × List TokenKind → Type 0
   Next x = RatesRead all x.0 x.1 × (length x.1 ≤ length all)
 
-  abbrev pushed : RateKind → ℤ × List TokenKind → Read (List RateTree)
-  pushed kind x = Ok (front ++ record { kind = kind; rate = x.0 } ∷ [], x.1)
+  abbrev pushed : RateKind → tree.Expr × ℕ × List TokenKind → Read (List tree.Rate)
+  pushed kind x = Ok (front ++ record { kind = kind; rate = x.0 } ∷ [], x.2)
 
-  new_rate : (kind : RateKind) → tokens ≡ rate_word kind ∷ tail tokens → has_rate kind front ≡ false → Holds Next least all (rate_number (tail tokens) >>= pushed kind)
+  new_rate : (kind : RateKind) → tokens ≡ rate_word kind ∷ tail tokens → has_rate kind front ≡ false → Holds Next least all (expression height_limit loosest (tail tokens) >>= pushed kind)
   new_rate kind stands fresh =
       let one : length tokens ≡ suc (length (tail tokens)) = ap count stands in
-      Holds-then (NumberRead (tail tokens)) Next least all (rate_number (tail tokens)) (pushed kind)
-      (Holds-on (NumberRead (tail tokens)) (NumberRead (tail tokens)) least least (tail tokens) all (rate_number (tail tokens)) (omega arith) (omega arith) (rate_number_holds (tail tokens)) (λ x h. h)) (λ x read. (
+      Holds-then (ExprRead height_limit loosest (tail tokens)) Next least all (expression height_limit loosest (tail tokens)) (pushed kind)
+      (Holds-on (ExprRead height_limit loosest (tail tokens)) (ExprRead height_limit loosest (tail tokens)) height_limit least (tail tokens) all (expression height_limit loosest (tail tokens)) (omega arith) (omega arith)
+      (expression_holds height_limit loosest (tail tokens)) (λ x h. h)) (λ x read. (
         record {
           spelled = kept.spelled ∙ ap (λ (ts : List TokenKind). each_spelled rate_spelled front ts) (stands ∙ ap (λ (ts : List TokenKind). rate_word kind ∷ ts) read.spelled)
-              ∙ sym (each_spelled-push rate_spelled front (record { kind = kind; rate = x.0 }) x.1);
-          shape = AreRates-push front (record { kind = kind; rate = x.0 }) kept.shape read.small fresh;
+              ∙ sym (each_spelled-push rate_spelled front (record { kind = kind; rate = x.0 }) x.2);
+          shape = AreRates-push front (record { kind = kind; rate = x.0 }) kept.shape read.shape fresh;
+          low = omega (arith, kept.low, read.high, read.low, highest-push rate_height front (record { kind = kind; rate = x.0 }));
         },
-        omega (arith, ap count read.spelled),
+        omega (arith, ap count read.spelled, expr_length x.0 x.2),
       ))
 
-  rate_by_holds : (o : Option RateKind) → rate_kind tokens ≡ o → Holds Next least all (rate_by front tokens o)
+  rate_by_holds : (o : Option RateKind) → rate_kind tokens ≡ o → Holds Next least all (rate_by height_limit front tokens o)
+  unfolding rate_of
   rate_by_holds None e = le
   rate_by_holds (Some kind) e =
       elim (cases_Bool (has_rate kind front)) [
-        | inl is ↦ subst (λ (b : Bool). Holds Next least all (cond b (unexpected tokens) (rate_number (tail tokens)) >>= pushed kind)) (sym is) le
-        | inr is ↦ subst (λ (b : Bool). Holds Next least all (cond b (unexpected tokens) (rate_number (tail tokens)) >>= pushed kind)) (sym is) (new_rate kind (kind_is kind tokens e) is)
+        | inl is ↦ rw is le
+        | inr is ↦ rw is (new_rate kind (kind_is kind tokens e) is)
       ]
 
-  rate_turn_holds : Holds Next least all (rate_turn front tokens)
+  rate_turn_holds : Holds Next least all (rate_turn height_limit front tokens)
   unfolding rate_turn
   rate_turn_holds = rate_by_holds (rate_kind tokens) refl
 
@@ -149,19 +139,22 @@ no_rate_is : (tokens after : List TokenKind) → no_rate tokens ≡ Some after �
 unfolding no_rate
 no_rate_is tokens after e = no_rate_by_is (rate_kind tokens) tokens after e
 
-rates_holds : (tokens : List TokenKind) → Holds (λ x. RatesRead tokens x.0 x.1) least tokens (rates tokens)
+rates_holds : (tokens : List TokenKind) → Holds (λ x. RatesRead tokens x.0 x.1) least tokens (rates height_limit tokens)
 unfolding rates
 rates_holds tokens =
-    Holds-on (Stopped no_rate rate_turn (RatesRead tokens) least tokens) (λ x. RatesRead tokens x.0 x.1) least least tokens tokens (repeated no_rate rate_turn (length tokens + 1) [] tokens) (omega arith) (omega arith)
-    (repeated_holds no_rate rate_turn (RatesRead tokens) least tokens (λ front ts kept le goes. rate_turn_holds tokens front ts kept le) (length tokens + 1) [] tokens (record { spelled = refl; shape = tt }) (omega arith))
+    Holds-on (Stopped no_rate (rate_turn height_limit) (RatesRead tokens) least tokens) (λ x. RatesRead tokens x.0 x.1) least least tokens tokens
+    (repeated no_rate (rate_turn height_limit) (length tokens + 1) [] tokens) (omega arith) (omega arith)
+    (repeated_holds no_rate (rate_turn height_limit) (RatesRead tokens) least tokens (λ front ts kept le goes. rate_turn_holds tokens front ts kept le) (length tokens + 1) [] tokens
+    (record { spelled = refl; shape = tt; low = omega arith }) (omega arith))
     (λ x stopped. record {
       spelled = stopped.1.spelled ∙ ap (λ (ts : List TokenKind). each_spelled rate_spelled x.0 ts) (no_rate_is stopped.0 x.1 stopped.2);
       shape = stopped.1.shape;
+      low = stopped.1.low;
     })
 
-rates_long : (items : List RateTree) (rest : List TokenKind) → length rest ≤ length (each_spelled rate_spelled items rest)
+rates_long : (items : List tree.Rate) (rest : List TokenKind) → length rest ≤ length (each_spelled rate_spelled items rest)
 rates_long [] rest = omega arith
-rates_long (a ∷ others) rest = omega (arith, rates_long others rest)
+rates_long (a ∷ others) rest = omega (arith, expr_length a.rate (each_spelled rate_spelled others rest), rates_long others rest)
 
 -- ---- members
 
@@ -171,45 +164,103 @@ IsGoodMember m = IsMember m × (member_height m ≤ height_limit)
 abbrev MemberRead : List TokenKind → tree.Member × List TokenKind → Type 0
 MemberRead tokens x = ItemRead member_spelled IsGoodMember tokens x
 
-variable_long : (x : List ℕ) (begun : Option tree.Expr) (rest : List TokenKind) → length rest ≤ length (variable_spelled x begun rest)
-variable_long x None rest = omega arith
-variable_long x (Some e) rest = omega (arith, expr_length e (token.Mark mark.Semicolon ∷ rest))
+fields_holds : (tokens : List TokenKind) → Holds (MemberRead tokens) least tokens (fields height_limit tokens)
+unfolding fields
+fields_holds tokens =
+    Holds-then (DeclaredRead height_limit tokens) (MemberRead tokens) least tokens (declared height_limit tokens) _
+    (Holds-on (DeclaredRead height_limit tokens) (DeclaredRead height_limit tokens) height_limit least tokens tokens (declared height_limit tokens) (omega arith) (omega arith) (declared_holds height_limit tokens) (λ x h. h))
+    (λ x read.
+    let le : length x.2 ≤ length tokens = omega (arith, ap count read.spelled, declared_length x.0.0 x.0.1 x.2) in
+    Holds-expect (MemberRead tokens) least tokens mark.Semicolon x.2 _ le (λ rest e.
+    let one : length x.2 ≡ suc (length rest) = ap count e in
+    record {
+      spelled = read.spelled ∙ ap (λ (ts : List TokenKind). declared_spelled x.0.0 x.0.1 ts) e;
+      good = ((read.typed, read.shape), omega (arith, read.high, read.low));
+      long = omega arith;
+    }))
 
-field_holds : (behind : List TokenKind) → Holds (MemberRead (token.Word word.Int ∷ behind)) least (token.Word word.Int ∷ behind) (field height_limit behind)
-unfolding field
-field_holds behind =
-    let all : List TokenKind = token.Word word.Int ∷ behind in
-    Holds-then (VariableRead height_limit behind) (MemberRead all) least all (variable height_limit behind) _
-    (Holds-on (VariableRead height_limit behind) (VariableRead height_limit behind) height_limit least behind all (variable height_limit behind) (omega arith) (omega arith) (variable_holds height_limit behind) (λ x h. h))
-    (λ x read. record {
-      spelled = read.spelled;
-      good = (read.shape, omega (arith, read.high, read.low));
-      long = omega (arith, ap count read.spelled, variable_long x.0.0 x.0.1 x.2);
-    })
+-- a block with its braces, and what follows it
+record BlockRead (tokens : List TokenKind) (x : tree.Stmts × List TokenKind) : Type 0 where
+  spelled : tokens ≡ block_spelled x.0 x.1
+  shape : AreStmts x.0
+  low : row_height x.0 ≤ height_limit
 
-work_holds : (behind : List TokenKind) → Holds (MemberRead (token.Word word.Work ∷ behind)) least (token.Word word.Work ∷ behind) (work height_limit behind)
-unfolding work
-work_holds behind =
-    let all : List TokenKind = token.Word word.Work ∷ behind in
-    Holds-then (λ x. RatesRead behind x.0 x.1) (MemberRead all) least all (rates behind) _
-    (Holds-on (λ x. RatesRead behind x.0 x.1) (λ x. RatesRead behind x.0 x.1) least least behind all (rates behind) (omega arith) (omega arith) (rates_holds behind) (λ x h. h)) (λ declared rated.
-    let short : length declared.1 ≤ length behind = omega (arith, ap count rated.spelled, rates_long declared.0 declared.1) in
-    Holds-expect (MemberRead all) least all mark.OpenBrace declared.1 _ (omega arith) (λ opened e.
-    let one : length declared.1 ≡ suc (length opened) = ap count e in
-    Holds-then (BodyRead height_limit opened) (MemberRead all) least all (statements (statement height_limit) opened) _
-    (Holds-on (BodyRead height_limit opened) (BodyRead height_limit opened) least least opened all (statements (statement height_limit) opened) (omega arith) (omega arith)
+braced_holds : (tokens : List TokenKind) → Holds (BlockRead tokens) least tokens (braced height_limit tokens)
+unfolding braced
+braced_holds tokens =
+    Holds-expect (BlockRead tokens) least tokens mark.OpenBrace tokens _ (omega arith) (λ opened e.
+    let one : length tokens ≡ suc (length opened) = ap count e in
+    Holds-then (BodyRead height_limit opened) (BlockRead tokens) least tokens (statements (statement height_limit) opened) _
+    (Holds-on (BodyRead height_limit opened) (BodyRead height_limit opened) least least opened tokens (statements (statement height_limit) opened) (omega arith) (omega arith)
     (statements_holds height_limit (statement height_limit) (λ ts. statement_holds height_limit ts) opened) (λ x h. h))
     (λ x body. record {
-      spelled = ap (λ (ts : List TokenKind). token.Word word.Work ∷ ts)
-          (rated.spelled ∙ ap (λ (ts : List TokenKind). each_spelled rate_spelled declared.0 ts) (e ∙ ap (λ (ts : List TokenKind). token.Mark mark.OpenBrace ∷ ts) body.spelled));
-      good = ((rated.shape, body.shape), omega (arith, body.high, body.low));
-      long = omega (arith, ap count body.spelled, row_length (row x.0.0) (token.Mark mark.CloseBrace ∷ x.1));
-    })))
+      spelled = e ∙ ap (λ (ts : List TokenKind). token.Mark mark.OpenBrace ∷ ts) body.spelled;
+      shape = body.shape;
+      low = omega (arith, body.high, body.low);
+    }))
+
+block_long : (block : tree.Stmts) → AreStmts block → (rest : List TokenKind) → length rest + 2 ≤ length (block_spelled block rest)
+block_long block shape rest = omega (arith, row_length block shape (token.Mark mark.CloseBrace ∷ rest))
+
+init_holds : (behind : List TokenKind) → Holds (MemberRead (token.Word word.Init ∷ behind)) least (token.Word word.Init ∷ behind) (init height_limit behind)
+unfolding init
+init_holds behind =
+    let all : List TokenKind = token.Word word.Init ∷ behind in
+    Holds-then (BlockRead behind) (MemberRead all) least all (braced height_limit behind) _
+    (Holds-on (BlockRead behind) (BlockRead behind) least least behind all (braced height_limit behind) (omega arith) (omega arith) (braced_holds behind) (λ x h. h))
+    (λ x block. record {
+      spelled = ap (λ (ts : List TokenKind). token.Word word.Init ∷ ts) block.spelled;
+      good = (block.shape, block.low);
+      long = omega (arith, ap count block.spelled, block_long x.0 block.shape x.1);
+    })
+
+-- rates and a block, and what follows them
+record PhaseRead (tokens : List TokenKind) (x : (List tree.Rate × tree.Stmts) × List TokenKind) : Type 0 where
+  spelled : tokens ≡ each_spelled rate_spelled x.0.0 (block_spelled x.0.1 x.1)
+  rated : AreRates x.0.0
+  shape : AreStmts x.0.1
+  low : max (highest rate_height x.0.0) (row_height x.0.1) ≤ height_limit
+
+phase_holds : (tokens : List TokenKind) → Holds (PhaseRead tokens) least tokens (phase height_limit tokens)
+unfolding phase
+phase_holds tokens =
+    Holds-then (λ x. RatesRead tokens x.0 x.1) (PhaseRead tokens) least tokens (rates height_limit tokens) _ (rates_holds tokens) (λ found rated.
+    let short : length found.1 ≤ length tokens = omega (arith, ap count rated.spelled, rates_long found.0 found.1) in
+    Holds-then (BlockRead found.1) (PhaseRead tokens) least tokens (braced height_limit found.1) _
+    (Holds-on (BlockRead found.1) (BlockRead found.1) least least found.1 tokens (braced height_limit found.1) (omega arith) (omega arith) (braced_holds found.1) (λ x h. h))
+    (λ x block. record {
+      spelled = rated.spelled ∙ ap (λ (ts : List TokenKind). each_spelled rate_spelled found.0 ts) block.spelled;
+      rated = rated.shape;
+      shape = block.shape;
+      low = omega (arith, rated.low, block.low);
+    }))
+
+phase_long : (declared : List tree.Rate) (block : tree.Stmts) → AreStmts block → (rest : List TokenKind) → length rest ≤ length (each_spelled rate_spelled declared (block_spelled block rest))
+phase_long declared block shape rest = omega (arith, rates_long declared (block_spelled block rest), block_long block shape rest)
+
+-- a member made of rates and a block, behind its word
+phase_member : (w : Word) (make : List tree.Rate → tree.Stmts → tree.Member) (behind : List TokenKind)
+    → ((rated : List tree.Rate) (block : tree.Stmts) (rest : List TokenKind) → token.Word w ∷ each_spelled rate_spelled rated (block_spelled block rest) ≡ member_spelled (make rated block) rest)
+    → ((rated : List tree.Rate) (block : tree.Stmts) → AreRates rated → AreStmts block → IsMember (make rated block))
+    → ((rated : List tree.Rate) (block : tree.Stmts) → member_height (make rated block) ≡ max (highest rate_height rated) (row_height block))
+    → Holds (MemberRead (token.Word w ∷ behind)) least (token.Word w ∷ behind) (phase height_limit behind >>= λ read. Ok (make read.0.0 read.0.1, read.1))
+phase_member w make behind spells shapes heights =
+    let all : List TokenKind = token.Word w ∷ behind in
+    Holds-then (PhaseRead behind) (MemberRead all) least all (phase height_limit behind) _
+    (Holds-on (PhaseRead behind) (PhaseRead behind) least least behind all (phase height_limit behind) (omega arith) (omega arith) (phase_holds behind) (λ x h. h))
+    (λ x read. record {
+      spelled = ap (λ (ts : List TokenKind). token.Word w ∷ ts) read.spelled ∙ spells x.0.0 x.0.1 x.1;
+      good = (shapes x.0.0 x.0.1 read.rated read.shape, omega (arith, heights x.0.0 x.0.1, read.low));
+      long = omega (arith, ap count read.spelled, phase_long x.0.0 x.0.1 read.shape x.1);
+    })
 
 member_holds : (tokens : List TokenKind) → Holds (MemberRead tokens) least tokens (member height_limit tokens)
 unfolding member
-member_holds (token.Word word.Int ∷ rest) = field_holds rest
-member_holds (token.Word word.Work ∷ rest) = work_holds rest
+member_holds (token.Word word.Boolean ∷ rest) = fields_holds (token.Word word.Boolean ∷ rest)
+member_holds (token.Word word.Int ∷ rest) = fields_holds (token.Word word.Int ∷ rest)
+member_holds (token.Word word.Init ∷ rest) = init_holds rest
+member_holds (token.Word word.Prework ∷ rest) = phase_member word.Prework tree.Prework rest (λ rated block after. refl) (λ rated block a b. (a, b)) (λ rated block. refl)
+member_holds (token.Word word.Work ∷ rest) = phase_member word.Work tree.Work rest (λ rated block after. refl) (λ rated block a b. (a, b)) (λ rated block. refl)
 member_holds _ = omega arith
 
 good_members : (items : List tree.Member) → AllByRecursion IsGoodMember items → AllByRecursion IsMember items × (highest member_height items ≤ height_limit)
@@ -223,8 +274,8 @@ record BracedRead {A : Type 0} (spelled_item : A → List TokenKind → List Tok
 
 module _ {A : Type 0} (spelled_item : A → List TokenKind → List TokenKind) (Good : A → Type 0) (reader : List TokenKind → Read A)
     (holds : (tokens : List TokenKind) → Holds (ItemRead spelled_item Good tokens) least tokens (reader tokens)) where
-  braced_holds : (tokens : List TokenKind) → Holds (BracedRead spelled_item Good tokens) least tokens (repeated brace (one_more reader) (length tokens) [] tokens)
-  braced_holds tokens =
+  list_closed : (tokens : List TokenKind) → Holds (BracedRead spelled_item Good tokens) least tokens (repeated brace (one_more reader) (length tokens) [] tokens)
+  list_closed tokens =
       Holds-on (Stopped brace (one_more reader) (ListRead spelled_item Good tokens) least tokens) (BracedRead spelled_item Good tokens) least least tokens tokens
       (repeated brace (one_more reader) (length tokens) [] tokens) (omega arith) (omega arith) (list_holds spelled_item Good reader holds brace (length tokens) tokens)
       (λ x stopped. record {
@@ -234,7 +285,7 @@ module _ {A : Type 0} (spelled_item : A → List TokenKind → List TokenKind) (
 
 members_holds : (tokens : List TokenKind) → Holds (BracedRead member_spelled IsGoodMember tokens) least tokens (members height_limit tokens)
 unfolding members
-members_holds tokens = braced_holds member_spelled IsGoodMember (member height_limit) member_holds tokens
+members_holds tokens = list_closed member_spelled IsGoodMember (member height_limit) member_holds tokens
 
 -- ---- children
 
@@ -257,7 +308,7 @@ child_holds tokens =
 
 children_holds : (tokens : List TokenKind) → Holds (BracedRead child_spelled Any tokens) least tokens (children tokens)
 unfolding children
-children_holds tokens = braced_holds child_spelled Any child child_holds tokens
+children_holds tokens = list_closed child_spelled Any child child_holds tokens
 
 -- ---- streams
 
@@ -300,18 +351,19 @@ record StreamRead (input output : ItemType) (tokens : List TokenKind) (x : tree.
   good : IsGoodStream x.0
   long : length x.1 ≤ length tokens
 
-each_long : {A : Type 0} (spelled_item : A → List TokenKind → List TokenKind) → ((a : A) (rest : List TokenKind) → length rest ≤ length (spelled_item a rest))
-    → (items : List A) (rest : List TokenKind) → length rest ≤ length (each_spelled spelled_item items rest)
-each_long spelled_item long [] rest = omega arith
-each_long spelled_item long (a ∷ others) rest = omega (arith, long a (each_spelled spelled_item others rest), each_long spelled_item long others rest)
+each_long : {A : Type 0} (spelled_item : A → List TokenKind → List TokenKind) (Good : A → Type 0) → ((a : A) → Good a → (rest : List TokenKind) → length rest ≤ length (spelled_item a rest))
+    → (items : List A) → AllByRecursion Good items → (rest : List TokenKind) → length rest ≤ length (each_spelled spelled_item items rest)
+each_long spelled_item Good long [] good rest = omega arith
+each_long spelled_item Good long (a ∷ others) good rest = omega (arith, long a good.0 (each_spelled spelled_item others rest), each_long spelled_item Good long others good.1 rest)
 
-member_long : (m : tree.Member) (rest : List TokenKind) → length rest ≤ length (member_spelled m rest)
-member_long (tree.Field x begun) rest = variable_long x begun rest
-member_long (tree.Work declared body) rest =
-    omega (arith, rates_long declared (token.Mark mark.OpenBrace ∷ row_spelled body (token.Mark mark.CloseBrace ∷ rest)), row_length body (token.Mark mark.CloseBrace ∷ rest))
+member_long : (m : tree.Member) → IsGoodMember m → (rest : List TokenKind) → length rest ≤ length (member_spelled m rest)
+member_long (tree.Fields kind vs) good rest = omega (arith, declared_length kind vs (token.Mark mark.Semicolon ∷ rest))
+member_long (tree.Init block) good rest = omega (arith, block_long block good.0 rest)
+member_long (tree.Prework declared block) good rest = omega (arith, phase_long declared block good.0.1 rest)
+member_long (tree.Work declared block) good rest = omega (arith, phase_long declared block good.0.1 rest)
 
-child_long : (x : List ℕ) (rest : List TokenKind) → length rest ≤ length (child_spelled x rest)
-child_long x rest = omega arith
+child_long : (x : List ℕ) → Any x → (rest : List TokenKind) → length rest ≤ length (child_spelled x rest)
+child_long x any rest = omega arith
 
 module _ (input output : ItemType) (behind : List TokenKind) where
   filter_holds : Holds (StreamRead input output (token.Word word.Filter ∷ behind)) least (token.Word word.Filter ∷ behind) (filter height_limit input output behind)
@@ -331,7 +383,7 @@ module _ (input output : ItemType) (behind : List TokenKind) where
         spelled = ap (λ (ts : List TokenKind). type_word input ∷ token.Mark mark.Arrow ∷ type_word output ∷ token.Word word.Filter ∷ ts)
             (e ∙ ap (λ (ts : List TokenKind). token.Name head.0 ∷ token.Mark mark.OpenBrace ∷ ts) body.spelled);
         good = good;
-        long = omega (arith, ap count body.spelled, each_long member_spelled member_long x.0 rest);
+        long = omega (arith, ap count body.spelled, each_long member_spelled IsGoodMember member_long x.0 body.good rest);
       }))
 
   pipeline_holds : Holds (StreamRead input output (token.Word word.Pipeline ∷ behind)) least (token.Word word.Pipeline ∷ behind) (pipeline input output behind)
@@ -350,7 +402,7 @@ module _ (input output : ItemType) (behind : List TokenKind) where
         spelled = ap (λ (ts : List TokenKind). type_word input ∷ token.Mark mark.Arrow ∷ type_word output ∷ token.Word word.Pipeline ∷ ts)
             (e ∙ ap (λ (ts : List TokenKind). token.Name head.0 ∷ token.Mark mark.OpenBrace ∷ ts) body.spelled);
         good = (tt, omega arith);
-        long = omega (arith, ap count body.spelled, each_long child_spelled child_long x.0 rest);
+        long = omega (arith, ap count body.spelled, each_long child_spelled Any child_long x.0 body.good rest);
       }))
 
 stream_holds : (input output : ItemType) (tokens : List TokenKind) → Holds (StreamRead input output tokens) least tokens (stream height_limit input output tokens)

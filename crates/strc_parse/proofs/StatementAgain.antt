@@ -1,180 +1,88 @@
--- A statement's spelling is read again, whatever follows it.
-use Rattle.std.proofs.Common.{◌≡◌, ℕ, zero, suc, ◌+◌, ◌-◌, ◌<◌, ◌≤◌, max, List, [], ◌∷◌, ◌++◌, length, Option, Some, None, Ok, Err, refl, sym, ap, ◌∙◌, arith, inl, inr, append_assoc}
-use Rattle.std.proofs.lemmas.Bool.{cases_lt}
-use Rattle.std.proofs.lemmas.List.{append-nil}
+-- A statement's spelling is read again, where no `else` follows that it would take.
+use Rattle.std.proofs.Common.{◌≡◌, ℕ, zero, suc, ◌+◌, ◌≤◌, max, true, false, List, [], ◌∷◌, length, Option, Some, None, refl, ap, arith}
+use Rattle.std.specs.List.{AllByRecursion}
 use Rattle.strc_lex.specs.declared.token.TokenKind.{TokenKind}
 use Rattle.strc_lex.specs.declared.token.TokenKind.TheVariants as token
+use Rattle.strc_lex.specs.declared.token.Word.TheVariants as word
 use Rattle.strc_lex.specs.declared.token.Mark.TheVariants as mark
-use Rattle.strc_parse.specs.declared.tree.UnaryOperator.TheVariants as unary
-use Rattle.strc_parse.specs.declared.tree.StepOperator.TheVariants as step
-use Rattle.strc_parse.specs.declared.tree.AssignOperator.{AssignOperator}
-use Rattle.strc_parse.specs.declared.tree.AssignOperator.TheVariants as assign
-use Rattle.strc_parse.specs.declared.tree.BinaryOperator.{BinaryOperator}
-use Rattle.strc_parse.specs.declared.tree.BinaryOperator.TheVariants as binary
-use Rattle.strc_parse.specs.declared.error.Fault.TheVariants.{Nesting}
 use Rattle.strc_parse.specs.Tree as tree
-use Rattle.strc_parse.specs.Grammar.{binary_mark, assign_mark, expr_spelled, variable_spelled, argument_spelled, stmt_spelled, row_spelled, IsExpr, IsInitial, IsStmt, AreStmts, expr_height, initial_height, stmt_height, row_height}
-use Rattle.strc_parse.specs.Reading.{◌>>=◌, Inner, tail, mark_at, is_mark, name, expect, loosest, initial, variable, declare, ended, evaluate, assign_to, assign_at, named, bracketed, argument, row, repeated, brace, statement_turn, statements, block, worded, shallow, statement}
-use Rattle.strc_parse.proofs.Again.{Again, Again-then, Again-inside, Again-leaf, Again-raised, expect_mark}
-use Rattle.strc_parse.proofs.ExpressionAgain.{Stops-semicolon, Stops-bracket, rank_low, expr_length, expression_again}
-
--- ---- the parts
-
-pub variable_again : (named : List ℕ) (begun : Option tree.Expr) → IsInitial begun → (d : ℕ) (rest : List TokenKind)
-    → Again d (initial_height begun) ((named, begun), initial_height begun, rest) (variable d (tail (variable_spelled named begun rest)))
-unfolding variable name initial is_mark expect
-variable_again named None shape d rest = record { fits = λ h. refl; over = λ h. absurd (omega arith) }
-variable_again named (Some e) shape d rest =
-    let again = expression_again e shape d loosest (token.Mark mark.Semicolon ∷ rest) (rank_low e) (Stops-semicolon loosest rest) in record {
-      fits = λ h. let read = again.fits h in rw read refl;
-      over = λ h. let read = again.over h in rw read refl;
-    }
-
-module _ (d : ℕ) (rest : List TokenKind) where
-  less : suc d - 1 ≡ d
-  less = omega arith
-
-  declare_again : (named : List ℕ) (begun : Option tree.Expr) → IsInitial begun
-      → Again (suc d) (initial_height begun + 1) (tree.Declare named begun, initial_height begun + 1, rest) (declare (suc d) (tail (variable_spelled named begun rest)))
-  unfolding declare
-  declare_again named begun shape =
-      rw less (Again-inside d (initial_height begun) (initial_height begun + 1) ((named, begun), initial_height begun, rest) (tree.Declare named begun, initial_height begun + 1, rest) _ _
-      (variable_again named begun shape d rest) (omega arith)
-      (λ low. Again-raised (suc d) (initial_height begun) (tree.Declare named begun, initial_height begun + 1, rest) _ refl))
-
-  module _ (e : tree.Expr) (shape : IsExpr e) where
-    abbrev above : tree.Expr × ℕ × List TokenKind
-    above = (e, expr_height e + 1, rest)
-
-    ended_again : Again (suc d) (expr_height e + 1) above (ended (suc d) (expr_spelled e (token.Mark mark.Semicolon ∷ rest)))
-    unfolding ended
-    ended_again =
-        rw less (Again-inside d (expr_height e) (expr_height e + 1) (e, expr_height e, token.Mark mark.Semicolon ∷ rest) above _ _
-        (expression_again e shape d loosest (token.Mark mark.Semicolon ∷ rest) (rank_low e) (Stops-semicolon loosest rest)) (omega arith)
-        (λ low. rw (expect_mark mark.Semicolon rest) (Again-raised (suc d) (expr_height e) above _ refl)))
-
-    bracketed_again : Again d (expr_height e) (e, expr_height e, rest) (bracketed (suc d) (token.Mark mark.OpenBracket ∷ expr_spelled e (token.Mark mark.CloseBracket ∷ rest)))
-    unfolding bracketed
-    bracketed_again =
-        rw (expect_mark mark.OpenBracket (expr_spelled e (token.Mark mark.CloseBracket ∷ rest)), less)
-        (Again-then d (expr_height e) (expr_height e) (e, expr_height e, token.Mark mark.CloseBracket ∷ rest) (e, expr_height e, rest) _ _
-        (expression_again e shape d loosest (token.Mark mark.CloseBracket ∷ rest) (rank_low e) (Stops-bracket loosest rest)) (omega arith)
-        (λ low. rw (expect_mark mark.CloseBracket rest) (record { fits = λ h. refl; over = λ h. absurd (omega arith) })))
-
-module _ (d : ℕ) (rest : List TokenKind) (e : tree.Expr) (shape : IsExpr e) where
-  argument_again : Again (suc d) (expr_height e + 1) (e, expr_height e + 1, rest) (argument (suc d) (argument_spelled e rest))
-  unfolding argument
-  argument_again =
-      Again-inside d (expr_height e) (expr_height e + 1) (e, expr_height e, token.Mark mark.Semicolon ∷ rest) (e, expr_height e + 1, rest) _ _
-      (bracketed_again d (token.Mark mark.Semicolon ∷ rest) e shape) (omega arith)
-      (λ low. rw (expect_mark mark.Semicolon rest) (Again-raised (suc d) (expr_height e) (e, expr_height e + 1, rest) _ refl))
-
-  -- a statement made of such an expression
-  of_argument : (make : tree.Expr → tree.Stmt)
-      → Again (suc d) (expr_height e + 1) {X = tree.Stmt × ℕ × List TokenKind} (make e, expr_height e + 1, rest) (argument (suc d) (argument_spelled e rest) >>= λ read. Ok (make read.0, read.1, read.2))
-  of_argument make =
-      Again-then (suc d) (expr_height e + 1) (expr_height e + 1) (e, expr_height e + 1, rest) (make e, expr_height e + 1, rest) _ _ argument_again (omega arith)
-      (λ low. record { fits = λ h. refl; over = λ h. absurd (omega arith) })
-
-  of_ended : (make : tree.Expr → tree.Stmt)
-      → Again (suc d) (expr_height e + 1) {X = tree.Stmt × ℕ × List TokenKind} (make e, expr_height e + 1, rest) (ended (suc d) (expr_spelled e (token.Mark mark.Semicolon ∷ rest)) >>= λ read. Ok (make read.0, read.1, read.2))
-  of_ended make =
-      Again-then (suc d) (expr_height e + 1) (expr_height e + 1) (e, expr_height e + 1, rest) (make e, expr_height e + 1, rest) _ _ (ended_again d rest e shape) (omega arith)
-      (λ low. record { fits = λ h. refl; over = λ h. absurd (omega arith) })
+use Rattle.strc_parse.specs.Grammar.{each_spelled, highest, part_spelled, bracketed_spelled, stmt_spelled, row_spelled, IsExpr, IsOptional, IsFirst, IsStep, takes_else, IsStmt, AreStmts, expr_height, stmt_height, row_height}
+use Rattle.strc_parse.specs.Reading.{is_mark, is_word, brace, row, statements, block, other_branch, after_branch, branch, while_loop, for_loop, keyword, shallow, statement}
+use Rattle.strc_parse.proofs.Again.{Again, Again-then, Again-inside, Again-raised}
+use Rattle.strc_parse.proofs.ExpressionAgain.{expr_length, found}
+use Rattle.strc_parse.proofs.Lists.{TallAgain, each_taller_again}
+use Rattle.strc_parse.proofs.SimpleAgain.{made, ended_again, heading_height, heading_again, bracketed_again, of_argument, begins, part_length, heading_length, stmt_height_some}
 
 -- ---- how a statement begins
 
-assign_at_mark : (o : AssignOperator) (rest : List TokenKind) → assign_at (token.Mark (assign_mark o) ∷ rest) ≡ Some o
-unfolding assign_at mark_at
-assign_at_mark assign.Set rest = refl
-assign_at_mark assign.Add rest = refl
-assign_at_mark assign.Subtract rest = refl
-assign_at_mark assign.Multiply rest = refl
-assign_at_mark assign.Divide rest = refl
-assign_at_mark assign.Remainder rest = refl
-
-no_assign_mark : (o : BinaryOperator) (rest : List TokenKind) → assign_at (token.Mark (binary_mark o) ∷ rest) ≡ None
-unfolding assign_at mark_at
-no_assign_mark binary.Or rest = refl
-no_assign_mark binary.ExclusiveOr rest = refl
-no_assign_mark binary.And rest = refl
-no_assign_mark binary.ShiftLeft rest = refl
-no_assign_mark binary.ShiftRight rest = refl
-no_assign_mark binary.Add rest = refl
-no_assign_mark binary.Subtract rest = refl
-no_assign_mark binary.Multiply rest = refl
-no_assign_mark binary.Divide rest = refl
-no_assign_mark binary.Remainder rest = refl
-
--- tokens that begin as an expression does, with no assignment behind a name
-record Opens (tokens : List TokenKind) : Type 0 where
-  evaluates : (depth : ℕ) (inner : Inner) → shallow depth inner tokens ≡ evaluate depth tokens
-  no_brace : brace tokens ≡ None
-
-module _ (rest : List TokenKind) where
-  opens_name : (x : List ℕ) → assign_at rest ≡ None → Opens (token.Name x ∷ rest)
-  unfolding shallow named brace is_mark
-  opens_name x none = record { evaluates = λ depth inner. rw none refl; no_brace = refl }
-
-opens : (e : tree.Expr) (rest : List TokenKind) → assign_at rest ≡ None → Opens (expr_spelled e rest)
-unfolding shallow worded brace is_mark assign_at mark_at
-opens (tree.Number value) rest none = record { evaluates = λ depth inner. refl; no_brace = refl }
-opens (tree.Read x) rest none = opens_name rest x none
-opens tree.Pop rest none = record { evaluates = λ depth inner. refl; no_brace = refl }
-opens (tree.Group inner) rest none = record { evaluates = λ depth inner. refl; no_brace = refl }
-opens (tree.Unary unary.Negate operand) rest none = record { evaluates = λ depth inner. refl; no_brace = refl }
-opens (tree.Unary unary.Not operand) rest none = record { evaluates = λ depth inner. refl; no_brace = refl }
-opens (tree.Unary unary.Complement operand) rest none = record { evaluates = λ depth inner. refl; no_brace = refl }
-opens (tree.Step step.IncrementFirst x) rest none = record { evaluates = λ depth inner. refl; no_brace = refl }
-opens (tree.Step step.DecrementFirst x) rest none = record { evaluates = λ depth inner. refl; no_brace = refl }
-opens (tree.Step step.IncrementAfter x) rest none = opens_name (token.Mark mark.PlusPlus ∷ rest) x refl
-opens (tree.Step step.DecrementAfter x) rest none = opens_name (token.Mark mark.MinusMinus ∷ rest) x refl
-opens (tree.Binary o left right) rest none = opens left (token.Mark (binary_mark o) ∷ expr_spelled right rest) (no_assign_mark o (expr_spelled right rest))
-
-opens_ended : (e : tree.Expr) (rest : List TokenKind) → Opens (expr_spelled e (token.Mark mark.Semicolon ∷ rest))
-unfolding assign_at mark_at
-opens_ended e rest = opens e (token.Mark mark.Semicolon ∷ rest) refl
-
 -- no statement begins with the brace that closes a block
-pub no_brace_before : (s : tree.Stmt) (rest : List TokenKind) → brace (stmt_spelled s rest) ≡ None
+pub no_brace_before : (s : tree.Stmt) → IsStmt s → (rest : List TokenKind) → brace (stmt_spelled s rest) ≡ None
 unfolding brace is_mark
-no_brace_before tree.Empty rest = refl
-no_brace_before (tree.Block body) rest = refl
-no_brace_before (tree.Declare x None) rest = refl
-no_brace_before (tree.Declare x (Some e)) rest = refl
-no_brace_before (tree.Evaluate value) rest = (opens_ended value rest).no_brace
-no_brace_before (tree.Assign x o value) rest = refl
-no_brace_before (tree.Push value) rest = refl
-no_brace_before (tree.Print value) rest = refl
-no_brace_before (tree.Println value) rest = refl
+no_brace_before tree.Empty shape rest = refl
+no_brace_before (tree.Block body) shape rest = refl
+no_brace_before (tree.Declare kind vs) shape rest = (begins (tree.Declare kind vs) shape).no_brace rest
+no_brace_before (tree.Evaluate e) shape rest = (begins (tree.Evaluate e) shape).no_brace rest
+no_brace_before (tree.Assign x o e) shape rest = refl
+no_brace_before (tree.AssignElement x at o e) shape rest = refl
+no_brace_before (tree.If c a) shape rest = refl
+no_brace_before (tree.IfElse c a b) shape rest = refl
+no_brace_before (tree.While c body) shape rest = refl
+no_brace_before (tree.For begun tested stepped body) shape rest = refl
+no_brace_before (tree.Push e) shape rest = refl
+no_brace_before (tree.Print e) shape rest = refl
+no_brace_before (tree.Println e) shape rest = refl
+
+abbrev pub NoElse : List TokenKind → Type 0
+NoElse tokens = is_word word.Else tokens ≡ false
+
+-- nor with `else`
+no_else_before : (s : tree.Stmt) → IsStmt s → (rest : List TokenKind) → NoElse (stmt_spelled s rest)
+unfolding is_word
+no_else_before tree.Empty shape rest = refl
+no_else_before (tree.Block body) shape rest = refl
+no_else_before (tree.Declare kind vs) shape rest = (begins (tree.Declare kind vs) shape).no_else rest
+no_else_before (tree.Evaluate e) shape rest = (begins (tree.Evaluate e) shape).no_else rest
+no_else_before (tree.Assign x o e) shape rest = refl
+no_else_before (tree.AssignElement x at o e) shape rest = refl
+no_else_before (tree.If c a) shape rest = refl
+no_else_before (tree.IfElse c a b) shape rest = refl
+no_else_before (tree.While c body) shape rest = refl
+no_else_before (tree.For begun tested stepped body) shape rest = refl
+no_else_before (tree.Push e) shape rest = refl
+no_else_before (tree.Print e) shape rest = refl
+no_else_before (tree.Println e) shape rest = refl
+
+no_else_brace : (rest : List TokenKind) → NoElse (token.Mark mark.CloseBrace ∷ rest)
+unfolding is_word
+no_else_brace rest = refl
 
 -- ---- heights and lengths
 
+bracketed_length : (e : tree.Expr) (rest : List TokenKind) → expr_height e + length rest + 2 ≤ length (bracketed_spelled e rest)
+bracketed_length e rest = omega (arith, expr_length e (token.Mark mark.CloseBracket ∷ rest))
+
 mutual
-  pub stmt_length : (s : tree.Stmt) (rest : List TokenKind) → stmt_height s + length rest ≤ length (stmt_spelled s rest)
-  stmt_length tree.Empty rest = omega arith
-  stmt_length (tree.Block body) rest = omega (arith, row_length body (token.Mark mark.CloseBrace ∷ rest))
-  stmt_length (tree.Declare x None) rest = omega arith
-  stmt_length (tree.Declare x (Some e)) rest = omega (arith, expr_length e (token.Mark mark.Semicolon ∷ rest))
-  stmt_length (tree.Evaluate value) rest = omega (arith, expr_length value (token.Mark mark.Semicolon ∷ rest))
-  stmt_length (tree.Assign x o value) rest = omega (arith, expr_length value (token.Mark mark.Semicolon ∷ rest))
-  stmt_length (tree.Push value) rest = omega (arith, expr_length value (token.Mark mark.CloseBracket ∷ token.Mark mark.Semicolon ∷ rest))
-  stmt_length (tree.Print value) rest = omega (arith, expr_length value (token.Mark mark.CloseBracket ∷ token.Mark mark.Semicolon ∷ rest))
-  stmt_length (tree.Println value) rest = omega (arith, expr_length value (token.Mark mark.CloseBracket ∷ token.Mark mark.Semicolon ∷ rest))
+  pub stmt_length : (s : tree.Stmt) → IsStmt s → (rest : List TokenKind) → stmt_height s + length rest ≤ length (stmt_spelled s rest)
+  stmt_length tree.Empty shape rest = omega arith
+  stmt_length (tree.Block body) shape rest = omega (arith, row_length body shape (token.Mark mark.CloseBrace ∷ rest))
+  stmt_length (tree.Declare kind vs) shape rest = omega (arith, part_length (tree.Declare kind vs) shape (token.Mark mark.Semicolon ∷ rest))
+  stmt_length (tree.Evaluate e) shape rest = omega (arith, part_length (tree.Evaluate e) shape (token.Mark mark.Semicolon ∷ rest))
+  stmt_length (tree.Assign x o e) shape rest = omega (arith, part_length (tree.Assign x o e) shape (token.Mark mark.Semicolon ∷ rest))
+  stmt_length (tree.AssignElement x at o e) shape rest = omega (arith, part_length (tree.AssignElement x at o e) shape (token.Mark mark.Semicolon ∷ rest))
+  stmt_length (tree.If c a) shape rest = omega (arith, bracketed_length c (stmt_spelled a rest), stmt_length a shape.1 rest)
+  stmt_length (tree.IfElse c a b) shape rest =
+      let behind : List TokenKind = token.Word word.Else ∷ stmt_spelled b rest in
+      omega (arith, bracketed_length c (stmt_spelled a behind), stmt_length a shape.2 behind, stmt_length b shape.3 rest)
+  stmt_length (tree.While c body) shape rest = omega (arith, bracketed_length c (stmt_spelled body rest), stmt_length body shape.1 rest)
+  stmt_length (tree.For begun tested stepped body) shape rest =
+      omega (arith, heading_length begun tested stepped shape.0 shape.2 (stmt_spelled body rest), stmt_length body shape.3 rest)
+  stmt_length (tree.Push e) shape rest = omega (arith, bracketed_length e (token.Mark mark.Semicolon ∷ rest))
+  stmt_length (tree.Print e) shape rest = omega (arith, bracketed_length e (token.Mark mark.Semicolon ∷ rest))
+  stmt_length (tree.Println e) shape rest = omega (arith, bracketed_length e (token.Mark mark.Semicolon ∷ rest))
 
-  pub row_length : (body : tree.Stmts) (rest : List TokenKind) → row_height body + length rest ≤ length (row_spelled body rest)
-  row_length tree.Done rest = omega arith
-  row_length (tree.Then s others) rest = omega (arith, stmt_length s (row_spelled others rest), row_length others rest)
-
-pub stmt_height_some : (s : tree.Stmt) → 1 ≤ stmt_height s
-stmt_height_some tree.Empty = omega arith
-stmt_height_some (tree.Block body) = omega arith
-stmt_height_some (tree.Declare x begun) = omega arith
-stmt_height_some (tree.Evaluate value) = omega arith
-stmt_height_some (tree.Assign x o value) = omega arith
-stmt_height_some (tree.Push value) = omega arith
-stmt_height_some (tree.Print value) = omega arith
-stmt_height_some (tree.Println value) = omega arith
+  pub row_length : (body : tree.Stmts) → AreStmts body → (rest : List TokenKind) → row_height body + length rest ≤ length (row_spelled body rest)
+  row_length tree.Done shape rest = omega arith
+  row_length (tree.Then s others) shape rest = omega (arith, stmt_length s shape.0 (row_spelled others rest), row_length others shape.1 rest)
 
 -- ---- statements in a row
 
@@ -187,105 +95,151 @@ pub row_listed : (body : tree.Stmts) → row (listed body) ≡ body
 row_listed tree.Done = refl
 row_listed (tree.Then s others) = ap (tree.Then s) (row_listed others)
 
-abbrev pub IsStmtAgain : tree.Stmt → Type 0
-IsStmtAgain s = (depth : ℕ) (rest : List TokenKind) → Again depth (stmt_height s) (s, stmt_height s, rest) (statement depth (stmt_spelled s rest))
+listed_spelled : (body : tree.Stmts) (rest : List TokenKind) → each_spelled stmt_spelled (listed body) rest ≡ row_spelled body rest
+listed_spelled tree.Done rest = refl
+listed_spelled (tree.Then s others) rest = ap (stmt_spelled s) (listed_spelled others rest)
 
--- a row that was read behind those in front
-abbrev read_row : List tree.Stmt → ℕ → tree.Stmts → List TokenKind → (List tree.Stmt × ℕ) × List TokenKind
-read_row front high body rest = ((front ++ listed body, max high (row_height body)), rest)
+listed_height : (body : tree.Stmts) → highest stmt_height (listed body) ≡ row_height body
+listed_height tree.Done = refl
+listed_height (tree.Then s others) = ap (λ (n : ℕ). max (stmt_height s) n) (listed_height others)
 
-row_done : (front : List tree.Stmt) (high : ℕ) (rest : List TokenKind) → read_row front high tree.Done rest ≡ ((front, high), rest)
-row_done front high rest =
-    let same : max high 0 ≡ high = omega arith in rw (append-nil front, same) refl
+-- read again before what doesn't go on with an `else` that the statement would take
+record StmtAgain (s : tree.Stmt) : Type 0 where
+  shape : IsStmt s
+  reads : (depth : ℕ) (rest : List TokenKind) → (takes_else s ≡ true → NoElse rest) → Again depth (stmt_height s) (made s rest) (statement depth (stmt_spelled s rest))
 
-row_then : (front : List tree.Stmt) (high : ℕ) (s : tree.Stmt) (others : tree.Stmts) (rest : List TokenKind)
-    → read_row (front ++ s ∷ []) (max high (stmt_height s)) others rest ≡ read_row front high (tree.Then s others) rest
-row_then front high s others rest =
-    let same : max (max high (stmt_height s)) (row_height others) ≡ max high (max (stmt_height s) (row_height others)) = omega arith in
-    rw (append_assoc front (s ∷ []) (listed others), same) refl
+module _ (d : ℕ) where
+  abbrev IsRowAgain : tree.Stmt → Type 0
+  IsRowAgain s = TallAgain stmt_spelled stmt_height (statement d) brace NoElse d s
 
-module _ (d : ℕ) (front : List tree.Stmt) (high : ℕ) (s : tree.Stmt) (tokens : List TokenKind) where
-  turn_again : (t : ℕ) → IsStmtAgain s → stmt_height s ≤ d
-      → repeated brace (statement_turn (statement d)) (suc t) (front, high) (stmt_spelled s tokens)
-      ≡ repeated brace (statement_turn (statement d)) t (front ++ s ∷ [], max high (stmt_height s)) tokens
-  unfolding repeated statement_turn
-  turn_again t again low = let read = (again d tokens).fits low in rw (no_brace_before s tokens, read) refl
+  one_again : (s : tree.Stmt) → StmtAgain s → IsRowAgain s
+  one_again s again = record {
+    reads = λ rest free. again.reads d rest (λ takes. free);
+    stays = λ rest. no_brace_before s again.shape rest;
+    follows = λ rest. no_else_before s again.shape rest;
+    long = λ rest. omega (arith, stmt_length s again.shape rest, stmt_height_some s);
+  }
 
-  turn_too_high : (t : ℕ) → IsStmtAgain s → d < stmt_height s
-      → repeated brace (statement_turn (statement d)) (suc t) (front, high) (stmt_spelled s tokens) ≡ Err Nesting
-  unfolding repeated statement_turn
-  turn_too_high t again lt = let read = (again d tokens).over lt in rw (no_brace_before s tokens, read) refl
+  all_again : (items : List tree.Stmt) → AllByRecursion StmtAgain items → AllByRecursion IsRowAgain items
+  all_again [] again = tt
+  all_again (s ∷ others) again = (one_again s again.0, all_again others again.1)
 
-row_ends : (d t : ℕ) (front : List tree.Stmt) (high : ℕ) (rest : List TokenKind)
-    → repeated brace (statement_turn (statement d)) (suc t) (front, high) (token.Mark mark.CloseBrace ∷ rest) ≡ Ok ((front, high), rest)
-unfolding repeated brace is_mark
-row_ends d t front high rest = refl
+  brace_closing : (rest : List TokenKind) → brace (token.Mark mark.CloseBrace ∷ rest) ≡ Some rest
+  unfolding brace is_mark
+  brace_closing rest = refl
 
-block_again : (body : tree.Stmts) (d : ℕ) (rest : List TokenKind)
-    → Again d (row_height body) ((listed body, row_height body), rest) (statements (statement d) (row_spelled body (token.Mark mark.CloseBrace ∷ rest)))
-    → Again (suc d) (row_height body + 1) (tree.Block body, row_height body + 1, rest) (shallow (suc d) (statement d) (stmt_spelled (tree.Block body) rest))
-unfolding shallow block
-block_again body d rest again =
-    Again-inside d (row_height body) (row_height body + 1) ((listed body, row_height body), rest) (tree.Block body, row_height body + 1, rest) _ _ again (omega arith)
-    (λ low. rw (row_listed body) (Again-raised (suc d) (row_height body) (tree.Block body, row_height body + 1, rest) _ refl))
+  row_again : (body : tree.Stmts) → AllByRecursion StmtAgain (listed body) → (rest : List TokenKind)
+      → Again d (row_height body) ((listed body, row_height body), rest) (statements (statement d) (row_spelled body (token.Mark mark.CloseBrace ∷ rest)))
+  unfolding statements
+  row_again body again rest =
+      let end : List TokenKind = token.Mark mark.CloseBrace ∷ rest in
+      let tokens : List TokenKind = each_spelled stmt_spelled (listed body) end in
+      let read = each_taller_again stmt_spelled stmt_height (statement d) brace NoElse d (listed body) (all_again (listed body) again) [] 0 (length tokens) end rest
+      (brace_closing rest) (no_else_brace rest) (omega arith) in
+      let none : max 0 (row_height body) ≡ row_height body = omega arith in
+      rw (listed_spelled body end, listed_height body, none) at read
 
-evaluate_again : (e : tree.Expr) → IsExpr e → (d : ℕ) (rest : List TokenKind)
-    → Again (suc d) (expr_height e + 1) (tree.Evaluate e, expr_height e + 1, rest) (shallow (suc d) (statement d) (stmt_spelled (tree.Evaluate e) rest))
-unfolding evaluate
-evaluate_again e shape d rest = rw ((opens_ended e rest).evaluates (suc d) (statement d)) (of_ended d rest e shape tree.Evaluate)
+-- ---- statements with others in them
 
-assign_again : (x : List ℕ) (o : AssignOperator) (e : tree.Expr) → IsExpr e → (d : ℕ) (rest : List TokenKind)
-    → Again (suc d) (expr_height e + 1) (tree.Assign x o e, expr_height e + 1, rest) (shallow (suc d) (statement d) (stmt_spelled (tree.Assign x o e) rest))
-unfolding shallow named assign_to
-assign_again x o e shape d rest = rw (assign_at_mark o (expr_spelled e (token.Mark mark.Semicolon ∷ rest))) (of_ended d rest e shape (λ v. tree.Assign x o v))
+module _ (d : ℕ) (rest : List TokenKind) where
+  block_again : (body : tree.Stmts) → AllByRecursion StmtAgain (listed body)
+      → Again (suc d) (row_height body + 1) (made (tree.Block body) rest) (shallow (suc d) (statement d) (stmt_spelled (tree.Block body) rest))
+  unfolding shallow block
+  block_again body again =
+      Again-inside d (row_height body) (row_height body + 1) ((listed body, row_height body), rest) (made (tree.Block body) rest) _ _ (row_again d body again rest) (omega arith)
+      (λ low. rw (row_listed body) (Again-raised (suc d) (row_height body) (made (tree.Block body) rest) _ refl))
 
-always : (s : tree.Stmt) → ((d : ℕ) (rest : List TokenKind) → Again (suc d) (stmt_height s) (s, stmt_height s, rest) (shallow (suc d) (statement d) (stmt_spelled s rest))) → IsStmtAgain s
+  if_again : (c : tree.Expr) (a : tree.Stmt) → IsExpr c → StmtAgain a → NoElse rest
+      → Again (suc d) (stmt_height (tree.If c a)) (made (tree.If c a) rest) (shallow (suc d) (statement d) (stmt_spelled (tree.If c a) rest))
+  unfolding shallow keyword branch after_branch
+  if_again c a shape again free =
+      let high : ℕ = stmt_height (tree.If c a) in
+      Again-inside d (expr_height c) high (found c (stmt_spelled a rest)) (made (tree.If c a) rest) _ _ (bracketed_again d (stmt_spelled a rest) c shape) (omega arith) (λ one.
+      Again-inside d (stmt_height a) high (made a rest) (made (tree.If c a) rest) _ _ (again.reads d rest (λ takes. free)) (omega arith) (λ two.
+      rw free (Again-raised (suc d) (max (expr_height c) (stmt_height a)) (made (tree.If c a) rest) _ refl)))
+
+  other_again : (c : tree.Expr) (a b : tree.Stmt) → StmtAgain b → (takes_else b ≡ true → NoElse rest) → expr_height c ≤ d → stmt_height a ≤ d
+      → Again (suc d) (stmt_height (tree.IfElse c a b)) (made (tree.IfElse c a b) rest) (other_branch (suc d) (statement d) c a (max (expr_height c) (stmt_height a)) (stmt_spelled b rest))
+  unfolding other_branch
+  other_again c a b again free one two =
+      let high : ℕ = stmt_height (tree.IfElse c a b) in
+      Again-inside d (stmt_height b) high (made b rest) (made (tree.IfElse c a b) rest) _ _ (again.reads d rest free) (omega arith) (λ three.
+      Again-raised (suc d) (max (max (expr_height c) (stmt_height a)) (stmt_height b)) (made (tree.IfElse c a b) rest) _ refl)
+
+  if_else_again : (c : tree.Expr) (a b : tree.Stmt) → IsExpr c → takes_else a ≡ false → StmtAgain a → StmtAgain b → (takes_else b ≡ true → NoElse rest)
+      → Again (suc d) (stmt_height (tree.IfElse c a b)) (made (tree.IfElse c a b) rest) (shallow (suc d) (statement d) (stmt_spelled (tree.IfElse c a b) rest))
+  unfolding shallow keyword branch after_branch is_word
+  if_else_again c a b shape closed again others free =
+      let high : ℕ = stmt_height (tree.IfElse c a b) in
+      let behind : List TokenKind = token.Word word.Else ∷ stmt_spelled b rest in
+      Again-inside d (expr_height c) high (found c (stmt_spelled a behind)) (made (tree.IfElse c a b) rest) _ _ (bracketed_again d (stmt_spelled a behind) c shape) (omega arith) (λ one.
+      Again-inside d (stmt_height a) high (made a behind) (made (tree.IfElse c a b) rest) _ _ (again.reads d behind (λ takes. absurd cc)) (omega arith) (λ two.
+      other_again c a b others free one two))
+
+  while_again : (c : tree.Expr) (body : tree.Stmt) → IsExpr c → StmtAgain body → (takes_else body ≡ true → NoElse rest)
+      → Again (suc d) (stmt_height (tree.While c body)) (made (tree.While c body) rest) (shallow (suc d) (statement d) (stmt_spelled (tree.While c body) rest))
+  unfolding shallow keyword while_loop
+  while_again c body shape again free =
+      let high : ℕ = stmt_height (tree.While c body) in
+      Again-inside d (expr_height c) high (found c (stmt_spelled body rest)) (made (tree.While c body) rest) _ _ (bracketed_again d (stmt_spelled body rest) c shape) (omega arith) (λ one.
+      Again-inside d (stmt_height body) high (made body rest) (made (tree.While c body) rest) _ _ (again.reads d rest free) (omega arith) (λ two.
+      Again-raised (suc d) (max (expr_height c) (stmt_height body)) (made (tree.While c body) rest) _ refl))
+
+  for_again : (begun : tree.Stmt) (tested : Option tree.Expr) (stepped body : tree.Stmt) → IsFirst begun → IsOptional tested → IsStep stepped → StmtAgain body → (takes_else body ≡ true → NoElse rest)
+      → Again (suc d) (stmt_height (tree.For begun tested stepped body)) (made (tree.For begun tested stepped body) rest) (shallow (suc d) (statement d) (stmt_spelled (tree.For begun tested stepped body) rest))
+  unfolding shallow keyword for_loop
+  for_again begun tested stepped body is_first is_tested is_step again free =
+      let high : ℕ = stmt_height (tree.For begun tested stepped body) in
+      let all = made (tree.For begun tested stepped body) rest in
+      Again-then (suc d) (heading_height begun tested stepped) high ((begun, tested, stepped), heading_height begun tested stepped, stmt_spelled body rest) all _ _
+      (heading_again d (stmt_spelled body rest) begun tested stepped is_first is_tested is_step) (omega arith) (λ one.
+      Again-inside d (stmt_height body) high (made body rest) all _ _ (again.reads d rest free) (omega arith) (λ two.
+      Again-raised (suc d) (max (heading_height begun tested stepped) (stmt_height body)) all _ refl))
+
+  part_statement : (s : tree.Stmt) → IsFirst s → Again (suc d) (stmt_height s) (made s rest) (shallow (suc d) (statement d) (part_spelled s (token.Mark mark.Semicolon ∷ rest)))
+  part_statement s shape = rw ((begins s shape).is_ended (suc d) (statement d) rest) (ended_again d rest s shape)
+
+-- ---- every statement
+
+abbrev IsShallow : tree.Stmt → Type 0
+IsShallow s = (d : ℕ) (rest : List TokenKind) → (takes_else s ≡ true → NoElse rest) → Again (suc d) (stmt_height s) (made s rest) (shallow (suc d) (statement d) (stmt_spelled s rest))
+
+at_depth : (s : tree.Stmt) → IsShallow s → (depth : ℕ) (rest : List TokenKind) → (takes_else s ≡ true → NoElse rest) → Again depth (stmt_height s) (made s rest) (statement depth (stmt_spelled s rest))
 unfolding statement
-always s again zero rest = record { fits = λ h. absurd (omega (arith, stmt_height_some s)); over = λ h. refl }
-always s again (suc d) rest = again d rest
+at_depth s again zero rest free = record { fits = λ h. absurd (omega (arith, stmt_height_some s)); over = λ h. refl }
+at_depth s again (suc d) rest free = again d rest free
 
-of_row : (body : tree.Stmts) (d : ℕ) (rest : List TokenKind)
-    → Again d (row_height body) (read_row [] 0 body rest)
-    (repeated brace (statement_turn (statement d)) (length (row_spelled body (token.Mark mark.CloseBrace ∷ rest))) ([], 0) (row_spelled body (token.Mark mark.CloseBrace ∷ rest)))
-    → Again d (row_height body) ((listed body, row_height body), rest) (statements (statement d) (row_spelled body (token.Mark mark.CloseBrace ∷ rest)))
-unfolding statements
-of_row body d rest again = let same : max 0 (row_height body) ≡ row_height body = omega arith in rw same at again
+always : (s : tree.Stmt) → IsStmt s → IsShallow s → StmtAgain s
+always s shape again = record { shape = shape; reads = at_depth s again }
 
 mutual
-  unfolding shallow worded
+  unfolding shallow keyword
 
-  stmt_shallow : (s : tree.Stmt) → IsStmt s → (d : ℕ) (rest : List TokenKind)
-      → Again (suc d) (stmt_height s) (s, stmt_height s, rest) (shallow (suc d) (statement d) (stmt_spelled s rest))
-  stmt_shallow tree.Empty shape d rest = Again-leaf d _ _ refl
-  stmt_shallow (tree.Block body) shape d rest = block_again body d rest (of_row body d rest (row_again body shape d [] 0 (length (row_spelled body (token.Mark mark.CloseBrace ∷ rest))) rest (omega arith)))
-  stmt_shallow (tree.Declare x None) shape d rest = declare_again d rest x None shape
-  stmt_shallow (tree.Declare x (Some e)) shape d rest = declare_again d rest x (Some e) shape
-  stmt_shallow (tree.Evaluate e) shape d rest = evaluate_again e shape d rest
-  stmt_shallow (tree.Assign x o e) shape d rest = assign_again x o e shape d rest
-  stmt_shallow (tree.Push e) shape d rest = of_argument d rest e shape tree.Push
-  stmt_shallow (tree.Print e) shape d rest = of_argument d rest e shape tree.Print
-  stmt_shallow (tree.Println e) shape d rest = of_argument d rest e shape tree.Println
+  stmt_again : (s : tree.Stmt) → IsStmt s → StmtAgain s
+  stmt_again tree.Empty shape = always tree.Empty shape (λ d rest free. part_statement d rest tree.Empty shape)
+  stmt_again (tree.Block body) shape = let inside = rows_again body shape in always (tree.Block body) shape (λ d rest free. block_again d rest body inside)
+  stmt_again (tree.Declare kind vs) shape = always (tree.Declare kind vs) shape (λ d rest free. part_statement d rest (tree.Declare kind vs) shape)
+  stmt_again (tree.Evaluate e) shape = always (tree.Evaluate e) shape (λ d rest free. part_statement d rest (tree.Evaluate e) shape)
+  stmt_again (tree.Assign x o e) shape = always (tree.Assign x o e) shape (λ d rest free. part_statement d rest (tree.Assign x o e) shape)
+  stmt_again (tree.AssignElement x at o e) shape = always (tree.AssignElement x at o e) shape (λ d rest free. part_statement d rest (tree.AssignElement x at o e) shape)
+  stmt_again (tree.If c a) shape =
+      let inside = stmt_again a shape.1 in always (tree.If c a) shape (λ d rest free. if_again d rest c a shape.0 inside (free refl))
+  stmt_again (tree.IfElse c a b) shape =
+      let first = stmt_again a shape.2 in
+      let second = stmt_again b shape.3 in
+      always (tree.IfElse c a b) shape (λ d rest free. if_else_again d rest c a b shape.0 shape.1 first second free)
+  stmt_again (tree.While c body) shape = let inside = stmt_again body shape.1 in always (tree.While c body) shape (λ d rest free. while_again d rest c body shape.0 inside free)
+  stmt_again (tree.For begun tested stepped body) shape =
+      let inside = stmt_again body shape.3 in
+      always (tree.For begun tested stepped body) shape (λ d rest free. for_again d rest begun tested stepped body shape.0 shape.1 shape.2 inside free)
+  stmt_again (tree.Push e) shape = always (tree.Push e) shape (λ d rest free. of_argument d rest e shape tree.Push)
+  stmt_again (tree.Print e) shape = always (tree.Print e) shape (λ d rest free. of_argument d rest e shape tree.Print)
+  stmt_again (tree.Println e) shape = always (tree.Println e) shape (λ d rest free. of_argument d rest e shape tree.Println)
 
-  -- behind the statements in front, with enough turns
-  row_again : (body : tree.Stmts) → AreStmts body → (d : ℕ) (front : List tree.Stmt) (high turns : ℕ) (rest : List TokenKind) → length (row_spelled body (token.Mark mark.CloseBrace ∷ rest)) ≤ turns
-      → Again d (row_height body) (read_row front high body rest) (repeated brace (statement_turn (statement d)) turns (front, high) (row_spelled body (token.Mark mark.CloseBrace ∷ rest)))
-  row_again tree.Done shape d front high zero rest le = absurd (omega arith)
-  row_again tree.Done shape d front high (suc t) rest le =
-      record { fits = λ h. row_ends d t front high rest ∙ ap Ok (sym (row_done front high rest)); over = λ h. absurd (omega arith) }
-  row_again (tree.Then s others) shape d front high zero rest le =
-      absurd (omega (arith, stmt_length s (row_spelled others (token.Mark mark.CloseBrace ∷ rest)), stmt_height_some s))
-  row_again (tree.Then s others) shape d front high (suc t) rest le =
-      let behind = row_spelled others (token.Mark mark.CloseBrace ∷ rest) in
-      let one : IsStmtAgain s = always s (λ e more. stmt_shallow s shape.0 e more) in
-      let enough : length behind ≤ t = omega (arith, stmt_length s behind, stmt_height_some s) in
-      let more = row_again others shape.1 d (front ++ s ∷ []) (max high (stmt_height s)) t rest enough in record {
-        fits = λ h. turn_again d front high s behind t one (omega arith) ∙ more.fits (omega arith) ∙ ap Ok (row_then front high s others rest);
-        over = λ h. elim (cases_lt d (stmt_height s)) [
-          | inl lt ↦ turn_too_high d front high s behind t one lt
-          | inr low ↦ turn_again d front high s behind t one low ∙ more.over (omega arith)
-        ];
-      }
+  rows_again : (body : tree.Stmts) → AreStmts body → AllByRecursion StmtAgain (listed body)
+  rows_again tree.Done shape = tt
+  rows_again (tree.Then s others) shape = (stmt_again s shape.0, rows_again others shape.1)
 
 pub statements_again : (body : tree.Stmts) → AreStmts body → (d : ℕ) (rest : List TokenKind)
     → Again d (row_height body) ((listed body, row_height body), rest) (statements (statement d) (row_spelled body (token.Mark mark.CloseBrace ∷ rest)))
-statements_again body shape d rest = of_row body d rest (row_again body shape d [] 0 (length (row_spelled body (token.Mark mark.CloseBrace ∷ rest))) rest (omega arith))
+statements_again body shape d rest = row_again d body (rows_again body shape) rest

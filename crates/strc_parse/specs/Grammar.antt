@@ -1,5 +1,5 @@
 -- The grammar: which tokens spell a tree, which trees are well shaped, and how high they are.
-use Rattle.std.specs.Prelude.{◌≡◌, ℕ, pos, ◌+◌, ◌<◌, ◌≤◌, max, ◌⊎◌, List, [], ◌∷◌, length, map, Option, Some, None, Result, Ok, Err}
+use Rattle.std.specs.Prelude.{◌≡◌, ℕ, ◌+◌, ◌<◌, ◌≤◌, max, Bool, true, false, List, [], ◌∷◌, length, map, Option, Some, None, Result, Ok, Err}
 use Rattle.std.specs.List.{AllByRecursion}
 use Rattle.strc_lex.specs.declared.token.Token.{Token}
 use Rattle.strc_lex.specs.declared.token.TokenKind.{TokenKind}
@@ -11,7 +11,6 @@ use Rattle.strc_parse.specs.declared.tree.ItemType.{ItemType}
 use Rattle.strc_parse.specs.declared.tree.ItemType.TheVariants as item
 use Rattle.strc_parse.specs.declared.tree.RateKind.{RateKind}
 use Rattle.strc_parse.specs.declared.tree.RateKind.TheVariants as rate
-use Rattle.strc_parse.specs.declared.tree.RateTree.{RateTree}
 use Rattle.strc_parse.specs.declared.tree.AssignOperator.{AssignOperator}
 use Rattle.strc_parse.specs.declared.tree.AssignOperator.TheVariants as assign
 use Rattle.strc_parse.specs.declared.tree.UnaryOperator.{UnaryOperator}
@@ -30,15 +29,25 @@ use Rattle.strc_parse.specs.View.{program_view}
 abbrev pub kinds : List Token → List TokenKind
 kinds tokens = map (λ t. t.kind) tokens
 
+-- ---- the tokens of a tree
+
 abbrev pub unary_mark : UnaryOperator → Mark
 unary_mark unary.Negate = mark.Minus
 unary_mark unary.Not = mark.Not
 unary_mark unary.Complement = mark.Tilde
 
 abbrev pub binary_mark : BinaryOperator → Mark
+binary_mark binary.LogicalOr = mark.OrOr
+binary_mark binary.LogicalAnd = mark.AndAnd
 binary_mark binary.Or = mark.Or
 binary_mark binary.ExclusiveOr = mark.Caret
 binary_mark binary.And = mark.And
+binary_mark binary.Equal = mark.Equal
+binary_mark binary.NotEqual = mark.NotEqual
+binary_mark binary.Less = mark.Less
+binary_mark binary.LessOrEqual = mark.LessEqual
+binary_mark binary.Greater = mark.Greater
+binary_mark binary.GreaterOrEqual = mark.GreaterEqual
 binary_mark binary.ShiftLeft = mark.ShiftLeft
 binary_mark binary.ShiftRight = mark.ShiftRight
 binary_mark binary.Add = mark.Plus
@@ -55,68 +64,138 @@ assign_mark assign.Multiply = mark.StarAssign
 assign_mark assign.Divide = mark.SlashAssign
 assign_mark assign.Remainder = mark.PercentAssign
 
--- a name with its step, before what follows
-abbrev pub step_spelled : StepOperator → List ℕ → List TokenKind → List TokenKind
-step_spelled step.IncrementFirst name rest = token.Mark mark.PlusPlus ∷ token.Name name ∷ rest
-step_spelled step.DecrementFirst name rest = token.Mark mark.MinusMinus ∷ token.Name name ∷ rest
-step_spelled step.IncrementAfter name rest = token.Name name ∷ token.Mark mark.PlusPlus ∷ rest
-step_spelled step.DecrementAfter name rest = token.Name name ∷ token.Mark mark.MinusMinus ∷ rest
+-- a variable or an element with its step, before what follows
+abbrev pub step_spelled : StepOperator → (List TokenKind → List TokenKind) → List TokenKind → List TokenKind
+step_spelled step.IncrementFirst target rest = token.Mark mark.PlusPlus ∷ target rest
+step_spelled step.DecrementFirst target rest = token.Mark mark.MinusMinus ∷ target rest
+step_spelled step.IncrementAfter target rest = target (token.Mark mark.PlusPlus ∷ rest)
+step_spelled step.DecrementAfter target rest = target (token.Mark mark.MinusMinus ∷ rest)
+
+abbrev pub truth_word : Bool → TokenKind
+truth_word true = token.Word word.True
+truth_word false = token.Word word.False
 
 -- the tokens of an expression, before what follows
 abbrev pub expr_spelled : tree.Expr → List TokenKind → List TokenKind
 expr_spelled (tree.Number value) rest = token.Number value ∷ rest
+expr_spelled (tree.Truth value) rest = truth_word value ∷ rest
 expr_spelled (tree.Read name) rest = token.Name name ∷ rest
+expr_spelled (tree.Element name index) rest =
+    token.Name name ∷ token.Mark mark.OpenSquare ∷ expr_spelled index (token.Mark mark.CloseSquare ∷ rest)
 expr_spelled tree.Pop rest = token.Word word.Pop ∷ token.Mark mark.OpenBracket ∷ token.Mark mark.CloseBracket ∷ rest
+expr_spelled (tree.Peek index) rest =
+    token.Word word.Peek ∷ token.Mark mark.OpenBracket ∷ expr_spelled index (token.Mark mark.CloseBracket ∷ rest)
 expr_spelled (tree.Group inner) rest = token.Mark mark.OpenBracket ∷ expr_spelled inner (token.Mark mark.CloseBracket ∷ rest)
 expr_spelled (tree.Unary operator operand) rest = token.Mark (unary_mark operator) ∷ expr_spelled operand rest
-expr_spelled (tree.Step operator name) rest = step_spelled operator name rest
+expr_spelled (tree.Step operator name) rest = step_spelled operator (λ after. token.Name name ∷ after) rest
+expr_spelled (tree.StepElement operator name index) rest =
+    step_spelled operator (λ after. token.Name name ∷ token.Mark mark.OpenSquare ∷ expr_spelled index (token.Mark mark.CloseSquare ∷ after)) rest
 expr_spelled (tree.Binary operator left right) rest = expr_spelled left (token.Mark (binary_mark operator) ∷ expr_spelled right rest)
-
--- `int x` or `int x = e`, and the semicolon
-abbrev pub variable_spelled : List ℕ → Option tree.Expr → List TokenKind → List TokenKind
-variable_spelled name None rest = token.Word word.Int ∷ token.Name name ∷ token.Mark mark.Semicolon ∷ rest
-variable_spelled name (Some initial) rest =
-    token.Word word.Int ∷ token.Name name ∷ token.Mark mark.Assign ∷ expr_spelled initial (token.Mark mark.Semicolon ∷ rest)
-
--- an expression in brackets, and the semicolon
-abbrev pub argument_spelled : tree.Expr → List TokenKind → List TokenKind
-argument_spelled value rest = token.Mark mark.OpenBracket ∷ expr_spelled value (token.Mark mark.CloseBracket ∷ token.Mark mark.Semicolon ∷ rest)
-
-abbrev mutual
-  -- the tokens of a statement, before what follows
-  pub stmt_spelled : tree.Stmt → List TokenKind → List TokenKind
-  stmt_spelled tree.Empty rest = token.Mark mark.Semicolon ∷ rest
-  stmt_spelled (tree.Block body) rest = token.Mark mark.OpenBrace ∷ row_spelled body (token.Mark mark.CloseBrace ∷ rest)
-  stmt_spelled (tree.Declare name initial) rest = variable_spelled name initial rest
-  stmt_spelled (tree.Evaluate value) rest = expr_spelled value (token.Mark mark.Semicolon ∷ rest)
-  stmt_spelled (tree.Assign name operator value) rest =
-      token.Name name ∷ token.Mark (assign_mark operator) ∷ expr_spelled value (token.Mark mark.Semicolon ∷ rest)
-  stmt_spelled (tree.Push value) rest = token.Word word.Push ∷ argument_spelled value rest
-  stmt_spelled (tree.Print value) rest = token.Word word.Print ∷ argument_spelled value rest
-  stmt_spelled (tree.Println value) rest = token.Word word.Println ∷ argument_spelled value rest
-
-  -- the statements of a block, without its braces
-  pub row_spelled : tree.Stmts → List TokenKind → List TokenKind
-  row_spelled tree.Done rest = rest
-  row_spelled (tree.Then first others) rest = stmt_spelled first (row_spelled others rest)
-
-abbrev pub rate_word : RateKind → TokenKind
-rate_word rate.Push = token.Word word.Push
-rate_word rate.Pop = token.Word word.Pop
-
--- `push 1`
-abbrev pub rate_spelled : RateTree → List TokenKind → List TokenKind
-rate_spelled written rest = rate_word written.kind ∷ token.Number written.rate ∷ rest
+expr_spelled (tree.Conditional condition chosen other) rest =
+    expr_spelled condition (token.Mark mark.Question ∷ expr_spelled chosen (token.Mark mark.Colon ∷ expr_spelled other rest))
 
 -- trees in a row, each as it is spelled
 abbrev pub each_spelled : {A : Type 0} → (A → List TokenKind → List TokenKind) → List A → List TokenKind → List TokenKind
 each_spelled spelled [] rest = rest
 each_spelled spelled (first ∷ others) rest = spelled first (each_spelled spelled others rest)
 
+-- `boolean`, `int` or `int[n]`
+abbrev pub type_spelled : tree.VariableType → List TokenKind → List TokenKind
+type_spelled tree.Boolean rest = token.Word word.Boolean ∷ rest
+type_spelled tree.Int rest = token.Word word.Int ∷ rest
+type_spelled (tree.Array count) rest = token.Word word.Int ∷ token.Mark mark.OpenSquare ∷ expr_spelled count (token.Mark mark.CloseSquare ∷ rest)
+
+-- `= e`, or nothing
+abbrev pub initial_spelled : Option tree.Expr → List TokenKind → List TokenKind
+initial_spelled None rest = rest
+initial_spelled (Some initial) rest = token.Mark mark.Assign ∷ expr_spelled initial rest
+
+-- `x` or `x = e`
+abbrev pub variable_spelled : tree.Variable → List TokenKind → List TokenKind
+variable_spelled variable rest = token.Name variable.name ∷ initial_spelled variable.initial rest
+
+-- a further variable, behind its comma
+abbrev pub next_spelled : tree.Variable → List TokenKind → List TokenKind
+next_spelled variable rest = token.Mark mark.Comma ∷ variable_spelled variable rest
+
+-- variables with commas between them
+abbrev pub variables_spelled : List tree.Variable → List TokenKind → List TokenKind
+variables_spelled [] rest = rest
+variables_spelled (first ∷ others) rest = variable_spelled first (each_spelled next_spelled others rest)
+
+-- `int x = 1, y`
+abbrev pub declared_spelled : tree.VariableType → List tree.Variable → List TokenKind → List TokenKind
+declared_spelled kind variables rest = type_spelled kind (variables_spelled variables rest)
+
+-- A statement without its semicolon. No other form has one.
+abbrev pub part_spelled : tree.Stmt → List TokenKind → List TokenKind
+part_spelled (tree.Declare kind variables) rest = declared_spelled kind variables rest
+part_spelled (tree.Evaluate value) rest = expr_spelled value rest
+part_spelled (tree.Assign name operator value) rest = token.Name name ∷ token.Mark (assign_mark operator) ∷ expr_spelled value rest
+part_spelled (tree.AssignElement name index operator value) rest =
+    token.Name name ∷ token.Mark mark.OpenSquare
+    ∷ expr_spelled index (token.Mark mark.CloseSquare ∷ token.Mark (assign_mark operator) ∷ expr_spelled value rest)
+part_spelled _ rest = rest
+
+-- the condition of a `for`, or nothing
+abbrev pub condition_spelled : Option tree.Expr → List TokenKind → List TokenKind
+condition_spelled None rest = rest
+condition_spelled (Some condition) rest = expr_spelled condition rest
+
+-- `(e)`
+abbrev pub bracketed_spelled : tree.Expr → List TokenKind → List TokenKind
+bracketed_spelled value rest = token.Mark mark.OpenBracket ∷ expr_spelled value (token.Mark mark.CloseBracket ∷ rest)
+
+-- `(first; condition; step)`
+abbrev pub heading_spelled : tree.Stmt → Option tree.Expr → tree.Stmt → List TokenKind → List TokenKind
+heading_spelled first condition step rest =
+    token.Mark mark.OpenBracket
+    ∷ part_spelled first (token.Mark mark.Semicolon
+    ∷ condition_spelled condition (token.Mark mark.Semicolon
+    ∷ part_spelled step (token.Mark mark.CloseBracket ∷ rest)))
+
+abbrev mutual
+  -- the tokens of a statement, before what follows
+  pub stmt_spelled : tree.Stmt → List TokenKind → List TokenKind
+  stmt_spelled tree.Empty rest = part_spelled tree.Empty (token.Mark mark.Semicolon ∷ rest)
+  stmt_spelled (tree.Block body) rest = token.Mark mark.OpenBrace ∷ row_spelled body (token.Mark mark.CloseBrace ∷ rest)
+  stmt_spelled (tree.Declare kind variables) rest = part_spelled (tree.Declare kind variables) (token.Mark mark.Semicolon ∷ rest)
+  stmt_spelled (tree.Evaluate value) rest = part_spelled (tree.Evaluate value) (token.Mark mark.Semicolon ∷ rest)
+  stmt_spelled (tree.Assign name operator value) rest = part_spelled (tree.Assign name operator value) (token.Mark mark.Semicolon ∷ rest)
+  stmt_spelled (tree.AssignElement name index operator value) rest =
+      part_spelled (tree.AssignElement name index operator value) (token.Mark mark.Semicolon ∷ rest)
+  stmt_spelled (tree.If condition chosen) rest = token.Word word.If ∷ bracketed_spelled condition (stmt_spelled chosen rest)
+  stmt_spelled (tree.IfElse condition chosen other) rest =
+      token.Word word.If ∷ bracketed_spelled condition (stmt_spelled chosen (token.Word word.Else ∷ stmt_spelled other rest))
+  stmt_spelled (tree.While condition body) rest = token.Word word.While ∷ bracketed_spelled condition (stmt_spelled body rest)
+  stmt_spelled (tree.For first condition step body) rest = token.Word word.For ∷ heading_spelled first condition step (stmt_spelled body rest)
+  stmt_spelled (tree.Push value) rest = token.Word word.Push ∷ bracketed_spelled value (token.Mark mark.Semicolon ∷ rest)
+  stmt_spelled (tree.Print value) rest = token.Word word.Print ∷ bracketed_spelled value (token.Mark mark.Semicolon ∷ rest)
+  stmt_spelled (tree.Println value) rest = token.Word word.Println ∷ bracketed_spelled value (token.Mark mark.Semicolon ∷ rest)
+
+  -- the statements of a block, without its braces
+  pub row_spelled : tree.Stmts → List TokenKind → List TokenKind
+  row_spelled tree.Done rest = rest
+  row_spelled (tree.Then first others) rest = stmt_spelled first (row_spelled others rest)
+
+-- a block with its braces
+abbrev pub block_spelled : tree.Stmts → List TokenKind → List TokenKind
+block_spelled block rest = token.Mark mark.OpenBrace ∷ row_spelled block (token.Mark mark.CloseBrace ∷ rest)
+
+abbrev pub rate_word : RateKind → TokenKind
+rate_word rate.Push = token.Word word.Push
+rate_word rate.Pop = token.Word word.Pop
+rate_word rate.Peek = token.Word word.Peek
+
+-- `push 1`
+abbrev pub rate_spelled : tree.Rate → List TokenKind → List TokenKind
+rate_spelled written rest = rate_word written.kind ∷ expr_spelled written.rate rest
+
 abbrev pub member_spelled : tree.Member → List TokenKind → List TokenKind
-member_spelled (tree.Field name initial) rest = variable_spelled name initial rest
-member_spelled (tree.Work rates block) rest =
-    token.Word word.Work ∷ each_spelled rate_spelled rates (token.Mark mark.OpenBrace ∷ row_spelled block (token.Mark mark.CloseBrace ∷ rest))
+member_spelled (tree.Fields kind variables) rest = declared_spelled kind variables (token.Mark mark.Semicolon ∷ rest)
+member_spelled (tree.Init block) rest = token.Word word.Init ∷ block_spelled block rest
+member_spelled (tree.Prework rates block) rest = token.Word word.Prework ∷ each_spelled rate_spelled rates (block_spelled block rest)
+member_spelled (tree.Work rates block) rest = token.Word word.Work ∷ each_spelled rate_spelled rates (block_spelled block rest)
 
 -- `add A;`
 abbrev pub child_spelled : List ℕ → List TokenKind → List TokenKind
@@ -142,11 +221,21 @@ declaration_spelled declaration rest = stream_spelled declaration.name declarati
 abbrev pub spelling : List tree.Declaration → List TokenKind
 spelling program = each_spelled declaration_spelled program []
 
+-- ---- well-shaped trees
+
 -- how loosely an operator binds: the tightest has 1
 abbrev pub looseness : BinaryOperator → ℕ
-looseness binary.Or = 6
-looseness binary.ExclusiveOr = 5
-looseness binary.And = 4
+looseness binary.LogicalOr = 10
+looseness binary.LogicalAnd = 9
+looseness binary.Or = 8
+looseness binary.ExclusiveOr = 7
+looseness binary.And = 6
+looseness binary.Equal = 5
+looseness binary.NotEqual = 5
+looseness binary.Less = 4
+looseness binary.LessOrEqual = 4
+looseness binary.Greater = 4
+looseness binary.GreaterOrEqual = 4
 looseness binary.ShiftLeft = 3
 looseness binary.ShiftRight = 3
 looseness binary.Add = 2
@@ -155,33 +244,82 @@ looseness binary.Multiply = 1
 looseness binary.Divide = 1
 looseness binary.Remainder = 1
 
+-- the loosest rank, which `c ? a : b` has
+abbrev pub loosest : ℕ
+loosest = 11
+
 -- the rank of an expression: its operator's looseness, or 0 where nothing stands between two operands
 abbrev pub rank : tree.Expr → ℕ
 rank (tree.Binary operator left right) = looseness operator
+rank (tree.Conditional condition chosen other) = loosest
 rank _ = 0
 
--- A prefix operator takes an operand; a binary one takes no looser side, and on its right no equally loose one.
+-- A prefix operator takes an operand; a binary one takes no looser side, and on its right no equally loose one; the
+-- condition of `c ? a : b` is no such expression itself, and its other two parts are any.
 abbrev pub IsExpr : tree.Expr → Type 0
 IsExpr (tree.Number value) = Unit {0}
+IsExpr (tree.Truth value) = Unit {0}
 IsExpr (tree.Read name) = Unit {0}
+IsExpr (tree.Element name index) = IsExpr index
 IsExpr tree.Pop = Unit {0}
+IsExpr (tree.Peek index) = IsExpr index
 IsExpr (tree.Group inner) = IsExpr inner
 IsExpr (tree.Unary operator operand) = (rank operand ≡ 0) × IsExpr operand
 IsExpr (tree.Step operator name) = Unit {0}
+IsExpr (tree.StepElement operator name index) = IsExpr index
 IsExpr (tree.Binary operator left right) = (rank left ≤ looseness operator) × (rank right < looseness operator) × IsExpr left × IsExpr right
+IsExpr (tree.Conditional condition chosen other) = (rank condition < loosest) × IsExpr condition × IsExpr chosen × IsExpr other
 
-abbrev pub IsInitial : Option tree.Expr → Type 0
-IsInitial None = Unit {0}
-IsInitial (Some initial) = IsExpr initial
+abbrev pub IsOptional : Option tree.Expr → Type 0
+IsOptional None = Unit {0}
+IsOptional (Some value) = IsExpr value
 
--- expressions are well shaped wherever they stand
+abbrev pub IsVariableType : tree.VariableType → Type 0
+IsVariableType (tree.Array count) = IsExpr count
+IsVariableType _ = Unit {0}
+
+abbrev pub IsVariable : tree.Variable → Type 0
+IsVariable variable = IsOptional variable.initial
+
+-- at least one variable
+abbrev pub AreVariables : List tree.Variable → Type 0
+AreVariables [] = ⊥
+AreVariables (first ∷ others) = IsVariable first × AllByRecursion IsVariable others
+
+-- a statement that can be the step of a `for`
+abbrev pub IsStep : tree.Stmt → Type 0
+IsStep tree.Empty = Unit {0}
+IsStep (tree.Evaluate value) = IsExpr value
+IsStep (tree.Assign name operator value) = IsExpr value
+IsStep (tree.AssignElement name index operator value) = IsExpr index × IsExpr value
+IsStep _ = ⊥
+
+-- a statement that can be the first part of a `for`
+abbrev pub IsFirst : tree.Stmt → Type 0
+IsFirst (tree.Declare kind variables) = IsVariableType kind × AreVariables variables
+IsFirst other = IsStep other
+
+-- whether an `else` behind this statement belongs to an `if` that ends it
+abbrev pub takes_else : tree.Stmt → Bool
+takes_else (tree.If condition chosen) = true
+takes_else (tree.IfElse condition chosen other) = takes_else other
+takes_else (tree.While condition body) = takes_else body
+takes_else (tree.For first condition step body) = takes_else body
+takes_else _ = false
+
 abbrev mutual
+  -- an `else` belongs to the nearest `if` that can have it
   pub IsStmt : tree.Stmt → Type 0
   IsStmt tree.Empty = Unit {0}
   IsStmt (tree.Block body) = AreStmts body
-  IsStmt (tree.Declare name initial) = IsInitial initial
-  IsStmt (tree.Evaluate value) = IsExpr value
-  IsStmt (tree.Assign name operator value) = IsExpr value
+  IsStmt (tree.Declare kind variables) = IsFirst (tree.Declare kind variables)
+  IsStmt (tree.Evaluate value) = IsStep (tree.Evaluate value)
+  IsStmt (tree.Assign name operator value) = IsStep (tree.Assign name operator value)
+  IsStmt (tree.AssignElement name index operator value) = IsStep (tree.AssignElement name index operator value)
+  IsStmt (tree.If condition chosen) = IsExpr condition × IsStmt chosen
+  IsStmt (tree.IfElse condition chosen other) = IsExpr condition × (takes_else chosen ≡ false) × IsStmt chosen × IsStmt other
+  IsStmt (tree.While condition body) = IsExpr condition × IsStmt body
+  IsStmt (tree.For first condition step body) = IsFirst first × IsOptional condition × IsStep step × IsStmt body
   IsStmt (tree.Push value) = IsExpr value
   IsStmt (tree.Print value) = IsExpr value
   IsStmt (tree.Println value) = IsExpr value
@@ -190,14 +328,15 @@ abbrev mutual
   AreStmts tree.Done = Unit {0}
   AreStmts (tree.Then first others) = IsStmt first × AreStmts others
 
--- a rate word stands at most once, and a rate is 0 or 1
-abbrev pub AreRates : List RateTree → Type 0
+-- a rate word stands at most once
+abbrev pub AreRates : List tree.Rate → Type 0
 AreRates [] = Unit {0}
-AreRates (first ∷ others) =
-    ((first.rate ≡ pos 0) ⊎ (first.rate ≡ pos 1)) × AllByRecursion (λ other. first.kind ≡ other.kind → ⊥) others × AreRates others
+AreRates (first ∷ others) = IsExpr first.rate × AllByRecursion (λ other. first.kind ≡ other.kind → ⊥) others × AreRates others
 
 abbrev pub IsMember : tree.Member → Type 0
-IsMember (tree.Field name initial) = IsInitial initial
+IsMember (tree.Fields kind variables) = IsVariableType kind × AreVariables variables
+IsMember (tree.Init block) = AreStmts block
+IsMember (tree.Prework rates block) = AreRates rates × AreStmts block
 IsMember (tree.Work rates block) = AreRates rates × AreStmts block
 
 abbrev pub IsStream : tree.Stream → Type 0
@@ -211,28 +350,58 @@ IsDeclaration declaration = IsStream declaration.stream
 abbrev pub IsTree : List tree.Declaration → Type 0
 IsTree program = AllByRecursion IsDeclaration program
 
--- A leaf has height 1, any other node one more than its highest part.
+-- ---- heights
+
+-- A leaf has height 1, any other node one more than its highest part. An element is a node above its index.
 abbrev pub expr_height : tree.Expr → ℕ
 expr_height (tree.Number value) = 1
+expr_height (tree.Truth value) = 1
 expr_height (tree.Read name) = 1
+expr_height (tree.Element name index) = expr_height index + 1
 expr_height tree.Pop = 1
+expr_height (tree.Peek index) = expr_height index + 1
 expr_height (tree.Group inner) = expr_height inner + 1
 expr_height (tree.Unary operator operand) = expr_height operand + 1
 expr_height (tree.Step operator name) = 2
+expr_height (tree.StepElement operator name index) = expr_height index + 2
 expr_height (tree.Binary operator left right) = max (expr_height left) (expr_height right) + 1
+expr_height (tree.Conditional condition chosen other) = max (expr_height condition) (max (expr_height chosen) (expr_height other)) + 1
 
--- that of an initialiser, or 0
-abbrev pub initial_height : Option tree.Expr → ℕ
-initial_height None = 0
-initial_height (Some initial) = expr_height initial
+-- the greatest of these heights, or 0
+abbrev pub highest : {A : Type 0} → (A → ℕ) → List A → ℕ
+highest height_of [] = 0
+highest height_of (first ∷ others) = max (height_of first) (highest height_of others)
+
+-- that of the expression, or 0
+abbrev pub optional_height : Option tree.Expr → ℕ
+optional_height None = 0
+optional_height (Some value) = expr_height value
+
+abbrev pub type_height : tree.VariableType → ℕ
+type_height (tree.Array count) = expr_height count
+type_height _ = 0
+
+abbrev pub variable_height : tree.Variable → ℕ
+variable_height variable = optional_height variable.initial
+
+-- that of the highest expression of a declaration, or 0
+abbrev pub declared_height : tree.VariableType → List tree.Variable → ℕ
+declared_height kind variables = max (type_height kind) (highest variable_height variables)
 
 abbrev mutual
+  -- a part of a `for` has the height of the statement
   pub stmt_height : tree.Stmt → ℕ
   stmt_height tree.Empty = 1
   stmt_height (tree.Block body) = row_height body + 1
-  stmt_height (tree.Declare name initial) = initial_height initial + 1
+  stmt_height (tree.Declare kind variables) = declared_height kind variables + 1
   stmt_height (tree.Evaluate value) = expr_height value + 1
   stmt_height (tree.Assign name operator value) = expr_height value + 1
+  stmt_height (tree.AssignElement name index operator value) = max (expr_height index + 1) (expr_height value) + 1
+  stmt_height (tree.If condition chosen) = max (expr_height condition) (stmt_height chosen) + 1
+  stmt_height (tree.IfElse condition chosen other) = max (max (expr_height condition) (stmt_height chosen)) (stmt_height other) + 1
+  stmt_height (tree.While condition body) = max (expr_height condition) (stmt_height body) + 1
+  stmt_height (tree.For first condition step body) =
+      max (max (stmt_height first) (max (optional_height condition) (stmt_height step))) (stmt_height body) + 1
   stmt_height (tree.Push value) = expr_height value + 1
   stmt_height (tree.Print value) = expr_height value + 1
   stmt_height (tree.Println value) = expr_height value + 1
@@ -242,15 +411,15 @@ abbrev mutual
   row_height tree.Done = 0
   row_height (tree.Then first others) = max (stmt_height first) (row_height others)
 
--- the height of the initialiser, or of the highest statement of the work
-abbrev pub member_height : tree.Member → ℕ
-member_height (tree.Field name initial) = initial_height initial
-member_height (tree.Work rates block) = row_height block
+abbrev pub rate_height : tree.Rate → ℕ
+rate_height written = expr_height written.rate
 
--- the greatest of these heights, or 0
-abbrev pub highest : {A : Type 0} → (A → ℕ) → List A → ℕ
-highest height_of [] = 0
-highest height_of (first ∷ others) = max (height_of first) (highest height_of others)
+-- the height of the highest statement or expression of a member
+abbrev pub member_height : tree.Member → ℕ
+member_height (tree.Fields kind variables) = declared_height kind variables
+member_height (tree.Init block) = row_height block
+member_height (tree.Prework rates block) = max (highest rate_height rates) (row_height block)
+member_height (tree.Work rates block) = max (highest rate_height rates) (row_height block)
 
 abbrev pub stream_height : tree.Stream → ℕ
 stream_height (tree.Filter input output members) = highest member_height members

@@ -1,5 +1,5 @@
 -- Reading trees from the front of a token list, rule by rule, as the code does. It serves the proofs: no public clause cites it.
-use Rattle.std.specs.Prelude.{◌≡◌, ℕ, zero, suc, ℤ, pos, ◌+◌, ◌-◌, max, Bool, true, false, if◌then◌else◌, ◌==◌, nat_lt, List, [], ◌∷◌, ◌++◌, length, Option, Some, None, Result, Ok, Err}
+use Rattle.std.specs.Prelude.{◌≡◌, ℕ, zero, suc, ◌+◌, ◌-◌, max, Bool, true, false, if◌then◌else◌, ◌==◌, nat_lt, List, [], ◌∷◌, ◌++◌, length, Option, Some, None, Result, Ok, Err}
 use Rattle.std.specs.List.{list_any}
 use denote.Enum.Bare.{sameb}
 use Rattle.strc_lex.specs.contracts.token.Mark.{the_type as mark_type}
@@ -15,7 +15,6 @@ use Rattle.strc_parse.specs.declared.tree.ItemType.TheVariants as item
 use Rattle.strc_parse.specs.declared.tree.RateKind.{RateKind}
 use Rattle.strc_parse.specs.declared.tree.RateKind.TheVariants as rate
 use Rattle.strc_parse.specs.contracts.tree.RateKind.{the_type as rate_type}
-use Rattle.strc_parse.specs.declared.tree.RateTree.{RateTree}
 use Rattle.strc_parse.specs.declared.tree.AssignOperator.{AssignOperator}
 use Rattle.strc_parse.specs.declared.tree.AssignOperator.TheVariants as assign
 use Rattle.strc_parse.specs.declared.tree.UnaryOperator.{UnaryOperator}
@@ -29,7 +28,7 @@ use Rattle.strc_parse.specs.declared.error.Fault.TheVariants.{Unexpected, Nestin
 use Rattle.strc_parse.specs.declared.error.ReadError.{ReadError}
 use Rattle.strc_parse.specs.declared.error.ReadError.TheVariants as errors
 use Rattle.strc_parse.specs.Tree as tree
-use Rattle.strc_parse.specs.Grammar.{looseness}
+use Rattle.strc_parse.specs.Grammar.{looseness, loosest}
 
 infixl 10 ◌>>=◌
 abbrev pub ◌>>=◌ : {A B : Type 0} → Result A Fault → (A → Result B Fault) → Result B Fault
@@ -117,6 +116,10 @@ repeated stop turn (suc turns) so_far tokens = repeated_by turn (repeated stop t
 unfoldable pub one_more : {A : Type 0} → (List TokenKind → Read A) → List A → List TokenKind → Read (List A)
 one_more reader front tokens = reader tokens >>= λ read. Ok (front ++ read.0 ∷ [], read.1)
 
+-- a turn that reads one more tree of a list: those so far, and the height of the highest of them
+unfoldable pub one_taller : {A : Type 0} → (List TokenKind → Tall A) → List A × ℕ → List TokenKind → Read (List A × ℕ)
+one_taller reader so_far tokens = reader tokens >>= λ read. Ok ((so_far.0 ++ read.0 ∷ [], max so_far.1 read.1), read.2)
+
 -- a loop stops at the brace that closes, and goes on behind it
 unfoldable pub brace : List TokenKind → Option (List TokenKind)
 brace tokens = if is_mark mark.CloseBrace tokens then Some (tail tokens) else None
@@ -124,9 +127,17 @@ brace tokens = if is_mark mark.CloseBrace tokens then Some (tail tokens) else No
 -- ---- expressions
 
 abbrev pub binary_of : Mark → Option BinaryOperator
+binary_of mark.OrOr = Some binary.LogicalOr
+binary_of mark.AndAnd = Some binary.LogicalAnd
 binary_of mark.Or = Some binary.Or
 binary_of mark.Caret = Some binary.ExclusiveOr
 binary_of mark.And = Some binary.And
+binary_of mark.Equal = Some binary.Equal
+binary_of mark.NotEqual = Some binary.NotEqual
+binary_of mark.Less = Some binary.Less
+binary_of mark.LessEqual = Some binary.LessOrEqual
+binary_of mark.Greater = Some binary.Greater
+binary_of mark.GreaterEqual = Some binary.GreaterOrEqual
 binary_of mark.ShiftLeft = Some binary.ShiftLeft
 binary_of mark.ShiftRight = Some binary.ShiftRight
 binary_of mark.Plus = Some binary.Add
@@ -153,24 +164,56 @@ step_of (Some mark.PlusPlus) = Some step.IncrementAfter
 step_of (Some mark.MinusMinus) = Some step.DecrementAfter
 step_of _ = None
 
--- the step of a name that stands behind it
+-- the step of a variable or an element that stands behind it
 unfoldable pub step_after : List TokenKind → Option StepOperator
 step_after tokens = step_of (mark_at tokens)
 
--- `x`, or `x++`: behind the name
-abbrev pub after_name_by : ℕ → List ℕ → List TokenKind → Option StepOperator → Tall tree.Expr
-after_name_by depth name tokens None = Ok (tree.Read name, 1, tokens)
-after_name_by depth name tokens (Some operator) = raised depth 1 >>= λ height. Ok (tree.Step operator name, height, tail tokens)
+-- The readers of expressions at a depth take the reader at the depth below, by its rank.
+abbrev pub Below : Type 0
+Below = ℕ → List TokenKind → Tall tree.Expr
 
-unfoldable pub after_name : ℕ → List ℕ → List TokenKind → Tall tree.Expr
-after_name depth name tokens = after_name_by depth name tokens (step_after tokens)
+-- `e` and the mark that closes it
+unfoldable pub closed : Below → Mark → List TokenKind → Tall tree.Expr
+closed below closing tokens = do
+  value ← below loosest tokens
+  rest ← expect closing value.2
+  Ok (value.0, value.1, rest)
 
--- `++x`: behind the mark
-unfoldable pub step_first : ℕ → StepOperator → List TokenKind → Tall tree.Expr
-step_first depth operator tokens = do
+-- `[i]`, if it stands there, with the height of what has the index: behind the name
+unfoldable pub index : ℕ → Below → List TokenKind → Tall (Option tree.Expr)
+index depth below tokens =
+    if is_mark mark.OpenSquare tokens
+    then (closed below mark.CloseSquare (tail tokens) >>= λ value. raised depth value.1 >>= λ height. Ok (Some value.0, height, value.2))
+    else Ok (None, 1, tokens)
+
+-- the variable of this name, or its element
+abbrev pub read_of : List ℕ → Option tree.Expr → tree.Expr
+read_of name None = tree.Read name
+read_of name (Some index) = tree.Element name index
+
+abbrev pub step_of_place : StepOperator → List ℕ → Option tree.Expr → tree.Expr
+step_of_place operator name None = tree.Step operator name
+step_of_place operator name (Some index) = tree.StepElement operator name index
+
+abbrev pub after_place_by : ℕ → List ℕ → Option tree.Expr → ℕ → List TokenKind → Option StepOperator → Tall tree.Expr
+after_place_by depth name at height tokens None = Ok (read_of name at, height, tokens)
+after_place_by depth name at height tokens (Some operator) = raised depth height >>= λ high. Ok (step_of_place operator name at, high, tail tokens)
+
+-- `x` or `x++`, `x[i]` or `x[i]++`: behind the name and its index
+unfoldable pub after_place : ℕ → List ℕ → Option tree.Expr → ℕ → List TokenKind → Tall tree.Expr
+after_place depth name at height tokens = after_place_by depth name at height tokens (step_after tokens)
+
+-- the same behind the name
+unfoldable pub after_name : ℕ → Below → List ℕ → List TokenKind → Tall tree.Expr
+after_name depth below name tokens = index depth below tokens >>= λ at. after_place depth name at.0 at.1 at.2
+
+-- `++x` or `++x[i]`: behind the mark
+unfoldable pub step_first : ℕ → Below → StepOperator → List TokenKind → Tall tree.Expr
+step_first depth below operator tokens = do
   read ← name tokens
-  height ← raised depth 1
-  Ok (tree.Step operator read.0, height, read.1)
+  at ← index depth below read.1
+  height ← raised depth at.1
+  Ok (step_of_place operator read.0 at.0, height, at.2)
 
 -- `pop()`: behind the word
 unfoldable pub pop_brackets : List TokenKind → Tall tree.Expr
@@ -179,21 +222,20 @@ pop_brackets tokens = do
   rest ← expect mark.CloseBracket inside
   Ok (tree.Pop, 1, rest)
 
--- The readers of expressions at a depth take the reader at the depth below, by its rank.
-abbrev pub Below : Type 0
-Below = ℕ → List TokenKind → Tall tree.Expr
-
--- the loosest rank
-abbrev pub loosest : ℕ
-loosest = 6
+-- `peek(i)`: behind the word
+unfoldable pub peek_brackets : ℕ → Below → List TokenKind → Tall tree.Expr
+peek_brackets depth below tokens = do
+  inside ← expect mark.OpenBracket tokens
+  at ← closed below mark.CloseBracket inside
+  height ← raised depth at.1
+  Ok (tree.Peek at.0, height, at.2)
 
 -- `(e)`: behind the bracket
 unfoldable pub group : ℕ → Below → List TokenKind → Tall tree.Expr
 group depth below tokens = do
-  inner ← below loosest tokens
-  rest ← expect mark.CloseBracket inner.2
+  inner ← closed below mark.CloseBracket tokens
   height ← raised depth inner.1
-  Ok (tree.Group inner.0, height, rest)
+  Ok (tree.Group inner.0, height, inner.2)
 
 -- `-e`: behind the mark
 unfoldable pub sign : ℕ → Below → UnaryOperator → List TokenKind → Tall tree.Expr
@@ -208,18 +250,27 @@ marked depth below mark.OpenBracket tokens = group depth below (tail tokens)
 marked depth below mark.Minus tokens = sign depth below unary.Negate (tail tokens)
 marked depth below mark.Not tokens = sign depth below unary.Not (tail tokens)
 marked depth below mark.Tilde tokens = sign depth below unary.Complement (tail tokens)
-marked depth below mark.PlusPlus tokens = step_first depth step.IncrementFirst (tail tokens)
-marked depth below mark.MinusMinus tokens = step_first depth step.DecrementFirst (tail tokens)
+marked depth below mark.PlusPlus tokens = step_first depth below step.IncrementFirst (tail tokens)
+marked depth below mark.MinusMinus tokens = step_first depth below step.DecrementFirst (tail tokens)
 marked depth below _ tokens = unexpected tokens
+
+-- an operand that begins with this word
+unfoldable pub worded : ℕ → Below → Word → List TokenKind → Tall tree.Expr
+worded depth below word.True tokens = Ok (tree.Truth true, 1, tail tokens)
+worded depth below word.False tokens = Ok (tree.Truth false, 1, tail tokens)
+worded depth below word.Pop tokens = pop_brackets (tail tokens)
+worded depth below word.Peek tokens = peek_brackets depth below (tail tokens)
+worded depth below _ tokens = unexpected tokens
 
 abbrev pub operand_by : ℕ → Below → List TokenKind → Option TokenKind → Tall tree.Expr
 operand_by depth below tokens (Some (token.Number value)) = Ok (tree.Number value, 1, tail tokens)
-operand_by depth below tokens (Some (token.Name name)) = after_name depth name (tail tokens)
-operand_by depth below tokens (Some (token.Word word.Pop)) = pop_brackets (tail tokens)
+operand_by depth below tokens (Some (token.Name name)) = after_name depth below name (tail tokens)
+operand_by depth below tokens (Some (token.Word found)) = worded depth below found tokens
 operand_by depth below tokens (Some (token.Mark found)) = marked depth below found tokens
-operand_by depth below tokens _ = unexpected tokens
+operand_by depth below tokens (Some (token.Text found)) = unexpected tokens
+operand_by depth below tokens None = unexpected tokens
 
--- an expression with no binary operator
+-- an expression with no operator between operands
 unfoldable pub operand : ℕ → Below → List TokenKind → Tall tree.Expr
 operand depth below tokens = operand_by depth below tokens (first tokens)
 
@@ -234,52 +285,99 @@ unfoldable pub chain : ℕ → Below → ℕ → ℕ → tree.Expr → ℕ → L
 chain depth below rank zero left height tokens = Ok (left, height, tokens)
 chain depth below rank (suc turns) left height tokens = chain_by depth below rank (chain depth below rank turns) left height tokens (operator rank tokens)
 
--- an expression of at most this rank
+-- an expression of at most this rank, of operands and binary operators
 unfoldable pub climb : ℕ → Below → ℕ → List TokenKind → Tall tree.Expr
 climb depth below zero tokens = operand depth below tokens
 climb depth below (suc rank) tokens = climb depth below rank tokens >>= λ left. chain depth below (suc rank) (length left.2) left.0 left.1 left.2
 
+-- `a : b`: behind the question mark
+unfoldable pub choice : ℕ → Below → tree.Expr → ℕ → List TokenKind → Tall tree.Expr
+choice depth below condition height tokens = do
+  chosen ← closed below mark.Colon tokens
+  other ← below loosest chosen.2
+  high ← raised depth (max height (max chosen.1 other.1))
+  Ok (tree.Conditional condition chosen.0 other.0, high, other.2)
+
+-- the loosest rank of a binary operator
+abbrev pub loosest_binary : ℕ
+loosest_binary = 10
+
+-- `c ? a : b`, or c alone
+unfoldable pub conditional : ℕ → Below → List TokenKind → Tall tree.Expr
+conditional depth below tokens =
+    climb depth below loosest_binary tokens
+    >>= λ read. if is_mark mark.Question read.2 then choice depth below read.0 read.1 (tail read.2) else Ok (read.0, read.1, read.2)
+
+-- an expression of at most this rank
+unfoldable pub ranked : ℕ → Below → ℕ → List TokenKind → Tall tree.Expr
+ranked depth below rank tokens = if rank == loosest then conditional depth below tokens else climb depth below rank tokens
+
 -- an expression of at most this height and rank
 unfoldable pub expression : ℕ → ℕ → List TokenKind → Tall tree.Expr
 expression zero rank tokens = Err Nesting
-expression (suc depth) rank tokens = climb (suc depth) (expression depth) rank tokens
+expression (suc depth) rank tokens = ranked (suc depth) (expression depth) rank tokens
 
--- ---- statements
+-- ---- variables
 
 -- `= e`, if it stands there: the initialiser, its height or 0
 unfoldable pub initial : ℕ → List TokenKind → Tall (Option tree.Expr)
 initial depth tokens =
     if is_mark mark.Assign tokens then (expression depth loosest (tail tokens) >>= λ value. Ok (Some value.0, value.1, value.2)) else Ok (None, 0, tokens)
 
--- `int x = e;`: behind the word
-unfoldable pub variable : ℕ → List TokenKind → Tall (List ℕ × Option tree.Expr)
+-- `x` or `x = e`
+unfoldable pub variable : ℕ → List TokenKind → Tall tree.Variable
 variable depth tokens = do
   named ← name tokens
   begun ← initial depth named.1
-  rest ← expect mark.Semicolon begun.2
-  Ok ((named.0, begun.0), begun.1, rest)
+  Ok (record { name = named.0; initial = begun.0 }, begun.1, begun.2)
+
+-- variables stop where no comma stands
+unfoldable pub no_comma : List TokenKind → Option (List TokenKind)
+no_comma tokens = if is_mark mark.Comma tokens then None else Some tokens
+
+-- a further variable: at its comma
+unfoldable pub next_variable : ℕ → List TokenKind → Tall tree.Variable
+next_variable depth tokens = variable depth (tail tokens)
+
+-- the variables behind these
+unfoldable pub more_variables : ℕ → List tree.Variable × ℕ → List TokenKind → Read (List tree.Variable × ℕ)
+more_variables depth so_far tokens = repeated no_comma (one_taller (next_variable depth)) (length tokens + 1) so_far tokens
+
+-- variables with commas between them, and the height of the highest initialiser or 0
+unfoldable pub variables : ℕ → List TokenKind → Read (List tree.Variable × ℕ)
+variables depth tokens = variable depth tokens >>= λ read. more_variables depth (read.0 ∷ [], read.1) read.2
+
+-- `int` or `int[n]`: behind the word
+unfoldable pub int_type : ℕ → List TokenKind → Tall tree.VariableType
+int_type depth tokens =
+    if is_mark mark.OpenSquare tokens
+    then (closed (expression depth) mark.CloseSquare (tail tokens) >>= λ count. Ok (tree.Array count.0, count.1, count.2))
+    else Ok (tree.Int, 0, tokens)
+
+abbrev pub variable_type_by : ℕ → List TokenKind → Option TokenKind → Tall tree.VariableType
+variable_type_by depth tokens (Some (token.Word word.Boolean)) = Ok (tree.Boolean, 0, tail tokens)
+variable_type_by depth tokens (Some (token.Word word.Int)) = int_type depth (tail tokens)
+variable_type_by depth tokens _ = unexpected tokens
+
+-- the type of variables, with the height of its length or 0
+unfoldable pub variable_type : ℕ → List TokenKind → Tall tree.VariableType
+variable_type depth tokens = variable_type_by depth tokens (first tokens)
+
+-- `int x = 1, y`, with the height of the highest expression or 0
+unfoldable pub declared : ℕ → List TokenKind → Tall (tree.VariableType × List tree.Variable)
+declared depth tokens = do
+  kind ← variable_type depth tokens
+  read ← variables depth kind.2
+  Ok ((kind.0, read.0.0), max kind.1 read.0.1, read.1)
+
+-- ---- statements that end with a semicolon
 
 -- the declaration as a statement
 unfoldable pub declare : ℕ → List TokenKind → Tall tree.Stmt
 declare depth tokens = do
-  read ← variable (depth - 1) tokens
+  read ← declared (depth - 1) tokens
   height ← raised depth read.1
   Ok (tree.Declare read.0.0 read.0.1, height, read.2)
-
--- `e;`, with the height of a node above it
-unfoldable pub ended : ℕ → List TokenKind → Tall tree.Expr
-ended depth tokens = do
-  value ← expression (depth - 1) loosest tokens
-  rest ← expect mark.Semicolon value.2
-  height ← raised depth value.1
-  Ok (value.0, height, rest)
-
-unfoldable pub evaluate : ℕ → List TokenKind → Tall tree.Stmt
-evaluate depth tokens = ended depth tokens >>= λ read. Ok (tree.Evaluate read.0, read.1, read.2)
-
--- `x = e;`: behind the operator
-unfoldable pub assign_to : ℕ → List ℕ → AssignOperator → List TokenKind → Tall tree.Stmt
-assign_to depth name operator tokens = ended depth tokens >>= λ read. Ok (tree.Assign name operator read.0, read.1, read.2)
 
 abbrev pub assign_of : Option Mark → Option AssignOperator
 assign_of (Some mark.Assign) = Some assign.Set
@@ -294,21 +392,67 @@ assign_of _ = None
 unfoldable pub assign_at : List TokenKind → Option AssignOperator
 assign_at tokens = assign_of (mark_at tokens)
 
-abbrev pub named_by : ℕ → List ℕ → List TokenKind → Option AssignOperator → Tall tree.Stmt
-named_by depth name tokens None = evaluate depth tokens
-named_by depth name tokens (Some operator) = assign_to depth name operator (tail (tail tokens))
+-- an expression that was read, as a statement
+unfoldable pub evaluate : ℕ → tree.Expr → ℕ → List TokenKind → Tall tree.Stmt
+evaluate depth value height tokens = raised depth height >>= λ high. Ok (tree.Evaluate value, high, tokens)
 
--- a statement that begins with a name
-unfoldable pub named : ℕ → List ℕ → List TokenKind → Tall tree.Stmt
-named depth name tokens = named_by depth name tokens (assign_at (tail tokens))
+-- `x = e`: behind the operator
+unfoldable pub assign_to : ℕ → List ℕ → AssignOperator → List TokenKind → Tall tree.Stmt
+assign_to depth name operator tokens = do
+  value ← expression (depth - 1) loosest tokens
+  height ← raised depth value.1
+  Ok (tree.Assign name operator value.0, height, value.2)
+
+-- `x[i] = e`: behind the operator, with the height of the element
+unfoldable pub assign_element : ℕ → List ℕ → tree.Expr → ℕ → AssignOperator → List TokenKind → Tall tree.Stmt
+assign_element depth name at height operator tokens = do
+  value ← expression (depth - 1) loosest tokens
+  high ← raised depth (max height value.1)
+  Ok (tree.AssignElement name at operator value.0, high, value.2)
+
+abbrev pub assign_by : ℕ → tree.Expr → ℕ → AssignOperator → List TokenKind → Tall tree.Stmt
+assign_by depth (tree.Read name) height operator tokens = assign_to depth name operator (tail tokens)
+assign_by depth (tree.Element name at) height operator tokens = assign_element depth name at height operator (tail tokens)
+assign_by depth value height operator tokens = evaluate depth value height tokens
+
+-- what an operator that stands first makes of the expression before it: an assignment, where that is a variable or an element
+unfoldable pub assignment : ℕ → tree.Expr → ℕ → AssignOperator → List TokenKind → Tall tree.Stmt
+assignment depth value height operator tokens = assign_by depth value height operator tokens
+
+abbrev pub after_value_by : ℕ → tree.Expr → ℕ → List TokenKind → Option AssignOperator → Tall tree.Stmt
+after_value_by depth value height tokens None = evaluate depth value height tokens
+after_value_by depth value height tokens (Some operator) = assignment depth value height operator tokens
+
+unfoldable pub after_value : ℕ → tree.Expr → ℕ → List TokenKind → Tall tree.Stmt
+after_value depth value height tokens = after_value_by depth value height tokens (assign_at tokens)
+
+-- an expression or an assignment
+unfoldable pub simple : ℕ → List TokenKind → Tall tree.Stmt
+simple depth tokens = expression (depth - 1) loosest tokens >>= λ value. after_value depth value.0 value.1 value.2
+
+-- the same, or nothing before this mark
+unfoldable pub optional : ℕ → Mark → List TokenKind → Tall tree.Stmt
+optional depth end tokens = if is_mark end tokens then Ok (tree.Empty, 1, tokens) else simple depth tokens
+
+abbrev pub part_by : ℕ → List TokenKind → Option TokenKind → Tall tree.Stmt
+part_by depth tokens (Some (token.Word word.Boolean)) = declare depth tokens
+part_by depth tokens (Some (token.Word word.Int)) = declare depth tokens
+part_by depth tokens _ = optional depth mark.Semicolon tokens
+
+-- a statement up to its semicolon
+unfoldable pub part : ℕ → List TokenKind → Tall tree.Stmt
+part depth tokens = part_by depth tokens (first tokens)
+
+-- the same with the semicolon
+unfoldable pub ended : ℕ → List TokenKind → Tall tree.Stmt
+ended depth tokens = do
+  read ← part depth tokens
+  rest ← expect mark.Semicolon read.2
+  Ok (read.0, read.1, rest)
 
 -- `(e)`, with the height of e
 unfoldable pub bracketed : ℕ → List TokenKind → Tall tree.Expr
-bracketed depth tokens = do
-  inside ← expect mark.OpenBracket tokens
-  value ← expression (depth - 1) loosest inside
-  rest ← expect mark.CloseBracket value.2
-  Ok (value.0, value.1, rest)
+bracketed depth tokens = expect mark.OpenBracket tokens >>= λ inside. closed (expression (depth - 1)) mark.CloseBracket inside
 
 -- `(e);`, with the height of a node above e
 unfoldable pub argument : ℕ → List TokenKind → Tall tree.Expr
@@ -318,21 +462,19 @@ argument depth tokens = do
   height ← raised depth value.1
   Ok (value.0, height, rest)
 
-abbrev pub row : List tree.Stmt → tree.Stmts
-row [] = tree.Done
-row (s ∷ others) = tree.Then s (row others)
+-- ---- statements
 
 -- The reader of statements at the depth below.
 abbrev pub Inner : Type 0
 Inner = List TokenKind → Tall tree.Stmt
 
--- one more statement: those so far, and the height of the highest of them
-unfoldable pub statement_turn : Inner → List tree.Stmt × ℕ → List TokenKind → Read (List tree.Stmt × ℕ)
-statement_turn inner so_far tokens = inner tokens >>= λ read. Ok ((so_far.0 ++ read.0 ∷ [], max so_far.1 read.1), read.2)
+abbrev pub row : List tree.Stmt → tree.Stmts
+row [] = tree.Done
+row (s ∷ others) = tree.Then s (row others)
 
 -- the statements up to the brace that closes them, and the height of the highest or 0
 unfoldable pub statements : Inner → List TokenKind → Read (List tree.Stmt × ℕ)
-statements inner tokens = repeated brace (statement_turn inner) (length tokens) ([], 0) tokens
+statements inner tokens = repeated brace (one_taller inner) (length tokens) ([], 0) tokens
 
 -- a block as a statement: behind its brace
 unfoldable pub block : ℕ → Inner → List TokenKind → Tall tree.Stmt
@@ -341,23 +483,89 @@ block depth inner tokens = do
   height ← raised depth body.0.1
   Ok (tree.Block (row body.0.0), height, body.1)
 
-abbrev pub word_statement_by : ℕ → Word → List TokenKind → Tall tree.Stmt
-word_statement_by depth word.Int tokens = declare depth (tail tokens)
-word_statement_by depth word.Push tokens = argument depth (tail tokens) >>= λ read. Ok (tree.Push read.0, read.1, read.2)
-word_statement_by depth word.Print tokens = argument depth (tail tokens) >>= λ read. Ok (tree.Print read.0, read.1, read.2)
-word_statement_by depth word.Println tokens = argument depth (tail tokens) >>= λ read. Ok (tree.Println read.0, read.1, read.2)
-word_statement_by depth _ tokens = evaluate depth tokens
+-- the branch behind `else`, with the height of what stands before it
+unfoldable pub other_branch : ℕ → Inner → tree.Expr → tree.Stmt → ℕ → List TokenKind → Tall tree.Stmt
+other_branch depth inner condition chosen height tokens = do
+  other ← inner tokens
+  high ← raised depth (max height other.1)
+  Ok (tree.IfElse condition chosen other.0, high, other.2)
+
+-- what follows a branch, to which an `else` belongs that stands there
+unfoldable pub after_branch : ℕ → Inner → tree.Expr → tree.Stmt → ℕ → List TokenKind → Tall tree.Stmt
+after_branch depth inner condition chosen height tokens =
+    if is_word word.Else tokens
+    then other_branch depth inner condition chosen height (tail tokens)
+    else (raised depth height >>= λ high. Ok (tree.If condition chosen, high, tokens))
+
+-- `if`: behind the word
+unfoldable pub branch : ℕ → Inner → List TokenKind → Tall tree.Stmt
+branch depth inner tokens = do
+  condition ← bracketed depth tokens
+  chosen ← inner condition.2
+  after_branch depth inner condition.0 chosen.0 (max condition.1 chosen.1) chosen.2
+
+-- `while`: behind the word
+unfoldable pub while_loop : ℕ → Inner → List TokenKind → Tall tree.Stmt
+while_loop depth inner tokens = do
+  condition ← bracketed depth tokens
+  body ← inner condition.2
+  height ← raised depth (max condition.1 body.1)
+  Ok (tree.While condition.0 body.0, height, body.2)
+
+-- the condition of a `for`, if there is one, and its semicolon
+unfoldable pub condition : ℕ → List TokenKind → Tall (Option tree.Expr)
+condition depth tokens =
+    if is_mark mark.Semicolon tokens
+    then Ok (None, 0, tail tokens)
+    else (closed (expression depth) mark.Semicolon tokens >>= λ value. Ok (Some value.0, value.1, value.2))
+
+-- the step of a `for`, and the bracket behind it
+unfoldable pub last_part : ℕ → List TokenKind → Tall tree.Stmt
+last_part depth tokens = do
+  read ← optional depth mark.CloseBracket tokens
+  rest ← expect mark.CloseBracket read.2
+  Ok (read.0, read.1, rest)
+
+-- `condition; step)`, and the height of the higher
+unfoldable pub behind_first : ℕ → List TokenKind → Tall (Option tree.Expr × tree.Stmt)
+behind_first depth tokens = do
+  tested ← condition depth tokens
+  stepped ← last_part depth tested.2
+  Ok ((tested.0, stepped.0), max tested.1 stepped.1, stepped.2)
+
+-- `(first; condition; step)`, and the height of the highest
+unfoldable pub for_heading : ℕ → List TokenKind → Tall (tree.Stmt × Option tree.Expr × tree.Stmt)
+for_heading depth tokens = do
+  opened ← expect mark.OpenBracket tokens
+  begun ← ended depth opened
+  behind ← behind_first depth begun.2
+  Ok ((begun.0, behind.0.0, behind.0.1), max begun.1 behind.1, behind.2)
+
+-- `for`: behind the word
+unfoldable pub for_loop : ℕ → Inner → List TokenKind → Tall tree.Stmt
+for_loop depth inner tokens = do
+  heading ← for_heading depth tokens
+  body ← inner heading.2
+  height ← raised depth (max heading.1 body.1)
+  Ok (tree.For heading.0.0 heading.0.1 heading.0.2 body.0, height, body.2)
+
+abbrev pub keyword_by : ℕ → Inner → Word → List TokenKind → Tall tree.Stmt
+keyword_by depth inner word.If tokens = branch depth inner (tail tokens)
+keyword_by depth inner word.While tokens = while_loop depth inner (tail tokens)
+keyword_by depth inner word.For tokens = for_loop depth inner (tail tokens)
+keyword_by depth inner word.Push tokens = argument depth (tail tokens) >>= λ read. Ok (tree.Push read.0, read.1, read.2)
+keyword_by depth inner word.Print tokens = argument depth (tail tokens) >>= λ read. Ok (tree.Print read.0, read.1, read.2)
+keyword_by depth inner word.Println tokens = argument depth (tail tokens) >>= λ read. Ok (tree.Println read.0, read.1, read.2)
+keyword_by depth inner _ tokens = ended depth tokens
 
 -- a statement that begins with this word
-unfoldable pub worded : ℕ → Word → List TokenKind → Tall tree.Stmt
-worded depth found tokens = word_statement_by depth found tokens
+unfoldable pub keyword : ℕ → Inner → Word → List TokenKind → Tall tree.Stmt
+keyword depth inner found tokens = keyword_by depth inner found tokens
 
 abbrev pub statement_by : ℕ → Inner → List TokenKind → Option TokenKind → Tall tree.Stmt
 statement_by depth inner tokens (Some (token.Mark mark.OpenBrace)) = block depth inner (tail tokens)
-statement_by depth inner tokens (Some (token.Mark mark.Semicolon)) = Ok (tree.Empty, 1, tail tokens)
-statement_by depth inner tokens (Some (token.Word found)) = worded depth found tokens
-statement_by depth inner tokens (Some (token.Name name)) = named depth name tokens
-statement_by depth inner tokens _ = evaluate depth tokens
+statement_by depth inner tokens (Some (token.Word found)) = keyword depth inner found tokens
+statement_by depth inner tokens _ = ended depth tokens
 
 -- a statement, behind the test of its depth
 unfoldable pub shallow : ℕ → Inner → List TokenKind → Tall tree.Stmt
@@ -381,40 +589,30 @@ item_type tokens = type_by (first tokens) tokens
 abbrev pub rate_kind_of : Option TokenKind → Option RateKind
 rate_kind_of (Some (token.Word word.Push)) = Some rate.Push
 rate_kind_of (Some (token.Word word.Pop)) = Some rate.Pop
+rate_kind_of (Some (token.Word word.Peek)) = Some rate.Peek
 rate_kind_of _ = None
 
 -- the kind of rate whose word stands first
 unfoldable pub rate_kind : List TokenKind → Option RateKind
 rate_kind tokens = rate_kind_of (first tokens)
 
-abbrev pub is_rate : ℤ → Bool
-is_rate (pos zero) = true
-is_rate (pos (suc zero)) = true
-is_rate _ = false
-
-abbrev pub rate_number_by : Option TokenKind → List TokenKind → Read ℤ
-rate_number_by (Some (token.Number value)) tokens = if is_rate value then Ok (value, tail tokens) else unexpected tokens
-rate_number_by _ tokens = unexpected tokens
-
--- a 0 or a 1
-unfoldable pub rate_number : List TokenKind → Read ℤ
-rate_number tokens = rate_number_by (first tokens) tokens
-
 -- whether a rate of this kind is among these
-abbrev pub has_rate : RateKind → List RateTree → Bool
+unfoldable pub has_rate : RateKind → List tree.Rate → Bool
 has_rate kind rates = list_any (λ r. sameb rate_type r.kind kind) rates
 
--- the number of a rate of this kind, which the rates so far don't have: at its word
-abbrev pub rate_of : RateKind → List RateTree → List TokenKind → Read ℤ
-rate_of kind so_far tokens = if has_rate kind so_far then unexpected tokens else rate_number (tail tokens)
+-- From here on the limit is the greatest height of a statement or an expression.
 
-abbrev pub rate_by : List RateTree → List TokenKind → Option RateKind → Read (List RateTree)
-rate_by so_far tokens None = unexpected tokens
-rate_by so_far tokens (Some kind) = rate_of kind so_far tokens >>= λ read. Ok (so_far ++ record { kind = kind; rate = read.0 } ∷ [], read.1)
+-- a rate of this kind, which the rates so far don't have: at its word
+unfoldable pub rate_of : ℕ → RateKind → List tree.Rate → List TokenKind → Tall tree.Expr
+rate_of limit kind so_far tokens = if has_rate kind so_far then unexpected tokens else expression limit loosest (tail tokens)
+
+abbrev pub rate_by : ℕ → List tree.Rate → List TokenKind → Option RateKind → Read (List tree.Rate)
+rate_by limit so_far tokens None = unexpected tokens
+rate_by limit so_far tokens (Some kind) = rate_of limit kind so_far tokens >>= λ read. Ok (so_far ++ record { kind = kind; rate = read.0 } ∷ [], read.2)
 
 -- one more rate
-unfoldable pub rate_turn : List RateTree → List TokenKind → Read (List RateTree)
-rate_turn so_far tokens = rate_by so_far tokens (rate_kind tokens)
+unfoldable pub rate_turn : ℕ → List tree.Rate → List TokenKind → Read (List tree.Rate)
+rate_turn limit so_far tokens = rate_by limit so_far tokens (rate_kind tokens)
 
 abbrev pub no_rate_by : List TokenKind → Option RateKind → Option (List TokenKind)
 no_rate_by tokens None = Some tokens
@@ -424,26 +622,40 @@ no_rate_by tokens (Some kind) = None
 unfoldable pub no_rate : List TokenKind → Option (List TokenKind)
 no_rate tokens = no_rate_by tokens (rate_kind tokens)
 
-unfoldable pub rates : List TokenKind → Read (List RateTree)
-rates tokens = repeated no_rate rate_turn (length tokens + 1) [] tokens
+unfoldable pub rates : ℕ → List TokenKind → Read (List tree.Rate)
+rates limit tokens = repeated no_rate (rate_turn limit) (length tokens + 1) [] tokens
 
--- From here on the limit is the greatest height of a statement or an expression.
-
--- a work: behind its word
-unfoldable pub work : ℕ → List TokenKind → Read tree.Member
-work limit tokens = do
-  declared ← rates tokens
-  opened ← expect mark.OpenBrace declared.1
+-- a block with its braces
+unfoldable pub braced : ℕ → List TokenKind → Read tree.Stmts
+braced limit tokens = do
+  opened ← expect mark.OpenBrace tokens
   body ← statements (statement limit) opened
-  Ok (tree.Work declared.0 (row body.0.0), body.1)
+  Ok (row body.0.0, body.1)
 
--- a field: behind the word of its type
-unfoldable pub field : ℕ → List TokenKind → Read tree.Member
-field limit tokens = variable limit tokens >>= λ read. Ok (tree.Field read.0.0 read.0.1, read.2)
+-- an initialisation: behind the word
+unfoldable pub init : ℕ → List TokenKind → Read tree.Member
+init limit tokens = braced limit tokens >>= λ block. Ok (tree.Init block.0, block.1)
+
+-- rates and a block
+unfoldable pub phase : ℕ → List TokenKind → Read (List tree.Rate × tree.Stmts)
+phase limit tokens = do
+  rated ← rates limit tokens
+  block ← braced limit rated.1
+  Ok ((rated.0, block.0), block.1)
+
+-- fields of one type
+unfoldable pub fields : ℕ → List TokenKind → Read tree.Member
+fields limit tokens = do
+  read ← declared limit tokens
+  rest ← expect mark.Semicolon read.2
+  Ok (tree.Fields read.0.0 read.0.1, rest)
 
 abbrev pub member_by : ℕ → List TokenKind → Option TokenKind → Read tree.Member
-member_by limit tokens (Some (token.Word word.Int)) = field limit (tail tokens)
-member_by limit tokens (Some (token.Word word.Work)) = work limit (tail tokens)
+member_by limit tokens (Some (token.Word word.Boolean)) = fields limit tokens
+member_by limit tokens (Some (token.Word word.Int)) = fields limit tokens
+member_by limit tokens (Some (token.Word word.Init)) = init limit (tail tokens)
+member_by limit tokens (Some (token.Word word.Prework)) = phase limit (tail tokens) >>= λ read. Ok (tree.Prework read.0.0 read.0.1, read.1)
+member_by limit tokens (Some (token.Word word.Work)) = phase limit (tail tokens) >>= λ read. Ok (tree.Work read.0.0 read.0.1, read.1)
 member_by limit tokens _ = unexpected tokens
 
 unfoldable pub member : ℕ → List TokenKind → Read tree.Member

@@ -1,7 +1,7 @@
 -- The syntax tree of a program, without where it lies in memory.
-use Rattle.std.specs.Prelude.{ℕ, ℤ, List, Option}
+use Rattle.std.specs.Prelude.{ℕ, ℤ, Bool, List, Option}
 use Rattle.strc_parse.specs.declared.tree.ItemType.{ItemType}
-use Rattle.strc_parse.specs.declared.tree.RateTree.{RateTree}
+use Rattle.strc_parse.specs.declared.tree.RateKind.{RateKind}
 use Rattle.strc_parse.specs.declared.tree.AssignOperator.{AssignOperator}
 use Rattle.strc_parse.specs.declared.tree.UnaryOperator.{UnaryOperator}
 use Rattle.strc_parse.specs.declared.tree.StepOperator.{StepOperator}
@@ -10,21 +10,42 @@ use Rattle.strc_parse.specs.declared.tree.BinaryOperator.{BinaryOperator}
 -- an expression; a name is the list of its bytes
 pub data Expr : Type 0 where
   Number : (value : ℤ) → Expr
+  Truth : (value : Bool) → Expr
   Read : (name : List ℕ) → Expr
+  Element : (name : List ℕ) (index : Expr) → Expr
   Pop : Expr
+  Peek : (index : Expr) → Expr
   Group : (inner : Expr) → Expr
   Unary : (operator : UnaryOperator) (operand : Expr) → Expr
   Step : (operator : StepOperator) (name : List ℕ) → Expr
+  StepElement : (operator : StepOperator) (name : List ℕ) (index : Expr) → Expr
   Binary : (operator : BinaryOperator) (left right : Expr) → Expr
+  Conditional : (condition chosen other : Expr) → Expr
+
+-- the type of variables, as it is written
+pub data VariableType : Type 0 where
+  Boolean : VariableType
+  Int : VariableType
+  Array : (length : Expr) → VariableType
+
+-- a variable in a declaration
+pub record Variable : Type 0 where
+  pub name : List ℕ
+  pub initial : Option Expr
 
 -- a statement, and statements in a row
 mutual
   pub data Stmt : Type 0 where
     Empty : Stmt
     Block : (body : Stmts) → Stmt
-    Declare : (name : List ℕ) (initial : Option Expr) → Stmt
+    Declare : (kind : VariableType) (variables : List Variable) → Stmt
     Evaluate : (value : Expr) → Stmt
     Assign : (name : List ℕ) (operator : AssignOperator) (value : Expr) → Stmt
+    AssignElement : (name : List ℕ) (index : Expr) (operator : AssignOperator) (value : Expr) → Stmt
+    If : (condition : Expr) (chosen : Stmt) → Stmt
+    IfElse : (condition : Expr) (chosen other : Stmt) → Stmt
+    While : (condition : Expr) (body : Stmt) → Stmt
+    For : (first : Stmt) (condition : Option Expr) (step body : Stmt) → Stmt
     Push : (value : Expr) → Stmt
     Print : (value : Expr) → Stmt
     Println : (value : Expr) → Stmt
@@ -33,10 +54,17 @@ mutual
     Done : Stmts
     Then : (first : Stmt) (rest : Stmts) → Stmts
 
--- a part of a filter: a field, or its work
+-- a rate as it is written
+pub record Rate : Type 0 where
+  pub kind : RateKind
+  pub rate : Expr
+
+-- a part of a filter
 pub data Member : Type 0 where
-  Field : (name : List ℕ) (initial : Option Expr) → Member
-  Work : (rates : List RateTree) (block : Stmts) → Member
+  Fields : (kind : VariableType) (variables : List Variable) → Member
+  Init : (block : Stmts) → Member
+  Prework : (rates : List Rate) (block : Stmts) → Member
+  Work : (rates : List Rate) (block : Stmts) → Member
 
 -- a stream without its name
 pub data Stream : Type 0 where

@@ -6,6 +6,10 @@ use Rattle.strc_parse.specs.declared.tree.Expr.{Expr}
 use Rattle.strc_parse.specs.declared.tree.Expr.TheVariants as expr
 use Rattle.strc_parse.specs.declared.tree.Stmt.{Stmt, Row_of-Stmt, end_of-Stmt, more_of-Stmt}
 use Rattle.strc_parse.specs.declared.tree.Stmt.TheVariants as stmt
+use Rattle.strc_parse.specs.declared.tree.VariableType.{VariableType}
+use Rattle.strc_parse.specs.declared.tree.VariableType.TheVariants as kind
+use Rattle.strc_parse.specs.declared.tree.Variable.{Variable}
+use Rattle.strc_parse.specs.declared.tree.RateTree.{RateTree}
 use Rattle.strc_parse.specs.declared.tree.Member.{Member}
 use Rattle.strc_parse.specs.declared.tree.Member.TheVariants as member
 use Rattle.strc_parse.specs.declared.tree.FilterTree.{FilterTree}
@@ -16,20 +20,40 @@ use Rattle.strc_parse.specs.declared.tree.Program.{Program}
 
 abbrev pub expr_view : Expr → tree.Expr
 expr_view (expr.Number value) = tree.Number value
-expr_view (expr.Read place) = tree.Read place.name
+expr_view (expr.Truth value) = tree.Truth value
+expr_view (expr.Read name) = tree.Read name
+expr_view (expr.Element' name at index) = tree.Element name (expr_view index)
 expr_view expr.Pop = tree.Pop
+expr_view (expr.Peek' at index) = tree.Peek (expr_view index)
 expr_view (expr.Group' at inner) = tree.Group (expr_view inner)
 expr_view (expr.Unary' operator at operand) = tree.Unary operator (expr_view operand)
-expr_view (expr.Step operator place) = tree.Step operator place.name
+expr_view (expr.Step operator name) = tree.Step operator name
+expr_view (expr.StepElement' operator name at index) = tree.StepElement operator name (expr_view index)
 expr_view (expr.Binary' operator at left at' right) = tree.Binary operator (expr_view left) (expr_view right)
+expr_view (expr.Conditional' at condition at' chosen at'' other) =
+    tree.Conditional (expr_view condition) (expr_view chosen) (expr_view other)
+
+abbrev pub type_view : VariableType → tree.VariableType
+type_view kind.Boolean = tree.Boolean
+type_view kind.Int = tree.Int
+type_view (kind.Array length) = tree.Array (expr_view length)
+
+abbrev pub variable_view : Variable → tree.Variable
+variable_view variable = record { name = variable.name; initial = option_map expr_view variable.initial }
 
 abbrev mutual
   pub stmt_view : Stmt → tree.Stmt
   stmt_view stmt.Empty = tree.Empty
   stmt_view (stmt.Block' shape body) = tree.Block (row_view body)
-  stmt_view (stmt.Declare variable) = tree.Declare variable.name (option_map expr_view variable.initial)
+  stmt_view (stmt.Declare declared) = tree.Declare (type_view declared.kind) (map variable_view declared.variables.items)
   stmt_view (stmt.Evaluate value) = tree.Evaluate (expr_view value)
-  stmt_view (stmt.Assign place operator value) = tree.Assign place.name operator (expr_view value)
+  stmt_view (stmt.Assign name operator value) = tree.Assign name operator (expr_view value)
+  stmt_view (stmt.AssignElement name index operator value) = tree.AssignElement name (expr_view index) operator (expr_view value)
+  stmt_view (stmt.If' condition at chosen) = tree.If (expr_view condition) (stmt_view chosen)
+  stmt_view (stmt.IfElse' condition at chosen at' other) = tree.IfElse (expr_view condition) (stmt_view chosen) (stmt_view other)
+  stmt_view (stmt.While' condition at body) = tree.While (expr_view condition) (stmt_view body)
+  stmt_view (stmt.For' at first condition at' step at'' body) =
+      tree.For (stmt_view first) (option_map expr_view condition) (stmt_view step) (stmt_view body)
   stmt_view (stmt.Push value) = tree.Push (expr_view value)
   stmt_view (stmt.Print value) = tree.Print (expr_view value)
   stmt_view (stmt.Println value) = tree.Println (expr_view value)
@@ -43,9 +67,14 @@ abbrev pub block_view : List Stmt → tree.Stmts
 block_view [] = tree.Done
 block_view (first ∷ rest) = tree.Then (stmt_view first) (block_view rest)
 
+abbrev pub rate_view : RateTree → tree.Rate
+rate_view written = record { kind = written.kind; rate = expr_view written.rate }
+
 abbrev pub member_view : Member → tree.Member
-member_view (member.Field variable) = tree.Field variable.name (option_map expr_view variable.initial)
-member_view (member.Work work) = tree.Work work.rates.items (block_view work.block.items)
+member_view (member.Fields declared) = tree.Fields (type_view declared.kind) (map variable_view declared.variables.items)
+member_view (member.Init block) = tree.Init (block_view block.items)
+member_view (member.Prework work) = tree.Prework (map rate_view work.rates.items) (block_view work.block.items)
+member_view (member.Work work) = tree.Work (map rate_view work.rates.items) (block_view work.block.items)
 
 abbrev pub filter_view : FilterTree → tree.Stream
 filter_view filter = tree.Filter filter.input filter.output (map member_view filter.members.items)

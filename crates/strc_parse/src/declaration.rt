@@ -1,19 +1,21 @@
 // Streams and programs.
 
 ghost use Rattle.std.specs.Prelude.{◌≡◌, map, []};
-ghost use Rattle.std.specs.Option.{option_map};
-ghost use Rattle.strc_parse.specs.View.{expr_view, stmt_view, member_view, declaration_view};
+ghost use Rattle.strc_parse.specs.View.{rate_view, member_view, declaration_view};
 ghost use Rattle.strc_parse.specs.Grammar.{kinds, height_limit};
-ghost use Rattle.strc_parse.specs.Seen.{seen_member, seen_declaration, seen};
+ghost use Rattle.strc_parse.specs.Seen.{seen, seen_expr, seen_rate, seen_rates, seen_block, seen_phase, seen_member, seen_declaration};
 ghost use Rattle.strc_parse.specs.Reading as spec;
 ghost use Rattle.strc_parse.specs.Reading.{Gives};
 
+use crate::control::statements;
 use crate::error::ReadError;
+use crate::expression::{LOOSEST, expression};
 use crate::lookahead::{expect, expect_word, is_mark, name, peek, tail, unexpected};
-use crate::statement::{statements, variable};
 use crate::tree::{
-    Decl, FilterTree, ItemType, Member, PipelineTree, RateKind, RateTree, StreamTree, WorkTree,
+    Decl, Expr, FilterTree, ItemType, Member, PipelineTree, RateKind, RateTree, Stmt, StreamTree,
+    WorkTree,
 };
+use crate::variable::declared;
 use std::alloc::Global;
 use strc_lex::token::{Mark, Name, Token, TokenKind, Word};
 
@@ -39,61 +41,39 @@ fn rate_kind(tokens: &[Token]) -> Option<RateKind>
     match peek(tokens) {
         Some(TokenKind::Word(Word::Push)) => Some(RateKind::Push),
         Some(TokenKind::Word(Word::Pop)) => Some(RateKind::Pop),
+        Some(TokenKind::Word(Word::Peek)) => Some(RateKind::Peek),
         _ => None,
-    }
-}
-
-fn is_rate(value: i32) -> bool
-    ensures { result ≡ spec.is_rate value }
-{
-    match value {
-        0 | 1 => true,
-        _ => false,
-    }
-}
-
-/// A 0 or a 1.
-#[tactic(auto, unfolding(crate::specs::Reading::rate_number))]
-fn rate_number(tokens: &[Token]) -> Result<(i32, &[Token]), ReadError>
-    ensures { Gives seen result (spec.rate_number (kinds tokens.now)) }
-{
-    match peek(tokens) {
-        Some(TokenKind::Number(value)) => {
-            if is_rate(*value) {
-                Ok((*value, tail(tokens)))
-            } else {
-                Err(unexpected(tokens))
-            }
-        }
-        _ => Err(unexpected(tokens)),
     }
 }
 
 /// Whether a rate of this kind is among these.
 fn has_rate(kind: RateKind, rates: &[RateTree]) -> bool
-    ensures { result ≡ spec.has_rate kind rates.now }
+    ensures { result ≡ seen_rate kind rates.now }
 {
     rates.iter().any(|rate| rate.kind == kind)
 }
 
-/// The number of a rate of this kind, which the rates so far don't have: at its word.
+/// A rate of this kind, which the rates so far don't have: at its word.
+#[tactic(auto, unfolding(crate::specs::Reading::rate_of), using(crate::proofs::Repeated::has_rate_view))]
 fn rate_of<'t>(
+    alloc: Global,
     kind: RateKind,
     so_far: &[RateTree],
     tokens: &'t [Token],
-) -> Result<(i32, &'t [Token]), ReadError>
-    ensures { Gives seen result (spec.rate_of kind so_far.now (kinds tokens.now)) }
+) -> Result<(Expr, usize, &'t [Token]), ReadError>
+    ensures { Gives seen_expr result
+        (spec.rate_of height_limit kind (map rate_view so_far.now) (kinds tokens.now)) }
 {
     if has_rate(kind, so_far) {
         return Err(unexpected(tokens));
     }
-    rate_number(tail(tokens))
+    expression(alloc, HEIGHT_LIMIT, LOOSEST, tail(tokens))
 }
 
 /// The rates of a work, each at most once.
 #[tactic(auto, unfolding(crate::specs::Reading::rates))]
 fn rates(alloc: Global, tokens: &[Token]) -> Result<(Vec<RateTree>, &[Token]), ReadError>
-    ensures { Gives (λ x. (x.0.items, kinds x.1.now)) result (spec.rates (kinds tokens.entry.now)) }
+    ensures { Gives seen_rates result (spec.rates height_limit (kinds tokens.entry.now)) }
 {
     let mut found = Vec::new(alloc);
     let mut rest = tokens;
@@ -101,31 +81,50 @@ fn rates(alloc: Global, tokens: &[Token]) -> Result<(Vec<RateTree>, &[Token]), R
         let Some(kind) = rate_kind(rest) else {
             return Ok((found, rest));
         };
-        let (rate, after) = rate_of(kind, &found, rest)?;
+        let (rate, _, after) = rate_of(alloc, kind, &found, rest)?;
         found.push(RateTree { kind, rate })?;
         rest = after;
     }
     Err(unexpected(rest))
 }
 
-/// A work: behind its word.
-#[tactic(auto, unfolding(crate::specs::Reading::work), using(crate::proofs::Views::row_of_views))]
-fn work(alloc: Global, tokens: &[Token]) -> Result<(Member, &[Token]), ReadError>
-    ensures { Gives seen_member result (spec.work height_limit (kinds tokens.now)) }
+/// A block with its braces.
+#[tactic(auto, unfolding(crate::specs::Reading::braced), using(crate::proofs::Views::row_of_views))]
+fn braced(alloc: Global, tokens: &[Token]) -> Result<(Vec<Stmt>, &[Token]), ReadError>
+    ensures { Gives seen_block result (spec.braced height_limit (kinds tokens.now)) }
 {
-    let (rates, rest) = rates(alloc, tokens)?;
-    let opened = expect(Mark::OpenBrace, rest)?;
+    let opened = expect(Mark::OpenBrace, tokens)?;
     let (block, _, rest) = statements(alloc, HEIGHT_LIMIT, opened)?;
-    Ok((Member::Work(WorkTree { rates, block }), rest))
+    Ok((block, rest))
 }
 
-/// A field: behind the word of its type.
-#[tactic(auto, unfolding(crate::specs::Reading::field))]
-fn field(alloc: Global, tokens: &[Token]) -> Result<(Member, &[Token]), ReadError>
-    ensures { Gives seen_member result (spec.field height_limit (kinds tokens.now)) }
+/// An initialisation: behind the word.
+#[tactic(auto, unfolding(crate::specs::Reading::init))]
+fn init(alloc: Global, tokens: &[Token]) -> Result<(Member, &[Token]), ReadError>
+    ensures { Gives seen_member result (spec.init height_limit (kinds tokens.now)) }
 {
-    let (declared, _, rest) = variable(alloc, HEIGHT_LIMIT, tokens)?;
-    Ok((Member::Field(declared), rest))
+    let (block, rest) = braced(alloc, tokens)?;
+    Ok((Member::Init(block), rest))
+}
+
+/// Rates and a block.
+#[tactic(auto, unfolding(crate::specs::Reading::phase))]
+fn phase(alloc: Global, tokens: &[Token]) -> Result<(WorkTree, &[Token]), ReadError>
+    ensures { Gives seen_phase result (spec.phase height_limit (kinds tokens.now)) }
+{
+    let (rates, rest) = rates(alloc, tokens)?;
+    let (block, rest) = braced(alloc, rest)?;
+    Ok((WorkTree { rates, block }, rest))
+}
+
+/// Fields of one type.
+#[tactic(auto, unfolding(crate::specs::Reading::fields))]
+fn fields(alloc: Global, tokens: &[Token]) -> Result<(Member, &[Token]), ReadError>
+    ensures { Gives seen_member result (spec.fields height_limit (kinds tokens.now)) }
+{
+    let (declared, _, rest) = declared(alloc, HEIGHT_LIMIT, tokens)?;
+    let rest = expect(Mark::Semicolon, rest)?;
+    Ok((Member::Fields(declared), rest))
 }
 
 #[tactic(auto, unfolding(crate::specs::Reading::member))]
@@ -133,8 +132,17 @@ fn member(alloc: Global, tokens: &[Token]) -> Result<(Member, &[Token]), ReadErr
     ensures { Gives seen_member result (spec.member height_limit (kinds tokens.now)) }
 {
     match peek(tokens) {
-        Some(TokenKind::Word(Word::Int)) => field(alloc, tail(tokens)),
-        Some(TokenKind::Word(Word::Work)) => work(alloc, tail(tokens)),
+        Some(TokenKind::Word(Word::Boolean)) => fields(alloc, tokens),
+        Some(TokenKind::Word(Word::Int)) => fields(alloc, tokens),
+        Some(TokenKind::Word(Word::Init)) => init(alloc, tail(tokens)),
+        Some(TokenKind::Word(Word::Prework)) => {
+            let (prework, rest) = phase(alloc, tail(tokens))?;
+            Ok((Member::Prework(prework), rest))
+        }
+        Some(TokenKind::Word(Word::Work)) => {
+            let (work, rest) = phase(alloc, tail(tokens))?;
+            Ok((Member::Work(work), rest))
+        }
         _ => Err(unexpected(tokens)),
     }
 }

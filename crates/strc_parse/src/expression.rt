@@ -1,148 +1,37 @@
-// Expressions, by climbing over the ranks of their operators.
+// Expressions, by climbing over the ranks of their operators. The rules of a depth are made of the reader of the depth
+// below, which they take as a value, so that each is proved by itself.
 
-ghost use Rattle.std.specs.Prelude.{◌≡◌, ◌+◌, ◌-◌, ◌<◌, ◌≤◌, length, IfOk};
+ghost use Rattle.std.specs.Prelude.{◌≡◌, ◌+◌, ◌-◌, ◌<◌, length};
 ghost use Rattle.strc_parse.specs.View.{expr_view};
-ghost use Rattle.strc_parse.specs.Grammar.{kinds, looseness};
+ghost use Rattle.strc_parse.specs.Grammar.{kinds};
 ghost use Rattle.strc_parse.specs.Seen.{seen_expr};
 ghost use Rattle.strc_parse.specs.Reading as spec;
 ghost use Rattle.strc_parse.specs.Reading.{Gives};
-ghost use Rattle.strc_parse.specs.Tree as tree;
+ghost use Rattle.strc_parse.specs.Readers.{ReadsExpressions};
 
 use crate::error::{Fault, ReadError};
-use crate::lookahead::{expect, mark_at, name, peek, raised, tail, unexpected};
-use crate::tree::{BinaryOperator, Expr, Lvalue, StepOperator, UnaryOperator};
-use std::alloc::{AllocError, Global};
-use strc_lex::token::{Mark, Name, Token, TokenKind, Word};
+use crate::lookahead::{expect, is_mark, raised, tail};
+use crate::node::{binary_of, conditional_of};
+use crate::operator::operator_at;
+use crate::tree::Expr;
+use std::alloc::Global;
+use strc_lex::token::{Mark, Token};
 
-/// How loosely the loosest operator binds.
-pub(crate) const LOOSEST: usize = 6;
+/// The loosest rank, which `c ? a : b` has.
+pub(crate) const LOOSEST: usize = 11;
 
-/// How loosely an operator binds: the tightest has 1.
-fn looseness_of(operator: BinaryOperator) -> usize
-    ensures { result ≡ looseness operator }
-{
-    match operator {
-        BinaryOperator::Or => 6,
-        BinaryOperator::ExclusiveOr => 5,
-        BinaryOperator::And => 4,
-        BinaryOperator::ShiftLeft | BinaryOperator::ShiftRight => 3,
-        BinaryOperator::Add | BinaryOperator::Subtract => 2,
-        BinaryOperator::Multiply | BinaryOperator::Divide | BinaryOperator::Remainder => 1,
-    }
-}
+/// The loosest rank of a binary operator.
+const LOOSEST_BINARY: usize = 10;
 
-/// The operator that a mark is between two operands.
-fn binary_of(mark: Mark) -> Option<BinaryOperator>
-    ensures { result ≡ spec.binary_of mark }
-{
-    match mark {
-        Mark::Or => Some(BinaryOperator::Or),
-        Mark::Caret => Some(BinaryOperator::ExclusiveOr),
-        Mark::And => Some(BinaryOperator::And),
-        Mark::ShiftLeft => Some(BinaryOperator::ShiftLeft),
-        Mark::ShiftRight => Some(BinaryOperator::ShiftRight),
-        Mark::Plus => Some(BinaryOperator::Add),
-        Mark::Minus => Some(BinaryOperator::Subtract),
-        Mark::Star => Some(BinaryOperator::Multiply),
-        Mark::Slash => Some(BinaryOperator::Divide),
-        Mark::Percent => Some(BinaryOperator::Remainder),
-        _ => None,
-    }
-}
-
-/// The operator of a rank that stands first.
-#[tactic(auto, unfolding(crate::specs::Reading::operator))]
-fn operator_at(rank: usize, tokens: &[Token]) -> Option<BinaryOperator>
-    ensures { result ≡ spec.operator rank (kinds tokens.now) }
-{
-    let mark = mark_at(tokens)?;
-    let operator = binary_of(mark)?;
-    if looseness_of(operator) == rank {
-        Some(operator)
-    } else {
-        None
-    }
-}
-
-/// The step of the name before it that stands first.
-#[tactic(auto, unfolding(crate::specs::Reading::step_after))]
-fn step_after(tokens: &[Token]) -> Option<StepOperator>
-    ensures { result ≡ spec.step_after (kinds tokens.now) }
-{
-    match mark_at(tokens) {
-        Some(Mark::PlusPlus) => Some(StepOperator::IncrementAfter),
-        Some(Mark::MinusMinus) => Some(StepOperator::DecrementAfter),
-        _ => None,
-    }
-}
-
-fn unary(alloc: Global, operator: UnaryOperator, operand: Expr) -> Result<Expr, AllocError>
-    ensures { IfOk result (λ e. expr_view e ≡ tree.Unary operator (expr_view operand)) }
-{
-    Ok(Expr::Unary(operator, Box::new(alloc, operand)?))
-}
-
-fn binary(
-    alloc: Global,
-    operator: BinaryOperator,
-    left: Expr,
-    right: Expr,
-) -> Result<Expr, AllocError>
-    ensures { IfOk result (λ e. expr_view e ≡ tree.Binary operator (expr_view left) (expr_view right)) }
-{
-    Ok(Expr::Binary(operator, Box::new(alloc, left)?, Box::new(alloc, right)?))
-}
-
-fn grouped(alloc: Global, inner: Expr) -> Result<Expr, AllocError>
-    ensures { IfOk result (λ e. expr_view e ≡ tree.Group (expr_view inner)) }
-{
-    Ok(Expr::Group(Box::new(alloc, inner)?))
-}
-
-/// `x` or `x++`: behind the name.
-#[tactic(auto, unfolding(crate::specs::Reading::after_name))]
-fn after_name<'t>(
-    depth: usize,
-    name: Name,
-    tokens: &'t [Token],
-) -> Result<(Expr, usize, &'t [Token]), ReadError>
-    ensures { Gives seen_expr result (spec.after_name depth name (kinds tokens.now)) }
-{
-    match step_after(tokens) {
-        None => Ok((Expr::Read(Lvalue { name }), 1, tokens)),
-        Some(operator) => {
-            let height = raised(depth, 1)?;
-            Ok((Expr::Step(operator, Lvalue { name }), height, tail(tokens)))
-        }
-    }
-}
-
-/// `++x`: behind the mark.
-#[tactic(auto, unfolding(crate::specs::Reading::step_first))]
-fn step_first(
-    depth: usize,
-    operator: StepOperator,
-    tokens: &[Token],
-) -> Result<(Expr, usize, &[Token]), ReadError>
-    ensures { Gives seen_expr result (spec.step_first depth operator (kinds tokens.now)) }
-{
-    let (name, rest) = name(tokens)?;
-    let height = raised(depth, 1)?;
-    Ok((Expr::Step(operator, Lvalue { name }), height, rest))
-}
-
-/// `pop()`: behind the word.
-#[tactic(auto, unfolding(crate::specs::Reading::pop_brackets))]
-fn pop_brackets(tokens: &[Token]) -> Result<(Expr, usize, &[Token]), ReadError>
-    ensures { Gives seen_expr result (spec.pop_brackets (kinds tokens.now)) }
-{
-    let inside = expect(Mark::OpenBracket, tokens)?;
-    let rest = expect(Mark::CloseBracket, inside)?;
-    Ok((Expr::Pop, 1, rest))
+/// The rules of expressions of at most this height, by a reader of those of one less.
+#[derive(Clone, Copy)]
+pub(crate) struct ExpressionRules<F> {
+    pub(crate) alloc: Global,
+    pub(crate) depth: usize,
+    pub(crate) reader: F,
 }
 
 /// An expression of at most this height and rank, its height and what follows it.
-#[cycle(expression)]
 #[tactic(auto, unfolding(crate::specs::Reading::expression))]
 pub(crate) fn expression(
     alloc: Global,
@@ -150,145 +39,172 @@ pub(crate) fn expression(
     rank: usize,
     tokens: &[Token],
 ) -> Result<(Expr, usize, &[Token]), ReadError>
-    requires { rank ≤ 6 }
     ensures { Gives seen_expr result (spec.expression depth rank (kinds tokens.now)) }
 {
     if depth == 0 {
         return Err(ReadError::Fault(Fault::Nesting));
     }
-    climb(alloc, depth, rank, tokens)
+    let rules = ExpressionRules {
+        alloc,
+        depth,
+        reader: expression,
+    };
+    rules.ranked(rank, tokens)
 }
 
-#[cycle(expression)]
-#[tactic(auto, unfolding(crate::specs::Reading::climb))]
-fn climb(
+/// An expression of at most this height, and the mark that closes it.
+#[tactic(auto, unfolding(crate::specs::Reading::closed))]
+pub(crate) fn closed(
     alloc: Global,
     depth: usize,
-    rank: usize,
+    closing: Mark,
     tokens: &[Token],
 ) -> Result<(Expr, usize, &[Token]), ReadError>
-    requires deep { 0 < depth }
-    requires bound { rank ≤ 6 }
-    ensures { Gives seen_expr result
-        (spec.climb depth (spec.expression (depth - 1)) rank (kinds tokens.now)) }
+    ensures { Gives seen_expr result (spec.closed (spec.expression depth) closing (kinds tokens.now)) }
 {
-    if rank == 0 {
-        return operand(alloc, depth, tokens);
+    let (value, height, rest) = expression(alloc, depth, LOOSEST, tokens)?;
+    let rest = expect(closing, rest)?;
+    Ok((value, height, rest))
+}
+
+impl<
+    F: Fn(Global, usize, usize, &[Token]) -> Result<(Expr, usize, &[Token]), ReadError>,
+> ExpressionRules<F> {
+    /// An expression of at most this rank, one depth below.
+    pub(crate) fn below<'t>(
+        &self,
+        rank: usize,
+        tokens: &'t [Token],
+    ) -> Result<(Expr, usize, &'t [Token]), ReadError>
+        requires deep { 0 < self.now.depth }
+        requires reads { ReadsExpressions (self.now.depth - 1) (F.pre self.now.reader) (F.post self.now.reader) }
+        ensures { Gives seen_expr result (spec.expression (self.now.depth - 1) rank (kinds tokens.now)) }
+    {
+        (self.reader)(self.alloc, self.depth - 1, rank, tokens)
     }
-    let (left, height, rest) = climb(alloc, depth, rank - 1, tokens)?;
-    chain(alloc, depth, rank, left, height, rest)
-}
 
-/// Goes on behind an operand with operators of one rank, which group to the left.
-#[cycle(expression)]
-#[tactic(auto, unfolding(crate::specs::Reading::chain))]
-fn chain(
-    alloc: Global,
-    depth: usize,
-    rank: usize,
-    first: Expr,
-    first_height: usize,
-    tokens: &[Token],
-) -> Result<(Expr, usize, &[Token]), ReadError>
-    requires deep { 0 < depth }
-    requires some { 0 < rank }
-    requires bound { rank ≤ 6 }
-    ensures { Gives seen_expr result
-        (spec.chain depth (spec.expression (depth - 1)) rank
-        (length (kinds tokens.entry.now)) (expr_view first) first_height (kinds tokens.entry.now)) }
-{
-    let mut left = first;
-    let mut height = first_height;
-    let mut rest = tokens;
-    for _turn in 0..tokens.len() {
-        let Some(operator) = operator_at(rank, rest) else {
-            return Ok((left, height, rest));
-        };
-        let (right, right_height, after) = expression(alloc, depth - 1, rank - 1, tail(rest))?;
-        height = raised(depth, height.max(right_height))?;
-        left = binary(alloc, operator, left, right)?;
-        rest = after;
+    /// An expression one depth below, and the mark that closes it.
+    #[tactic(auto, unfolding(crate::specs::Reading::closed))]
+    pub(crate) fn closed<'t>(
+        &self,
+        closing: Mark,
+        tokens: &'t [Token],
+    ) -> Result<(Expr, usize, &'t [Token]), ReadError>
+        requires deep { 0 < self.now.depth }
+        requires reads { ReadsExpressions (self.now.depth - 1) (F.pre self.now.reader) (F.post self.now.reader) }
+        ensures { Gives seen_expr result
+            (spec.closed (spec.expression (self.now.depth - 1)) closing (kinds tokens.now)) }
+    {
+        let (value, height, rest) = self.below(LOOSEST, tokens)?;
+        let rest = expect(closing, rest)?;
+        Ok((value, height, rest))
     }
-    Ok((left, height, rest))
-}
 
-/// `(e)`: behind the bracket.
-#[cycle(expression)]
-#[tactic(auto, unfolding(crate::specs::Reading::group))]
-fn group(
-    alloc: Global,
-    depth: usize,
-    tokens: &[Token],
-) -> Result<(Expr, usize, &[Token]), ReadError>
-    requires { 0 < depth }
-    ensures { Gives seen_expr result
-        (spec.group depth (spec.expression (depth - 1)) (kinds tokens.now)) }
-{
-    let (inner, height, after) = expression(alloc, depth - 1, LOOSEST, tokens)?;
-    let rest = expect(Mark::CloseBracket, after)?;
-    let height = raised(depth, height)?;
-    Ok((grouped(alloc, inner)?, height, rest))
-}
-
-/// `-e`: behind the mark.
-#[cycle(expression)]
-#[tactic(auto, unfolding(crate::specs::Reading::sign))]
-fn sign(
-    alloc: Global,
-    depth: usize,
-    operator: UnaryOperator,
-    tokens: &[Token],
-) -> Result<(Expr, usize, &[Token]), ReadError>
-    requires { 0 < depth }
-    ensures { Gives seen_expr result
-        (spec.sign depth (spec.expression (depth - 1)) operator (kinds tokens.now)) }
-{
-    let (inner, height, rest) = expression(alloc, depth - 1, 0, tokens)?;
-    let height = raised(depth, height)?;
-    Ok((unary(alloc, operator, inner)?, height, rest))
-}
-
-/// An expression without a binary operator outside brackets.
-#[cycle(expression)]
-#[tactic(auto, unfolding(crate::specs::Reading::operand))]
-fn operand(
-    alloc: Global,
-    depth: usize,
-    tokens: &[Token],
-) -> Result<(Expr, usize, &[Token]), ReadError>
-    requires { 0 < depth }
-    ensures { Gives seen_expr result
-        (spec.operand depth (spec.expression (depth - 1)) (kinds tokens.now)) }
-{
-    match peek(tokens) {
-        Some(TokenKind::Number(value)) => Ok((Expr::Number(*value), 1, tail(tokens))),
-        Some(TokenKind::Name(name)) => after_name(depth, name.copy()?, tail(tokens)),
-        Some(TokenKind::Word(Word::Pop)) => pop_brackets(tail(tokens)),
-        Some(TokenKind::Mark(mark)) => marked(alloc, depth, *mark, tokens),
-        _ => Err(unexpected(tokens)),
+    #[tactic(auto, unfolding(crate::specs::Reading::ranked))]
+    fn ranked<'t>(
+        &self,
+        rank: usize,
+        tokens: &'t [Token],
+    ) -> Result<(Expr, usize, &'t [Token]), ReadError>
+        requires deep { 0 < self.now.depth }
+        requires reads { ReadsExpressions (self.now.depth - 1) (F.pre self.now.reader) (F.post self.now.reader) }
+        ensures { Gives seen_expr result
+            (spec.ranked self.now.depth (spec.expression (self.now.depth - 1)) rank (kinds tokens.now)) }
+    {
+        if rank == LOOSEST {
+            self.conditional(tokens)
+        } else {
+            self.climb(rank, tokens)
+        }
     }
-}
 
-/// An operand that begins with this mark.
-#[cycle(expression)]
-#[tactic(auto, unfolding(crate::specs::Reading::marked))]
-fn marked(
-    alloc: Global,
-    depth: usize,
-    mark: Mark,
-    tokens: &[Token],
-) -> Result<(Expr, usize, &[Token]), ReadError>
-    requires { 0 < depth }
-    ensures { Gives seen_expr result
-        (spec.marked depth (spec.expression (depth - 1)) mark (kinds tokens.now)) }
-{
-    match mark {
-        Mark::OpenBracket => group(alloc, depth, tail(tokens)),
-        Mark::Minus => sign(alloc, depth, UnaryOperator::Negate, tail(tokens)),
-        Mark::Not => sign(alloc, depth, UnaryOperator::Not, tail(tokens)),
-        Mark::Tilde => sign(alloc, depth, UnaryOperator::Complement, tail(tokens)),
-        Mark::PlusPlus => step_first(depth, StepOperator::IncrementFirst, tail(tokens)),
-        Mark::MinusMinus => step_first(depth, StepOperator::DecrementFirst, tail(tokens)),
-        _ => Err(unexpected(tokens)),
+    /// `c ? a : b`, or c alone.
+    #[tactic(auto, unfolding(crate::specs::Reading::conditional))]
+    fn conditional<'t>(&self, tokens: &'t [Token]) -> Result<(Expr, usize, &'t [Token]), ReadError>
+        requires deep { 0 < self.now.depth }
+        requires reads { ReadsExpressions (self.now.depth - 1) (F.pre self.now.reader) (F.post self.now.reader) }
+        ensures { Gives seen_expr result
+            (spec.conditional self.now.depth (spec.expression (self.now.depth - 1)) (kinds tokens.now)) }
+    {
+        let (condition, height, rest) = self.climb(LOOSEST_BINARY, tokens)?;
+        if is_mark(Mark::Question, rest) {
+            self.choice(condition, height, tail(rest))
+        } else {
+            Ok((condition, height, rest))
+        }
+    }
+
+    /// `a : b`: behind the question mark.
+    #[tactic(auto, unfolding(crate::specs::Reading::choice))]
+    fn choice<'t>(
+        &self,
+        condition: Expr,
+        height: usize,
+        tokens: &'t [Token],
+    ) -> Result<(Expr, usize, &'t [Token]), ReadError>
+        requires deep { 0 < self.now.depth }
+        requires reads { ReadsExpressions (self.now.depth - 1) (F.pre self.now.reader) (F.post self.now.reader) }
+        ensures { Gives seen_expr result
+            (spec.choice self.now.depth (spec.expression (self.now.depth - 1))
+            (expr_view condition) height (kinds tokens.now)) }
+    {
+        let (chosen, chosen_height, rest) = self.closed(Mark::Colon, tokens)?;
+        let (other, other_height, rest) = self.below(LOOSEST, rest)?;
+        let height = raised(self.depth, height.max(chosen_height.max(other_height)))?;
+        Ok((
+            conditional_of(self.alloc, condition, chosen, other)?,
+            height,
+            rest,
+        ))
+    }
+
+    /// An expression of at most this rank, of operands and binary operators.
+    #[tactic(auto, unfolding(crate::specs::Reading::climb))]
+    fn climb<'t>(
+        &self,
+        rank: usize,
+        tokens: &'t [Token],
+    ) -> Result<(Expr, usize, &'t [Token]), ReadError>
+        requires deep { 0 < self.now.depth }
+        requires reads { ReadsExpressions (self.now.depth - 1) (F.pre self.now.reader) (F.post self.now.reader) }
+        ensures { Gives seen_expr result
+            (spec.climb self.now.depth (spec.expression (self.now.depth - 1)) rank (kinds tokens.now)) }
+    {
+        if rank == 0 {
+            return self.operand(tokens);
+        }
+        let (left, height, rest) = self.climb(rank - 1, tokens)?;
+        self.chain(rank, left, height, rest)
+    }
+
+    /// Goes on behind an operand with operators of one rank, which group to the left.
+    #[tactic(auto, unfolding(crate::specs::Reading::chain))]
+    fn chain<'t>(
+        &self,
+        rank: usize,
+        first: Expr,
+        first_height: usize,
+        tokens: &'t [Token],
+    ) -> Result<(Expr, usize, &'t [Token]), ReadError>
+        requires deep { 0 < self.now.depth }
+        requires some { 0 < rank }
+        requires reads { ReadsExpressions (self.now.depth - 1) (F.pre self.now.reader) (F.post self.now.reader) }
+        ensures { Gives seen_expr result
+            (spec.chain self.now.depth (spec.expression (self.now.depth - 1)) rank
+            (length (kinds tokens.entry.now)) (expr_view first) first_height (kinds tokens.entry.now)) }
+    {
+        let mut left = first;
+        let mut height = first_height;
+        let mut rest = tokens;
+        for _turn in 0..tokens.len() {
+            let Some(operator) = operator_at(rank, rest) else {
+                return Ok((left, height, rest));
+            };
+            let (right, right_height, after) = self.below(rank - 1, tail(rest))?;
+            height = raised(self.depth, height.max(right_height))?;
+            left = binary_of(self.alloc, operator, left, right)?;
+            rest = after;
+        }
+        Ok((left, height, rest))
     }
 }

@@ -5,13 +5,18 @@
 // Stands on strc_lex, whose tokens it reads.
 #![tactic(auto)]
 
+mod control;
 mod declaration;
 mod error;
 mod expression;
 mod lookahead;
+mod node;
+mod operand;
+mod operator;
 mod program;
-mod statement;
+mod simple;
 pub mod tree;
+mod variable;
 
 pub use error::ParseError;
 pub use program::{one_tree, parse};

@@ -40,11 +40,17 @@ pub struct FilterTree {
 /// A part of a filter.
 #[derive(Debug, Drop)]
 pub enum Member {
-    Field(Variable),
+    /// `int x = 1, y;`
+    Fields(Variables),
+    /// `init { .. }`
+    Init(Vec<Stmt>),
+    /// `prework push 1 { .. }`
+    Prework(WorkTree),
+    /// `work push 1 { .. }`
     Work(WorkTree),
 }
 
-/// A `work`: its rates, each at most once, and its block.
+/// A `work` or a `prework`: its rates, each at most once, and its block.
 #[derive(Debug, Drop)]
 pub struct WorkTree {
     pub rates: Vec<RateTree>,
@@ -52,10 +58,10 @@ pub struct WorkTree {
 }
 
 /// A rate as it is written: `push 1`.
-#[derive(Clone, Copy, Debug, PartialEq, Eq)]
+#[derive(Debug, Drop)]
 pub struct RateTree {
     pub kind: RateKind,
-    pub rate: i32,
+    pub rate: Expr,
 }
 
 /// Which rate it is.
@@ -63,6 +69,7 @@ pub struct RateTree {
 pub enum RateKind {
     Push,
     Pop,
+    Peek,
 }
 
 /// A pipeline without its name: its types and the streams that it adds, in order.
@@ -73,7 +80,26 @@ pub struct PipelineTree {
     pub children: Vec<Name>,
 }
 
-/// The declaration of one variable: `int x = 1`.
+/// A declaration of variables of one type: `int x = 1, y`.
+#[derive(Debug, Drop)]
+pub struct Variables {
+    pub kind: VariableType,
+    /// At least one.
+    pub variables: Vec<Variable>,
+}
+
+/// The type of variables as it is written.
+#[derive(Debug, Drop)]
+pub enum VariableType {
+    /// `boolean`
+    Boolean,
+    /// `int`
+    Int,
+    /// `int[8]`
+    Array(Expr),
+}
+
+/// A variable in a declaration: `x = 1`.
 #[derive(Debug, Drop)]
 pub struct Variable {
     pub name: Name,
@@ -87,12 +113,23 @@ pub enum Stmt {
     Empty,
     /// `{ .. }`
     Block(Vec<Stmt>),
-    /// `int x = 1;`
-    Declare(Variable),
+    /// `int x = 1, y;`
+    Declare(Variables),
     /// `x++;`
     Evaluate(Expr),
     /// `x += 1;`
-    Assign(Lvalue, AssignOperator, Expr),
+    Assign(Name, AssignOperator, Expr),
+    /// `x[i] += 1;`
+    AssignElement(Name, Expr, AssignOperator, Expr),
+    /// `if (c) ..`
+    If(Expr, Box<Stmt>),
+    /// `if (c) .. else ..`
+    IfElse(Expr, Box<Stmt>, Box<Stmt>),
+    /// `while (c) ..`
+    While(Expr, Box<Stmt>),
+    /// `for (first; c; step) ..`. The first part is a declaration, an assignment, an expression, or empty; the step is
+    /// an assignment, an expression, or empty.
+    For(Box<Stmt>, Option<Expr>, Box<Stmt>, Box<Stmt>),
     /// `push(x);`
     Push(Expr),
     /// `print(x);`
@@ -101,29 +138,33 @@ pub enum Stmt {
     Println(Expr),
 }
 
-/// What can be written to: a variable.
-#[derive(Debug, Drop)]
-pub struct Lvalue {
-    pub name: Name,
-}
-
 /// An expression.
 #[derive(Debug, Drop)]
 pub enum Expr {
     /// 0 to 2147483647, or the minimum, for which 2147483648 stands.
     Number(i32),
+    /// `true` or `false`
+    Truth(bool),
     /// `x`
-    Read(Lvalue),
+    Read(Name),
+    /// `x[i]`
+    Element(Name, Box<Expr>),
     /// `pop()`
     Pop,
+    /// `peek(i)`
+    Peek(Box<Expr>),
     /// `(e)`
     Group(Box<Expr>),
     /// `-e`
     Unary(UnaryOperator, Box<Expr>),
     /// `x++`
-    Step(StepOperator, Lvalue),
+    Step(StepOperator, Name),
+    /// `x[i]++`
+    StepElement(StepOperator, Name, Box<Expr>),
     /// `a + b`
     Binary(BinaryOperator, Box<Expr>, Box<Expr>),
+    /// `c ? a : b`
+    Conditional(Box<Expr>, Box<Expr>, Box<Expr>),
 }
 
 /// How an assignment changes its variable.
@@ -170,12 +211,28 @@ pub enum StepOperator {
 /// An operator between its operands, from the loosest to the tightest.
 #[derive(Clone, Copy, Debug, PartialEq, Eq)]
 pub enum BinaryOperator {
+    /// `||`
+    LogicalOr,
+    /// `&&`
+    LogicalAnd,
     /// `|`
     Or,
     /// `^`
     ExclusiveOr,
     /// `&`
     And,
+    /// `==`
+    Equal,
+    /// `!=`
+    NotEqual,
+    /// `<`
+    Less,
+    /// `<=`
+    LessOrEqual,
+    /// `>`
+    Greater,
+    /// `>=`
+    GreaterOrEqual,
     /// `<<`
     ShiftLeft,
     /// `>>`

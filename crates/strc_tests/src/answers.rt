@@ -114,3 +114,15 @@ fn a_lone_filter_can_be_the_main_stream(rt: HostRuntime) -> Result<(), Fail> {
     assert_eq!(rt; output.as_slice(), b"012".as_slice());
     Ok(())
 }
+
+#[test]
+fn declarations_and_comments_stand_together(rt: HostRuntime) -> Result<(), Fail> {
+    let text = "void->int filter S { int x = 3, y = x; /* two fields */
+work push 1 { int a = x, b = a + y; push(b); x++; } } // a source
+int->void filter P { work pop 1 { println(pop()); } }
+void->void pipeline M { add S; add P; }
+";
+    let (output, _status) = run_text(rt.alloc(), text.as_bytes(), &rounds(2))?;
+    assert_eq!(rt; output.as_slice(), b"6\n7\n".as_slice());
+    Ok(())
+}

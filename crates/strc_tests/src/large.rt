@@ -80,3 +80,35 @@ fn a_long_block_is_no_deep_one(rt: HostRuntime) -> Result<(), Fail> {
     assert_eq!(rt; output.as_slice(), b"100000\n200000\n".as_slice());
     Ok(())
 }
+
+// A filter whose work has so many live locals, each the sum of the one before it and 1.
+fn with_locals(alloc: Global, locals: u32) -> Result<String, Fail> {
+    let mut text = String::from_str(alloc, "void->void filter M { work { int x0 = 1; ")?;
+    for i in 1..locals {
+        let declaration = format!(in alloc; "int x{i} = x{} + 1; ", i - 1)?;
+        text.push_str(&declaration)?;
+    }
+    let end = format!(in alloc; "println(x0 + x{}); }} }}", locals - 1)?;
+    text.push_str(&end)?;
+    Ok(text)
+}
+
+#[test]
+fn three_hundred_locals_live_together(rt: HostRuntime) -> Result<(), Fail> {
+    let text = with_locals(rt.alloc(), 300)?;
+    let (output, _status) = run_text(rt.alloc(), text.as_bytes(), &rounds(2))?;
+    assert_eq!(rt; output.as_slice(), b"301\n301\n".as_slice());
+    Ok(())
+}
+
+#[test]
+fn a_long_block_of_branches_is_no_deep_one(rt: HostRuntime) -> Result<(), Fail> {
+    let mut text = String::from_str(rt.alloc(), "void->void filter M { int x; work {")?;
+    for _ in 0..40000 {
+        text.push_str("x++;if(x>9)x=0;")?;
+    }
+    text.push_str("println(x); } }")?;
+    let (output, _status) = run_text(rt.alloc(), text.as_bytes(), &rounds(2))?;
+    assert_eq!(rt; output.as_slice(), b"0\n0\n".as_slice());
+    Ok(())
+}

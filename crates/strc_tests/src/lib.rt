@@ -9,6 +9,8 @@ mod answers;
 #[cfg(test)]
 mod devices;
 #[cfg(test)]
+mod language;
+#[cfg(test)]
 mod large;
 #[cfg(test)]
 mod programs;

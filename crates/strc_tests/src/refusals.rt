@@ -7,7 +7,7 @@ use strc_cli::line::Command;
 
 #[test]
 fn each_refusal_has_its_line(rt: HostRuntime) -> Result<(), Fail> {
-    let cases: [(&str, &str); 36] = [
+    let cases: [(&str, &str); 42] = [
         ("", "refused E6 NoMain"),
         ("@", "refused E1 Lex at 0"),
         ("/* a comment */", "refused E6 NoMain"),
@@ -116,6 +116,30 @@ fn each_refusal_has_its_line(rt: HostRuntime) -> Result<(), Fail> {
             "refused E19 Disconnected",
         ),
         ("void->void pipeline M { add M; }", "refused E0 NotYet"),
+        (
+            "void->void filter A { work { int[3] t; } }",
+            "refused E0 NotYet",
+        ),
+        (
+            "void->void filter A { int[2] b; work { } }",
+            "refused E0 NotYet",
+        ),
+        (
+            "void->void filter A { prework { } work { } }",
+            "refused E0 NotYet",
+        ),
+        (
+            "void->int filter S { work push 2 { push(1); push(2); } } int->void filter P { work pop 1 { pop(); } } void->void pipeline M { add S; add P; }",
+            "refused E0 NotYet",
+        ),
+        (
+            "void->void filter A { work { int x = 1, y = x + z; } }",
+            "refused E4 UnknownName name z",
+        ),
+        (
+            "void->void filter A { work { if (1) else ; } }",
+            "refused E2 Parse token 12",
+        ),
     ];
     for (text, line) in cases {
         let (output, status) = run_text(rt.alloc(), text.as_bytes(), &rounds(1))?;

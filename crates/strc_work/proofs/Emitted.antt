@@ -1,13 +1,98 @@
--- The steps of statements, one after another.
-use Rattle.std.proofs.Common.{◌≡◌, ℕ, List, ◌++◌, ap, ◌∙◌, append_assoc}
+-- The code of operators and statements, piece by piece.
+use Rattle.std.proofs.Common.{◌≡◌, ℕ, suc, ◌+◌, ◌-◌, ◌<◌, Bool, true, false, cond, List, [], ◌∷◌, length, drop, get_or, map, Some, None, Result, Ok, Err, OnOk, refl, sym, ap, ◌∙◌, add-one}
+use Rattle.std.specs.Prelude.{unwrap_or}
+use Rattle.std.proofs.Math.Seq.{drop-cons}
+use Rattle.strc_parse.specs.declared.tree.AssignOperator.{AssignOperator}
+use Rattle.strc_parse.specs.declared.tree.AssignOperator.TheVariants as assign
+use Rattle.strc_work.specs.declared.step.Step.TheVariants as act
+use Rattle.strc_work.specs.Firing.{assigned_value}
+use Rattle.strc_work.specs.Emission.{compound_of, old_slot, old_nodes}
 use Rattle.strc_parse.specs.Tree as tree
-use Rattle.strc_work.specs.declared.step.Step.{Step}
-use Rattle.strc_work.specs.Lowering.{stmt_steps, stmts_steps}
-use Rattle.strc_work.specs.Resolution.{names_after}
+use Rattle.strc_parse.specs.declared.tree.BinaryOperator.{BinaryOperator}
+use Rattle.strc_parse.specs.declared.tree.BinaryOperator.TheVariants as binary
+use Rattle.strc_work.specs.Machine.{Nodes, before}
+use Rattle.strc_work.specs.Lowering.{one, unless_there, slot_of, changes_none, binary_step, expr_nodes, operand_nodes, operand_slot, initial_nodes, variables_nodes, field_nodes, fields_nodes, initials_nodes, inits_nodes, stmt_nodes, stmts_nodes}
+use Rattle.strc_work.specs.Scoping.{names_after}
+use Rattle.strc_work.proofs.Growth.{drop_inner, stands_on_after, stands_on_itself}
+use Rattle.strc_work.proofs.Nodes.{before_assoc, before_end}
 
--- the steps of one more statement
-pub stmts_steps_more : (names names' : List (List ℕ)) (old new : List Step) (first : tree.Stmt) (rest : tree.Stmts) → new ≡ old ++ stmt_steps names first → names' ≡ names_after names first → new ++ stmts_steps names' rest ≡ old ++ stmts_steps names (tree.Then first rest)
-stmts_steps_more names names' old new first rest steps scope =
-    ap (λ n. new ++ stmts_steps n rest) scope
-    ∙ ap (λ s. s ++ stmts_steps (names_after names first) rest) steps
-    ∙ append_assoc old (stmt_steps names first) (stmts_steps (names_after names first) rest)
+-- the code of one more statement
+pub stmts_nodes_more : (names names' : List (List ℕ)) (old new : Nodes) (first : tree.Stmt) (rest : tree.Stmts) → new ≡ before old (stmt_nodes names first) → names' ≡ names_after names first → before new (stmts_nodes names' rest) ≡ before old (stmts_nodes names (tree.Then first rest))
+stmts_nodes_more names names' old new first rest code scope =
+    ap (λ n. before new (stmts_nodes n rest)) scope
+    ∙ ap (λ s. before s (stmts_nodes (names_after names first) rest)) code
+    ∙ before_assoc old (stmt_nodes names first) (stmts_nodes (names_after names first) rest)
+
+-- the names that are left behind a statement in a scope of its own
+pub left_after : (names : List (List ℕ)) (s : tree.Stmt) → drop (length (names_after names s) - length names) (names_after names s) ≡ names
+left_after names s = drop_inner names (names_after names s) (stands_on_after names names s (stands_on_itself names))
+
+-- the first of a list's parts that are left, and the others
+pub map-drop : {X Y : Type 0} (f : X → Y) (items : List X) (i : ℕ) (x : X) → i < length items → x ≡ get_or items i x → map f (drop i items) ≡ f x ∷ map f (drop (i + 1) items)
+map-drop f items i x lt at =
+    let e : drop (suc i) items ≡ drop (i + 1) items = rw add-one refl in
+    ap (map f) (drop-cons items i x lt) ∙ ap (λ y. f y ∷ map f (drop (suc i) items)) (sym at) ∙ ap (λ l. f x ∷ map f l) e
+
+-- one more part behind what was written
+more : (old new first rest all : Nodes) → new ≡ before old first → before first rest ≡ all → before new rest ≡ before old all
+more old new first rest all e whole = ap (λ n. before n rest) e ∙ before_assoc old first rest ∙ ap (before old) whole
+
+pub variables_more : (names names' : List (List ℕ)) (old new : Nodes) (first : tree.Variable) (rest : List tree.Variable) → new ≡ before old (initial_nodes names first.initial (length names) (length names + 1)) → names' ≡ first.name ∷ names → before new (variables_nodes names' rest) ≡ before old (variables_nodes names (first ∷ rest))
+variables_more names names' old new first rest code scope =
+    ap (λ n. before new (variables_nodes n rest)) scope
+    ∙ more old new (initial_nodes names first.initial (length names) (length names + 1)) (variables_nodes (first.name ∷ names) rest) (variables_nodes names (first ∷ rest)) code refl
+
+pub fields_more : (names : List (List ℕ)) (old new : Nodes) (first : tree.Variable) (rest : List tree.Variable) → new ≡ before old (field_nodes names first.name first.initial) → before new (fields_nodes names rest) ≡ before old (fields_nodes names (first ∷ rest))
+fields_more names old new first rest code = more old new (field_nodes names first.name first.initial) (fields_nodes names rest) (fields_nodes names (first ∷ rest)) code refl
+
+initials_split : (names : List (List ℕ)) (first : tree.Member) (rest : List tree.Member) → before (initials_nodes names (first ∷ [])) (initials_nodes names rest) ≡ initials_nodes names (first ∷ rest)
+initials_split names (tree.Fields kind variables) rest = ap (λ n. before n (initials_nodes names rest)) (before_end (fields_nodes names variables))
+initials_split names (tree.Init block) rest = refl
+initials_split names (tree.Prework rates block) rest = refl
+initials_split names (tree.Work rates block) rest = refl
+
+inits_split : (names : List (List ℕ)) (first : tree.Member) (rest : List tree.Member) → before (inits_nodes names (first ∷ [])) (inits_nodes names rest) ≡ inits_nodes names (first ∷ rest)
+inits_split names (tree.Fields kind variables) rest = refl
+inits_split names (tree.Init block) rest = ap (λ n. before n (inits_nodes names rest)) (before_end (stmts_nodes names block))
+inits_split names (tree.Prework rates block) rest = refl
+inits_split names (tree.Work rates block) rest = refl
+
+pub initials_more : (names : List (List ℕ)) (old new : Nodes) (first : tree.Member) (rest : List tree.Member) → new ≡ before old (initials_nodes names (first ∷ [])) → before new (initials_nodes names rest) ≡ before old (initials_nodes names (first ∷ rest))
+initials_more names old new first rest code = more old new (initials_nodes names (first ∷ [])) (initials_nodes names rest) (initials_nodes names (first ∷ rest)) code (initials_split names first rest)
+
+pub inits_more : (names : List (List ℕ)) (old new : Nodes) (first : tree.Member) (rest : List tree.Member) → new ≡ before old (inits_nodes names (first ∷ [])) → before new (inits_nodes names rest) ≡ before old (inits_nodes names (first ∷ rest))
+inits_more names old new first rest code = more old new (inits_nodes names (first ∷ [])) (inits_nodes names rest) (inits_nodes names (first ∷ rest)) code (inits_split names first rest)
+
+-- a compound assignment: its old value, its operand, and the operator's step
+pieces : (t : Bool) (slot free : ℕ) (whole : Nodes → ℕ → Nodes) → whole (unless_there (cond t (Some slot) None) (one (act.Copy free slot))) (unwrap_or (cond t (Some slot) None) free) ≡ whole (old_nodes t slot free) (old_slot t slot free)
+pieces true slot free whole = refl
+pieces false slot free whole = refl
+
+abbrev compound : List (List ℕ) → List ℕ → BinaryOperator → tree.Expr → (into free : ℕ) → Nodes → ℕ → Nodes
+compound names name operator value into free left at =
+    before left (before (operand_nodes names true value (free + 1)) (one (binary_step operator into at (operand_slot names true value (free + 1)))))
+
+compound_nodes : (names : List (List ℕ)) (name : List ℕ) (operator : AssignOperator) (plain : BinaryOperator) (value : tree.Expr) (into free : ℕ) → compound_of operator ≡ Some plain → expr_nodes names (assigned_value name operator value) into free ≡ compound names name plain value into free (old_nodes (changes_none value) (slot_of names name) free) (old_slot (changes_none value) (slot_of names name) free)
+compound_nodes names name assign.Set plain value into free e = absurd (cc)
+compound_nodes names name assign.Add plain value into free e = let same : binary.Add ≡ plain = cc in rw (sym same) (pieces (changes_none value) (slot_of names name) free (compound names name binary.Add value into free))
+compound_nodes names name assign.Subtract plain value into free e = let same : binary.Subtract ≡ plain = cc in rw (sym same) (pieces (changes_none value) (slot_of names name) free (compound names name binary.Subtract value into free))
+compound_nodes names name assign.Multiply plain value into free e = let same : binary.Multiply ≡ plain = cc in rw (sym same) (pieces (changes_none value) (slot_of names name) free (compound names name binary.Multiply value into free))
+compound_nodes names name assign.Divide plain value into free e = let same : binary.Divide ≡ plain = cc in rw (sym same) (pieces (changes_none value) (slot_of names name) free (compound names name binary.Divide value into free))
+compound_nodes names name assign.Remainder plain value into free e = let same : binary.Remainder ≡ plain = cc in rw (sym same) (pieces (changes_none value) (slot_of names name) free (compound names name binary.Remainder value into free))
+
+pub assigned_more : (names : List (List ℕ)) (name : List ℕ) (operator : AssignOperator) (plain : BinaryOperator) (value : tree.Expr) (into free left right : ℕ) (old first second last : Nodes) → compound_of operator ≡ Some plain → left ≡ old_slot (changes_none value) (slot_of names name) free → first ≡ before old (old_nodes (changes_none value) (slot_of names name) free) → right ≡ operand_slot names true value (free + 1) → second ≡ before first (operand_nodes names true value (free + 1)) → last ≡ before second (one (binary_step plain into left right)) → last ≡ before old (expr_nodes names (assigned_value name operator value) into free)
+assigned_more names name operator plain value into free left right old first second last e left_is first_is right_is second_is last_is =
+    let kept = old_nodes (changes_none value) (slot_of names name) free in
+    let operand = operand_nodes names true value (free + 1) in
+    let step : Nodes = one (binary_step plain into (old_slot (changes_none value) (slot_of names name) free) (operand_slot names true value (free + 1))) in
+    last_is
+    ∙ ap (λ n. before second (one (binary_step plain into n right))) left_is
+    ∙ ap (λ n. before second (one (binary_step plain into (old_slot (changes_none value) (slot_of names name) free) n))) right_is
+    ∙ ap (λ n. before n step) (second_is ∙ ap (λ n. before n operand) first_is)
+    ∙ before_assoc (before old kept) operand step
+    ∙ before_assoc old kept (before operand step)
+    ∙ ap (before old) (sym (compound_nodes names name operator plain value into free e))
+
+pub on_ok : {T E : Type 0} (r : Result T E) (P Q : Type 0) → (P → Q) → OnOk r P → OnOk r Q
+on_ok (Ok x) P Q f h = f h
+on_ok (Err e) P Q f h = tt

@@ -1,6 +1,6 @@
--- The steps of an expression put its value into their slot.
-use Rattle.std.proofs.Common.{◌≡◌, ◌≢◌, ℕ, ◌+◌, ◌<◌, ◌≤◌, Bool, true, false, ◌&&◌, ℤ, pos, List, [], ◌∷◌, ◌++◌, length, set, Option, Some, None, Result, Ok, Err, refl, sym, ap, ◌∙◌, subst, ⊎_elim, arith}
-use Rattle.std.specs.Prelude.{unwrap_or}
+-- The code of an expression puts its value into its slot.
+use Rattle.std.proofs.Common.{◌≡◌, ◌≢◌, ℕ, ◌+◌, ◌<◌, ◌≤◌, Bool, true, false, ◌&&◌, cond, ℤ, pos, List, [], ◌∷◌, length, set, Option, Some, None, Result, Ok, Err, refl, sym, ap, ◌∙◌, subst, ⊎_elim, arith}
+use Rattle.std.specs.Prelude.{unwrap_or, if◌then◌else◌}
 use Rattle.std.proofs.lemmas.List.{get_or-set_same, get_or-set_other, length-set}
 use Rattle.std.proofs.lemmas.Bool.{false≢true, cases_lt}
 use Rattle.strc_parse.specs.Tree as tree
@@ -11,14 +11,14 @@ use Rattle.strc_parse.specs.declared.tree.BinaryOperator.TheVariants as binary
 use Rattle.strc_parse.specs.declared.tree.StepOperator.{StepOperator}
 use Rattle.strc_parse.specs.declared.tree.StepOperator.TheVariants as step
 use Rattle.strc_work.specs.declared.fault.Cause.{Cause}
-use Rattle.strc_work.specs.Arithmetic.{unary_value, binary_value}
+use Rattle.strc_work.specs.declared.step.Step.TheVariants as act
+use Rattle.strc_work.specs.Arithmetic.{unary_value, binary_value, is_true}
 use Rattle.strc_work.specs.Closed.{IsNamed, IsClosed}
-use Rattle.strc_work.specs.Firing.{Port, Store, Traffic, then_do, value_in, value_of, popped_from}
-use Rattle.strc_work.specs.Machine.{Machine, steps_done, step_room, steps_room}
-use Rattle.strc_work.specs.Lowering.{slot_of, variable_slot, changes_none, stands_at, unless_there, unary_step, binary_step, step_steps, expr_steps}
-use Rattle.strc_work.specs.Emission.{operand_slot, operand_steps}
+use Rattle.strc_work.specs.Firing.{Port, Store, Traffic, then_do, value_in, joined, value_of, popped_from, peeked_from}
+use Rattle.strc_work.specs.Machine.{Machine, Nodes, End, Choice, before, nodes_done, step_room, nodes_room}
+use Rattle.strc_work.specs.Lowering.{slot_of, variable_slot, changes_none, stands_at, unless_there, one, unary_step, binary_step, step_nodes, binary_nodes, expr_nodes, operand_slot, operand_nodes}
 use Rattle.strc_work.proofs.Variables.{Variables, names_of, at, Holds, Holds-set_above, slot_of-below, slot_of-value, length-names_of}
-use Rattle.strc_work.proofs.Related.{Related, weaker_related, steps_room-append}
+use Rattle.strc_work.proofs.Related.{Related, weaker_related, nodes_room-before}
 
 -- the machine stands where the store is, with the value about to be written into a slot; the slots from `length names` up to `free` are kept
 pub record Arrives (names : List (List ℕ)) (into free : ℕ) (before : List ℤ) (given : ℤ × Store) (after : Machine) : Type 0 where
@@ -48,9 +48,9 @@ pub record Ready (names : List (List ℕ)) (free : ℕ) (store : Store) (slots :
 abbrev pub machine_at : List ℤ → Store → Machine
 machine_at slots store = record { slots = slots; traffic = store.traffic }
 
--- an expression's steps do what it means
+-- an expression's code does what it means
 abbrev pub Runs : Port → tree.Expr → Type 0
-Runs port e = (names : List (List ℕ)) (into free : ℕ) (store : Store) (slots : List ℤ) → IsClosed names e → Ready names free store slots → steps_room (expr_steps names e into free) ≤ length slots → Related (Arrives names into free slots) (value_of port e store) (steps_done port (expr_steps names e into free) (machine_at slots store))
+Runs port e = (names : List (List ℕ)) (into free : ℕ) (store : Store) (slots : List ℤ) → IsClosed names e → Ready names free store slots → nodes_room (expr_nodes names e into free) ≤ length slots → Related (Arrives names into free slots) (value_of port e store) (nodes_done port (expr_nodes names e into free) (machine_at slots store))
 
 -- a named variable
 pub named_below : (names : List (List ℕ)) (free : ℕ) (store : Store) (slots : List ℤ) (name : List ℕ) → Ready names free store slots → IsNamed names name → slot_of names name < length names
@@ -68,6 +68,48 @@ named_value names free store slots name ready named =
 pub length-variables : (names : List (List ℕ)) (free : ℕ) (store : Store) (slots : List ℤ) → Ready names free store slots → length store.variables ≡ length names
 length-variables names free store slots ready = sym (length-names_of store.variables) ∙ ap length ready.names_are
 
+-- an operator that evaluates both its sides
+pub record Strict (operator : BinaryOperator) : Type 0 where
+  pub code : (left right other : Nodes) (into free : ℕ) → binary_nodes operator left right other into free ≡ other
+  pub value : (first : ℤ × Store) (right : Store → Result (ℤ × Store) Cause) → joined operator first right ≡ then_do (right first.1) (λ second. then_do (binary_value operator first.0 second.0) (λ v. Ok (v, second.1)))
+
+-- an operator is a logical one, or evaluates both its sides
+pub by_operator : (P : BinaryOperator → Type 0) → P binary.LogicalOr → P binary.LogicalAnd → ((operator : BinaryOperator) → Strict operator → P operator) → (operator : BinaryOperator) → P operator
+by_operator P either both strict binary.LogicalOr = either
+by_operator P either both strict binary.LogicalAnd = both
+by_operator P either both strict binary.Or =
+    strict binary.Or (record { code = λ left right other into free. refl; value = λ first right. refl })
+by_operator P either both strict binary.ExclusiveOr =
+    strict binary.ExclusiveOr (record { code = λ left right other into free. refl; value = λ first right. refl })
+by_operator P either both strict binary.And =
+    strict binary.And (record { code = λ left right other into free. refl; value = λ first right. refl })
+by_operator P either both strict binary.Equal =
+    strict binary.Equal (record { code = λ left right other into free. refl; value = λ first right. refl })
+by_operator P either both strict binary.NotEqual =
+    strict binary.NotEqual (record { code = λ left right other into free. refl; value = λ first right. refl })
+by_operator P either both strict binary.Less =
+    strict binary.Less (record { code = λ left right other into free. refl; value = λ first right. refl })
+by_operator P either both strict binary.LessOrEqual =
+    strict binary.LessOrEqual (record { code = λ left right other into free. refl; value = λ first right. refl })
+by_operator P either both strict binary.Greater =
+    strict binary.Greater (record { code = λ left right other into free. refl; value = λ first right. refl })
+by_operator P either both strict binary.GreaterOrEqual =
+    strict binary.GreaterOrEqual (record { code = λ left right other into free. refl; value = λ first right. refl })
+by_operator P either both strict binary.ShiftLeft =
+    strict binary.ShiftLeft (record { code = λ left right other into free. refl; value = λ first right. refl })
+by_operator P either both strict binary.ShiftRight =
+    strict binary.ShiftRight (record { code = λ left right other into free. refl; value = λ first right. refl })
+by_operator P either both strict binary.Add =
+    strict binary.Add (record { code = λ left right other into free. refl; value = λ first right. refl })
+by_operator P either both strict binary.Subtract =
+    strict binary.Subtract (record { code = λ left right other into free. refl; value = λ first right. refl })
+by_operator P either both strict binary.Multiply =
+    strict binary.Multiply (record { code = λ left right other into free. refl; value = λ first right. refl })
+by_operator P either both strict binary.Divide =
+    strict binary.Divide (record { code = λ left right other into free. refl; value = λ first right. refl })
+by_operator P either both strict binary.Remainder =
+    strict binary.Remainder (record { code = λ left right other into free. refl; value = λ first right. refl })
+
 -- a variable, in brackets or not
 pub variable_runs : (port : Port) (e : tree.Expr) (names : List (List ℕ)) (free slot : ℕ) (store : Store) (slots : List ℤ) → variable_slot names e ≡ Some slot → IsClosed names e → Ready names free store slots → (value_of port e store ≡ Ok (at slots slot, store)) × (slot < length names)
 variable_runs port (tree.Number value) names free slot store slots is closed ready = absurd (cc)
@@ -77,6 +119,11 @@ variable_runs port (tree.Read name) names free slot store slots is closed ready 
       subst (λ n. n < length names) same (named_below names free store slots name ready closed),
     )
 variable_runs port tree.Pop names free slot store slots is closed ready = absurd (cc)
+variable_runs port (tree.Truth value) names free slot store slots is closed ready = absurd (cc)
+variable_runs port (tree.Element name index) names free slot store slots is closed ready = absurd closed
+variable_runs port (tree.Peek index) names free slot store slots is closed ready = absurd (cc)
+variable_runs port (tree.StepElement operator name index) names free slot store slots is closed ready = absurd closed
+variable_runs port (tree.Conditional condition chosen other) names free slot store slots is closed ready = absurd (cc)
 variable_runs port (tree.Group inner) names free slot store slots is closed ready =
     variable_runs port inner names free slot store slots is closed ready
 variable_runs port (tree.Unary operator operand) names free slot store slots is closed ready = absurd (cc)
@@ -108,14 +155,45 @@ right_keeps : (variables : Variables) (operator : BinaryOperator) (value : ℤ) 
 right_keeps variables operator value (Ok second) h = last_keeps variables second.1 (binary_value operator value second.0) h
 right_keeps variables operator value (Err cause) h = tt
 
-left_keeps : (port : Port) (variables : Variables) (operator : BinaryOperator) (right : tree.Expr) (r : Result (ℤ × Store) Cause) → ((store : Store) → Keeps store.variables (value_of port right store)) → Keeps variables r → Keeps variables (then_do r (λ first. then_do (value_of port right first.1) (λ second. then_do (binary_value operator first.0 second.0) (λ v. Ok (v, second.1)))))
+chosen_keeps : (variables : Variables) (t : Bool) (first second : Result (ℤ × Store) Cause) → Keeps variables first → Keeps variables second → Keeps variables (cond t first second)
+chosen_keeps variables true first second h h' = h
+chosen_keeps variables false first second h h' = h'
+
+joined_keeps : (variables : Variables) (operator : BinaryOperator) (first : ℤ × Store) (right : Store → Result (ℤ × Store) Cause) → first.1.variables ≡ variables → Keeps variables (right first.1) → Keeps variables (joined operator first right)
+joined_keeps variables operator first right h h' =
+    by_operator (λ o. Keeps variables (joined o first right)) (chosen_keeps variables (is_true first.0) (Ok first) (right first.1) h h') (chosen_keeps variables (is_true first.0) (right first.1) (Ok first) h' h) (λ o strict.
+    subst (Keeps variables) (sym (strict.value first right)) (right_keeps variables o first.0 (right first.1) h')) operator
+
+left_keeps : (port : Port) (variables : Variables) (operator : BinaryOperator) (right : tree.Expr) (r : Result (ℤ × Store) Cause) → ((store : Store) → Keeps store.variables (value_of port right store)) → Keeps variables r → Keeps variables (then_do r (λ first. joined operator first (value_of port right)))
 left_keeps port variables operator right (Ok first) inside h =
-    right_keeps variables operator first.0 (value_of port right first.1) (subst (λ v. Keeps v (value_of port right first.1)) h (inside first.1))
+    joined_keeps variables operator first (value_of port right) h (subst (λ v. Keeps v (value_of port right first.1)) h (inside first.1))
 left_keeps port variables operator right (Err cause) inside h = tt
+
+test_keeps : (variables : Variables) (chosen other : Store → Result (ℤ × Store) Cause) (r : Result (ℤ × Store) Cause) → Keeps variables r → ((store : Store) → Keeps store.variables (chosen store)) → ((store : Store) → Keeps store.variables (other store)) → Keeps variables (then_do r (λ test. if is_true test.0 then chosen test.1 else other test.1))
+test_keeps variables chosen other (Ok test) h h' h'' =
+    chosen_keeps variables (is_true test.0) (chosen test.1) (other test.1) (subst (λ v. Keeps v (chosen test.1)) h (h' test.1)) (subst (λ v. Keeps v (other test.1)) h (h'' test.1))
+test_keeps variables chosen other (Err cause) h h' h'' = tt
+
+item_keeps : (variables : Variables) (store : Store) (r : Result ℤ Cause) → store.variables ≡ variables → Keeps variables (then_do r (λ item. Ok (item, store)))
+item_keeps variables store (Ok item) h = h
+item_keeps variables store (Err cause) h = tt
+
+peek_keeps : (port : Port) (variables : Variables) (r : Result (ℤ × Store) Cause) → Keeps variables r → Keeps variables (then_do r (λ place. then_do (peeked_from port place.0 place.1.traffic) (λ item. Ok (item, place.1))))
+peek_keeps port variables (Ok place) h = item_keeps variables place.1 (peeked_from port place.0 place.1.traffic) h
+peek_keeps port variables (Err cause) h = tt
 
 pub keeps : (port : Port) (e : tree.Expr) → changes_none e ≡ true → (store : Store) → Keeps store.variables (value_of port e store)
 keeps port (tree.Number value) none store = refl
+keeps port (tree.Truth value) none store = refl
 keeps port (tree.Read name) none store = refl
+keeps port (tree.Element name index) none store = tt
+keeps port (tree.Peek index) none store =
+    peek_keeps port store.variables (value_of port index store) (keeps port index none store)
+keeps port (tree.StepElement operator name index) none store = absurd (false≢true none)
+keeps port (tree.Conditional condition chosen other) none store =
+    let both = both_true (changes_none condition) (changes_none chosen && changes_none other) none in
+    let sides = both_true (changes_none chosen) (changes_none other) both.1 in
+    test_keeps store.variables (value_of port chosen) (value_of port other) (value_of port condition store) (keeps port condition both.0 store) (keeps port chosen sides.0) (keeps port other sides.1)
 keeps port tree.Pop none store = popped_keeps store (popped_from port store.traffic)
 keeps port (tree.Group inner) none store = keeps port inner none store
 keeps port (tree.Unary operator operand) none store =
@@ -136,13 +214,21 @@ same_slots (variable ∷ rest) first second slot h h' below =
     subst (λ n. at first n ≡ at second n) e (h.0 ∙ sym h'.0))
     (cases_lt slot (length rest))
 
--- the slot that an expression's steps write is one of those that they need
+-- the slot that an expression's code writes is one of those that it needs
 pub unary_room : (operator : UnaryOperator) (into from : ℕ) → into + 1 ≤ step_room (unary_step operator into from)
 unary_room unary.Negate into from = omega arith
 unary_room unary.Not into from = omega arith
 unary_room unary.Complement into from = omega arith
 
 pub binary_room : (operator : BinaryOperator) (into left right : ℕ) → into + 1 ≤ step_room (binary_step operator into left right)
+binary_room binary.LogicalOr into left right = omega arith
+binary_room binary.LogicalAnd into left right = omega arith
+binary_room binary.Equal into left right = omega arith
+binary_room binary.NotEqual into left right = omega arith
+binary_room binary.Less into left right = omega arith
+binary_room binary.LessOrEqual into left right = omega arith
+binary_room binary.Greater into left right = omega arith
+binary_room binary.GreaterOrEqual into left right = omega arith
 binary_room binary.Or into left right = omega arith
 binary_room binary.ExclusiveOr into left right = omega arith
 binary_room binary.And into left right = omega arith
@@ -154,28 +240,46 @@ binary_room binary.Multiply into left right = omega arith
 binary_room binary.Divide into left right = omega arith
 binary_room binary.Remainder into left right = omega arith
 
-step_room_into : (operator : StepOperator) (slot into free : ℕ) → into + 1 ≤ steps_room (step_steps operator slot into free)
+step_room_into : (operator : StepOperator) (slot into free : ℕ) → into + 1 ≤ nodes_room (step_nodes operator slot into free)
 step_room_into step.IncrementFirst slot into free = omega arith
 step_room_into step.DecrementFirst slot into free = omega arith
 step_room_into step.IncrementAfter slot into free = omega arith
 step_room_into step.DecrementAfter slot into free = omega arith
 
-pub expr_room : (names : List (List ℕ)) (e : tree.Expr) (into free : ℕ) → into + 1 ≤ steps_room (expr_steps names e into free)
-expr_room names (tree.Number value) into free = omega arith
-expr_room names (tree.Read name) into free = omega arith
-expr_room names tree.Pop into free = omega arith
-expr_room names (tree.Group inner) into free = expr_room names inner into free
-expr_room names (tree.Unary operator operand) into free =
+binary_nodes_room : (operator : BinaryOperator) (left right first second : Nodes) (into free at_left at_right : ℕ) → into + 1 ≤ nodes_room (binary_nodes operator left right (before first (before second (one (binary_step operator into at_left at_right)))) into free)
+binary_nodes_room operator left right first second into free at_left at_right =
+    by_operator (λ o. into + 1 ≤ nodes_room (binary_nodes o left right (before first (before second (one (binary_step o into at_left at_right)))) into free))
+    (omega (arith, nodes_room-before left (Choice free End right (one (act.Copy into free)))))
+    (omega (arith, nodes_room-before left (Choice free right End (one (act.Copy into free)))))
+    (λ o strict.
+    subst (λ n. into + 1 ≤ nodes_room n) (sym (strict.code left right (before first (before second (one (binary_step o into at_left at_right)))) into free))
+    (omega (arith, nodes_room-before first (before second (one (binary_step o into at_left at_right))), nodes_room-before second (one (binary_step o into at_left at_right)), binary_room o into at_left at_right)))
+    operator
+
+pub expr_room : (names : List (List ℕ)) (e : tree.Expr) (into free : ℕ) → IsClosed names e → into + 1 ≤ nodes_room (expr_nodes names e into free)
+expr_room names (tree.Number value) into free closed = omega arith
+expr_room names (tree.Truth value) into free closed = omega arith
+expr_room names (tree.Read name) into free closed = omega arith
+expr_room names (tree.Element name index) into free closed = absurd closed
+expr_room names tree.Pop into free closed = omega arith
+expr_room names (tree.Peek index) into free closed =
+    let slot = unwrap_or (variable_slot names index) free in
+    omega (arith, nodes_room-before (unless_there (variable_slot names index) (expr_nodes names index free (free + 1))) (one (act.Peek into slot)))
+expr_room names (tree.Group inner) into free closed = expr_room names inner into free closed
+expr_room names (tree.Unary operator operand) into free closed =
     let slot = unwrap_or (variable_slot names operand) free in
-    omega (arith, steps_room-append (unless_there (variable_slot names operand) (expr_steps names operand free (free + 1))) (unary_step operator into slot ∷ []), unary_room operator into slot)
-expr_room names (tree.Step operator name) into free = step_room_into operator (slot_of names name) into free
-expr_room names (tree.Binary operator left right) into free =
-    let a = unless_there (stands_at names (changes_none right) left) (expr_steps names left free (free + 1)) in
-    let b = unless_there (variable_slot names right) (expr_steps names right (free + 1) (free + 1 + 1)) in
-    let at_left = unwrap_or (stands_at names (changes_none right) left) free in
-    let at_right = unwrap_or (variable_slot names right) (free + 1) in
-    let last = binary_step operator into at_left at_right in
-    omega (arith, steps_room-append a (b ++ last ∷ []), steps_room-append b (last ∷ []), binary_room operator into at_left at_right)
+    omega (arith, nodes_room-before (unless_there (variable_slot names operand) (expr_nodes names operand free (free + 1))) (one (unary_step operator into slot)), unary_room operator into slot)
+expr_room names (tree.Step operator name) into free closed = step_room_into operator (slot_of names name) into free
+expr_room names (tree.StepElement operator name index) into free closed = absurd closed
+expr_room names (tree.Binary operator left right) into free closed =
+    binary_nodes_room operator (expr_nodes names left free (free + 1)) (expr_nodes names right free (free + 1))
+    (unless_there (stands_at names (changes_none right) left) (expr_nodes names left free (free + 1)))
+    (unless_there (variable_slot names right) (expr_nodes names right (free + 1) (free + 1 + 1)))
+    into free (unwrap_or (stands_at names (changes_none right) left) free) (unwrap_or (variable_slot names right) (free + 1))
+expr_room names (tree.Conditional condition chosen other) into free closed =
+    let a = unless_there (variable_slot names condition) (expr_nodes names condition free (free + 1)) in
+    let slot = unwrap_or (variable_slot names condition) free in
+    omega (arith, nodes_room-before a (Choice slot (expr_nodes names chosen into free) (expr_nodes names other into free) End), expr_room names chosen into free closed.1)
 
 -- an operand that stands in its variable's slot
 pub stays_slot : (names : List (List ℕ)) (stays : Bool) (e : tree.Expr) (slot : ℕ) → stands_at names stays e ≡ Some slot → (stays ≡ true) × (variable_slot names e ≡ Some slot)
@@ -202,17 +306,17 @@ arrived_stands names slot before given after above room arrives =
       size = ap length is ∙ length-set slots slot value ∙ size;
     }
 
--- an operand's steps bring its value to its slot
-pub operand_runs : (port : Port) (e : tree.Expr) → Runs port e → (names : List (List ℕ)) (stays : Bool) (free : ℕ) (store : Store) (slots : List ℤ) → IsClosed names e → Ready names free store slots → steps_room (operand_steps names stays e free) ≤ length slots → Related (StandsAt names (operand_slot names stays e free) free slots) (value_of port e store) (steps_done port (operand_steps names stays e free) (machine_at slots store))
+-- an operand's code brings its value to its slot
+pub operand_runs : (port : Port) (e : tree.Expr) → Runs port e → (names : List (List ℕ)) (stays : Bool) (free : ℕ) (store : Store) (slots : List ℤ) → IsClosed names e → Ready names free store slots → nodes_room (operand_nodes names stays e free) ≤ length slots → Related (StandsAt names (operand_slot names stays e free) free slots) (value_of port e store) (nodes_done port (operand_nodes names stays e free) (machine_at slots store))
 operand_runs port e run names stays free store slots closed ready room =
     by_place (stands_at names stays e) (λ slot is. variable_runs port e names free slot store slots (stays_slot names stays e slot is).1 closed ready) room
   where
-    by_place : (o : Option ℕ) → ((slot : ℕ) → o ≡ Some slot → (value_of port e store ≡ Ok (at slots slot, store)) × (slot < length names)) → steps_room (unless_there o (expr_steps names e free (free + 1))) ≤ length slots → Related (StandsAt names (unwrap_or o free) free slots) (value_of port e store) (steps_done port (unless_there o (expr_steps names e free (free + 1))) (machine_at slots store))
+    by_place : (o : Option ℕ) → ((slot : ℕ) → o ≡ Some slot → (value_of port e store ≡ Ok (at slots slot, store)) × (slot < length names)) → nodes_room (unless_there o (expr_nodes names e free (free + 1))) ≤ length slots → Related (StandsAt names (unwrap_or o free) free slots) (value_of port e store) (nodes_done port (unless_there o (expr_nodes names e free (free + 1))) (machine_at slots store))
     by_place (Some slot) stands fits =
         subst (λ r. Related (StandsAt names slot free slots) r (Ok (machine_at slots store))) (sym (stands slot refl).0)
         (record { traffic = refl; names_are = ready.names_are; holds = ready.holds; value = refl; kept = λ k low high. refl; size = refl })
     by_place None stands fits =
         let above = ready.above in
-        let within : free < length slots = omega (arith, expr_room names e free (free + 1)) in
+        let within : free < length slots = omega (arith, expr_room names e free (free + 1) closed) in
         let ready' : Ready names (free + 1) store slots = record { names_are = ready.names_are; holds = ready.holds; above = omega arith; roomy = ready.roomy } in
-        weaker_related (Arrives names free (free + 1) slots) (StandsAt names free free slots) (value_of port e store) (steps_done port (expr_steps names e free (free + 1)) (machine_at slots store)) (run names free (free + 1) store slots closed ready' fits) (λ given after arrives. arrived_stands names free slots given after above within arrives)
+        weaker_related (Arrives names free (free + 1) slots) (StandsAt names free free slots) (value_of port e store) (nodes_done port (expr_nodes names e free (free + 1)) (machine_at slots store)) (run names free (free + 1) store slots closed ready' fits) (λ given after arrives. arrived_stands names free slots given after above within arrives)

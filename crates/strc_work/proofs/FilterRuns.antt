@@ -1,50 +1,82 @@
--- A filter's steps start it and fire it as its text says.
-use Rattle.std.proofs.Common.{◌≡◌, ℕ, zero, suc, ◌+◌, ◌<◌, ◌≤◌, ℤ, pos, List, [], ◌∷◌, ◌++◌, length, take, reverse, replicate, Some, None, Result, refl, sym, ap, ◌∙◌, subst, arith, append_assoc}
+-- A filter's code starts it and fires it as its text says.
+use Rattle.std.proofs.Common.{◌≡◌, ℕ, zero, suc, ◌+◌, ◌<◌, ◌≤◌, ℤ, pos, List, [], ◌∷◌, ◌++◌, length, take, reverse, replicate, Option, Some, None, Result, Ok, refl, sym, ap, ◌∙◌, subst, arith, append_assoc}
+use Rattle.std.specs.Prelude.{unwrap_or}
 use Rattle.std.proofs.lemmas.List.{reverse-append, length-reverse, append-nil, reverse-reverse, get_or-replicate, length-replicate}
 use Rattle.strc_parse.specs.Tree as tree
 use Rattle.strc_work.specs.declared.fault.Cause.{Cause}
 use Rattle.strc_work.specs.declared.code.Body.{Body}
-use Rattle.strc_work.specs.Filters.{Filter, field_names, work_block}
-use Rattle.strc_work.specs.Closed.{AreClosed, AreClosedMembers, IsClosedFilter}
-use Rattle.strc_work.specs.Firing.{Store, Traffic, then_do, value_of, assigned, block_left, stmts_done, bound_onto, no_traffic, store_at, field_values, shut, members_started, zeros_for, started, Fired, port_of, fired}
-use Rattle.strc_work.specs.Machine.{Machine, steps_done, steps_room}
-use Rattle.strc_work.specs.Lowering.{slot_of, expr_steps, field_scope, initial_steps, start_steps, work_steps, slot_count}
+use Rattle.strc_work.specs.declared.code.Body.TheVariants as body
+use Rattle.strc_work.specs.Filters.{Filter, field_names, work_block, prework_block, body_block}
+use Rattle.strc_work.specs.Closed.{IsNamed, IsClosedInitial, AreClosedFields, AreClosed, AreClosedMembers, IsClosedFilter}
+use Rattle.strc_work.specs.Firing.{Store, Traffic, then_do, value_of, assigned, block_left, inside, stmts_done, bound_onto, no_traffic, store_at, field_values, shut, initial_given, fields_started, members_started, inits_done, zeros_for, started, Fired, port_of, fired}
+use Rattle.strc_work.specs.Machine.{Machine, nodes_done, nodes_room}
+use Rattle.strc_work.specs.Lowering.{slot_of, stmts_nodes, field_scope, field_nodes, fields_nodes, initials_nodes, inits_nodes, start_nodes, body_nodes, slot_count}
 use Rattle.strc_work.proofs.Variables.{Variables, names_of, at, Holds, length-names_of, values-Holds}
-use Rattle.strc_work.proofs.Related.{Related, then_related, steps_done-append, steps_room-append}
+use Rattle.strc_work.proofs.Related.{Related, then_related, map_related, nodes_done-before, nodes_room-before}
 use Rattle.strc_work.proofs.Expressions.{Arrives, Ready, machine_at}
 use Rattle.strc_work.proofs.ExpressionRuns.{expr_runs}
-use Rattle.strc_work.proofs.StatementRuns.{Reaches, ReachesOn, assigned_reaches, empty_reaches, stmts_runs, left_reaches, map_related}
+use Rattle.strc_work.proofs.Reaching.{Reaches, ReachesOn, empty_reaches, left_reaches, go_on}
+use Rattle.strc_work.proofs.StatementRuns.{assigned_reaches, stmt_runs, stmts_runs}
 
 -- ---- initialisers
 
 abbrev RunsMembers : List tree.Member → Type 0
-RunsMembers ms = (names : List (List ℕ)) (store : Store) (slots : List ℤ) → AreClosedMembers names ms → Ready names (length names) store slots → steps_room (initial_steps names ms) ≤ length slots → Related (Reaches names (length slots)) (members_started ms store) (steps_done shut (initial_steps names ms) (machine_at slots store))
+RunsMembers ms = (names : List (List ℕ)) (store : Store) (slots : List ℤ) → AreClosedMembers names ms → Ready names (length names) store slots → nodes_room (initials_nodes names ms) ≤ length slots → Related (Reaches names (length slots)) (members_started ms store) (nodes_done shut (initials_nodes names ms) (machine_at slots store))
 
--- the initialisers that are left, from where the first one leads
-rest_starts : (rest : List tree.Member) → RunsMembers rest → (names : List (List ℕ)) (slots : List ℤ) (given : Store) (m : Machine) → AreClosedMembers names rest → steps_room (initial_steps names rest) ≤ length slots → Reaches names (length slots) given m → Related (Reaches names (length slots)) (members_started rest given) (steps_done shut (initial_steps names rest) m)
-rest_starts rest run names slots given m closed room reaches =
-    let same = reaches.same in
-    let roomy = reaches.roomy in
-    let ready : Ready names (length names) given m.slots = record { names_are = reaches.names_are; holds = reaches.holds; above = omega arith; roomy = omega arith } in
-    let m_is : m ≡ machine_at m.slots given = ap (λ t. record { slots = m.slots; traffic = t }) reaches.traffic in
-    subst (λ n. Related (Reaches names (length slots)) (members_started rest given) (steps_done shut (initial_steps names rest) n)) (sym m_is)
-    (subst (λ n. Related (Reaches names n) (members_started rest given) (steps_done shut (initial_steps names rest) (machine_at m.slots given))) same (run names given m.slots closed ready (omega arith)))
+field_runs : (name : List ℕ) (initial : Option tree.Expr) (names : List (List ℕ)) (store : Store) (slots : List ℤ) → IsNamed names name × IsClosedInitial names initial → Ready names (length names) store slots → nodes_room (field_nodes names name initial) ≤ length slots → Related (Reaches names (length slots)) (initial_given name initial store) (nodes_done shut (field_nodes names name initial) (machine_at slots store))
+field_runs name None names store slots closed ready room = empty_reaches names store slots ready
+field_runs name (Some initial) names store slots closed ready room =
+    map_related (Arrives names (slot_of names name) (length names) slots) (Reaches names (length slots)) (λ given. assigned given.1 name given.0) (value_of shut initial store) (nodes_done shut (field_nodes names name (Some initial)) (machine_at slots store)) (expr_runs shut initial names (slot_of names name) (length names) store slots closed.1 ready room) (λ given m arrives. assigned_reaches names name slots given m closed.0 ready.roomy arrives)
+
+fields_run : (vs : List tree.Variable) (names : List (List ℕ)) (store : Store) (slots : List ℤ) → AreClosedFields names vs → Ready names (length names) store slots → nodes_room (fields_nodes names vs) ≤ length slots → Related (Reaches names (length slots)) (fields_started vs store) (nodes_done shut (fields_nodes names vs) (machine_at slots store))
+fields_run [] names store slots closed ready room = empty_reaches names store slots ready
+fields_run (first ∷ rest) names store slots closed ready room =
+    let a = field_nodes names first.name first.initial in
+    let b = fields_nodes names rest in
+    let room_a : nodes_room a ≤ length slots = omega (arith, nodes_room-before a b) in
+    let room_b : nodes_room b ≤ length slots = omega (arith, nodes_room-before a b) in
+    subst (Related (Reaches names (length slots)) (then_do (initial_given first.name first.initial store) (fields_started rest))) (sym (nodes_done-before shut a b (machine_at slots store)))
+    (then_related (Reaches names (length slots)) (Reaches names (length slots)) (initial_given first.name first.initial store) (nodes_done shut a (machine_at slots store)) (fields_started rest) (nodes_done shut b) (field_runs first.name first.initial names store slots closed.0 ready room_a) (λ given m is reaches.
+    go_on shut b names names (length slots) (fields_started rest) (λ store' slots' same ready'. fields_run rest names store' slots' closed.1 ready' (omega arith)) given m reaches))
 
 members_run : (ms : List tree.Member) → RunsMembers ms
 members_run [] names store slots closed ready room = empty_reaches names store slots ready
-members_run (tree.Field name None ∷ rest) names store slots closed ready room =
+members_run (tree.Fields kind variables ∷ rest) names store slots closed ready room =
+    let a = fields_nodes names variables in
+    let b = initials_nodes names rest in
+    let room_a : nodes_room a ≤ length slots = omega (arith, nodes_room-before a b) in
+    let room_b : nodes_room b ≤ length slots = omega (arith, nodes_room-before a b) in
+    subst (Related (Reaches names (length slots)) (then_do (fields_started variables store) (members_started rest))) (sym (nodes_done-before shut a b (machine_at slots store)))
+    (then_related (Reaches names (length slots)) (Reaches names (length slots)) (fields_started variables store) (nodes_done shut a (machine_at slots store)) (members_started rest) (nodes_done shut b) (fields_run variables names store slots closed.0 ready room_a) (λ given m is reaches.
+    go_on shut b names names (length slots) (members_started rest) (λ store' slots' same ready'. members_run rest names store' slots' closed.1 ready' (omega arith)) given m reaches))
+members_run (tree.Init block ∷ rest) names store slots closed ready room =
     members_run rest names store slots closed.1 ready room
-members_run (tree.Field name (Some initial) ∷ rest) names store slots closed ready room =
-    let a = expr_steps names initial (slot_of names name) (length names) in
-    let b = initial_steps names rest in
-    let room_a : steps_room a ≤ length slots = omega (arith, steps_room-append a b) in
-    let room_b : steps_room b ≤ length slots = omega (arith, steps_room-append a b) in
-    let go : ℤ × Store → Result Store Cause = λ given. members_started rest (assigned given.1 name given.0) in
-    subst (Related (Reaches names (length slots)) (then_do (value_of shut initial store) go)) (sym (steps_done-append shut a b (machine_at slots store)))
-    (then_related (Arrives names (slot_of names name) (length names) slots) (Reaches names (length slots)) (value_of shut initial store) (steps_done shut a (machine_at slots store)) go (steps_done shut b) (expr_runs shut initial names (slot_of names name) (length names) store slots closed.0.1 ready room_a) (λ given m is arrives.
-    rest_starts rest (members_run rest) names slots (assigned given.1 name given.0) m closed.1 room_b (assigned_reaches names name slots given m closed.0.0 ready.roomy arrives)))
+members_run (tree.Prework rates block ∷ rest) names store slots closed ready room =
+    members_run rest names store slots closed.1 ready room
 members_run (tree.Work rates block ∷ rest) names store slots closed ready room =
     members_run rest names store slots closed.1 ready room
+
+-- ---- blocks of `init`
+
+abbrev RunsInits : List tree.Member → Type 0
+RunsInits ms = (names : List (List ℕ)) (store : Store) (slots : List ℤ) → AreClosedMembers names ms → Ready names (length names) store slots → nodes_room (inits_nodes names ms) ≤ length slots → Related (Reaches names (length slots)) (inits_done ms store) (nodes_done shut (inits_nodes names ms) (machine_at slots store))
+
+inits_run : (ms : List tree.Member) → RunsInits ms
+inits_run [] names store slots closed ready room = empty_reaches names store slots ready
+inits_run (tree.Fields kind variables ∷ rest) names store slots closed ready room =
+    inits_run rest names store slots closed.1 ready room
+inits_run (tree.Init block ∷ rest) names store slots closed ready room =
+    let a = stmts_nodes names block in
+    let b = inits_nodes names rest in
+    let room_a : nodes_room a ≤ length slots = omega (arith, nodes_room-before a b) in
+    let room_b : nodes_room b ≤ length slots = omega (arith, nodes_room-before a b) in
+    subst (Related (Reaches names (length slots)) (then_do (inside (stmts_done shut block) store) (inits_done rest))) (sym (nodes_done-before shut a b (machine_at slots store)))
+    (then_related (Reaches names (length slots)) (Reaches names (length slots)) (inside (stmts_done shut block) store) (nodes_done shut a (machine_at slots store)) (inits_done rest) (nodes_done shut b) (stmt_runs shut (tree.Block block) names store slots closed.0 ready room_a) (λ given m is reaches.
+    go_on shut b names names (length slots) (inits_done rest) (λ store' slots' same ready'. inits_run rest names store' slots' closed.1 ready' (omega arith)) given m reaches))
+inits_run (tree.Prework rates block ∷ rest) names store slots closed ready room =
+    inits_run rest names store slots closed.1 ready room
+inits_run (tree.Work rates block ∷ rest) names store slots closed ready room =
+    inits_run rest names store slots closed.1 ready room
 
 -- ---- fields and slots
 
@@ -101,30 +133,67 @@ pub record IsStarted (filter : Filter) (size : ℕ) (values : List ℤ) (after :
   pub fields : values ≡ take (length (field_names filter.members)) after.slots
   pub same : length after.slots ≡ size
 
-pub start_runs : (filter : Filter) (size : ℕ) → IsClosedFilter filter → slot_count filter ≤ size → Related (IsStarted filter size) (started filter) (steps_done shut (start_steps filter) (record { slots = replicate size (pos 0); traffic = no_traffic }))
+pub start_runs : (filter : Filter) (size : ℕ) → IsClosedFilter filter → slot_count filter ≤ size → Related (IsStarted filter size) (started filter) (nodes_done shut (start_nodes filter) (record { slots = replicate size (pos 0); traffic = no_traffic }))
 start_runs filter size closed room =
     let names = field_names filter.members in
+    let scope = field_scope filter in
     let slots = replicate size (pos 0) in
     let zeros = zeros_for names in
     let store = store_at filter zeros in
+    let a = initials_nodes scope filter.members in
+    let b = inits_nodes scope filter.members in
     let size_is : length slots ≡ size = length-replicate size (pos 0) in
     let fields : length names ≤ length slots = omega arith in
-    let fits : steps_room (start_steps filter) ≤ length slots = omega arith in
+    let fits : nodes_room (start_nodes filter) ≤ length slots = omega arith in
+    let room_a : nodes_room a ≤ length slots = omega (arith, nodes_room-before a b) in
+    let room_b : nodes_room b ≤ length slots = omega (arith, nodes_room-before a b) in
     let zeros_are = length-zeros_for names in
     let ready = store_ready filter zeros slots zeros_are (λ k lt. get_or-replicate size k (pos 0) (pos 0) (omega arith) ∙ sym (zeros_for-at names k lt)) fields in
-    map_related (Reaches (field_scope filter) (length slots)) (IsStarted filter size) field_values (members_started filter.members store) (steps_done shut (start_steps filter) (machine_at slots store)) (members_run filter.members (field_scope filter) store slots closed ready fits) (λ given after reaches.
-    let same = reaches.same in
+    let rest : Store → Result (List ℤ) Cause = λ initialised. then_do (inits_done filter.members initialised) (λ done. Ok (field_values done)) in
+    subst (Related (IsStarted filter size) (then_do (members_started filter.members store) rest)) (sym (nodes_done-before shut a b (machine_at slots store)))
+    (then_related (Reaches scope (length slots)) (IsStarted filter size) (members_started filter.members store) (nodes_done shut a (machine_at slots store)) rest (nodes_done shut b) (members_run filter.members scope store slots closed ready room_a) (λ initialised m is reaches.
+    map_related (Reaches scope (length slots)) (IsStarted filter size) field_values (inits_done filter.members initialised) (nodes_done shut b m)
+    (go_on shut b scope scope (length slots) (inits_done filter.members) (λ store' slots' same ready'. inits_run filter.members scope store' slots' closed ready' (omega arith)) initialised m reaches) (λ given after reaches'.
+    let same = reaches'.same in
     record {
-      fields = field_values-Holds filter given after.slots reaches.names_are reaches.holds (omega arith);
+      fields = field_values-Holds filter given after.slots reaches'.names_are reaches'.holds (omega arith);
       same = same ∙ size_is;
-    })
+    })))
 
 -- ---- a firing
 
-work_closed : (names : List (List ℕ)) (ms : List tree.Member) → AreClosedMembers names ms → AreClosed names (work_block ms)
+pub work_closed : (names : List (List ℕ)) (ms : List tree.Member) → AreClosedMembers names ms → AreClosed names (work_block ms)
 work_closed names [] h = tt
-work_closed names (tree.Field name initial ∷ rest) h = work_closed names rest h.1
+work_closed names (tree.Fields kind variables ∷ rest) h = work_closed names rest h.1
+work_closed names (tree.Init block ∷ rest) h = work_closed names rest h.1
+work_closed names (tree.Prework rates block ∷ rest) h = work_closed names rest h.1
 work_closed names (tree.Work rates block ∷ rest) h = h.0
+
+-- a block, where there is one
+abbrev IsClosedBlock : List (List ℕ) → Option tree.Stmts → Type 0
+IsClosedBlock names None = Unit {0}
+IsClosedBlock names (Some block) = AreClosed names block
+
+prework_closed : (names : List (List ℕ)) (ms : List tree.Member) → AreClosedMembers names ms → IsClosedBlock names (prework_block ms)
+prework_closed names [] h = tt
+prework_closed names (tree.Fields kind variables ∷ rest) h = prework_closed names rest h.1
+prework_closed names (tree.Init block ∷ rest) h = prework_closed names rest h.1
+prework_closed names (tree.Prework rates block ∷ rest) h = h.0
+prework_closed names (tree.Work rates block ∷ rest) h = prework_closed names rest h.1
+
+either_closed : (names : List (List ℕ)) (first : Option tree.Stmts) (other : tree.Stmts) → IsClosedBlock names first → AreClosed names other → AreClosed names (unwrap_or first other)
+either_closed names None other h h' = h'
+either_closed names (Some block) other h h' = h
+
+pub body_closed : (body : Body) (names : List (List ℕ)) (ms : List tree.Member) → AreClosedMembers names ms → AreClosed names (body_block body ms)
+body_closed body.Prework names ms h =
+    either_closed names (prework_block ms) (work_block ms) (prework_closed names ms h) (work_closed names ms h)
+body_closed body.Work names ms h = work_closed names ms h
+
+-- the code of each body fits into the slots
+body_fits : (filter : Filter) (body : Body) (size : ℕ) → slot_count filter ≤ size → nodes_room (body_nodes body filter) ≤ size
+body_fits filter body.Prework size room = omega arith
+body_fits filter body.Work size room = omega arith
 
 -- a machine that has fired holds what the firing gives
 pub record HasFired (filter : Filter) (size : ℕ) (given : Fired) (after : Machine) : Type 0 where
@@ -133,16 +202,16 @@ pub record HasFired (filter : Filter) (size : ℕ) (given : Fired) (after : Mach
   pub words : given.words ≡ after.traffic.words
   pub same : length after.slots ≡ size
 
-pub work_runs : (filter : Filter) (body : Body) (fields slots window : List ℤ) → IsClosedFilter filter → length fields ≡ length (field_names filter.members) → ((k : ℕ) → k < length fields → at slots k ≡ at fields k) → slot_count filter ≤ length slots → Related (HasFired filter (length slots)) (fired filter body fields window) (steps_done (port_of filter window) (work_steps filter) (record { slots = slots; traffic = no_traffic }))
-work_runs filter body fields slots window closed e stands room =
+pub body_runs : (filter : Filter) (body : Body) (fields slots window : List ℤ) → IsClosedFilter filter → length fields ≡ length (field_names filter.members) → ((k : ℕ) → k < length fields → at slots k ≡ at fields k) → slot_count filter ≤ length slots → Related (HasFired filter (length slots)) (fired filter body fields window) (nodes_done (port_of filter body window) (body_nodes body filter) (record { slots = slots; traffic = no_traffic }))
+body_runs filter body fields slots window closed e stands room =
     let names = field_scope filter in
     let store = store_at filter fields in
-    let port = port_of filter window in
-    let block = work_block filter.members in
+    let port = port_of filter body window in
+    let block = body_block body filter.members in
     let enough : length (field_names filter.members) ≤ length slots = omega arith in
-    let fits : steps_room (work_steps filter) ≤ length slots = omega arith in
+    let fits : nodes_room (body_nodes body filter) ≤ length slots = body_fits filter body (length slots) room in
     let ready = store_ready filter fields slots e stands enough in
-    map_related (ReachesOn names (length slots)) (HasFired filter (length slots)) (λ inner. let left = block_left store inner in record { fields = field_values left; pushes = left.traffic.pushes; words = left.traffic.words }) (stmts_done port block store) (steps_done port (work_steps filter) (machine_at slots store)) (stmts_runs port block names store slots (work_closed names filter.members closed) ready fits) (λ inner after reaches.
+    map_related (ReachesOn names (length slots)) (HasFired filter (length slots)) (λ inner. let left = block_left store inner in record { fields = field_values left; pushes = left.traffic.pushes; words = left.traffic.words }) (stmts_done port block store) (nodes_done port (body_nodes body filter) (machine_at slots store)) (stmts_runs port block names store slots (body_closed body names filter.members closed) ready fits) (λ inner after reaches.
     let left = left_reaches names slots store inner after ready reaches in
     let same = left.same in
     record {

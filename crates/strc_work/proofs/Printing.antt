@@ -1,5 +1,5 @@
--- The steps of a text print just where it does.
-use Rattle.std.proofs.Common.{◌≡◌, ℕ, ◌+◌, Bool, true, false, ◌||◌, List, [], ◌∷◌, ◌++◌, length, Option, Some, None, refl, ap, ◌∙◌}
+-- The code of a text prints just where it does.
+use Rattle.std.proofs.Common.{◌≡◌, ℕ, ◌+◌, Bool, true, false, ◌||◌, List, [], ◌∷◌, length, Option, Some, None, Result, Ok, Err, refl, sym, ap, ◌∙◌}
 use Rattle.std.specs.Prelude.{unwrap_or}
 use Rattle.strc_parse.specs.Tree as tree
 use Rattle.strc_parse.specs.declared.tree.UnaryOperator.{UnaryOperator}
@@ -10,34 +10,94 @@ use Rattle.strc_parse.specs.declared.tree.StepOperator.{StepOperator}
 use Rattle.strc_parse.specs.declared.tree.StepOperator.TheVariants as step
 use Rattle.strc_work.specs.declared.step.Step.{Step}
 use Rattle.strc_work.specs.declared.step.Step.TheVariants as act
-use Rattle.strc_work.specs.Filters.{Filter, stmt_prints, stmts_print, work_block, filter_prints}
+use Rattle.strc_work.specs.declared.code.Body.{Body}
+use Rattle.strc_work.specs.declared.code.Body.TheVariants as body
+use Rattle.strc_work.specs.declared.fault.Halt.{Halt}
+use Rattle.strc_work.specs.declared.fault.Halt.TheVariants as halt
+use Rattle.strc_work.specs.Running.{WantsOnlyWords}
+use Rattle.strc_work.specs.Filters.{Filter, stmt_prints, stmts_print, work_block, body_block, filter_prints}
 use Rattle.strc_work.specs.Firing.{assigned_value}
-use Rattle.strc_work.specs.Resolution.{names_after}
-use Rattle.strc_work.specs.Lowering.{unless_there, variable_slot, stands_at, changes_none, slot_of, unary_step, binary_step, step_steps, expr_steps, evaluation_steps, used_steps, stmt_steps, stmts_steps, work_steps, field_scope}
-use Rattle.strc_work.specs.Running.{step_prints, steps_print}
+use Rattle.strc_work.specs.Scoping.{names_after}
+use Rattle.strc_work.specs.Machine.{Nodes, End, Act, Choice, Loop, before, step_prints, nodes_print}
+use Rattle.strc_work.specs.Lowering.{unless_there, variable_slot, stands_at, changes_none, slot_of, one, unary_step, binary_step, step_nodes, binary_nodes, expr_nodes, operand_slot, operand_nodes, evaluation_nodes, used_nodes, initial_nodes, variables_nodes, condition_nodes, condition_slot, stmt_nodes, stmts_nodes, body_nodes, field_scope}
+use Rattle.strc_work.specs.Closed.{IsClosedStmt, AreClosed, IsClosedFilter}
+use Rattle.strc_work.proofs.Expressions.{by_operator}
+use Rattle.strc_work.proofs.FilterRuns.{body_closed}
 
-steps_print-append : (a b : List Step) → steps_print (a ++ b) ≡ steps_print a || steps_print b
-steps_print-append [] b = refl
-steps_print-append (s ∷ a) b = by_first (step_prints s) (steps_print-append a b)
-  where
-    by_first : (t : Bool) → steps_print (a ++ b) ≡ steps_print a || steps_print b → t || steps_print (a ++ b) ≡ (t || steps_print a) || steps_print b
-    by_first true e = refl
-    by_first false e = e
+-- ---- truths
 
--- silent steps before others
-silent-append : (a b : List Step) → steps_print a ≡ false → steps_print (a ++ b) ≡ steps_print b
-silent-append a b e = steps_print-append a b ∙ ap (λ t. t || steps_print b) e
+or_by_result : (a b c d : Bool) → d ≡ b || c → a || d ≡ (a || b) || c
+or_by_result true b c d e = refl
+or_by_result false b c d e = e
 
-unless_there_silent : (o : Option ℕ) (steps : List Step) → steps_print steps ≡ false → steps_print (unless_there o steps) ≡ false
-unless_there_silent None steps e = e
-unless_there_silent (Some slot) steps e = refl
+three_or : (a b c d e : Bool) → e ≡ c || d → a || b || e ≡ (a || b || c) || d
+three_or true b c d e h = refl
+three_or false true c d e h = refl
+three_or false false c d e h = h
 
-unary_silent : (operator : UnaryOperator) (into from : ℕ) → steps_print (unary_step operator into from ∷ []) ≡ false
+-- two that are silent before a third
+two_silent : (a b c : Bool) → a ≡ false → b ≡ false → a || b || c ≡ c
+two_silent false false c e e' = refl
+two_silent true b c e e' = absurd (cc)
+two_silent false true c e e' = absurd (cc)
+
+-- a silent one before, and nothing behind
+one_of_two : (a b : Bool) → a ≡ false → a || b || false ≡ b
+one_of_two false true e = refl
+one_of_two false false e = refl
+one_of_two true b e = absurd (cc)
+
+first_of_two : (a b : Bool) → b ≡ false → a || b || false ≡ a
+first_of_two true b e = refl
+first_of_two false false e = refl
+first_of_two false true e = absurd (cc)
+
+both_of_two : (a b : Bool) → a || b || false ≡ a || b
+both_of_two true b = refl
+both_of_two false true = refl
+both_of_two false false = refl
+
+or_turned : (a b : Bool) → a || b ≡ b || a
+or_turned true true = refl
+or_turned true false = refl
+or_turned false true = refl
+or_turned false false = refl
+
+-- ---- code behind other code
+
+nodes_print-before : (a b : Nodes) → nodes_print (before a b) ≡ nodes_print a || nodes_print b
+nodes_print-before End b = refl
+nodes_print-before (Act first rest) b =
+    or_by_result (step_prints first) (nodes_print rest) (nodes_print b) (nodes_print (before rest b)) (nodes_print-before rest b)
+nodes_print-before (Choice slot chosen other rest) b =
+    three_or (nodes_print chosen) (nodes_print other) (nodes_print rest) (nodes_print b) (nodes_print (before rest b)) (nodes_print-before rest b)
+nodes_print-before (Loop condition slot body rest) b =
+    three_or (nodes_print condition) (nodes_print body) (nodes_print rest) (nodes_print b) (nodes_print (before rest b)) (nodes_print-before rest b)
+
+-- silent code before other code
+silent-before : (a b : Nodes) → nodes_print a ≡ false → nodes_print (before a b) ≡ nodes_print b
+silent-before a b e = nodes_print-before a b ∙ ap (λ t. t || nodes_print b) e
+
+-- ---- expressions
+
+unless_there_silent : (o : Option ℕ) (code : Nodes) → nodes_print code ≡ false → nodes_print (unless_there o code) ≡ false
+unless_there_silent None code e = e
+unless_there_silent (Some slot) code e = refl
+
+unary_silent : (operator : UnaryOperator) (into from : ℕ) → nodes_print (one (unary_step operator into from)) ≡ false
 unary_silent unary.Negate into from = refl
 unary_silent unary.Not into from = refl
 unary_silent unary.Complement into from = refl
 
-binary_silent : (operator : BinaryOperator) (into left right : ℕ) → steps_print (binary_step operator into left right ∷ []) ≡ false
+binary_silent : (operator : BinaryOperator) (into left right : ℕ) → nodes_print (one (binary_step operator into left right)) ≡ false
+binary_silent binary.LogicalOr into left right = refl
+binary_silent binary.LogicalAnd into left right = refl
+binary_silent binary.Equal into left right = refl
+binary_silent binary.NotEqual into left right = refl
+binary_silent binary.Less into left right = refl
+binary_silent binary.LessOrEqual into left right = refl
+binary_silent binary.Greater into left right = refl
+binary_silent binary.GreaterOrEqual into left right = refl
 binary_silent binary.Or into left right = refl
 binary_silent binary.ExclusiveOr into left right = refl
 binary_silent binary.And into left right = refl
@@ -49,68 +109,168 @@ binary_silent binary.Multiply into left right = refl
 binary_silent binary.Divide into left right = refl
 binary_silent binary.Remainder into left right = refl
 
-step_silent : (operator : StepOperator) (slot into free : ℕ) → steps_print (step_steps operator slot into free) ≡ false
+step_silent : (operator : StepOperator) (slot into free : ℕ) → nodes_print (step_nodes operator slot into free) ≡ false
 step_silent step.IncrementFirst slot into free = refl
 step_silent step.DecrementFirst slot into free = refl
 step_silent step.IncrementAfter slot into free = refl
 step_silent step.DecrementAfter slot into free = refl
 
-expr_silent : (names : List (List ℕ)) (e : tree.Expr) (into free : ℕ) → steps_print (expr_steps names e into free) ≡ false
+-- an operator between its operands is silent where these are
+between_silent : (operator : BinaryOperator) (left right other : Nodes) (into free : ℕ) → nodes_print left ≡ false → nodes_print right ≡ false → nodes_print other ≡ false → nodes_print (binary_nodes operator left right other into free) ≡ false
+between_silent operator left right other into free silent silent' silent'' =
+    by_operator (λ o. nodes_print (binary_nodes o left right other into free) ≡ false)
+    (silent-before left (Choice free End right (one (act.Copy into free))) silent ∙ two_silent false (nodes_print right) false refl silent')
+    (silent-before left (Choice free right End (one (act.Copy into free))) silent ∙ two_silent (nodes_print right) false false silent' refl)
+    (λ o strict. ap nodes_print (strict.code left right other into free) ∙ silent'')
+    operator
+
+expr_silent : (names : List (List ℕ)) (e : tree.Expr) (into free : ℕ) → nodes_print (expr_nodes names e into free) ≡ false
 expr_silent names (tree.Number value) into free = refl
+expr_silent names (tree.Truth value) into free = refl
 expr_silent names (tree.Read name) into free = refl
+expr_silent names (tree.Element name index) into free = refl
 expr_silent names tree.Pop into free = refl
+expr_silent names (tree.Peek index) into free =
+    let o = variable_slot names index in
+    let a = expr_nodes names index free (free + 1) in
+    silent-before (unless_there o a) (one (act.Peek into (unwrap_or o free))) (unless_there_silent o a (expr_silent names index free (free + 1)))
 expr_silent names (tree.Group inner) into free = expr_silent names inner into free
 expr_silent names (tree.Unary operator operand) into free =
     let o = variable_slot names operand in
-    let a = expr_steps names operand free (free + 1) in
+    let a = expr_nodes names operand free (free + 1) in
     let last = unary_step operator into (unwrap_or o free) in
-    silent-append (unless_there o a) (last ∷ []) (unless_there_silent o a (expr_silent names operand free (free + 1))) ∙ unary_silent operator into (unwrap_or o free)
+    silent-before (unless_there o a) (one last) (unless_there_silent o a (expr_silent names operand free (free + 1))) ∙ unary_silent operator into (unwrap_or o free)
 expr_silent names (tree.Step operator name) into free = step_silent operator (slot_of names name) into free
+expr_silent names (tree.StepElement operator name index) into free = refl
 expr_silent names (tree.Binary operator left right) into free =
     let o = stands_at names (changes_none right) left in
     let p = variable_slot names right in
-    let a = expr_steps names left free (free + 1) in
-    let b = expr_steps names right (free + 1) (free + 1 + 1) in
-    let last = binary_step operator into (unwrap_or o free) (unwrap_or p (free + 1)) in
-    silent-append (unless_there o a) (unless_there p b ++ last ∷ []) (unless_there_silent o a (expr_silent names left free (free + 1)))
-    ∙ silent-append (unless_there p b) (last ∷ []) (unless_there_silent p b (expr_silent names right (free + 1) (free + 1 + 1)))
-    ∙ binary_silent operator into (unwrap_or o free) (unwrap_or p (free + 1))
+    let a = expr_nodes names left free (free + 1) in
+    let b = expr_nodes names right (free + 1) (free + 1 + 1) in
+    let last = one (binary_step operator into (unwrap_or o free) (unwrap_or p (free + 1))) in
+    let other = before (unless_there o a) (before (unless_there p b) last) in
+    let other_silent : nodes_print other ≡ false =
+    silent-before (unless_there o a) (before (unless_there p b) last) (unless_there_silent o a (expr_silent names left free (free + 1)))
+    ∙ silent-before (unless_there p b) last (unless_there_silent p b (expr_silent names right (free + 1) (free + 1 + 1)))
+    ∙ binary_silent operator into (unwrap_or o free) (unwrap_or p (free + 1)) in
+    between_silent operator a (expr_nodes names right free (free + 1)) other into free (expr_silent names left free (free + 1)) (expr_silent names right free (free + 1)) other_silent
+expr_silent names (tree.Conditional condition chosen other) into free =
+    let o = variable_slot names condition in
+    let a = expr_nodes names condition free (free + 1) in
+    let b = expr_nodes names chosen into free in
+    let c = expr_nodes names other into free in
+    silent-before (unless_there o a) (Choice (unwrap_or o free) b c End) (unless_there_silent o a (expr_silent names condition free (free + 1)))
+    ∙ two_silent (nodes_print b) (nodes_print c) false (expr_silent names chosen into free) (expr_silent names other into free)
 
-used_print : (names : List (List ℕ)) (e : tree.Expr) (last : ℕ → Step) → steps_print (used_steps names e last) ≡ steps_print (last (unwrap_or (variable_slot names e) (length names)) ∷ [])
+-- ---- statements
+
+operand_silent : (names : List (List ℕ)) (e : tree.Expr) → nodes_print (operand_nodes names true e (length names)) ≡ false
+operand_silent names e =
+    unless_there_silent (variable_slot names e) (expr_nodes names e (length names) (length names + 1)) (expr_silent names e (length names) (length names + 1))
+
+condition_silent : (names : List (List ℕ)) (condition : Option tree.Expr) → nodes_print (condition_nodes names condition) ≡ false
+condition_silent names None = refl
+condition_silent names (Some condition) = operand_silent names condition
+
+used_print : (names : List (List ℕ)) (e : tree.Expr) (last : ℕ → Step) → nodes_print (used_nodes names e last) ≡ nodes_print (one (last (operand_slot names true e (length names))))
 used_print names e last =
-    let o = variable_slot names e in
-    let a = expr_steps names e (length names) (length names + 1) in
-    silent-append (unless_there o a) (last (unwrap_or o (length names)) ∷ []) (unless_there_silent o a (expr_silent names e (length names) (length names + 1)))
+    silent-before (operand_nodes names true e (length names)) (one (last (operand_slot names true e (length names)))) (operand_silent names e)
 
-evaluation_silent : (names : List (List ℕ)) (e : tree.Expr) → steps_print (evaluation_steps names e (length names)) ≡ false
+evaluation_silent : (names : List (List ℕ)) (e : tree.Expr) → nodes_print (evaluation_nodes names e (length names)) ≡ false
 evaluation_silent names (tree.Step operator name) = refl
 evaluation_silent names (tree.Number value) = refl
+evaluation_silent names (tree.Truth value) = expr_silent names (tree.Truth value) (length names) (length names + 1)
 evaluation_silent names (tree.Read name) = refl
+evaluation_silent names (tree.Element name index) = refl
+evaluation_silent names (tree.Peek index) = expr_silent names (tree.Peek index) (length names) (length names + 1)
+evaluation_silent names (tree.StepElement operator name index) = refl
+evaluation_silent names (tree.Conditional condition chosen other) = expr_silent names (tree.Conditional condition chosen other) (length names) (length names + 1)
 evaluation_silent names tree.Pop = refl
 evaluation_silent names (tree.Group inner) = expr_silent names (tree.Group inner) (length names) (length names + 1)
 evaluation_silent names (tree.Unary operator operand) = expr_silent names (tree.Unary operator operand) (length names) (length names + 1)
 evaluation_silent names (tree.Binary operator left right) = expr_silent names (tree.Binary operator left right) (length names) (length names + 1)
 
+initial_silent : (names : List (List ℕ)) (initial : Option tree.Expr) (into free : ℕ) → nodes_print (initial_nodes names initial into free) ≡ false
+initial_silent names None into free = refl
+initial_silent names (Some initial) into free = expr_silent names initial into free
+
+variables_silent : (names : List (List ℕ)) (variables : List tree.Variable) → nodes_print (variables_nodes names variables) ≡ false
+variables_silent names [] = refl
+variables_silent names (first ∷ rest) =
+    silent-before (initial_nodes names first.initial (length names) (length names + 1)) (variables_nodes (first.name ∷ names) rest) (initial_silent names first.initial (length names) (length names + 1))
+    ∙ variables_silent (first.name ∷ names) rest
+
 mutual
-  stmt_print : (names : List (List ℕ)) (s : tree.Stmt) → steps_print (stmt_steps names s) ≡ stmt_prints s
-  stmt_print names tree.Empty = refl
-  stmt_print names (tree.Block body) = stmts_print_is names body
-  stmt_print names (tree.Declare name None) = refl
-  stmt_print names (tree.Declare name (Some initial)) = expr_silent names initial (length names) (length names + 1)
-  stmt_print names (tree.Evaluate value) = evaluation_silent names value
-  stmt_print names (tree.Assign name operator value) = expr_silent names (assigned_value name operator value) (slot_of names name) (length names)
-  stmt_print names (tree.Push value) = used_print names value act.Push
-  stmt_print names (tree.Print value) = used_print names value act.Print
-  stmt_print names (tree.Println value) = used_print names value act.Println
+  stmt_print : (names : List (List ℕ)) (s : tree.Stmt) → IsClosedStmt names s → nodes_print (stmt_nodes names s) ≡ stmt_prints s
+  stmt_print names tree.Empty closed = refl
+  stmt_print names (tree.Block body) closed = stmts_print_is names body closed
+  stmt_print names (tree.Declare kind variables) closed = variables_silent names variables
+  stmt_print names (tree.Evaluate value) closed = evaluation_silent names value
+  stmt_print names (tree.Assign name operator value) closed = expr_silent names (assigned_value name operator value) (slot_of names name) (length names)
+  stmt_print names (tree.AssignElement name index operator value) closed = absurd closed
+  stmt_print names (tree.If condition chosen) closed =
+      let b = stmt_nodes names chosen in
+      silent-before (operand_nodes names true condition (length names)) (Choice (operand_slot names true condition (length names)) b End End) (operand_silent names condition)
+      ∙ first_of_two (nodes_print b) false refl
+      ∙ stmt_print names chosen closed.1
+  stmt_print names (tree.IfElse condition chosen other) closed =
+      let b = stmt_nodes names chosen in
+      let c = stmt_nodes names other in
+      silent-before (operand_nodes names true condition (length names)) (Choice (operand_slot names true condition (length names)) b c End) (operand_silent names condition)
+      ∙ both_of_two (nodes_print b) (nodes_print c)
+      ∙ ap (λ t. t || nodes_print c) (stmt_print names chosen closed.1)
+      ∙ ap (λ t. stmt_prints chosen || t) (stmt_print names other closed.2)
+  stmt_print names (tree.While condition body) closed =
+      let a = condition_nodes names (Some condition) in
+      let b = stmt_nodes names body in
+      one_of_two (nodes_print a) (nodes_print b) (condition_silent names (Some condition)) ∙ stmt_print names body closed.1
+  stmt_print names (tree.For first condition step body) closed =
+      let inner = names_after names first in
+      let a = stmt_nodes names first in
+      let b = stmt_nodes inner body in
+      let c = stmt_nodes inner step in
+      let d = condition_nodes inner condition in
+      let turn = before b c in
+      nodes_print-before a (Loop d (condition_slot inner condition) turn End)
+      ∙ ap (λ t. nodes_print a || t) (one_of_two (nodes_print d) (nodes_print turn) (condition_silent inner condition) ∙ nodes_print-before b c ∙ or_turned (nodes_print b) (nodes_print c))
+      ∙ ap (λ t. t || (nodes_print c || nodes_print b)) (stmt_print names first closed.0)
+      ∙ ap (λ t. stmt_prints first || (t || nodes_print b)) (stmt_print inner step closed.2)
+      ∙ ap (λ t. stmt_prints first || (stmt_prints step || t)) (stmt_print inner body closed.3)
+  stmt_print names (tree.Push value) closed = used_print names value act.Push
+  stmt_print names (tree.Print value) closed = used_print names value act.Print
+  stmt_print names (tree.Println value) closed = used_print names value act.Println
 
-  stmts_print_is : (names : List (List ℕ)) (b : tree.Stmts) → steps_print (stmts_steps names b) ≡ stmts_print b
-  stmts_print_is names tree.Done = refl
-  stmts_print_is names (tree.Then first rest) =
-      let rest_steps = stmts_steps (names_after names first) rest in
-      steps_print-append (stmt_steps names first) rest_steps
-      ∙ ap (λ t. t || steps_print rest_steps) (stmt_print names first)
-      ∙ ap (λ t. stmt_prints first || t) (stmts_print_is (names_after names first) rest)
+  stmts_print_is : (names : List (List ℕ)) (b : tree.Stmts) → AreClosed names b → nodes_print (stmts_nodes names b) ≡ stmts_print b
+  stmts_print_is names tree.Done closed = refl
+  stmts_print_is names (tree.Then first rest) closed =
+      let rest_code = stmts_nodes (names_after names first) rest in
+      nodes_print-before (stmt_nodes names first) rest_code
+      ∙ ap (λ t. t || nodes_print rest_code) (stmt_print names first closed.0)
+      ∙ ap (λ t. stmt_prints first || t) (stmts_print_is (names_after names first) rest closed.1)
 
--- a filter's steps print just where its text does
-pub work_steps_print : (filter : Filter) → steps_print (work_steps filter) ≡ filter_prints filter
-work_steps_print filter = stmts_print_is (field_scope filter) (work_block filter.members)
+-- a body's code prints just where its text does
+pub body_print : (body : Body) (filter : Filter) → IsClosedFilter filter → nodes_print (body_nodes body filter) ≡ stmts_print (body_block body filter.members)
+body_print body filter closed =
+    stmts_print_is (field_scope filter) (body_block body filter.members) (body_closed body (field_scope filter) filter.members closed)
+
+either_prints : (a b : Bool) → b ≡ true → a || b ≡ true
+either_prints true b e = refl
+either_prints false b e = e
+
+-- a filter prints where the code of one of its bodies does
+pub body_prints : (body : Body) (filter : Filter) → IsClosedFilter filter → nodes_print (body_nodes body filter) ≡ true → filter_prints filter ≡ true
+body_prints body.Prework filter closed prints =
+    either_prints (stmts_print (work_block filter.members)) (stmts_print (body_block body.Prework filter.members)) (sym (body_print body.Prework filter closed) ∙ prints)
+body_prints body.Work filter closed prints =
+    ap (λ t. t || stmts_print (body_block body.Prework filter.members)) (sym (body_print body.Work filter closed) ∙ prints)
+
+-- want of memory at code that prints where other code does
+wants_also : (prints prints' : Bool) → (prints ≡ true → prints' ≡ true) → (result : Result (Unit {0}) Halt) → WantsOnlyWords prints result → WantsOnlyWords prints' result
+wants_also prints prints' more (Ok done) wants = tt
+wants_also prints prints' more (Err (halt.Fault cause)) wants = tt
+wants_also prints prints' more (Err halt.NoMemory) wants = more wants
+
+-- only a filter that prints can want memory when it is fired
+pub body_wants : (body : Body) (filter : Filter) (code : Nodes) (result : Result (Unit {0}) Halt) → IsClosedFilter filter → code ≡ body_nodes body filter → WantsOnlyWords (nodes_print code) result → WantsOnlyWords (filter_prints filter) result
+body_wants body filter code result closed code_is wants =
+    wants_also (nodes_print code) (filter_prints filter) (λ prints. body_prints body filter closed (sym (ap nodes_print code_is) ∙ prints)) result wants

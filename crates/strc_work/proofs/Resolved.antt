@@ -1,13 +1,12 @@
 -- The judgement of a block or of members, from what is judged so far and what is left.
-use Rattle.std.proofs.Common.{◌≡◌, ℕ, List, [], ◌∷◌, ◌++◌, Result, Ok, Err, refl, sym, ap, ◌∙◌}
+use Rattle.std.proofs.Common.{◌≡◌, ℕ, suc, ◌+◌, ◌<◌, List, [], ◌∷◌, ◌++◌, length, drop, map, get_or, Result, Ok, Err, refl, sym, ap, ◌∙◌, add-one, drop-cons}
 use Rattle.strc_parse.specs.Tree as tree
-use Rattle.strc_parse.specs.View.{stmt_view, block_view, member_view}
+use Rattle.strc_parse.specs.View.{stmt_view, block_view}
 use Rattle.strc_parse.specs.declared.tree.Stmt.{Stmt}
-use Rattle.strc_parse.specs.declared.tree.Member.{Member}
 use Rattle.strc_work.specs.declared.lowering.LowerError.{LowerError}
 use Rattle.strc_work.specs.declared.lowering.LowerError.TheVariants as refused
-use Rattle.strc_work.specs.Filters.{members_of}
 use Rattle.strc_work.specs.Resolution as judged
+use Rattle.strc_work.specs.Typing.{TypedNames, names_after}
 use Rattle.strc_work.specs.Verdicts.{IsRefusal}
 
 -- the statements of a list before others
@@ -40,42 +39,55 @@ block_behind_more resolved last (Err refusal) = refl
 pub refusal_through : {A B : Type 0} (first : Result A LowerError) (go : A → Result B LowerError) (e : LowerError) → IsRefusal first e → IsRefusal (judged.and_then first go) e
 refusal_through first go (refused.UnknownName name) h = ap (λ r. judged.and_then r go) h
 refusal_through first go refused.TypeMismatch h = ap (λ r. judged.and_then r go) h
-refusal_through first go (refused.ConstFault cause) h = h
+refusal_through first go (refused.ConstFault cause) h = ap (λ r. judged.and_then r go) h
+refusal_through first go refused.NotYet h = ap (λ r. judged.and_then r go) h
 refusal_through first go refused.NoMemory h = h
 
 -- a refusal of an equal judgement
 pub refusal_same : {A : Type 0} (first second : Result A LowerError) (e : LowerError) → first ≡ second → IsRefusal first e → IsRefusal second e
 refusal_same first second (refused.UnknownName name) same h = sym same ∙ h
 refusal_same first second refused.TypeMismatch same h = sym same ∙ h
-refusal_same first second (refused.ConstFault cause) same h = h
+refusal_same first second (refused.ConstFault cause) same h = sym same ∙ h
+refusal_same first second refused.NotYet same h = sym same ∙ h
 refusal_same first second refused.NoMemory same h = h
 
-abbrev pub members_behind : List Member → Result (List tree.Member) LowerError → Result (List tree.Member) LowerError
-members_behind resolved left = judged.and_then left (λ rest. Ok (members_of resolved ++ rest))
+-- the judgement of a list, behind what is judged already
+abbrev pub list_behind : {X A : Type 0} → (X → A) → List X → Result (List A) LowerError → Result (List A) LowerError
+list_behind view resolved left = judged.and_then left (λ rest. Ok (map view resolved ++ rest))
 
-pub members_behind_none : (left : Result (List tree.Member) LowerError) → members_behind [] left ≡ left
-members_behind_none (Ok rest) = refl
-members_behind_none (Err refusal) = refl
+pub list_behind_none : {X A : Type 0} (view : X → A) (left : Result (List A) LowerError) → list_behind view [] left ≡ left
+list_behind_none view (Ok rest) = refl
+list_behind_none view (Err refusal) = refl
 
-members_of-push : (members : List Member) (last : Member) (rest : List tree.Member) → members_of (members ++ last ∷ []) ++ rest ≡ members_of members ++ member_view last ∷ rest
-members_of-push [] last rest = refl
-members_of-push (first ∷ others) last rest = ap (λ l. member_view first ∷ l) (members_of-push others last rest)
+map-push : {X A : Type 0} (view : X → A) (xs : List X) (last : X) (rest : List A) → map view (xs ++ last ∷ []) ++ rest ≡ map view xs ++ view last ∷ rest
+map-push view [] last rest = refl
+map-push view (first ∷ others) last rest = ap (λ l. view first ∷ l) (map-push view others last rest)
 
-pub members_behind_more : (resolved : List Member) (last : Member) (left : Result (List tree.Member) LowerError) → members_behind (resolved ++ last ∷ []) left ≡ members_behind resolved (judged.and_then left (λ rest. Ok (member_view last ∷ rest)))
-members_behind_more resolved last (Ok rest) = ap Ok (members_of-push resolved last rest)
-members_behind_more resolved last (Err refusal) = refl
+pub list_behind_more : {X A : Type 0} (view : X → A) (resolved : List X) (last : X) (left : Result (List A) LowerError) → list_behind view (resolved ++ last ∷ []) left ≡ list_behind view resolved (judged.and_then left (λ rest. Ok (view last ∷ rest)))
+list_behind_more view resolved last (Ok rest) = ap Ok (map-push view resolved last rest)
+list_behind_more view resolved last (Err refusal) = refl
+
+-- the judgement of one more item, before those that are left
+pub list_behind_step : {X A : Type 0} (view : X → A) (resolved : List X) (y : X) (first : Result A LowerError) (left : Result (List A) LowerError) → first ≡ Ok (view y) → list_behind view (resolved ++ y ∷ []) left ≡ list_behind view resolved (judged.and_then first (λ first'. judged.and_then left (λ rest'. Ok (first' ∷ rest'))))
+list_behind_step view resolved y first left h =
+    list_behind_more view resolved y left
+    ∙ ap (λ r. list_behind view resolved (judged.and_then r (λ first'. judged.and_then left (λ rest'. Ok (first' ∷ rest'))))) (sym h)
+
+-- the item at a place, before those behind it
+pub map-drop : {X A : Type 0} (view : X → A) (xs : List X) (i : ℕ) (x : X) → i < length xs → x ≡ get_or xs i x → map view (drop i xs) ≡ view x ∷ map view (drop (i + 1) xs)
+map-drop view xs i x h is = rw add-one (ap (map view) (drop-cons xs i x h) ∙ ap (λ m. view m ∷ map view (drop (suc i) xs)) (sym is))
 
 -- the judgement of one more statement
-pub block_behind_step : (site : judged.Site) (names names' : List (List ℕ)) (outer : ℕ) (resolved : List Stmt) (x : tree.Stmt) (y : Stmt) (rest : tree.Stmts) → judged.stmt_resolved site names outer x ≡ Ok (stmt_view y) → names' ≡ judged.names_after names x → block_behind (resolved ++ y ∷ []) (judged.stmts_resolved site names' outer rest) ≡ block_behind resolved (judged.stmts_resolved site names outer (tree.Then x rest))
+pub block_behind_step : (site : judged.Site) (names names' : TypedNames) (outer : ℕ) (resolved : List Stmt) (x : tree.Stmt) (y : Stmt) (rest : tree.Stmts) → judged.stmt_resolved site names outer x ≡ Ok (stmt_view y) → names' ≡ names_after names x → block_behind (resolved ++ y ∷ []) (judged.stmts_resolved site names' outer rest) ≡ block_behind resolved (judged.stmts_resolved site names outer (tree.Then x rest))
 block_behind_step site names names' outer resolved x y rest h scope =
-    let left = judged.stmts_resolved site (judged.names_after names x) outer rest in
+    let left = judged.stmts_resolved site (names_after names x) outer rest in
     let go : tree.Stmt → Result tree.Stmts LowerError = λ first'. judged.and_then left (λ rest'. Ok (tree.Then first' rest')) in
     ap (λ n. block_behind (resolved ++ y ∷ []) (judged.stmts_resolved site n outer rest)) scope
     ∙ block_behind_more resolved y left
     ∙ ap (λ r. block_behind resolved (judged.and_then r go)) (sym h)
 
 -- the refusal of a statement is that of its block
-pub block_refused : (site : judged.Site) (names : List (List ℕ)) (outer : ℕ) (resolved : List Stmt) (x : tree.Stmt) (rest : tree.Stmts) (e : LowerError) → IsRefusal (judged.stmt_resolved site names outer x) e → IsRefusal (block_behind resolved (judged.stmts_resolved site names outer (tree.Then x rest))) e
+pub block_refused : (site : judged.Site) (names : TypedNames) (outer : ℕ) (resolved : List Stmt) (x : tree.Stmt) (rest : tree.Stmts) (e : LowerError) → IsRefusal (judged.stmt_resolved site names outer x) e → IsRefusal (block_behind resolved (judged.stmts_resolved site names outer (tree.Then x rest))) e
 block_refused site names outer resolved x rest e h =
     refusal_through (judged.stmts_resolved site names outer (tree.Then x rest)) (λ rest'. Ok (block_onto resolved rest')) e
-    (refusal_through (judged.stmt_resolved site names outer x) (λ first'. judged.and_then (judged.stmts_resolved site (judged.names_after names x) outer rest) (λ rest'. Ok (tree.Then first' rest'))) e h)
+    (refusal_through (judged.stmt_resolved site names outer x) (λ first'. judged.and_then (judged.stmts_resolved site (names_after names x) outer rest) (λ rest'. Ok (tree.Then first' rest'))) e h)

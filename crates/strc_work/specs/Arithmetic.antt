@@ -1,7 +1,8 @@
 -- Operations on numbers of 32 bits.
-use Rattle.std.specs.Prelude.{ℕ, ◌%◌, ℤ, pos, zero, neg_ℤ, ◌+ℤ◌, ◌-ℤ◌, ◌*ℤ◌, Result, Ok, Err}
+use Rattle.std.specs.Prelude.{ℕ, ◌%◌, ℤ, pos, zero, neg_ℤ, ◌+ℤ◌, ◌-ℤ◌, ◌*ℤ◌, Bool, true, false, not, Result, Ok, Err}
 use Rattle.std.specs.Int.{int_wrap, int_bit_and, int_bit_or, int_bit_xor, int_bit_not, int_shl, int_shr, cast_unsigned}
-use Rattle.std.specs.Int.RustNames.{int_div, int_rem}
+use Rattle.std.specs.Int.RustNames.{int_div, int_rem, int_lt}
+use Rattle.std.specs.Ordering.{int_eq}
 use mir.Syntax.{w32}
 use Rattle.strc_parse.specs.declared.tree.UnaryOperator.{UnaryOperator}
 use Rattle.strc_parse.specs.declared.tree.UnaryOperator.TheVariants as unary
@@ -39,6 +40,16 @@ abbrev pub flipped : ℤ → ℤ
 flipped (pos zero) = pos 1
 flipped _ = pos 0
 
+-- the number of a truth value
+abbrev pub truth : Bool → ℤ
+truth true = pos 1
+truth false = pos 0
+
+-- whether a truth value's number is that of `true`
+abbrev pub is_true : ℤ → Bool
+is_true (pos zero) = false
+is_true _ = true
+
 -- a dividing operation, which faults at a divisor 0
 abbrev pub unless_zero : ℤ → ℤ → Result ℤ Cause
 unless_zero (pos zero) value = Err DivZero
@@ -50,11 +61,19 @@ unary_value unary.Negate value = wrapped (neg_ℤ value)
 unary_value unary.Not value = flipped value
 unary_value unary.Complement value = int_bit_not w32 value
 
--- the value of an operator between its operands, or its fault
+-- the value of an operator between its operands, or its fault; truth values are 0 and 1
 abbrev pub binary_value : BinaryOperator → ℤ → ℤ → Result ℤ Cause
+binary_value binary.LogicalOr left right = Ok (int_bit_or w32 left right)
+binary_value binary.LogicalAnd left right = Ok (int_bit_and w32 left right)
 binary_value binary.Or left right = Ok (int_bit_or w32 left right)
 binary_value binary.ExclusiveOr left right = Ok (int_bit_xor w32 left right)
 binary_value binary.And left right = Ok (int_bit_and w32 left right)
+binary_value binary.Equal left right = Ok (truth (int_eq left right))
+binary_value binary.NotEqual left right = Ok (truth (not (int_eq left right)))
+binary_value binary.Less left right = Ok (truth (int_lt left right))
+binary_value binary.LessOrEqual left right = Ok (truth (not (int_lt right left)))
+binary_value binary.Greater left right = Ok (truth (int_lt right left))
+binary_value binary.GreaterOrEqual left right = Ok (truth (not (int_lt left right)))
 binary_value binary.ShiftLeft left right = Ok (shifted_left left right)
 binary_value binary.ShiftRight left right = Ok (shifted_right left right)
 binary_value binary.Add left right = Ok (wrapped (left +ℤ right))

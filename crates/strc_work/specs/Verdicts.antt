@@ -1,17 +1,23 @@
 -- How code answers a judgement: with what it gives, or with its refusal, or for want of memory.
-use Rattle.std.specs.Prelude.{◌≡◌, Result, Ok, Err, Vec}
+use Rattle.std.specs.Prelude.{◌≡◌, map, Result, Ok, Err, Vec}
 use Rattle.std.specs.declared.alloc.Global.{Global}
+use Rattle.strc_parse.specs.View.{expr_view, rate_view, block_view}
 use Rattle.strc_parse.specs.declared.tree.Stmt.{Stmt}
+use Rattle.strc_parse.specs.declared.tree.Variable.{Variable}
+use Rattle.strc_parse.specs.declared.tree.RateTree.{RateTree}
+use Rattle.strc_parse.specs.declared.tree.WorkTree.{WorkTree}
 use Rattle.strc_work.specs.declared.lowering.LowerError.{LowerError}
 use Rattle.strc_work.specs.declared.lowering.LowerError.TheVariants as refused
-use Rattle.strc_work.specs.declared.resolution.Site.{Site}
+use Rattle.strc_work.specs.declared.site.Site.{Site}
+use Rattle.strc_work.specs.declared.typed.Typed.{Typed}
 use Rattle.strc_work.specs.Resolution as judged
 
--- the judgement's refusal, if it isn't want of memory; no constant faults yet
+-- the judgement's refusal, if it isn't want of memory
 abbrev pub IsRefusal : {A : Type 0} → Result A LowerError → LowerError → Type 0
 IsRefusal expected (refused.UnknownName name) = expected ≡ Err (refused.UnknownName name)
 IsRefusal expected refused.TypeMismatch = expected ≡ Err refused.TypeMismatch
-IsRefusal expected (refused.ConstFault cause) = ⊥
+IsRefusal expected (refused.ConstFault cause) = expected ≡ Err (refused.ConstFault cause)
+IsRefusal expected refused.NotYet = expected ≡ Err refused.NotYet
 IsRefusal expected refused.NoMemory = Unit {0}
 
 -- the answer x is the judgement's, seen by a view
@@ -21,8 +27,28 @@ IsVerdict view expected (Err refusal) = IsRefusal expected refusal
 
 -- a site as the judgement sees it
 abbrev pub site_of : Site → judged.Site
-site_of site = record { constants = site.constants.now; pops = site.pops; pushes = site.pushes }
+site_of site = record {
+  constants = site.constants.now;
+  pops = site.pops;
+  pushes = site.pushes;
+  prints = site.prints;
+  fixed = site.fixed;
+}
 
--- a list of statements
+-- a typed expression as the judgement sees it
+abbrev pub typed_view : Typed → judged.Typed
+typed_view typed = record { kind = typed.kind; value = expr_view typed.value }
+
+-- a body with its rates as the judgement sees it
+abbrev pub work_view : WorkTree → judged.Work
+work_view work = record { rates = map rate_view work.rates.items; block = block_view work.block.items }
+
+-- a list of statements, of variables, and of rates
 abbrev pub Statements : Type 0
 Statements = Vec Stmt Global
+
+abbrev pub VariableList : Type 0
+VariableList = Vec Variable Global
+
+abbrev pub RateList : Type 0
+RateList = Vec RateTree Global

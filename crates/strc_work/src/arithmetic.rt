@@ -3,6 +3,7 @@
 ghost use Rattle.std.specs.Prelude.{◌≡◌, ◌≢◌, pos, neg_ℤ, ◌+ℤ◌, ◌-ℤ◌, ◌*ℤ◌, ◌%◌};
 ghost use Rattle.std.specs.Int.{cast_unsigned, int_shl, int_shr};
 ghost use Rattle.strc_work.specs.Arithmetic.{wrapped, quotient, remainder, shift_of, shifted_left, shifted_right, flipped};
+ghost use Rattle.strc_work.specs.Arithmetic as spec;
 
 /// The quotient, rounded towards 0; the minimum by -1 is the minimum.
 pub fn divide(dividend: i32, divisor: i32) -> i32
@@ -32,6 +33,13 @@ pub fn shift_right(value: i32, count: i32) -> i32
     ensures { result ≡ shifted_right value count }
 {
     value.wrapping_shr(count.cast_unsigned())
+}
+
+/// The number of a truth value.
+pub fn truth(value: bool) -> i32
+    ensures { result ≡ spec.truth value }
+{
+    if value { 1 } else { 0 }
 }
 
 /// A truth value, 0 or 1, turned round.

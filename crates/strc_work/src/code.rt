@@ -1,27 +1,32 @@
-// Lowered code: a filter's tree with its constants put in, and the steps that mean it.
+// Lowered code: a filter's tree with its constants put in, and the nodes that mean it.
 
-ghost use Rattle.std.specs.Prelude.{◌≡◌, [], IfOk, length};
+ghost use Rattle.std.specs.Prelude.{◌≡◌, [], IfOk, length, is_some};
+ghost use Rattle.strc_parse.specs.View.{block_view};
 ghost use Rattle.strc_work.specs.Filters as filters;
+ghost use Rattle.strc_work.specs.Code.{code_of};
+ghost use Rattle.strc_work.specs.Lowered.{limits_of, first_routine};
 ghost use Rattle.strc_work.specs.StartErrors.{start_error_of};
+ghost use Rattle.strc_work.specs.declared.code.Body.TheVariants as bodied;
 
 use crate::fault::{Cause, Halt};
-use crate::frame::{Frame, Tape};
+use crate::frame::{Frame, Limits, Tape};
 use crate::memory::NoMemory;
+use crate::node::Node;
 use crate::state::State;
-use crate::step::{self, Step};
 use crate::window::Window;
 use crate::word::Word;
-use crate::{copies, machine, members};
+use crate::{bodies, copies, machine};
 use std::alloc::Global;
 use std::marker::Model;
-use strc_parse::tree::{FilterTree, RateKind};
+use strc_parse::tree::{FilterTree, RateKind, Stmt};
 
 /// The code of a filter.
 #[derive(Debug, Drop)]
 pub struct Code {
     tree: FilterTree,
-    start: Vec<Step>,
-    work: Vec<Step>,
+    start: Node,
+    prework: Option<Routine>,
+    work: Routine,
     fields: usize,
     slots: usize,
 }
@@ -39,7 +44,14 @@ impl Model for Code {
 
     ghost view = { λ c. c.tree };
 
-    ghost invariant = { λ c. IsLowered c.tree c.start.items c.work.items c.fields c.slots };
+    ghost invariant = { λ c. IsLowered c.tree c.start c.prework c.work c.fields c.slots };
+}
+
+/// A body's code, and what it may pop, look at and push.
+#[derive(Debug, Drop)]
+pub(crate) struct Routine {
+    pub code: Node,
+    pub limits: Limits,
 }
 
 /// Which of a filter's bodies is fired.
@@ -68,25 +80,38 @@ pub enum StartError {
 }
 
 impl Code {
-    ghost use Rattle.strc_work.specs.Lowering.{start_steps, work_steps};
+    ghost use Rattle.strc_work.specs.Lowering.{start_nodes, body_nodes};
     ghost use Rattle.strc_work.specs.Closed.{IsClosedFilter};
     ghost use Rattle.strc_work.specs.States.{IsStateOf, IsFrameOf};
     ghost use Rattle.strc_work.specs.Firing.{started, fired};
     ghost use Rattle.strc_work.specs.Answers.{Starts, Fires};
     ghost use Rattle.strc_work.specs.Running.{MoreWords, WantsOnlyWords};
 
-    /// The code of a resolved tree and its steps.
-    pub(crate) fn of_parts(tree: FilterTree, start: Vec<Step>, work: Vec<Step>) -> Code
-        requires start { start.items ≡ start_steps (filters.filter_of tree) }
-        requires work { work.items ≡ work_steps (filters.filter_of tree) }
+    /// The code of a resolved tree and its parts.
+    pub(crate) fn of_parts(
+        tree: FilterTree,
+        fields: usize,
+        start: Node,
+        prework: Option<Routine>,
+        work: Routine,
+    ) -> Code
+        requires fields { fields ≡ length (filters.field_names (filters.filter_of tree).members) }
+        requires start { code_of start ≡ start_nodes (filters.filter_of tree) }
+        requires prework { code_of (first_routine prework work).code ≡ body_nodes bodied.Prework (filters.filter_of tree) }
+        requires work { code_of work.code ≡ body_nodes bodied.Work (filters.filter_of tree) }
+        requires prework_limits { (first_routine prework work).limits
+            ≡ limits_of (filters.body_rates bodied.Prework (filters.filter_of tree).members) }
+        requires work_limits { work.limits
+            ≡ limits_of (filters.body_rates bodied.Work (filters.filter_of tree).members) }
         requires closed { IsClosedFilter (filters.filter_of tree) }
         ensures { result ≡ tree }
     {
-        let fields = members::field_count(&tree.members);
-        let slots = fields.max(step::room_for(&start).max(step::room_for(&work)));
+        let first = first_of(&prework, &work).code.room();
+        let slots = fields.max(start.room().max(first.max(work.code.room())));
         Code {
             tree,
             start,
+            prework,
             work,
             fields,
             slots,
@@ -97,16 +122,21 @@ impl Code {
     pub fn copy(&self, alloc: Global) -> Result<Code, NoMemory>
         ensures { IfOk result (λ copy. filters.filter_of copy ≡ filters.filter_of self.now) }
     {
+        let prework = match &self.prework {
+            None => None,
+            Some(prework) => Some(copy_routine(alloc, prework)?),
+        };
         Ok(Code {
             tree: copies::copy_filter(alloc, &self.tree)?,
-            start: Vec::from_slice(alloc, &self.start)?,
-            work: Vec::from_slice(alloc, &self.work)?,
+            start: copies::copy_node(alloc, &self.start)?,
+            prework,
+            work: copy_routine(alloc, &self.work)?,
             fields: self.fields,
             slots: self.slots,
         })
     }
 
-    /// The fields at 0, then their initialisers in order.
+    /// The fields at 0, then their initialisers in order, and then `init`.
     pub fn start(&self, alloc: Global) -> Result<State, StartError>
         ensures values { Starts (started (filters.filter_of self.now)) result }
         ensures state { IfOk result (λ state. IsStateOf (filters.filter_of self.now) state) }
@@ -117,11 +147,24 @@ impl Code {
         let mut tape = Tape {
             popped: 0,
             pushed: 0,
+            turns: 0,
             buffer: Vec::new(alloc),
+        };
+        let limits = Limits {
+            pops: 0,
+            looks: 0,
+            pushes: 0,
         };
         let mut words = Vec::new(alloc);
         let nothing: &[i32] = &[];
-        match machine::run(&self.start, &mut slots, &mut tape, 0, &nothing, &mut words) {
+        match machine::run(
+            &self.start,
+            &mut slots,
+            &mut tape,
+            limits,
+            &nothing,
+            &mut words,
+        ) {
             Ok(()) => Ok(State {
                 slots,
                 fields: self.fields,
@@ -130,17 +173,19 @@ impl Code {
         }
     }
 
-    /// Room for the pushes of one firing.
+    /// Room for the pushes of one firing, of either body.
     pub fn frame(&self, alloc: Global) -> Result<Frame, NoMemory>
         ensures frame { IfOk result (λ frame. IsFrameOf (filters.filter_of self.now) frame) }
         ensures pushes { IfOk result (λ frame. frame.items ≡ []) }
     {
-        let rates = self.rates(Body::Work);
-        let buffer = Vec::from_elem(alloc, 0, members::item_count(rates.push) as usize)?;
+        let first = self.routine(Body::Prework).limits.pushes;
+        let room = first.max(self.routine(Body::Work).limits.pushes);
+        let buffer = Vec::from_elem(alloc, 0, room as usize)?;
         Ok(Frame {
             tape: Tape {
                 popped: 0,
                 pushed: 0,
+                turns: 0,
                 buffer,
             },
         })
@@ -164,17 +209,15 @@ impl Code {
         ensures state { IsStateOf (filters.filter_of self.now) state.new }
         ensures frame { IsFrameOf (filters.filter_of self.now) frame.new }
     {
-        let steps = match body {
-            Body::Prework | Body::Work => &self.work,
-        };
-        let pops = members::item_count(self.rates(body).pop);
+        let routine = self.routine(body);
         frame.tape.popped = 0;
         frame.tape.pushed = 0;
+        frame.tape.turns = 0;
         machine::run(
-            steps,
+            &routine.code,
             &mut state.slots,
             &mut frame.tape,
-            pops,
+            routine.limits,
             window,
             words,
         )
@@ -187,33 +230,86 @@ impl Code {
         &self.tree
     }
 
+    /// Whether there is a prework.
+    pub fn has_prework(&self) -> bool
+        ensures { result ≡ is_some (filters.prework_block (filters.filter_of self.now).members) }
+    {
+        bodies::has_prework(&self.tree.members)
+    }
+
+    /// The statements of a body; without a prework each body is the work.
+    pub fn block(&self, body: Body) -> &[Stmt]
+        ensures { block_view result.now ≡ filters.body_block body (filters.filter_of self.now).members }
+    {
+        bodies::block_of(&self.tree.members, body)
+    }
+
     /// The rates of a body as they are declared.
     pub fn rates(&self, body: Body) -> DeclaredRates
         ensures push { result.push
-            ≡ filters.push_rate (filters.work_rates (filters.filter_of self.now).members) }
+            ≡ filters.push_rate (filters.body_rates body (filters.filter_of self.now).members) }
         ensures pop { result.pop
-            ≡ filters.pop_rate (filters.work_rates (filters.filter_of self.now).members) }
-        ensures peek { result.peek ≡ result.pop }
+            ≡ filters.pop_rate (filters.body_rates body (filters.filter_of self.now).members) }
+        ensures peek { result.peek
+            ≡ filters.peek_rate (filters.body_rates body (filters.filter_of self.now).members) }
     {
-        match body {
-            Body::Prework | Body::Work => {
-                let push = members::rate_of(&self.tree.members, RateKind::Push);
-                let pop = members::rate_of(&self.tree.members, RateKind::Pop);
-                DeclaredRates {
-                    push,
-                    pop,
-                    peek: pop,
-                }
-            }
+        let rates = bodies::rates_of(&self.tree.members, body);
+        DeclaredRates {
+            push: bodies::rate_of(rates, RateKind::Push),
+            pop: bodies::rate_of(rates, RateKind::Pop),
+            peek: bodies::peek_rate(rates),
         }
+    }
+
+    /// How many items a firing of a body may look at.
+    pub fn window(&self, body: Body) -> u32
+        ensures { result ≡ filters.window_size (filters.body_rates body (filters.filter_of self.now).members) }
+    {
+        self.routine(body).limits.looks
     }
 
     /// Whether a firing can print.
     pub fn prints(&self) -> bool
         ensures { result ≡ filters.filter_prints (filters.filter_of self.now) }
     {
-        members::work_prints(&self.tree.members)
+        let members = &self.tree.members;
+        bodies::block_prints(bodies::block_of(members, Body::Work))
+            || bodies::block_prints(bodies::block_of(members, Body::Prework))
     }
+
+    /// The routine of a body; without a prework each body is the work.
+    fn routine(&self, body: Body) -> &Routine
+        ensures code { code_of result.now.code ≡ body_nodes body (filters.filter_of self.now) }
+        ensures limits { result.now.limits
+            ≡ limits_of (filters.body_rates body (filters.filter_of self.now).members) }
+        ensures closed { IsClosedFilter (filters.filter_of self.now) }
+    {
+        match body {
+            Body::Prework => first_of(&self.prework, &self.work),
+            Body::Work => &self.work,
+        }
+    }
+}
+
+/// The routine of the first firing.
+fn first_of<'a>(prework: &'a Option<Routine>, work: &'a Routine) -> &'a Routine
+    ensures { result.now ≡ first_routine prework.now work.now }
+{
+    match prework {
+        Some(prework) => prework,
+        None => work,
+    }
+}
+
+/// An equal routine.
+fn copy_routine(alloc: Global, routine: &Routine) -> Result<Routine, NoMemory>
+    ensures code { IfOk result (λ copy. code_of copy.code ≡ code_of routine.now.code) }
+    ensures limits { IfOk result (λ copy. copy.limits ≡ routine.now.limits) }
+{
+    Ok(Routine {
+        code: copies::copy_node(alloc, &routine.code)?,
+        limits: routine.limits,
+    })
 }
 
 /// What a halt means at the start.

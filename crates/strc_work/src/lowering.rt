@@ -22,6 +22,8 @@ pub enum LowerError {
     TypeMismatch,
     /// A number that must be known faults when it is computed.
     ConstFault { cause: Cause },
+    /// A form of the language that isn't lowered yet.
+    NotYet,
     /// Memory was refused.
     NoMemory,
 }

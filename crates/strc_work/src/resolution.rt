@@ -1,34 +1,23 @@
-// The rules on names and types. A tree that keeps them is copied with its constants put in.
+// The rules on names and types of filters. A tree that keeps them is copied with its constants put in.
 
-ghost use Rattle.std.specs.Prelude.{◌≡◌, IfOk, OnOk, [], length, reverse};
-ghost use Rattle.std.specs.Option.{option_map};
-ghost use Rattle.strc_parse.specs.View.{expr_view, stmt_view, block_view, member_view};
-ghost use Rattle.strc_parse.specs.declared.tree.Lvalue.{Lvalue as Place};
-ghost use Rattle.strc_parse.specs.declared.tree.WorkTree.{WorkTree as Work};
-ghost use Rattle.strc_parse.specs.declared.tree.Member.TheVariants as member;
+ghost use Rattle.std.specs.Prelude.{◌≡◌, IfOk, OnOk, [], ◌∷◌, map, reverse};
+ghost use Rattle.strc_parse.specs.View.{variable_view, member_view};
 ghost use Rattle.strc_work.specs.Filters.{filter_of, members_of, field_names};
+ghost use Rattle.strc_work.specs.Scoping as scoping;
+ghost use Rattle.strc_work.specs.Typing as typing;
 ghost use Rattle.strc_work.specs.Resolution as judged;
-ghost use Rattle.strc_work.specs.Verdicts.{IsVerdict, site_of, Statements};
+ghost use Rattle.strc_work.specs.Verdicts.{IsVerdict, site_of, work_view, VariableList};
 
 use crate::constants::Constants;
 use crate::lowering::LowerError;
 use crate::memory::NoMemory;
 use crate::scope::Scope;
-use crate::{copies, members};
+use crate::site::{self, Site};
+use crate::typed_scope::TypedScope;
+use crate::types::{self, ValueType};
+use crate::{expression_rules, parts, rates, statement_rules};
 use std::alloc::Global;
-use strc_lex::token::Name;
-use strc_parse::tree::{
-    Expr, FilterTree, ItemType, Lvalue, Member, RateKind, RateTree, Stmt, UnaryOperator, Variable,
-    WorkTree,
-};
-
-/// Where a text stands: its constants, and whether it may pop and push.
-#[derive(Drop)]
-pub struct Site<'a> {
-    constants: &'a Constants,
-    pops: bool,
-    pushes: bool,
-}
+use strc_parse::tree::{FilterTree, Member, Variable, Variables, WorkTree};
 
 /// The filter with its constants put in.
 pub fn resolve_filter(
@@ -38,10 +27,10 @@ pub fn resolve_filter(
 ) -> Result<FilterTree, LowerError>
     ensures { IsVerdict filter_of (judged.filter_resolved constants.now (filter_of tree.now)) result }
 {
-    if members::work_count(&tree.members) != 1 {
+    if !parts::has_parts(&tree.members) {
         return Err(LowerError::TypeMismatch);
     }
-    let mut fields = field_scope(alloc, &tree.members)?;
+    let mut fields = typed_fields(alloc, &tree.members)?;
     let mut before = Scope::new(alloc);
     let mut resolved = Vec::new(alloc);
     for member in &tree.members {
@@ -61,18 +50,59 @@ pub fn field_scope(alloc: Global, members: &[Member]) -> Result<Scope, NoMemory>
 {
     let mut fields = Scope::new(alloc);
     for member in members {
-        if let Member::Field(variable) = member {
-            fields.declare(&variable.name)?;
+        if let Member::Fields(declared) = member {
+            declare_all(&mut fields, &declared.variables)?;
         }
     }
     Ok(fields)
+}
+
+/// More names, the last one innermost.
+fn declare_all(names: &mut Scope, variables: &[Variable]) -> Result<(), NoMemory>
+    ensures { OnOk result (names.new ≡ scoping.with_declared names.old (map variable_view variables.now)) }
+{
+    for variable in variables {
+        names.declare(&variable.name)?;
+    }
+    Ok(())
+}
+
+/// The fields with their types.
+fn typed_fields(alloc: Global, members: &[Member]) -> Result<TypedScope, NoMemory>
+    ensures { IfOk result (λ names. names ≡ typing.fields_behind [] (members_of members.now)) }
+{
+    let mut fields = TypedScope::new(alloc);
+    for member in members {
+        if let Member::Fields(declared) = member {
+            declare_typed(
+                &mut fields,
+                types::type_of(&declared.kind),
+                &declared.variables,
+            )?;
+        }
+    }
+    Ok(fields)
+}
+
+/// More variables of one type, the last one innermost.
+fn declare_typed(
+    names: &mut TypedScope,
+    kind: ValueType,
+    variables: &[Variable],
+) -> Result<(), NoMemory>
+    ensures { OnOk result (names.new ≡ typing.with_declared names.old kind (map variable_view variables.now)) }
+{
+    for variable in variables {
+        names.declare(&variable.name, kind)?;
+    }
+    Ok(())
 }
 
 fn resolve_member(
     alloc: Global,
     tree: &FilterTree,
     constants: &Constants,
-    fields: &mut Scope,
+    fields: &mut TypedScope,
     before: &mut Scope,
     member: &Member,
 ) -> Result<Member, LowerError>
@@ -84,232 +114,103 @@ fn resolve_member(
     ensures before { OnOk result (before.new ≡ judged.fields_after before.old (member_view member.now)) }
 {
     match member {
-        Member::Field(variable) => {
-            let site = Site {
-                constants,
-                pops: false,
-                pushes: false,
-            };
-            if before.has(&variable.name) {
-                return Err(LowerError::TypeMismatch);
-            }
-            before.declare(&variable.name)?;
-            let initial = resolve_initial(alloc, &site, fields, &variable.initial)?;
-            let name = variable.name.copy()?;
-            Ok(Member::Field(Variable { name, initial }))
+        Member::Fields(declared) => {
+            let site = site::start_site(constants);
+            let kind = types::resolve_type(&declared.kind)?;
+            let variables = resolve_fields(
+                alloc,
+                &site,
+                fields,
+                before,
+                kind,
+                &declared.variables,
+            )?;
+            let kind = types::written_type(kind);
+            Ok(Member::Fields(Variables { kind, variables }))
         }
-        Member::Work(work) => Ok(Member::Work(resolve_work(alloc, tree, constants, fields, work)?)),
+        Member::Init(block) => {
+            let site = site::start_site(constants);
+            let block = statement_rules::resolve_block(alloc, &site, fields, block)?;
+            Ok(Member::Init(block))
+        }
+        Member::Prework(work) => {
+            let work = resolve_work(alloc, tree, constants, fields, work)?;
+            Ok(Member::Prework(work))
+        }
+        Member::Work(work) => {
+            let work = resolve_work(alloc, tree, constants, fields, work)?;
+            Ok(Member::Work(work))
+        }
     }
 }
 
+/// Fields that are declared together. They see all fields.
+fn resolve_fields(
+    alloc: Global,
+    site: &Site,
+    fields: &TypedScope,
+    before: &mut Scope,
+    kind: ValueType,
+    variables: &[Variable],
+) -> Result<Vec<Variable>, LowerError>
+    ensures verdict { IsVerdict (λ (resolved : VariableList). map variable_view resolved.items)
+        (judged.fields_resolved (site_of site.now) fields.now before.old kind (map variable_view variables.now))
+        result }
+    ensures before { OnOk result
+        (before.new ≡ scoping.with_declared before.old (map variable_view variables.now)) }
+{
+    let mut resolved = Vec::new(alloc);
+    for variable in variables {
+        resolved.push(resolve_field(alloc, site, fields, before, kind, variable)?)?;
+    }
+    Ok(resolved)
+}
+
+/// A field, whose name no earlier one has.
+fn resolve_field(
+    alloc: Global,
+    site: &Site,
+    fields: &TypedScope,
+    before: &mut Scope,
+    kind: ValueType,
+    variable: &Variable,
+) -> Result<Variable, LowerError>
+    ensures verdict { IsVerdict variable_view
+        (judged.field_resolved (site_of site.now) fields.now before.old kind (variable_view variable.now))
+        result }
+    ensures before { OnOk result (before.new ≡ variable.now.name ∷ before.old) }
+{
+    if before.has(&variable.name) {
+        return Err(LowerError::TypeMismatch);
+    }
+    let initial = expression_rules::resolve_initial(alloc, site, fields, kind, &variable.initial)?;
+    before.declare(&variable.name)?;
+    let name = variable.name.copy()?;
+    Ok(Variable { name, initial })
+}
+
+/// A body, with its rates.
 fn resolve_work(
     alloc: Global,
     tree: &FilterTree,
     constants: &Constants,
-    fields: &mut Scope,
+    fields: &mut TypedScope,
     work: &WorkTree,
 ) -> Result<WorkTree, LowerError>
-    ensures verdict { IsVerdict (λ (work : Work). member_view (member.Work work))
-        (judged.member_resolved constants.now tree.now.input tree.now.output fields.old []
-        (member_view (member.Work work.now)))
+    ensures verdict { IsVerdict work_view
+        (judged.work_resolved constants.now tree.now.input tree.now.output fields.old (work_view work.now))
         result }
     ensures fields { OnOk result (fields.new ≡ fields.old) }
 {
-    if !rates_fit(tree.input, tree.output, &work.rates) {
-        return Err(LowerError::TypeMismatch);
-    }
-    let rates = copies::copy_rates(alloc, &work.rates)?;
-    let site = Site {
+    let rates = rates::resolve_rates(
+        alloc,
         constants,
-        pops: carries_items(tree.input),
-        pushes: carries_items(tree.output),
-    };
-    let block = resolve_block(alloc, &site, fields, &work.block)?;
+        fields,
+        tree.input,
+        tree.output,
+        &work.rates,
+    )?;
+    let site = site::body_site(constants, tree.input, tree.output);
+    let block = statement_rules::resolve_block(alloc, &site, fields, &work.block)?;
     Ok(WorkTree { rates, block })
-}
-
-/// The statements of a work, among the fields.
-fn resolve_block(
-    alloc: Global,
-    site: &Site,
-    names: &mut Scope,
-    block: &[Stmt],
-) -> Result<Vec<Stmt>, LowerError>
-    ensures verdict { IsVerdict (λ (block : Statements). block_view block.items)
-        (judged.stmts_resolved (site_of site.now) names.old (length names.old) (block_view block.now))
-        result }
-    ensures names { OnOk result (names.new ≡ names.old) }
-{
-    let start = names.len();
-    let mut resolved = Vec::new(alloc);
-    for inner in block {
-        resolved.push(resolve_stmt(alloc, site, names, start, inner)?)?;
-    }
-    names.leave(start);
-    Ok(resolved)
-}
-
-/// Whether items flow on a side.
-fn carries_items(side: ItemType) -> bool
-    ensures { result ≡ judged.carries_items side }
-{
-    match side {
-        ItemType::Int => true,
-        ItemType::Void => false,
-    }
-}
-
-/// Whether the rates are above 0 only where items flow.
-fn rates_fit(input: ItemType, output: ItemType, rates: &[RateTree]) -> bool
-    ensures { result ≡ judged.rates_fit input output rates.now }
-{
-    for rate in rates {
-        let side = match rate.kind {
-            RateKind::Push => output,
-            RateKind::Pop => input,
-        };
-        if rate.rate > 0 && !carries_items(side) {
-            return false;
-        }
-    }
-    true
-}
-
-/// An initialiser, where there is one.
-fn resolve_initial(
-    alloc: Global,
-    site: &Site,
-    names: &Scope,
-    initial: &Option<Expr>,
-) -> Result<Option<Expr>, LowerError>
-    ensures { IsVerdict (option_map expr_view)
-        (judged.initial_resolved (site_of site.now) names.now (option_map expr_view initial.now))
-        result }
-{
-    match initial {
-        None => Ok(None),
-        Some(value) => {
-            let value = resolve_expr(alloc, site, names, value)?;
-            Ok(Some(value))
-        }
-    }
-}
-
-/// A statement, among the names that can be seen; those of its own block stand from `start` on.
-fn resolve_stmt(
-    alloc: Global,
-    site: &Site,
-    names: &mut Scope,
-    start: u32,
-    statement: &Stmt,
-) -> Result<Stmt, LowerError>
-    ensures verdict { IsVerdict stmt_view
-        (judged.stmt_resolved (site_of site.now) names.old start (stmt_view statement.now))
-        result }
-    ensures names { OnOk result (names.new ≡ judged.names_after names.old (stmt_view statement.now)) }
-{
-    match statement {
-        Stmt::Empty => Ok(Stmt::Empty),
-        Stmt::Block(body) => {
-            let inner_start = names.len();
-            let mut resolved = Vec::new(alloc);
-            for inner in body {
-                resolved.push(resolve_stmt(alloc, site, names, inner_start, inner)?)?;
-            }
-            names.leave(inner_start);
-            Ok(Stmt::Block(resolved))
-        }
-        Stmt::Declare(variable) => {
-            if names.has_since(start, &variable.name) {
-                return Err(LowerError::TypeMismatch);
-            }
-            let initial = resolve_initial(alloc, site, names, &variable.initial)?;
-            names.declare(&variable.name)?;
-            let name = variable.name.copy()?;
-            Ok(Stmt::Declare(Variable { name, initial }))
-        }
-        Stmt::Evaluate(value) => Ok(Stmt::Evaluate(resolve_expr(alloc, site, names, value)?)),
-        Stmt::Assign(place, operator, value) => {
-            let place = resolve_place(site, names, place)?;
-            Ok(Stmt::Assign(place, *operator, resolve_expr(alloc, site, names, value)?))
-        }
-        Stmt::Push(value) => {
-            if !site.pushes {
-                return Err(LowerError::TypeMismatch);
-            }
-            Ok(Stmt::Push(resolve_expr(alloc, site, names, value)?))
-        }
-        Stmt::Print(value) => Ok(Stmt::Print(resolve_expr(alloc, site, names, value)?)),
-        Stmt::Println(value) => Ok(Stmt::Println(resolve_expr(alloc, site, names, value)?)),
-    }
-}
-
-fn resolve_expr(alloc: Global, site: &Site, names: &Scope, value: &Expr) -> Result<Expr, LowerError>
-    ensures { IsVerdict expr_view
-        (judged.expr_resolved (site_of site.now) names.now (expr_view value.now))
-        result }
-{
-    match value {
-        Expr::Number(number) => Ok(Expr::Number(*number)),
-        Expr::Read(place) => resolve_name(site, names, &place.name),
-        Expr::Pop => {
-            if !site.pops {
-                return Err(LowerError::TypeMismatch);
-            }
-            Ok(Expr::Pop)
-        }
-        Expr::Group(inner) => {
-            let inner = resolve_expr(alloc, site, names, inner)?;
-            Ok(Expr::Group(Box::new(alloc, inner)?))
-        }
-        Expr::Unary(operator, operand) => {
-            if *operator == UnaryOperator::Not {
-                return Err(LowerError::TypeMismatch);
-            }
-            let operand = resolve_expr(alloc, site, names, operand)?;
-            Ok(Expr::Unary(*operator, Box::new(alloc, operand)?))
-        }
-        Expr::Step(operator, place) => Ok(Expr::Step(
-            *operator,
-            resolve_place(site, names, place)?,
-        )),
-        Expr::Binary(operator, left, right) => {
-            let left = resolve_expr(alloc, site, names, left)?;
-            let right = resolve_expr(alloc, site, names, right)?;
-            Ok(Expr::Binary(*operator, Box::new(alloc, left)?, Box::new(alloc, right)?))
-        }
-    }
-}
-
-/// A name that is read: a variable, or else a constant, whose value is put in.
-fn resolve_name(site: &Site, names: &Scope, name: &Name) -> Result<Expr, LowerError>
-    ensures { IsVerdict expr_view (judged.name_resolved (site_of site.now) names.now name.now) result }
-{
-    if names.has(name) {
-        let name = name.copy()?;
-        return Ok(Expr::Read(Lvalue { name }));
-    }
-    match site.constants.value_of(name) {
-        Some(value) => Ok(Expr::Number(value)),
-        None => {
-            let name = name.copy()?;
-            Err(LowerError::UnknownName { name })
-        }
-    }
-}
-
-/// A name that is written: a variable, and no constant.
-fn resolve_place(site: &Site, names: &Scope, place: &Lvalue) -> Result<Lvalue, LowerError>
-    ensures { IsVerdict (λ (place : Place). place.name)
-        (judged.write_resolved (site_of site.now) names.now place.now.name)
-        result }
-{
-    let name = place.name.copy()?;
-    if names.has(&name) {
-        return Ok(Lvalue { name });
-    }
-    match site.constants.value_of(&name) {
-        Some(_) => Err(LowerError::TypeMismatch),
-        None => Err(LowerError::UnknownName { name }),
-    }
 }

@@ -10,8 +10,8 @@ use std::process::Abort;
 use std::test::Fail;
 use strc_lex::token::Name;
 use strc_parse::tree::{
-    AssignOperator, BinaryOperator, Expr, FilterTree, ItemType, Lvalue, Member, RateKind, RateTree,
-    StepOperator, Stmt, UnaryOperator, Variable, WorkTree,
+    AssignOperator, BinaryOperator, Expr, FilterTree, ItemType, Member, RateKind, RateTree,
+    StepOperator, Stmt, UnaryOperator, Variable, VariableType, Variables, WorkTree,
 };
 
 fn name(alloc: Global, text: &str) -> Result<Name, AllocError> {
@@ -19,18 +19,23 @@ fn name(alloc: Global, text: &str) -> Result<Name, AllocError> {
     Ok(Name::new(bytes))
 }
 
-fn place(alloc: Global, text: &str) -> Result<Lvalue, AllocError> {
-    let name = name(alloc, text)?;
-    Ok(Lvalue { name })
-}
-
 fn read(alloc: Global, text: &str) -> Result<Expr, AllocError> {
-    Ok(Expr::Read(place(alloc, text)?))
+    Ok(Expr::Read(name(alloc, text)?))
 }
 
 fn variable(alloc: Global, text: &str, initial: Option<Expr>) -> Result<Variable, AllocError> {
     let name = name(alloc, text)?;
     Ok(Variable { name, initial })
+}
+
+/// `int VARIABLE`
+fn declared(alloc: Global, variable: Variable) -> Result<Variables, AllocError> {
+    let mut variables = Vec::new(alloc);
+    variables.push(variable)?;
+    Ok(Variables {
+        kind: VariableType::Int,
+        variables,
+    })
 }
 
 fn unary(alloc: Global, operator: UnaryOperator, operand: Expr) -> Result<Expr, AllocError> {
@@ -56,16 +61,16 @@ fn filter(
 ) -> Result<FilterTree, AllocError> {
     let mut members = Vec::new(alloc);
     for field in fields {
-        members.push(Member::Field(field))?;
+        members.push(Member::Fields(declared(alloc, field)?))?;
     }
     let mut rates = Vec::new(alloc);
     rates.push(RateTree {
         kind: RateKind::Push,
-        rate: push,
+        rate: Expr::Number(push),
     })?;
     rates.push(RateTree {
         kind: RateKind::Pop,
-        rate: pop,
+        rate: Expr::Number(pop),
     })?;
     members.push(Member::Work(WorkTree { rates, block }))?;
     Ok(FilterTree {
@@ -180,7 +185,8 @@ fn operands_are_evaluated_from_left_to_right(rt: HostRuntime) -> Result<(), Fail
 
 /// `int x = 7;`
 fn seven(alloc: Global) -> Result<Stmt, AllocError> {
-    Ok(Stmt::Declare(variable(alloc, "x", Some(Expr::Number(7)))?))
+    let seven = variable(alloc, "x", Some(Expr::Number(7)))?;
+    Ok(Stmt::Declare(declared(alloc, seven)?))
 }
 
 /// `push(x);`
@@ -199,7 +205,7 @@ fn between(alloc: Global, statement: Stmt) -> Result<FilterTree, AllocError> {
 
 /// `x++` and its like.
 fn step(alloc: Global, operator: StepOperator) -> Result<Expr, AllocError> {
-    Ok(Expr::Step(operator, place(alloc, "x")?))
+    Ok(Expr::Step(operator, name(alloc, "x")?))
 }
 
 /// `TEXT OPERATOR VALUE;`
@@ -209,7 +215,7 @@ fn assign(
     operator: AssignOperator,
     value: Expr,
 ) -> Result<Stmt, AllocError> {
-    Ok(Stmt::Assign(place(alloc, text)?, operator, value))
+    Ok(Stmt::Assign(name(alloc, text)?, operator, value))
 }
 
 #[test]
@@ -271,7 +277,8 @@ fn hiding(alloc: Global) -> Result<Stmt, AllocError> {
         Expr::Number(1),
     )?;
     let mut block = Vec::new(alloc);
-    block.push(Stmt::Declare(variable(alloc, "x", Some(more))?))?;
+    let inner = variable(alloc, "x", Some(more))?;
+    block.push(Stmt::Declare(declared(alloc, inner)?))?;
     block.push(push_x(alloc)?)?;
     Ok(Stmt::Block(block))
 }
@@ -378,11 +385,14 @@ fn a_fault_of_an_initialiser_is_the_starts(rt: HostRuntime) -> Result<(), Fail> 
 #[test]
 fn an_unknown_name_is_refused(rt: HostRuntime) -> Result<(), Fail> {
     let own = variable(rt.alloc(), "y", Some(read(rt.alloc(), "y")?))?;
+    let own = declared(rt.alloc(), own)?;
     let tree = between(rt.alloc(), Stmt::Declare(own))?;
     match with_limit(&rt, rt.alloc(), &tree)?.expect_err(&rt, "a refusal") {
         LowerError::UnknownName { name } => assert_eq!(rt; name.as_bytes(), b"y".as_slice()),
-        LowerError::NoMemory => panic!(rt; "NoMemory"),
-        LowerError::TypeMismatch | LowerError::ConstFault { .. } => panic!(rt; "another refusal"),
+        LowerError::TypeMismatch
+        | LowerError::ConstFault { .. }
+        | LowerError::NotYet
+        | LowerError::NoMemory => { panic!(rt; "another refusal") }
     }
     Ok(())
 }
@@ -395,13 +405,198 @@ fn broken_rules_are_refused(rt: HostRuntime) -> Result<(), Fail> {
     statements.push(Stmt::Evaluate(unary(rt.alloc(), UnaryOperator::Not, Expr::Number(1))?))?;
     for statement in statements {
         let tree = between(rt.alloc(), statement)?;
-        match with_limit(&rt, rt.alloc(), &tree)?.expect_err(&rt, "a refusal") {
-            LowerError::TypeMismatch => {}
-            LowerError::NoMemory => panic!(rt; "NoMemory"),
-            LowerError::UnknownName { .. } | LowerError::ConstFault { .. } => {
-                panic!(rt; "another refusal")
-            }
-        }
+        let error = with_limit(&rt, rt.alloc(), &tree)?.expect_err(&rt, "a refusal");
+        assert!(rt; matches!(&error, LowerError::TypeMismatch));
     }
+    Ok(())
+}
+
+/// `int x = 1, y = x + 1, z; push(y - z);`
+fn declared_together(alloc: Global) -> Result<Vec<Stmt>, AllocError> {
+    let sum = binary(
+        alloc,
+        BinaryOperator::Add,
+        read(alloc, "x")?,
+        Expr::Number(1),
+    )?;
+    let mut variables = Vec::new(alloc);
+    variables.push(variable(alloc, "x", Some(Expr::Number(1)))?)?;
+    variables.push(variable(alloc, "y", Some(sum))?)?;
+    variables.push(variable(alloc, "z", None)?)?;
+    let mut block = Vec::new(alloc);
+    block.push(Stmt::Declare(Variables {
+        kind: VariableType::Int,
+        variables,
+    }))?;
+    let left = read(alloc, "y")?;
+    let right = read(alloc, "z")?;
+    block.push(Stmt::Push(binary(alloc, BinaryOperator::Subtract, left, right)?))?;
+    Ok(block)
+}
+
+#[test]
+fn each_variable_of_a_declaration_sees_those_before_it(rt: HostRuntime) -> Result<(), Fail> {
+    let block = declared_together(rt.alloc())?;
+    let tree = filter(rt.alloc(), Vec::new(rt.alloc()), 1, 0, block)?;
+    let pushes = pushed(&rt, rt.alloc(), &tree)?.expect(&rt, "a value");
+    assert_eq!(rt; pushes.as_slice(), [2].as_slice());
+    Ok(())
+}
+
+#[test]
+fn forms_that_are_not_lowered_yet_are_told(rt: HostRuntime) -> Result<(), Fail> {
+    let alloc = rt.alloc();
+    let mut statements = Vec::new(alloc);
+    let index = Box::new(alloc, Expr::Number(0))?;
+    statements.push(Stmt::Evaluate(Expr::Element(name(alloc, "x")?, index)))?;
+    let index = Box::new(alloc, Expr::Number(0))?;
+    statements.push(Stmt::Evaluate(Expr::StepElement(
+        StepOperator::IncrementAfter,
+        name(alloc, "x")?,
+        index,
+    )))?;
+    statements.push(Stmt::AssignElement(
+        name(alloc, "x")?,
+        Expr::Number(0),
+        AssignOperator::Set,
+        Expr::Number(1),
+    ))?;
+    for statement in statements {
+        let tree = between(alloc, statement)?;
+        let error = with_limit(&rt, alloc, &tree)?.expect_err(&rt, "a refusal");
+        assert!(rt; matches!(&error, LowerError::NotYet));
+    }
+    Ok(())
+}
+
+/// `peek(INDEX)`
+fn peek(alloc: Global, index: Expr) -> Result<Expr, AllocError> {
+    Ok(Expr::Peek(Box::new(alloc, index)?))
+}
+
+/// A body of these rates.
+fn body(
+    alloc: Global,
+    rates: &[(RateKind, i32)],
+    block: Vec<Stmt>,
+) -> Result<WorkTree, AllocError> {
+    let mut written = Vec::new(alloc);
+    for (kind, rate) in rates {
+        written.push(RateTree {
+            kind: *kind,
+            rate: Expr::Number(*rate),
+        })?;
+    }
+    Ok(WorkTree {
+        rates: written,
+        block,
+    })
+}
+
+/// What one firing of a body over a window pushes, or how it halts.
+fn fired(
+    rt: &impl Abort,
+    alloc: Global,
+    code: &Code,
+    which: Body,
+    window: &[i32],
+) -> Result<Result<Vec<i32>, Halt>, AllocError> {
+    let mut state = code.start(alloc).expect(rt, "start");
+    let mut frame = code.frame(alloc).expect(rt, "frame");
+    let mut words = Vec::new(alloc);
+    match code.fire(which, &mut state, &mut frame, &window, &mut words) {
+        Ok(()) => Ok(Ok(Vec::from_slice(alloc, frame.pushes())?)),
+        Err(halt) => Ok(Err(halt)),
+    }
+}
+
+/// `work push 1 pop 1 peek 3 { push(peek(pop())); }`
+fn looking_ahead(alloc: Global) -> Result<FilterTree, AllocError> {
+    let mut block = Vec::new(alloc);
+    block.push(Stmt::Push(peek(alloc, Expr::Pop)?))?;
+    let rates = [(RateKind::Push, 1), (RateKind::Pop, 1), (RateKind::Peek, 3)];
+    let mut members = Vec::new(alloc);
+    members.push(Member::Work(body(alloc, &rates, block)?))?;
+    Ok(FilterTree {
+        input: ItemType::Int,
+        output: ItemType::Int,
+        members,
+    })
+}
+
+#[test]
+fn a_peek_is_tested_behind_its_index(rt: HostRuntime) -> Result<(), Fail> {
+    let code = lowered(rt.alloc(), &looking_ahead(rt.alloc())?).expect(&rt, "lower");
+    let pushes = fired(&rt, rt.alloc(), &code, Body::Work, &[1, 2, 5])?;
+    assert_eq!(rt; pushes.expect(&rt, "a value").as_slice(), [5].as_slice());
+    let pushes = fired(&rt, rt.alloc(), &code, Body::Work, &[0, 2, 5])?;
+    assert_eq!(rt; pushes.expect(&rt, "a value").as_slice(), [2].as_slice());
+    for window in [[2, 5, 9], [9, 2, 5], [-1, 2, 5]] {
+        let halt = fired(&rt, rt.alloc(), &code, Body::Work, &window)?.expect_err(&rt, "a fault");
+        assert_eq!(rt; halt, Halt::Fault(Cause::PeekRange));
+    }
+    Ok(())
+}
+
+/// `work push 1 pop 1 peek 3 { push(peek(peek(0))); pop(); }`
+fn looking_twice(alloc: Global) -> Result<FilterTree, AllocError> {
+    let mut block = Vec::new(alloc);
+    let first = peek(alloc, Expr::Number(0))?;
+    block.push(Stmt::Push(peek(alloc, first)?))?;
+    block.push(Stmt::Evaluate(Expr::Pop))?;
+    let rates = [(RateKind::Push, 1), (RateKind::Pop, 1), (RateKind::Peek, 3)];
+    let mut members = Vec::new(alloc);
+    members.push(Member::Work(body(alloc, &rates, block)?))?;
+    Ok(FilterTree {
+        input: ItemType::Int,
+        output: ItemType::Int,
+        members,
+    })
+}
+
+#[test]
+fn an_item_tells_which_item_is_looked_at(rt: HostRuntime) -> Result<(), Fail> {
+    let code = lowered(rt.alloc(), &looking_twice(rt.alloc())?).expect(&rt, "lower");
+    let pushes = fired(&rt, rt.alloc(), &code, Body::Work, &[1, 2, 5])?;
+    assert_eq!(rt; pushes.expect(&rt, "a value").as_slice(), [2].as_slice());
+    let pushes = fired(&rt, rt.alloc(), &code, Body::Work, &[2, 5, 9])?;
+    assert_eq!(rt; pushes.expect(&rt, "a value").as_slice(), [9].as_slice());
+    let halt = fired(&rt, rt.alloc(), &code, Body::Work, &[5, 9, 9])?.expect_err(&rt, "a fault");
+    assert_eq!(rt; halt, Halt::Fault(Cause::PeekRange));
+    Ok(())
+}
+
+/// `prework push 2 { push(7); push(8); } work push 1 pop 1 { push(-pop()); }`
+fn with_prework(alloc: Global) -> Result<FilterTree, AllocError> {
+    let mut first = Vec::new(alloc);
+    first.push(Stmt::Push(Expr::Number(7)))?;
+    first.push(Stmt::Push(Expr::Number(8)))?;
+    let mut then = Vec::new(alloc);
+    then.push(Stmt::Push(unary(alloc, UnaryOperator::Negate, Expr::Pop)?))?;
+    let mut members = Vec::new(alloc);
+    members.push(Member::Prework(body(alloc, &[(RateKind::Push, 2)], first)?))?;
+    let rates = [(RateKind::Push, 1), (RateKind::Pop, 1)];
+    members.push(Member::Work(body(alloc, &rates, then)?))?;
+    Ok(FilterTree {
+        input: ItemType::Int,
+        output: ItemType::Int,
+        members,
+    })
+}
+
+#[test]
+fn a_prework_is_a_body_of_its_own(rt: HostRuntime) -> Result<(), Fail> {
+    let written = lowered(rt.alloc(), &with_prework(rt.alloc())?).expect(&rt, "lower");
+    let code = written.copy(rt.alloc())?;
+    assert!(rt; code.has_prework());
+    let pushes = fired(&rt, rt.alloc(), &code, Body::Prework, &[])?;
+    assert_eq!(rt; pushes.expect(&rt, "a value").as_slice(), [7, 8].as_slice());
+    let pushes = fired(&rt, rt.alloc(), &code, Body::Work, &[5])?;
+    assert_eq!(rt; pushes.expect(&rt, "a value").as_slice(), [-5].as_slice());
+    assert_eq!(rt; code.rates(Body::Prework).push, 2);
+    assert_eq!(rt; code.rates(Body::Work).pop, 1);
+    assert_eq!(rt; code.block(Body::Prework).len(), 2);
+    assert_eq!(rt; code.window(Body::Prework), 0);
+    assert_eq!(rt; code.window(Body::Work), 1);
     Ok(())
 }

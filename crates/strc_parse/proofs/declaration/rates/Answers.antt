@@ -1,32 +1,39 @@
-use Rattle.std.proofs.Common.{Ok, ◌≡◌, ◌+◌, ◌∙◌, length, Some, sym}
+use Rattle.std.proofs.Common.{◌≡◌, ◌+◌, ◌∙◌, ◌∷◌, [], ◌++◌, length, map, Some, sym}
 use Rattle.std.proofs.lemmas.Result.{err_from_is_err_and}
-use Rattle.strc_parse.specs.Grammar.{kinds}
-use Rattle.strc_parse.specs.Reading.{no_rate, rate_turn, rate_kind, rate_of}
-use Rattle.strc_parse.proofs.Steps.{rate_is_one, rate_kept}
+use Rattle.std.proofs.lemmas.List.{map_push}
+use Rattle.strc_parse.specs.declared.tree.RateTree.{RateTree}
+use Rattle.strc_parse.specs.Tree as tree
+use Rattle.strc_parse.specs.View.{expr_view, rate_view}
+use Rattle.strc_parse.specs.Grammar.{kinds, height_limit}
+use Rattle.strc_parse.specs.Reading.{no_rate, rate_turn, rate_kind}
 use Rattle.strc_parse.proofs.Repeated.{no_rate_ends, no_rate_stays, rate_turn_at, rate_turn_fails, repeated_on, repeated_ends, repeated_fails, repeated_over}
 use Rattle.strc_parse.proofs.declaration.rates.Goals as goal
 
 pub returns-in_default : goal.returns-in_default
 returns-in_default c =
-    repeated_ends no_rate rate_turn (length c.args.tokens.now + 1) c.loop-turn._turn c.loop-turn.found.items
+    repeated_ends no_rate (rate_turn height_limit) (length c.args.tokens.now + 1) c.loop-turn._turn (map rate_view c.loop-turn.found.items)
     (kinds c.loop-turn.rest.now) _ c.loop-turn.invariant _ c.loop-turn-test.true (no_rate_ends _ (sym c.rate_kind.ensures ∙ c.in_default.is))
 
 pub returns-in_err-rate : goal.returns-in_err-rate
 returns-in_err-rate c =
     let p = err_from_is_err_and c.from_residual.result c.from_residual.ensures.1 in
     let stands : rate_kind (kinds c.loop-turn.rest.now) ≡ Some c.in-Some.kind = sym c.rate_kind.ensures ∙ c.in-Some.is in
-    rw (p.1, p.2) (repeated_fails no_rate rate_turn (length c.args.tokens.now + 1) c.loop-turn._turn c.loop-turn.found.items
+    rw (p.1, p.2) (repeated_fails no_rate (rate_turn height_limit) (length c.args.tokens.now + 1) c.loop-turn._turn (map rate_view c.loop-turn.found.items)
     (kinds c.loop-turn.rest.now) _ c.loop-turn.invariant c.in_err-rate.field-0.0 c.loop-turn-test.true (no_rate_stays _ _ stands)
-    (rate_turn_fails c.in_err-rate.field-0.0 c.loop-turn.found.items _ c.in-Some.kind stands (rw c.deref.ensures.value at c.in_err-rate.ensures)))
+    (rate_turn_fails height_limit c.in_err-rate.field-0.0 (map rate_view c.loop-turn.found.items) _ c.in-Some.kind stands (rw c.deref.ensures.value at c.in_err-rate.ensures)))
 
 pub loop-turn-preserved : goal.loop-turn-preserved
 loop-turn-preserved c =
+    let front = map rate_view c.loop-turn.found.items in
     let stands : rate_kind (kinds c.loop-turn.rest.now) ≡ Some c.in-Some.kind = sym c.rate_kind.ensures ∙ c.in-Some.is in
-    let read : rate_of c.in-Some.kind c.loop-turn.found.items (kinds c.loop-turn.rest.now) ≡ Ok (c.in_ok-rate.rate, kinds c.in_ok-rate.after.now) = rw c.deref.ensures.value at c.in_ok-rate.ensures in
-    rw (c.in_ok-push.ensures.items, rate_kept c.in_ok-rate.rate (rate_is_one c.in-Some.kind c.loop-turn.found.items _ c.in_ok-rate.rate _ read)) (repeated_on no_rate rate_turn (length c.args.tokens.now + 1) c.loop-turn._turn c.loop-turn.found.items
+    let read = rw c.deref.ensures.value at c.in_ok-rate.ensures in
+    let made : RateTree = record { kind = c.in-Some.kind; rate = c.in_ok-rate.rate } in
+    let next : tree.Rate = record { kind = c.in-Some.kind; rate = expr_view c.in_ok-rate.rate } in
+    let e : map rate_view c.push.new.self.items ≡ front ++ next ∷ [] = rw c.in_ok-push.ensures.items (map_push rate_view c.loop-turn.found.items made) in
+    rw e (repeated_on no_rate (rate_turn height_limit) (length c.args.tokens.now + 1) c.loop-turn._turn front
     (kinds c.loop-turn.rest.now) _ c.loop-turn.invariant _ _ c.loop-turn-test.true (no_rate_stays _ _ stands)
-    (rate_turn_at c.loop-turn.found.items _ c.in-Some.kind c.in_ok-rate.rate _ stands read))
+    (rate_turn_at height_limit front _ c.in-Some.kind (expr_view c.in_ok-rate.rate) _ _ stands read))
 
 pub returns : goal.returns
-returns c = rw c.unexpected.ensures (repeated_over no_rate rate_turn (length c.args.tokens.now + 1) c.loop-turn._turn c.loop-turn.found.items
+returns c = rw c.unexpected.ensures (repeated_over no_rate (rate_turn height_limit) (length c.args.tokens.now + 1) c.loop-turn._turn (map rate_view c.loop-turn.found.items)
     (kinds c.loop-turn.rest.now) _ c.loop-turn.invariant c.loop-turn-test.false)

@@ -1,7 +1,9 @@
-use Rattle.std.proofs.Common.{◌≡◌, ◌++◌, drop}
+use Rattle.std.proofs.Common.{◌≡◌, drop}
 use Rattle.strc_work.specs.Filters.{members_of}
-use Rattle.strc_work.specs.Lowering.{initial_steps}
+use Rattle.strc_work.specs.Machine.{before}
+use Rattle.strc_work.specs.Lowering.{initials_nodes}
+use Rattle.strc_work.specs.Written.{written}
 use Rattle.strc_work.proofs.emission.emit_initials.Given as goal
 
 abbrev pub invariant-loop-member : goal.invariant-loop-member
-invariant-loop-member l = l.steps.items ++ initial_steps l.names (members_of (drop l.member-index l.members)) ≡ initial_steps l.names (members_of l.members)
+invariant-loop-member l = before (written l.code) (initials_nodes l.names (members_of (drop l.member-index l.members))) ≡ before (written l.initial.code) (initials_nodes l.names (members_of l.members))

@@ -1,11 +1,12 @@
 use Rattle.std.proofs.Common.{◌≡◌, drop}
+use Rattle.strc_parse.specs.View.{member_view}
 use Rattle.strc_work.specs.Filters.{members_of}
 use Rattle.strc_work.specs.Resolution.{members_resolved}
-use Rattle.strc_work.proofs.Resolved.{members_behind}
+use Rattle.strc_work.proofs.Resolved.{list_behind}
 use Rattle.strc_work.proofs.resolution.resolve_filter.Given as goal
 
 abbrev pub invariant-loop-member : goal.invariant-loop-member
 invariant-loop-member l = record {
-  left : members_behind l.resolved.items (members_resolved l.constants l.tree.input l.tree.output l.fields l.before (members_of (drop l.member-index l.member-items))) ≡ members_resolved l.constants l.tree.input l.tree.output l.initial.fields l.initial.before (members_of l.member-items);
+  left : list_behind member_view l.resolved.items (members_resolved l.constants l.tree.input l.tree.output l.fields l.before (members_of (drop l.member-index l.member-items))) ≡ members_resolved l.constants l.tree.input l.tree.output l.initial.fields l.initial.before (members_of l.member-items);
   fields : l.fields ≡ l.initial.fields;
 }

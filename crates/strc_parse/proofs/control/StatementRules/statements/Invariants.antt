@@ -1,0 +1,10 @@
+use Rattle.std.proofs.Common.{◌≡◌, ◌-◌, map}
+use Rattle.strc_parse.specs.View.{stmt_view}
+use Rattle.strc_parse.specs.Grammar.{kinds}
+use Rattle.strc_parse.specs.Reading.{repeated, brace, one_taller, statements, statement}
+use Rattle.strc_parse.proofs.control.StatementRules.statements.Given as goal
+
+abbrev pub invariant-loop-turn : goal.invariant-loop-turn
+invariant-loop-turn g l =
+    statements (statement (l.self.depth - 1)) (kinds l.fn.tokens)
+    ≡ repeated brace (one_taller (statement (l.self.depth - 1))) (l._turn-end - l._turn) (map stmt_view l.found.items, l.highest) (kinds l.rest)

@@ -1,7 +1,0 @@
-use Rattle.std.proofs.Common.{◌≡◌, drop}
-use Rattle.strc_parse.specs.View.{block_view}
-use Rattle.strc_work.specs.Filters.{stmts_print}
-use Rattle.strc_work.proofs.members.+stmt_prints.Given as goal
-
-abbrev pub invariant-loop-inner : goal.invariant-loop-inner
-invariant-loop-inner l = stmts_print (block_view (drop l.inner-index l.inner-items)) ≡ stmts_print (block_view l.inner-items)

@@ -1,0 +1,13 @@
+use Rattle.std.proofs.Common.{◌≡◌, drop, map}
+use Rattle.strc_parse.specs.View.{variable_view}
+use Rattle.strc_work.specs.Machine.{before}
+use Rattle.strc_work.specs.Lowering.{variables_nodes}
+use Rattle.strc_work.specs.Scoping.{with_declared}
+use Rattle.strc_work.specs.Written.{written}
+use Rattle.strc_work.proofs.statement_code.emit_variables.Given as goal
+
+abbrev pub invariant-loop-variable : goal.invariant-loop-variable
+invariant-loop-variable l = record {
+  code : before (written l.code) (variables_nodes l.names (map variable_view (drop l.variable-index l.variables))) ≡ before (written l.initial.code) (variables_nodes l.initial.names (map variable_view l.variables));
+  names : with_declared l.names (map variable_view (drop l.variable-index l.variables)) ≡ with_declared l.initial.names (map variable_view l.variables);
+}

@@ -1,0 +1,191 @@
+// The code of expressions.
+
+ghost use Rattle.std.specs.Prelude.{◌≡◌, ◌+◌, IfOk, OnOk, length};
+ghost use Rattle.strc_parse.specs.View.{expr_view};
+ghost use Rattle.strc_work.specs.Machine.{before};
+ghost use Rattle.strc_work.specs.Lowering as spec;
+ghost use Rattle.strc_work.specs.Written.{written};
+ghost use Rattle.strc_work.specs.Emission.{old_slot, old_nodes};
+ghost use Rattle.strc_work.specs.Firing.{assigned_value};
+
+use crate::arithmetic::truth;
+use crate::builder::Builder;
+use crate::memory::NoMemory;
+use crate::operands::{
+    after, binary_step, changes_none, compound_operator, slot_of, step_amount, unary_step,
+    variable_slot,
+};
+use crate::scope::Scope;
+use crate::step::Step;
+use strc_lex::token::Name;
+use strc_parse::tree::{AssignOperator, BinaryOperator, Expr, StepOperator};
+
+/// The code that puts an expression's value into a slot; the slots from `free` on are free.
+#[cycle(expression)]
+#[tactic(auto, using(crate::proofs::Nodes::before_assoc, crate::proofs::Nodes::before_end))]
+pub fn emit_expr(
+    code: &mut Builder,
+    names: &Scope,
+    value: &Expr,
+    into: u32,
+    free: u32,
+) -> Result<(), NoMemory>
+    ensures { OnOk result (written code.new ≡ before (written code.old) (spec.expr_nodes names.now (expr_view value.now) into free)) }
+{
+    match value {
+        Expr::Number(number) => code.put(Step::Const(into, *number)),
+        Expr::Truth(value) => code.put(Step::Const(into, truth(*value))),
+        Expr::Read(name) => code.put(Step::Copy(into, slot_of(names, name))),
+        Expr::Pop => code.put(Step::Pop(into)),
+        Expr::Peek(index) => {
+            let from = emit_operand(code, names, index, true, free)?;
+            code.put(Step::Peek(into, from))
+        }
+        Expr::Group(inner) => emit_expr(code, names, inner, into, free),
+        Expr::Unary(operator, operand) => {
+            let from = emit_operand(code, names, operand, true, free)?;
+            code.put(unary_step(*operator, into, from))
+        }
+        Expr::Step(operator, name) => emit_step(code, *operator, slot_of(names, name), into, free),
+        Expr::Binary(operator, left, right) => match operator {
+            // The right side is evaluated only where the left one leaves the value open.
+            BinaryOperator::LogicalOr => {
+                emit_expr(code, names, left, free, after(free)?)?;
+                let done = code.fresh();
+                let mut late = code.fresh();
+                emit_expr(&mut late, names, right, free, after(free)?)?;
+                code.put_choice(free, done, late)?;
+                code.put(Step::Copy(into, free))
+            }
+            BinaryOperator::LogicalAnd => {
+                emit_expr(code, names, left, free, after(free)?)?;
+                let done = code.fresh();
+                let mut late = code.fresh();
+                emit_expr(&mut late, names, right, free, after(free)?)?;
+                code.put_choice(free, late, done)?;
+                code.put(Step::Copy(into, free))
+            }
+            _ => {
+                let left = emit_operand(code, names, left, changes_none(right), free)?;
+                let right = emit_operand(code, names, right, true, after(free)?)?;
+                code.put(binary_step(*operator, into, left, right))
+            }
+        },
+        Expr::Conditional(condition, chosen, other) => {
+            let slot = emit_operand(code, names, condition, true, free)?;
+            let mut first = code.fresh();
+            emit_expr(&mut first, names, chosen, into, free)?;
+            let mut second = code.fresh();
+            emit_expr(&mut second, names, other, into, free)?;
+            code.put_choice(slot, first, second)
+        }
+        // Resolution lets no array through.
+        Expr::Element(_, _) | Expr::StepElement(_, _, _) => Ok(()),
+    }
+}
+
+/// The code that puts an expression's value into a slot, and that slot. Where it `stays`, a variable's value stays in
+/// its own slot.
+#[cycle(expression)]
+#[tactic(auto, using(crate::proofs::Nodes::before_end))]
+pub fn emit_operand(
+    code: &mut Builder,
+    names: &Scope,
+    value: &Expr,
+    stays: bool,
+    free: u32,
+) -> Result<u32, NoMemory>
+    ensures { IfOk result
+        (λ at. (at ≡ spec.operand_slot names.now stays (expr_view value.now) free)
+        × (written code.new ≡ before (written code.old) (spec.operand_nodes names.now stays (expr_view value.now) free))) }
+{
+    if stays {
+        if let Some(slot) = variable_slot(names, value) {
+            return Ok(slot);
+        }
+    }
+    emit_expr(code, names, value, free, after(free)?)?;
+    Ok(free)
+}
+
+/// The code of `x++` and its like.
+#[tactic(auto, using(crate::proofs::Nodes::before_assoc))]
+fn emit_step(
+    code: &mut Builder,
+    operator: StepOperator,
+    slot: u32,
+    into: u32,
+    free: u32,
+) -> Result<(), NoMemory>
+    ensures { OnOk result (written code.new ≡ before (written code.old) (spec.step_nodes operator slot into free)) }
+{
+    match operator {
+        StepOperator::IncrementFirst | StepOperator::DecrementFirst => {
+            code.put(Step::AddConst(slot, slot, step_amount(operator)))?;
+            code.put(Step::Copy(into, slot))
+        }
+        StepOperator::IncrementAfter | StepOperator::DecrementAfter => {
+            code.put(Step::Copy(free, slot))?;
+            code.put(Step::AddConst(slot, slot, step_amount(operator)))?;
+            code.put(Step::Copy(into, free))
+        }
+    }
+}
+
+/// The code of an expression whose value isn't used.
+pub fn emit_evaluation(
+    code: &mut Builder,
+    names: &Scope,
+    value: &Expr,
+    free: u32,
+) -> Result<(), NoMemory>
+    ensures { OnOk result (written code.new ≡ before (written code.old) (spec.evaluation_nodes names.now (expr_view value.now) free)) }
+{
+    match value {
+        Expr::Step(operator, name) => {
+            let slot = slot_of(names, name);
+            code.put(Step::AddConst(slot, slot, step_amount(*operator)))
+        }
+        _ => emit_expr(code, names, value, free, after(free)?),
+    }
+}
+
+/// The code of an assignment.
+#[tactic(auto, using(crate::proofs::Nodes::before_assoc))]
+pub fn emit_assign(
+    code: &mut Builder,
+    names: &Scope,
+    name: &Name,
+    operator: AssignOperator,
+    value: &Expr,
+) -> Result<(), NoMemory>
+    ensures { OnOk result (written code.new ≡ before (written code.old) (spec.expr_nodes names.now
+        (assigned_value name.now operator (expr_view value.now))
+        (spec.slot_of names.now name.now)
+        (length names.now))) }
+{
+    let free = names.len();
+    let into = slot_of(names, name);
+    match compound_operator(operator) {
+        None => emit_expr(code, names, value, into, free),
+        Some(operator) => {
+            let left = emit_old(code, into, changes_none(value), free)?;
+            let right = emit_operand(code, names, value, true, after(free)?)?;
+            code.put(binary_step(operator, into, left, right))
+        }
+    }
+}
+
+/// The code that keeps a variable's value, and its slot. Where it `stays`, it stays in its own slot.
+#[tactic(auto, using(crate::proofs::Nodes::before_end))]
+fn emit_old(code: &mut Builder, slot: u32, stays: bool, free: u32) -> Result<u32, NoMemory>
+    ensures { IfOk result
+        (λ at. (at ≡ old_slot stays slot free)
+        × (written code.new ≡ before (written code.old) (old_nodes stays slot free))) }
+{
+    if stays {
+        return Ok(slot);
+    }
+    code.put(Step::Copy(free, slot))?;
+    Ok(free)
+}

@@ -1,0 +1,168 @@
+// The code of statements.
+
+ghost use Rattle.std.specs.Prelude.{◌≡◌, ◌+◌, ◌∷◌, IfOk, OnOk, length, map};
+ghost use Rattle.std.specs.Option.{option_map};
+ghost use Rattle.strc_parse.specs.View.{expr_view, variable_view, stmt_view, block_view};
+ghost use Rattle.strc_work.specs.Machine.{before};
+ghost use Rattle.strc_work.specs.Lowering as spec;
+ghost use Rattle.strc_work.specs.Scoping.{names_after, with_declared};
+ghost use Rattle.strc_work.specs.Written.{written};
+
+use crate::builder::Builder;
+use crate::expression_code::{emit_assign, emit_evaluation, emit_expr, emit_operand};
+use crate::memory::NoMemory;
+use crate::operands::after;
+use crate::scope::Scope;
+use crate::step::Step;
+use strc_parse::tree::{Expr, Stmt, Variable};
+
+/// The code of a block of its own.
+pub fn emit_block(code: &mut Builder, names: &mut Scope, block: &[Stmt]) -> Result<(), NoMemory>
+    ensures code { OnOk result (written code.new
+        ≡ before (written code.old) (spec.stmts_nodes names.old (block_view block.now))) }
+    ensures names { OnOk result (names.new ≡ names.old) }
+{
+    let start = names.len();
+    for statement in block {
+        emit_stmt(code, names, statement)?;
+    }
+    names.leave(start);
+    Ok(())
+}
+
+/// The code of a statement.
+#[cycle(statement)]
+#[tactic(auto, using(crate::proofs::Nodes::before_assoc, crate::proofs::Nodes::before_end, crate::proofs::Emitted::left_after))]
+fn emit_stmt(code: &mut Builder, names: &mut Scope, statement: &Stmt) -> Result<(), NoMemory>
+    ensures code { OnOk result (written code.new
+        ≡ before (written code.old) (spec.stmt_nodes names.old (stmt_view statement.now))) }
+    ensures names { OnOk result (names.new ≡ names_after names.old (stmt_view statement.now)) }
+{
+    let free = names.len();
+    match statement {
+        Stmt::Empty => Ok(()),
+        Stmt::Block(body) => {
+            for inner in body {
+                emit_stmt(code, names, inner)?;
+            }
+            names.leave(free);
+            Ok(())
+        }
+        Stmt::Declare(declared) => emit_variables(code, names, &declared.variables),
+        Stmt::Evaluate(value) => emit_evaluation(code, names, value, free),
+        Stmt::Assign(name, operator, value) => emit_assign(code, names, name, *operator, value),
+        // Resolution lets no array through.
+        Stmt::AssignElement(_, _, _, _) => Ok(()),
+        Stmt::If(condition, chosen) => {
+            let slot = emit_operand(code, names, condition, true, free)?;
+            let mut first = code.fresh();
+            emit_inside(&mut first, names, chosen)?;
+            let second = code.fresh();
+            code.put_choice(slot, first, second)
+        }
+        Stmt::IfElse(condition, chosen, other) => {
+            let slot = emit_operand(code, names, condition, true, free)?;
+            let mut first = code.fresh();
+            emit_inside(&mut first, names, chosen)?;
+            let mut second = code.fresh();
+            emit_inside(&mut second, names, other)?;
+            code.put_choice(slot, first, second)
+        }
+        Stmt::While(condition, body) => {
+            let mut test = code.fresh();
+            let slot = emit_operand(&mut test, names, condition, true, free)?;
+            let mut turn = code.fresh();
+            emit_inside(&mut turn, names, body)?;
+            code.put_loop(test, slot, turn)
+        }
+        Stmt::For(first, condition, step, body) => {
+            emit_stmt(code, names, first)?;
+            let mut test = code.fresh();
+            let slot = emit_condition(&mut test, names, condition)?;
+            let mut turn = code.fresh();
+            emit_inside(&mut turn, names, body)?;
+            emit_inside(&mut turn, names, step)?;
+            names.leave(free);
+            code.put_loop(test, slot, turn)
+        }
+        Stmt::Push(value) => {
+            let from = emit_operand(code, names, value, true, free)?;
+            code.put(Step::Push(from))
+        }
+        Stmt::Print(value) => {
+            let from = emit_operand(code, names, value, true, free)?;
+            code.put(Step::Print(from))
+        }
+        Stmt::Println(value) => {
+            let from = emit_operand(code, names, value, true, free)?;
+            code.put(Step::Println(from))
+        }
+    }
+}
+
+/// The code of a statement in a scope of its own.
+#[cycle(statement)]
+#[tactic(auto, using(crate::proofs::Emitted::left_after))]
+fn emit_inside(code: &mut Builder, names: &mut Scope, statement: &Stmt) -> Result<(), NoMemory>
+    ensures code { OnOk result (written code.new
+        ≡ before (written code.old) (spec.stmt_nodes names.old (stmt_view statement.now))) }
+    ensures names { OnOk result (names.new ≡ names.old) }
+{
+    let start = names.len();
+    emit_stmt(code, names, statement)?;
+    names.leave(start);
+    Ok(())
+}
+
+/// The code of a loop's condition, and the slot that is tested.
+fn emit_condition(
+    code: &mut Builder,
+    names: &Scope,
+    condition: &Option<Expr>,
+) -> Result<u32, NoMemory>
+    ensures { IfOk result
+        (λ at. (at ≡ spec.condition_slot names.now (option_map expr_view condition.now))
+        × (written code.new ≡ before (written code.old)
+        (spec.condition_nodes names.now (option_map expr_view condition.now)))) }
+{
+    let free = names.len();
+    match condition {
+        // A loop without a condition goes on.
+        None => {
+            code.put(Step::Const(free, 1))?;
+            Ok(free)
+        }
+        Some(condition) => emit_operand(code, names, condition, true, free),
+    }
+}
+
+/// The code of variables that are declared one after another.
+#[tactic(auto, using(crate::proofs::Nodes::before_assoc, crate::proofs::Nodes::before_end))]
+fn emit_variables(
+    code: &mut Builder,
+    names: &mut Scope,
+    variables: &[Variable],
+) -> Result<(), NoMemory>
+    ensures code { OnOk result (written code.new
+        ≡ before (written code.old) (spec.variables_nodes names.old (map variable_view variables.now))) }
+    ensures names { OnOk result (names.new ≡ with_declared names.old (map variable_view variables.now)) }
+{
+    for variable in variables {
+        emit_variable(code, names, variable)?;
+    }
+    Ok(())
+}
+
+/// The code of a variable's declaration.
+fn emit_variable(code: &mut Builder, names: &mut Scope, variable: &Variable) -> Result<(), NoMemory>
+    ensures code { OnOk result (written code.new ≡ before (written code.old) (spec.initial_nodes names.old
+        (option_map expr_view variable.now.initial) (length names.old) (length names.old + 1))) }
+    ensures names { OnOk result (names.new ≡ variable.now.name ∷ names.old) }
+{
+    let into = names.len();
+    match &variable.initial {
+        None => code.put(Step::Const(into, 0))?,
+        Some(value) => emit_expr(code, names, value, into, after(into)?)?,
+    }
+    names.declare(&variable.name)
+}
