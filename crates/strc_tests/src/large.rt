@@ -85,10 +85,10 @@ fn a_long_block_is_no_deep_one(rt: HostRuntime) -> Result<(), Fail> {
 fn with_locals(alloc: Global, locals: u32) -> Result<String, Fail> {
     let mut text = String::from_str(alloc, "void->void filter M { work { int x0 = 1; ")?;
     for i in 1..locals {
-        let declaration = format!(in alloc; "int x{i} = x{} + 1; ", i - 1)?;
+        let declaration = format!(in alloc; "int x{i} = x{} + 1; ", i.saturating_sub(1))?;
         text.push_str(&declaration)?;
     }
-    let end = format!(in alloc; "println(x0 + x{}); }} }}", locals - 1)?;
+    let end = format!(in alloc; "println(x0 + x{}); }} }}", locals.saturating_sub(1))?;
     text.push_str(&end)?;
     Ok(text)
 }

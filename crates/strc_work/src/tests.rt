@@ -196,9 +196,20 @@ fn push_x(alloc: Global) -> Result<Stmt, AllocError> {
 
 /// `int x = 7; STATEMENT push(x);`
 fn between(alloc: Global, statement: Stmt) -> Result<FilterTree, AllocError> {
+    let mut block = begun(alloc)?;
+    block.push(statement)?;
+    ended(alloc, block)
+}
+
+/// `int x = 7;`, and nothing behind it yet.
+fn begun(alloc: Global) -> Result<Vec<Stmt>, AllocError> {
     let mut block = Vec::new(alloc);
     block.push(seven(alloc)?)?;
-    block.push(statement)?;
+    Ok(block)
+}
+
+/// A filter that does the statements and then pushes x.
+fn ended(alloc: Global, mut block: Vec<Stmt>) -> Result<FilterTree, AllocError> {
     block.push(push_x(alloc)?)?;
     filter(alloc, Vec::new(alloc), 2, 2, block)
 }
