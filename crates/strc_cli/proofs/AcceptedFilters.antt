@@ -8,7 +8,8 @@ use Rattle.strc_parse.specs.declared.tree.ItemType.{ItemType}
 use Rattle.strc_parse.specs.declared.tree.ItemType.TheVariants as item
 use Rattle.strc_work.specs.Filters.{Filter}
 use Rattle.strc_work.specs.Firing.{started}
-use Rattle.strc_work.proofs.Resolving.{resolved_types}
+use Rattle.strc_work.specs.Closed.{IsClosedFilter}
+use Rattle.strc_work.proofs.Resolving.{resolved_types, resolved_closed}
 use Rattle.strc_work.specs.Resolution.{filter_resolved}
 use Rattle.strc_work.specs.declared.fault.Cause.{Cause}
 use Rattle.strc_work.specs.declared.lowering.LowerError.{LowerError}
@@ -44,27 +45,37 @@ instance_input number filter found e =
     let is = was_lowered number (filter_resolved [] filter) lowered.0 lowered.1 ∙ ap (λ (f : Filter). Ok f) same in
     sym (resolved_types [] filter found is).0
 
+-- and its names are known
+instance_known : (number : ℕ) (filter found : Filter) → instance_of number filter ≡ Ok found → IsClosedFilter found
+instance_known number filter found e =
+    let lowered = then_did (lowered_as number (filter_resolved [] filter)) (λ resolved. started_as resolved (started resolved)) found e in
+    let same = was_started lowered.0 found (started lowered.0) lowered.2 in
+    let is = was_lowered number (filter_resolved [] filter) lowered.0 lowered.1 ∙ ap (λ (f : Filter). Ok f) same in
+    resolved_closed [] filter found is
+
 types_same : (one other : ItemType) → not (same_type one other) ≡ false → one ≡ other
 types_same item.Int item.Int e = refl
 types_same item.Void item.Void e = refl
 types_same item.Int item.Void e = absurd (cc)
 types_same item.Void item.Int e = absurd (cc)
 
--- the first filter takes this type, and each next one what the one before it gives
+-- the first filter takes this type, and each next one what the one before it gives; the names in each are known
 abbrev pub AreFit : ItemType → List Filter → Type 0
 AreFit given [] = Unit {0}
-AreFit given (filter ∷ others) = (filter.input ≡ given) × AreFit filter.output others
+AreFit given (filter ∷ others) = (filter.input ≡ given) × IsClosedFilter filter × AreFit filter.output others
 
 -- the next child takes what is given
-next_fit : (found : Option (ℕ × tree.Stream)) (top before : ℕ) (given : ItemType) (name : List ℕ) (filter : Filter) → next_among found top before given name ≡ Ok filter → filter.input ≡ given
+next_fit : (found : Option (ℕ × tree.Stream)) (top before : ℕ) (given : ItemType) (name : List ℕ) (filter : Filter) → next_among found top before given name ≡ Ok filter → (filter.input ≡ given) × IsClosedFilter filter
 next_fit found top before given name filter e =
     let child = then_did (filter_child name found) _ _ e in
     let room = then_did (unless_broken (not (nat_lt before filter_limit)) refusal.NodeLimit) _ _ child.2 in
     let made = then_did (instance_of child.0.0 child.0.1) _ _ room.2 in
     let joins = then_did (unless_broken (not (same_type made.0.input given)) (refusal.TypeMismatch top)) _ _ made.2 in
     let same : made.0 ≡ filter = let last = joins.2 in cc in
-    subst (λ (f : Filter). f.input ≡ given) same
-    (types_same made.0.input given (was_kept (not (same_type made.0.input given)) (refusal.TypeMismatch top) joins.0 joins.1))
+    subst (λ (f : Filter). (f.input ≡ given) × IsClosedFilter f) same (
+      types_same made.0.input given (was_kept (not (same_type made.0.input given)) (refusal.TypeMismatch top) joins.0 joins.1),
+      instance_known child.0.0 child.0.1 made.0 made.1,
+    )
 
 children_fit : (program : List Declaration) (top before : ℕ) (given : ItemType) (names : List (List ℕ)) (filters : List Filter) → children_of program top before given names ≡ Ok filters → AreFit given filters
 children_fit program top before given [] filters e =
@@ -76,7 +87,8 @@ children_fit program top before given (name ∷ names) filters e =
     let later = then_did (children_of program top (before + 1) here.0.output names) _ _ here.2 in
     let same : here.0 ∷ later.0 ≡ filters = let last = later.2 in cc in
     subst (AreFit given) same
-    (next_fit (declared_from 0 program name) top before given name here.0 here.1, children_fit program top (before + 1) here.0.output names later.0 later.1)
+    (let next = next_fit (declared_from 0 program name) top before given name here.0 here.1 in
+    (next.0, next.1, children_fit program top (before + 1) here.0.output names later.0 later.1))
 
 -- a pipeline has a filter
 children_some : (program : List Declaration) (top : ℕ) (given : ItemType) (names : List (List ℕ)) → children_of program top 0 given names ≡ Ok [] → ⊥
@@ -131,7 +143,7 @@ alone_fit number filter filters void e =
     let made = then_did (instance_of number filter) (λ (only : Filter). Ok (only ∷ [])) filters e in
     let same : made.0 ∷ [] ≡ filters = let last = made.2 in cc in
     subst (λ (fs : List Filter). AreFit item.Void fs × (fs ≡ [] → ⊥)) same
-    ((sym (instance_input number filter made.0 made.1) ∙ void, tt), λ none. absurd (cc))
+    ((sym (instance_input number filter made.0 made.1) ∙ void, instance_known number filter made.0 made.1, tt), λ none. absurd (cc))
 
 stream_fit : (program : List Declaration) (found : ℕ × tree.Stream) (filters : List Filter) → IsMain found → filters_of program found ≡ Ok filters → AreFit item.Void filters × (filters ≡ [] → ⊥)
 stream_fit program (number, tree.Filter input output members) filters main e =

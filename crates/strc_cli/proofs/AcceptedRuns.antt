@@ -8,7 +8,7 @@ use Rattle.strc_work.specs.Filters.{Filter, filter_prints}
 use Rattle.strc_cli.specs.declared.refusal.Refusal.TheVariants as refusal
 use Rattle.strc_cli.specs.Rates.{rates_checked}
 use Rattle.strc_cli.specs.Elaboration.{then_do, unless_broken, elaborated, outputs_checked, connections_checked, filters_checked, compiled}
-use Rattle.strc_cli.specs.Answers.{IsJoined, are_settled, PrintsNothing, PrintsAtMostOnce, EndsAsAnswered, AcceptedRunsAreAnswers}
+use Rattle.strc_cli.specs.Answers.{AreKnown, IsJoined, are_settled, PrintsNothing, PrintsAtMostOnce, EndsAsAnswered, AcceptedRunsAreAnswers}
 use Rattle.strc_cli.proofs.PipelineAnswer.{laps_answer}
 use Rattle.strc_cli.proofs.AcceptedFilters.{then_did, AreFit, elaborated_fit}
 
@@ -39,13 +39,17 @@ prints_once (filter ∷ others) e = elim (prints_case (filter_prints filter) fal
 
 fit_joined : (first : Filter) (others : List Filter) → AreFit first.output others → IsJoined first others
 fit_joined first [] fit = tt
-fit_joined first (next ∷ others) fit = (fit.0, fit_joined next others fit.1)
+fit_joined first (next ∷ others) fit = (fit.0, fit_joined next others fit.2)
+
+fit_known : (given : ItemType) (filters : List Filter) → AreFit given filters → AreKnown filters
+fit_known given [] fit = tt
+fit_known given (filter ∷ others) fit = (fit.1, fit_known filter.output others fit.2)
 
 -- filters that are fit, checked and settled end as their pipeline's answer says
 fit_answered : (filters : List Filter) (k : ℕ) → AreFit item.Void filters → (filters ≡ [] → ⊥) → outputs_checked false filters ≡ Ok tt → rates_checked 0 filters ≡ Ok tt → are_settled filters ≡ true → EndsAsAnswered filters k
 fit_answered [] k fit some outputs rates fits = absurd (some refl)
 fit_answered (first ∷ others) k fit some outputs rates fits =
-    let answer = laps_answer first others k fit.0 (fit_joined first others fit.1) rates fits (prints_once (first ∷ others) outputs) in
+    let answer = laps_answer first others k fit.0 (fit_known item.Void (first ∷ others) fit) (fit_joined first others fit.2) rates fits (prints_once (first ∷ others) outputs) in
     (first, others, refl, answer.0, answer.1, answer.2)
 
 compiled_answered : (program : List Declaration) (main : Option (List ℕ)) (filters : List Filter) (k : ℕ) → compiled program main ≡ Ok filters → are_settled filters ≡ true → EndsAsAnswered filters k

@@ -1,32 +1,36 @@
 -- Filters that take and give one item where items flow: they keep their rates, and each gives what the next one takes.
-use Rattle.std.proofs.Common.{◌≡◌, refl, sym, ap, ◌∙◌, subst, ℕ, zero, suc, ◌+◌, ◌<◌, ◌≤◌, ℤ, Bool, true, false, List, [], ◌∷◌, length, get_or, Result, Ok, Err, arith, eqb-true, leb-true}
-use Rattle.std.specs.Prelude.{if◌then◌else◌, ◌&&◌, ◌||◌, not, nat_le, IfOk}
+use Rattle.std.proofs.Common.{◌≡◌, refl, sym, ap, ◌∙◌, subst, ℕ, zero, suc, ◌+◌, ◌<◌, ◌≤◌, ℤ, Bool, true, false, List, [], ◌∷◌, length, get_or, Result, Ok, Err, arith, leb-true}
+use Rattle.std.specs.Prelude.{if◌then◌else◌, ◌&&◌, ◌||◌, not, nat_le, nat_eq, Option, IfOk}
 use Rattle.strc_parse.specs.declared.tree.ItemType.{ItemType}
 use Rattle.strc_parse.specs.declared.tree.ItemType.TheVariants as item
 use Rattle.strc_work.specs.declared.fault.Cause.{Cause}
 use Rattle.strc_work.specs.declared.word.Word.{Word}
 use Rattle.strc_work.specs.declared.code.Body.TheVariants as body
-use Rattle.strc_work.specs.Filters.{Filter, work_block, work_rates, pop_rate, peek_rate, filter_prints}
+use Rattle.strc_work.specs.Filters.{Filter, work_rates, prework_rates, prework_block, push_rate, pop_rate, peek_rate, item_count, filter_prints}
 use Rattle.std.specs.Int.RustNames.{int_lt}
 use Rattle.strc_work.specs.Firing as firing
 use Rattle.strc_dataflow.specs.Node.{Fired, Fired.Fires, Fired.Faults, at_port_0}
 use Rattle.strc_dataflow.specs.Histories.{KeepsRates}
 use Rattle.strc_dataflow.specs.Pipelines.{IsMatched}
 use Rattle.strc_dataflow.proofs.Rates.{keeps_rates}
+use Rattle.strc_work.specs.Closed.{IsClosedFilter}
+use Rattle.strc_rate.specs.Rates as rates
+use Rattle.strc_rate.specs.Rates.{BodyRates, FilterRates, checked, work_checked, work_lacks, then_work}
+use Rattle.strc_rate.specs.Kept as kept
+use Rattle.strc_rate.specs.declared.rates.RateError.{RateError}
+use Rattle.strc_rate.specs.declared.rates.RateError.TheVariants.{RateLimit}
+use Rattle.strc_rate.proofs.KeptRates.{rates_kept}
 use Rattle.strc_cli.specs.declared.refusal.Refusal.{Refusal}
-use Rattle.strc_cli.specs.declared.refusal.Refusal.TheVariants.{RateLimit}
-use Rattle.strc_cli.specs.Rates.{stmts_straight, stmts_pushes, stmts_pops, held, has_items, lacks_rate, are_within_limit, rate_checked, and_then, counts_checked, body_checked, has_prework, declared_pushes, declared_pops, filter_rates_checked, rates_checked}
+use Rattle.strc_cli.specs.Rates.{has_items, has_prework, declared_pushes, declared_pops, node_checked, rates_checked}
 use Rattle.strc_cli.specs.Pipeline.{rate_at_0, as_fired, filter_meaning}
-use Rattle.strc_cli.specs.Answers.{IsJoined, highest_rate, is_settled, are_settled, PrintsNothing, PrintsAtMostOnce}
-use Rattle.strc_cli.proofs.StillTexts.{both_first, both_second}
-use Rattle.strc_cli.proofs.FiringRates.{firing_counted}
+use Rattle.strc_cli.specs.Answers.{AreKnown, IsJoined, highest_rate, is_settled, are_settled, PrintsNothing, PrintsAtMostOnce}
+use Rattle.strc_cli.proofs.QuietFirings.{then_ok, firing_quiet}
 
--- a filter takes and gives one item where items flow, and its text does so too
+-- a filter takes and gives one item where items flow, and its firings do so too
 pub record IsExact (filter : Filter) : Type 0 where
   pub pops : declared_pops filter ≡ highest_rate filter.input
   pub pushes : declared_pushes filter ≡ highest_rate filter.output
-  pub counted : stmts_pushes (work_block filter.members) ≡ declared_pushes filter
-  pub straight : stmts_straight (work_block filter.members) ≡ true
+  pub keeps : kept.KeepsRates filter
 
 -- the next filter, if there is one, takes so many items
 abbrev pub TakesAll : ℕ → List Filter → Type 0
@@ -39,92 +43,104 @@ AreExact [] = Unit {0}
 AreExact (filter ∷ others) =
     IsExact filter × TakesAll (declared_pushes filter) others × (filter_prints filter ≡ true → PrintsNothing others) × AreExact others
 
-both_ok : (a b : Result (Unit {0}) Refusal) → and_then a b ≡ Ok tt → (a ≡ Ok tt) × (b ≡ Ok tt)
-both_ok (Ok done) b e = (refl, e)
-both_ok (Err refusal) b e = absurd (cc)
+both_first : (a b : Bool) → (a && b) ≡ true → a ≡ true
+both_first true b e = refl
+both_first false b e = e
 
-unless : (test : Bool) (refusal : Refusal) (next : Result (Unit {0}) Refusal) → (if test then Err refusal else next) ≡ Ok tt → (test ≡ false) × (next ≡ Ok tt)
-unless true refusal next e = absurd (cc)
-unless false refusal next e = (refl, e)
-
-when : (test : Bool) (refusal : Refusal) → ◌≡◌ {A = Result (Unit {0}) Refusal} (if test then Ok tt else Err refusal) (Ok tt) → test ≡ true
-when true refusal e = refl
-when false refusal e = absurd (cc)
-
--- the first branch, where the test holds
-held_branch : (test : Bool) (one other : Result (Unit {0}) Refusal) → test ≡ true → (if test then one else other) ≡ Ok tt → one ≡ Ok tt
-held_branch true one other e f = f
-held_branch false one other e f = absurd (cc)
+both_second : (a b : Bool) → (a && b) ≡ true → b ≡ true
+both_second true b e = e
+both_second false b e = absurd (cc)
 
 neither : (a b : Bool) → (a || b) ≡ false → (a ≡ false) × (b ≡ false)
 neither true b e = absurd (cc)
 neither false b e = (refl, e)
 
+-- a node that is checked, and those behind it
+node_ok : (node : ℕ) (one : Result FilterRates RateError) (next : Result (Unit {0}) Refusal) → node_checked node one next ≡ Ok tt → (found : FilterRates) × (one ≡ Ok found) × (next ≡ Ok tt)
+node_ok node (Ok found) next e = (found, refl, e)
+node_ok node (Err broken) next e = absurd (cc)
+
+-- the work of a filter that is checked
+work_ok : (prework : Result (Option BodyRates) RateError) (work : Result BodyRates RateError) (found : FilterRates) → then_work prework work ≡ Ok found → (here : BodyRates) × (work ≡ Ok here)
+work_ok (Ok prework) (Ok here) found e = (here, refl)
+work_ok (Ok prework) (Err broken) found e = absurd (cc)
+work_ok (Err broken) work found e = absurd (cc)
+
+-- lacks no rate
+lacks_none : (past lacks : Bool) (next : Result BodyRates RateError) (here : BodyRates) → (if past || lacks then Err RateLimit else next) ≡ Ok here → lacks ≡ false
+lacks_none true lacks next here e = absurd (cc)
+lacks_none false true next here e = absurd (cc)
+lacks_none false false next here e = refl
+
 -- what is settled
 pub record Settled (filter : Filter) : Type 0 where
-  pub alone : not (has_prework filter) ≡ true
-  pub straight : stmts_straight (work_block filter.members) ≡ true
   pub pops : declared_pops filter ≤ highest_rate filter.input
   pub pushes : declared_pushes filter ≤ highest_rate filter.output
 
 pub settled : (filter : Filter) → is_settled filter ≡ true → Settled filter
 settled filter e =
-    let rest = both_second (not (has_prework filter)) (stmts_straight (work_block filter.members) && (not (int_lt (pop_rate (work_rates filter.members)) (peek_rate (work_rates filter.members))) && (nat_le (declared_pops filter) (highest_rate filter.input) && nat_le (declared_pushes filter) (highest_rate filter.output)))) e in
-    let further = both_second (stmts_straight (work_block filter.members)) (not (int_lt (pop_rate (work_rates filter.members)) (peek_rate (work_rates filter.members))) && (nat_le (declared_pops filter) (highest_rate filter.input) && nat_le (declared_pushes filter) (highest_rate filter.output))) rest in
-    let low = both_second (not (int_lt (pop_rate (work_rates filter.members)) (peek_rate (work_rates filter.members)))) (nat_le (declared_pops filter) (highest_rate filter.input) && nat_le (declared_pushes filter) (highest_rate filter.output)) further in
+    let rest = both_second (not (has_prework filter)) (not (int_lt (pop_rate (work_rates filter.members)) (peek_rate (work_rates filter.members))) && (nat_le (declared_pops filter) (highest_rate filter.input) && nat_le (declared_pushes filter) (highest_rate filter.output))) e in
+    let low = both_second (not (int_lt (pop_rate (work_rates filter.members)) (peek_rate (work_rates filter.members)))) (nat_le (declared_pops filter) (highest_rate filter.input) && nat_le (declared_pushes filter) (highest_rate filter.output)) rest in
     record {
-      alone = both_first _ _ e;
-      straight = both_first _ _ rest;
       pops = leb-true (declared_pops filter) (highest_rate filter.input) (both_first _ _ low);
       pushes = leb-true (declared_pushes filter) (highest_rate filter.output) (both_second (nat_le (declared_pops filter) (highest_rate filter.input)) _ low);
     }
 
 -- a rate that isn't 0 where items flow, and isn't above the highest one, is the highest one
-highest : (side : ItemType) (rate : ℕ) → lacks_rate side rate ≡ false → rate ≤ highest_rate side → rate ≡ highest_rate side
-highest item.Int zero e low = absurd (cc)
-highest item.Int (suc rate) e low = omega arith
+highest : (side : ItemType) (rate : ℤ) → rates.lacks_rate side rate ≡ false → item_count rate ≤ highest_rate side → item_count rate ≡ highest_rate side
+highest item.Int rate e low = by_count (item_count rate) e low
+  where
+    by_count : (count : ℕ) → nat_eq count 0 ≡ false → count ≤ 1 → count ≡ 1
+    by_count zero e low = absurd (cc)
+    by_count (suc count) e low = omega arith
 highest item.Void rate e low = omega arith
 
-highest_few : (side : ItemType) → highest_rate side ≤ 1
-highest_few item.Int = omega arith
-highest_few item.Void = omega arith
-
-is_held : (declared counted : ℕ) → declared ≡ held counted → declared ≤ 1 → counted ≡ declared
-is_held declared counted e low = omega arith
-
-exact : (node : ℕ) (filter : Filter) → filter_rates_checked node filter ≡ Ok tt → is_settled filter ≡ true → IsExact filter
-exact node filter e fits =
+exact : (filter : Filter) (found : FilterRates) → IsClosedFilter filter → checked filter ≡ Ok found → is_settled filter ≡ true → IsExact filter
+exact filter found known e fits =
     let is = settled filter fits in
-    let rates = work_rates filter.members in
-    let block = work_block filter.members in
-    let lacks = lacks_rate filter.input (declared_pops filter) || lacks_rate filter.output (declared_pushes filter) in
-    let work = (both_ok _ (body_checked node lacks rates block) e).1 in
-    let sides = unless (not (are_within_limit rates) || lacks) (RateLimit node) (if stmts_straight block then counts_checked node rates block else Ok tt) work in
-    let lacking = (neither (not (are_within_limit rates)) lacks sides.0).1 in
-    let there = neither (lacks_rate filter.input (declared_pops filter)) (lacks_rate filter.output (declared_pushes filter)) lacking in
-    let counts = held_branch (stmts_straight block) (counts_checked node rates block) (Ok tt) is.straight sides.1 in
-    let each = both_ok (rate_checked node (declared_pushes filter) (held (stmts_pushes block))) (rate_checked node (declared_pops filter) (held (stmts_pops block))) counts in
-    let same = eqb-true (declared_pushes filter) (held (stmts_pushes block)) (when _ _ each.0) in
+    let members = filter.members in
+    let work = work_ok (rates.prework_checked (prework_rates members) (prework_block members)) (work_checked filter) found e in
+    let lacking = lacks_none (not (rates.are_within_limit (work_rates members))) (work_lacks filter) _ work.0 work.1 in
+    let there = neither (rates.lacks_rate filter.input (pop_rate (work_rates members))) (rates.lacks_rate filter.output (push_rate (work_rates members))) lacking in
     record {
-      pops = highest filter.input (declared_pops filter) there.0 is.pops;
-      pushes = highest filter.output (declared_pushes filter) there.1 is.pushes;
-      counted = is_held (declared_pushes filter) (stmts_pushes block) same (omega (arith, highest_few filter.output, is.pushes));
-      straight = is.straight;
+      pops = highest filter.input (pop_rate (work_rates members)) there.0 is.pops;
+      pushes = highest filter.output (push_rate (work_rates members)) there.1 is.pushes;
+      keeps = subst (λ (result : Result FilterRates RateError). IfOk result (λ _. kept.KeepsRates filter)) e (rates_kept filter known);
     }
 
-takes_all : (first : Filter) (others : List Filter) → IsExact first → IsJoined first others → AreExact others → TakesAll (declared_pushes first) others
-takes_all first [] e joined exacts = tt
-takes_all first (next ∷ others) e joined exacts = e.pushes ∙ ap highest_rate (sym joined.0) ∙ sym exacts.0.pops
+takes_all : (first next : Filter) (others : List Filter) → IsExact first → next.input ≡ first.output → AreExact (next ∷ others) → TakesAll (declared_pushes first) (next ∷ others)
+takes_all first next others e joined exacts = e.pushes ∙ ap highest_rate (sym joined) ∙ sym exacts.0.pops
 
 -- what the checks let through is exact, where it is settled
-pub are_exact : (node : ℕ) (first : Filter) (others : List Filter) → IsJoined first others → rates_checked node (first ∷ others) ≡ Ok tt → are_settled (first ∷ others) ≡ true → PrintsAtMostOnce (first ∷ others) → AreExact (first ∷ others)
-are_exact node first [] joined e fits once =
-    (exact node first (both_ok (filter_rates_checked node first) (Ok tt) e).0 (both_first _ _ fits), tt, once.0, tt)
-are_exact node first (next ∷ others) joined e fits once =
-    let checked = both_ok (filter_rates_checked node first) (rates_checked (node + 1) (next ∷ others)) e in
-    let rest = are_exact (node + 1) next others joined.1 checked.1 (both_second (is_settled first) (are_settled (next ∷ others)) fits) once.1 in
-    let here = exact node first checked.0 (both_first (is_settled first) (are_settled (next ∷ others)) fits) in
-    (here, takes_all first (next ∷ others) here joined rest, once.0, rest)
+pub are_exact : (node : ℕ) (first : Filter) (others : List Filter) → AreKnown (first ∷ others) → IsJoined first others → rates_checked node (first ∷ others) ≡ Ok tt → are_settled (first ∷ others) ≡ true → PrintsAtMostOnce (first ∷ others) → AreExact (first ∷ others)
+are_exact node first [] known joined e fits once =
+    let here = node_ok node (checked first) (Ok tt) e in
+    (exact first here.0 known.0 here.1 (both_first _ _ fits), tt, once.0, tt)
+are_exact node first (next ∷ others) known joined e fits once =
+    let tested = node_ok node (checked first) (rates_checked (node + 1) (next ∷ others)) e in
+    let rest = are_exact (node + 1) next others known.1 joined.1 tested.2 (both_second (is_settled first) (are_settled (next ∷ others)) fits) once.1 in
+    let here = exact first tested.0 known.0 tested.1 (both_first (is_settled first) (are_settled (next ∷ others)) fits) in
+    (here, takes_all first next others here joined.0 rest, once.0, rest)
+
+-- an exact filter's firing gives its items, and prints only where its text does
+abbrev pub GivesItems : Filter → firing.Fired → Type 0
+GivesItems filter done = (length done.pushes ≡ declared_pushes filter) × (filter_prints filter ≡ false → done.words ≡ [])
+
+also : {A : Type 0} (result : Result A Cause) (P Q : A → Type 0) → IfOk result P → IfOk result Q → IfOk result (λ a. P a × Q a)
+also (Ok a) P Q h k = (h, k)
+also (Err cause) P Q h k = tt
+
+-- what follows from a fact about the firing, if it does
+quiet_if : (result : Result firing.Fired Cause) (silent : Type 0) → (silent → IfOk result (λ done. done.words ≡ [])) → IfOk result (λ done. silent → done.words ≡ [])
+quiet_if (Ok done) silent h = h
+quiet_if (Err cause) silent h = tt
+
+pub firing_gives : (filter : Filter) → IsExact filter → (fields window : List ℤ) → IfOk (firing.fired filter body.Work fields window) (GivesItems filter)
+firing_gives filter e fields window =
+    also (firing.fired filter body.Work fields window) (λ done. length done.pushes ≡ declared_pushes filter) (λ done. filter_prints filter ≡ false → done.words ≡ [])
+    (then_ok (kept.run_of filter body.Work fields window) _ (λ store. (store.traffic.popped ≡ declared_pops filter) × (length store.traffic.pushes ≡ declared_pushes filter)) (λ done. length done.pushes ≡ declared_pushes filter)
+    (e.keeps body.Work fields window) (λ store h. h.1))
+    (quiet_if (firing.fired filter body.Work fields window) (filter_prints filter ≡ false) (firing_quiet filter fields window))
 
 -- the items that a firing gives, where it doesn't fault
 abbrev Gives : ℕ → Fired (List ℤ) Cause Word → Type 0
@@ -136,9 +152,9 @@ unfolding at_port_0
 at_0 items n e zero = e
 at_0 items n e (suc port) = refl
 
-gives : (filter : Filter) → IsExact filter → (result : Result firing.Fired Cause) → IfOk result (λ done. (length done.pushes ≡ stmts_pushes (work_block filter.members)) × (filter_prints filter ≡ false → done.words ≡ [])) → Gives (declared_pushes filter) (as_fired result)
-gives filter e (Ok done) h = at_0 done.pushes (declared_pushes filter) (h.0 ∙ e.counted)
-gives filter e (Err cause) h = tt
+gives : (filter : Filter) → (result : Result firing.Fired Cause) → IfOk result (GivesItems filter) → Gives (declared_pushes filter) (as_fired result)
+gives filter (Ok done) h = at_0 done.pushes (declared_pushes filter) h.0
+gives filter (Err cause) h = tt
 
 -- an exact filter keeps its rates
 pub keeps : (filter : Filter) → IsExact filter → KeepsRates filter_meaning filter
@@ -146,7 +162,7 @@ keeps filter e =
     keeps_rates filter_meaning filter (λ fields. Unit {0})
     (record {
       fine_at_start = tt;
-      kept = λ number fields next seen pushes words fine whole fires. (tt, subst (Gives (declared_pushes filter)) fires (gives filter e (firing.fired filter body.Work fields (seen 0)) (firing_counted filter fields (seen 0) e.straight)));
+      kept = λ number fields next seen pushes words fine whole fires. (tt, subst (Gives (declared_pushes filter)) fires (gives filter (firing.fired filter body.Work fields (seen 0)) (firing_gives filter e fields (seen 0))));
     })
 
 pub all_keep : (filters : List Filter) (other : Filter) → AreExact filters → KeepsRates filter_meaning other → (node : ℕ) → KeepsRates filter_meaning (get_or filters node other)

@@ -6,7 +6,7 @@ use Rattle.strc_parse.specs.declared.tree.ItemType.TheVariants as item
 use Rattle.strc_work.specs.declared.fault.Cause.{Cause}
 use Rattle.strc_work.specs.declared.word.Word.{Word}
 use Rattle.strc_work.specs.declared.code.Body.TheVariants as body
-use Rattle.strc_work.specs.Filters.{Filter, work_block, filter_prints}
+use Rattle.strc_work.specs.Filters.{Filter, filter_prints}
 use Rattle.strc_work.specs.Firing as firing
 use Rattle.strc_dataflow.specs.Histories.{Run, KeepsRates, begun}
 use Rattle.strc_dataflow.specs.Flat.{Graph, items_of, arrived}
@@ -16,11 +16,10 @@ use Rattle.strc_dataflow.specs.Queues.{Fifo, FifoProgress, FifoProgress.FifoWent
 use Rattle.strc_dataflow.specs.Pipelines.{pipeline_of, nodes_from, once_each, IsChain}
 use Rattle.strc_dataflow.proofs.Chain.{pipeline_is_chain, chain_schedule}
 use Rattle.strc_dataflow.proofs.Theorem.{stream_queue_run}
-use Rattle.strc_cli.specs.Rates.{has_items, stmts_pushes, declared_pushes, declared_pops}
+use Rattle.strc_cli.specs.Rates.{has_items, declared_pushes, declared_pops}
 use Rattle.strc_cli.specs.Pipeline.{first_fields, as_fired, filter_meaning, Loaded, Lap, Blame, led_by, after_firing, lap_from, after_lap, laps, loaded}
 use Rattle.strc_cli.specs.Answers.{highest_rate, PrintsNothing, words_in_order, Tells, LapsAreAnswers}
-use Rattle.strc_cli.proofs.FiringRates.{firing_counted}
-use Rattle.strc_cli.proofs.ExactRates.{TakesAll, AreExact, are_exact, keeps, all_keep, are_matched}
+use Rattle.strc_cli.proofs.ExactRates.{TakesAll, AreExact, GivesItems, firing_gives, are_exact, keeps, all_keep, are_matched}
 use Rattle.strc_cli.proofs.FilterFirings.{fires, next_of, runs_other, state_here, fired_here, words_here, queue_other, queue_here, queue_next}
 
 -- before round q's firing of a node: its filter and fields, the items that wait for it, and no words of one that doesn't print
@@ -191,7 +190,7 @@ module _ (graph : Graph Filter) (first : Filter) (others : List Filter) (chain :
     -- the machine's firing, by its outcome, is the lap's
     lap_by :
         (result : Result firing.Fired Cause)
-        → IfOk result (λ done. (length done.pushes ≡ stmts_pushes (work_block filter.members)) × (filter_prints filter ≡ false → done.words ≡ []))
+        → IfOk result (GivesItems filter)
         → ((next : Fifo (List ℤ) Cause Word) (more : List ℤ) → AllStand graph next q (suc node) more filters members → TakesAll (length more) filters → IsLap graph next q (suc node) filters (fifo_go filter_meaning graph (nodes_from (suc node) (length filters)) next) (lap_from (suc node) members more))
         → IsLap graph now q node (filter ∷ filters) (fifo_then (fifo_go filter_meaning graph (nodes_from (suc node) (length filters))) (fifo_after filter_meaning graph now node (as_fired result)))
         (after_firing node result (λ done. led_by (record member { fields = done.fields }) done.words (lap_from (node + 1) members done.pushes)))
@@ -199,7 +198,7 @@ module _ (graph : Graph Filter) (first : Filter) (others : List Filter) (chain :
     lap_by (Ok done) kept ih =
         led done kept.1 (fifo_go filter_meaning graph (nodes_from (suc node) (length filters)) (after done)) (lap_from (node + 1) members done.pushes)
         (subst (λ (n : ℕ). IsLap graph (after done) q (suc node) filters (fifo_go filter_meaning graph (nodes_from (suc node) (length filters)) (after done)) (lap_from n members done.pushes)) (sym (add-one node))
-        (ih (after done) done.pushes (others_stand done) (takes_so_many (length done.pushes) (declared_pushes filter) filters (kept.0 ∙ exacts.0.counted) exacts.1)))
+        (ih (after done) done.pushes (others_stand done) (takes_so_many (length done.pushes) (declared_pushes filter) filters kept.0 exacts.1)))
     lap_by (Err cause) kept ih = (refl, stands.0.fired, refl)
 
     -- the machine's firing is the filter's at the items that wait
@@ -225,7 +224,7 @@ module _ (graph : Graph Filter) (first : Filter) (others : List Filter) (chain :
       subst (λ progress. IsLap graph now q node (filter ∷ filters) (fifo_then (fifo_go filter_meaning graph (nodes_from (suc node) (length filters))) progress) (lap_from node (member ∷ members) items))
       (sym (fires_items now q node filter filters member members items fit stands exacts all))
       (lap_by now q node filter filters member members items fit stands exacts all (firing.fired member.filter body.Work member.fields items)
-      (subst (λ (f : Filter). IfOk (firing.fired f body.Work member.fields items) (λ done. (length done.pushes ≡ stmts_pushes (work_block filter.members)) × (filter_prints filter ≡ false → done.words ≡ []))) (sym stands.0.is) (firing_counted filter member.fields items exacts.0.straight))
+      (subst (λ (f : Filter). IfOk (firing.fired f body.Work member.fields items) (GivesItems filter)) (sym stands.0.is) (firing_gives filter exacts.0 member.fields items))
       (λ next more others_now fits. lap_is q filters members next (suc node) more (omega arith) exacts.3 fits others_now))
 
   module _ (filters : List Filter) (size : length filters ≡ suc (length others)) (exacts : AreExact filters) where
@@ -298,8 +297,8 @@ module _ (graph : Graph Filter) (first : Filter) (others : List Filter) (chain :
 
 -- the laps of a pipeline are its answer
 pub laps_answer : LapsAreAnswers
-laps_answer first others k void joined checked fits once =
-    let exacts = are_exact 0 first others joined checked fits once in
+laps_answer first others k void known joined checked fits once =
+    let exacts = are_exact 0 first others known joined checked fits once in
     let chain = pipeline_is_chain first others in
     let matched = are_matched first others void exacts in
     let graph = flat (pipeline_of first others) in

@@ -1,27 +1,17 @@
 -- What a run of rounds means in the generic layer of streams: the answer of the pipeline.
-use Rattle.std.specs.Prelude.{◌≡◌, ℕ, suc, ℤ, Bool, true, false, not, ◌&&◌, nat_le, List, [], ◌∷◌, ◌++◌, length, Option, Ok, IfOk}
+use Rattle.std.specs.Prelude.{◌≡◌, ℕ, suc, Bool, true, false, not, ◌&&◌, nat_le, List, [], ◌∷◌, ◌++◌, length, Option, Ok}
 use Rattle.std.specs.Int.RustNames.{int_lt}
 use Rattle.strc_parse.specs.declared.tree.ItemType.{ItemType}
 use Rattle.strc_parse.specs.declared.tree.ItemType.TheVariants as item
 use Rattle.strc_work.specs.declared.fault.Cause.{Cause}
 use Rattle.strc_work.specs.declared.word.Word.{Word}
-use Rattle.strc_work.specs.declared.code.Body.TheVariants as body
-use Rattle.strc_work.specs.Filters.{Filter, work_block, work_rates, pop_rate, peek_rate, filter_prints}
-use Rattle.strc_work.specs.Firing.{fired, stmts_done, port_of, store_at}
+use Rattle.strc_work.specs.Closed.{IsClosedFilter}
+use Rattle.strc_work.specs.Filters.{Filter, work_rates, pop_rate, peek_rate, filter_prints}
 use Rattle.strc_dataflow.specs.Pipelines.{pipeline_of, nodes_from, once_each}
 use Rattle.strc_dataflow.specs.Answer.{Outcome, Outcome.Done, Outcome.RoundFault, IsAnswer}
-use Rattle.strc_cli.specs.Rates.{stmts_straight, stmts_pushes, stmts_pops, declared_pushes, declared_pops, has_prework, rates_checked}
+use Rattle.strc_cli.specs.Rates.{declared_pushes, declared_pops, has_prework, rates_checked}
 use Rattle.strc_cli.specs.Programs.{Accepts}
 use Rattle.strc_cli.specs.Pipeline.{filter_meaning, Ending, Ending.Ended, Ending.Faulted, laps, loaded}
-
--- a firing of a straight work that doesn't fault has popped and pushed what is counted from its text, and has printed only where the
--- filter's text prints
-abbrev pub FiringsKeepCountedRates : Type 0
-FiringsKeepCountedRates =
-    (filter : Filter) (fields window : List ℤ)
-    → stmts_straight (work_block filter.members) ≡ true
-    → IfOk (stmts_done (port_of filter body.Work window) (work_block filter.members) (store_at filter fields)) (λ store. store.traffic.popped ≡ stmts_pops (work_block filter.members))
-    × IfOk (fired filter body.Work fields window) (λ done. (length done.pushes ≡ stmts_pushes (work_block filter.members)) × (filter_prints filter ≡ false → done.words ≡ []))
 
 -- each filter takes what the one before it gives
 abbrev pub IsJoined : Filter → List Filter → Type 0
@@ -33,14 +23,13 @@ abbrev pub highest_rate : ItemType → ℕ
 highest_rate item.Int = 1
 highest_rate item.Void = 0
 
--- whether a filter is among those that are run so far: it has no prework, its work is straight and looks at no item beyond those that it
--- takes, and no declared rate is above the highest one
+-- whether a filter is among those that are run so far: it has no prework, its work looks at no item beyond those that it takes, and no
+-- declared rate is above the highest one
 abbrev pub is_settled : Filter → Bool
 is_settled filter =
     not (has_prework filter)
-    && (stmts_straight (work_block filter.members)
     && (not (int_lt (pop_rate (work_rates filter.members)) (peek_rate (work_rates filter.members)))
-    && (nat_le (declared_pops filter) (highest_rate filter.input) && nat_le (declared_pushes filter) (highest_rate filter.output))))
+    && (nat_le (declared_pops filter) (highest_rate filter.input) && nat_le (declared_pushes filter) (highest_rate filter.output)))
 
 -- whether all are
 abbrev pub are_settled : List Filter → Bool
@@ -70,11 +59,17 @@ Tells n (RoundFault q stop words) (Faulted round blame printed) =
     (q ≡ round) × (stop.node ≡ blame.node) × (stop.firing ≡ q) × (stop.cause ≡ blame.cause) × (printed ≡ words_in_order (nodes_from 0 n) words)
 Tells n _ _ = ⊥
 
+-- the names in each filter are known
+abbrev pub AreKnown : List Filter → Type 0
+AreKnown [] = Unit {0}
+AreKnown (filter ∷ others) = IsClosedFilter filter × AreKnown others
+
 -- the rounds of a pipeline of settled filters, a source first, whose rates are checked and of which at most one prints, end as its answer says
 abbrev pub LapsAreAnswers : Type 0
 LapsAreAnswers =
     (first : Filter) (others : List Filter) (k : ℕ)
     → first.input ≡ item.Void
+    → AreKnown (first ∷ others)
     → IsJoined first others
     → rates_checked 0 (first ∷ others) ≡ Ok tt
     → are_settled (first ∷ others) ≡ true

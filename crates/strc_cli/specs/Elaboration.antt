@@ -86,7 +86,6 @@ abbrev pub told_of : ℕ → LowerError → Refusal
 told_of number (lowering.UnknownName name) = refusal.UnknownName name
 told_of number lowering.TypeMismatch = refusal.TypeMismatch number
 told_of number (lowering.ConstFault cause) = refusal.ConstFault cause
-told_of number lowering.NotYet = refusal.NotYet
 told_of number lowering.NoMemory = refusal.NoMemory
 
 abbrev pub lowered_as : ℕ → Result Filter LowerError → Result Filter Refusal

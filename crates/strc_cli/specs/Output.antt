@@ -63,8 +63,10 @@ refusal_words refusal.NoMain = codes "E6 NoMain"
 refusal_words refusal.ManyMains = codes "E7 ManyMains"
 refusal_words refusal.NodeLimit = codes "E9 NodeLimit"
 refusal_words (refusal.ConstFault cause) = codes "E12 ConstFault" ++ codes " cause " ++ cause_name cause
+refusal_words (refusal.RateUnknown node) = codes "E13 RateUnknown" ++ codes " node " ++ decimal node
 refusal_words (refusal.RateMismatch node declared counted) =
     codes "E14 RateMismatch" ++ codes " node " ++ decimal node ++ (codes " declared " ++ decimal declared ++ codes " counted " ++ decimal counted)
+refusal_words (refusal.PeekOutside node) = codes "E15 PeekOutside" ++ codes " node " ++ decimal node
 refusal_words (refusal.RateLimit node) = codes "E16 RateLimit" ++ codes " node " ++ decimal node
 refusal_words refusal.TwoOutputs = codes "E18 TwoOutputs"
 refusal_words refusal.Disconnected = codes "E19 Disconnected"

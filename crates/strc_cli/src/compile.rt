@@ -49,22 +49,22 @@ fn compile_program(
         Ok(filters) => filters,
         Err(refusal) => return Err(refusal),
     };
-    match check_filters(&filters) {
+    match check_filters(alloc, &filters) {
         Ok(()) => Ok(filters),
         Err(refusal) => Err(refusal),
     }
 }
 
 // What is asked of filters together: outputs, connections, rates.
-fn check_filters(filters: &[Instance]) -> Result<(), Refusal>
-    ensures { result ≡ spec.filters_checked (filters_in filters.now) }
+fn check_filters(alloc: Global, filters: &[Instance]) -> Result<(), Refusal>
+    ensures { IsVerdict (λ done. done) (spec.filters_checked (filters_in filters.now)) result }
 {
     match check_outputs(filters) {
         Ok(()) => {}
         Err(refusal) => return Err(refusal),
     }
     match check_connections(filters) {
-        Ok(()) => check_rates(filters),
+        Ok(()) => check_rates(alloc, filters),
         Err(refusal) => Err(refusal),
     }
 }

@@ -267,7 +267,6 @@ fn instance(alloc: Global, number: usize, filter: &FilterTree) -> Result<Instanc
         Err(LowerError::UnknownName { name }) => return Err(Refusal::UnknownName { name }),
         Err(LowerError::TypeMismatch) => return Err(Refusal::TypeMismatch { stream: number }),
         Err(LowerError::ConstFault { cause }) => return Err(Refusal::ConstFault { cause }),
-        Err(LowerError::NotYet) => return Err(Refusal::NotYet),
         Err(LowerError::NoMemory) => return Err(Refusal::NoMemory),
     };
     let state = match code.start(alloc) {

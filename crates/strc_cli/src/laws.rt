@@ -1,12 +1,7 @@
 // What the meaning of a program stands on, as laws about all filters.
 
-ghost use Rattle.strc_cli.specs.Answers.{FiringsKeepCountedRates, LapsAreAnswers, AcceptedRunsAreAnswers};
+ghost use Rattle.strc_cli.specs.Answers.{LapsAreAnswers, AcceptedRunsAreAnswers};
 ghost use Rattle.strc_cli.specs.Programs.{AcceptedOrRefused};
-
-/// A firing of a straight work that doesn't fault pops and pushes what is counted from its text, and prints only where its text does.
-pub fn firings_keep_counted_rates()
-    ensures { FiringsKeepCountedRates }
-{}
 
 /// The rounds of a pipeline of settled filters end as the answer of its stream equations says: the same words, or the same fault in the same round.
 pub fn laps_are_answers()

@@ -110,11 +110,17 @@ fn push_refusal(text: &mut Vec<u8>, refusal: &Refusal) -> Result<(), AllocError>
         Refusal::ConstFault { cause } => {
             push_named(text, b"E12 ConstFault", b" cause ", cause_name(*cause))
         }
+        Refusal::RateUnknown { node } => {
+            push_field(text, b"E13 RateUnknown", b" node ", *node as u64)
+        }
         Refusal::RateMismatch {
             node,
             declared,
             counted,
         } => push_mismatch(text, *node, *declared, *counted),
+        Refusal::PeekOutside { node } => {
+            push_field(text, b"E15 PeekOutside", b" node ", *node as u64)
+        }
         Refusal::RateLimit { node } => push_field(text, b"E16 RateLimit", b" node ", *node as u64),
         Refusal::TwoOutputs => push_bytes(text, b"E18 TwoOutputs"),
         Refusal::Disconnected => push_bytes(text, b"E19 Disconnected"),

@@ -40,13 +40,21 @@ pub enum Refusal {
     ConstFault {
         cause: Cause,
     },
-    /// A declared rate isn't the one that a firing has.
+    /// What a firing pushes or pops can't be counted from its text.
+    RateUnknown {
+        node: usize,
+    },
+    /// A declared rate isn't the one that a firing has; counts are held at 65,537.
     RateMismatch {
         node: usize,
         declared: u32,
         counted: u32,
     },
-    /// A rate of `work` is 0 on a side that has items.
+    /// A peek can't be within its window.
+    PeekOutside {
+        node: usize,
+    },
+    /// A rate is below 0 or above 65,536, or a rate of `work` is 0 on a side that has items.
     RateLimit {
         node: usize,
     },

@@ -6,7 +6,6 @@ ghost use Rattle.strc_cli.specs.Answers as spec;
 
 use crate::instance::Instance;
 use crate::rates::item_count;
-use crate::straight::block_is_straight;
 use strc_parse::tree::ItemType;
 use strc_work::code::{Body, Code};
 
@@ -22,18 +21,17 @@ pub(crate) fn are_settled(filters: &[Instance]) -> bool
     true
 }
 
-/// Whether a filter is: it has no prework, its work is straight and looks at no item beyond those that it takes, and no
-/// declared rate is above the highest one.
+/// Whether a filter is: it has no prework, its work looks at no item beyond those that it takes, and no declared rate
+/// is above the highest one.
 fn is_settled(code: &Code) -> bool
     ensures { result ≡ spec.is_settled (filter_of code.now) }
 {
     let rates = code.rates(Body::Work);
     let tree = code.tree();
     !code.has_prework()
-        && (block_is_straight(code.block(Body::Work))
-            && (rates.peek <= rates.pop
-                && (item_count(rates.pop) <= highest_rate(tree.input)
-                    && item_count(rates.push) <= highest_rate(tree.output))))
+        && (rates.peek <= rates.pop
+            && (item_count(rates.pop) <= highest_rate(tree.input)
+                && item_count(rates.push) <= highest_rate(tree.output)))
 }
 
 // The highest rate on a side that is run so far: one item, and none on a void side.

@@ -10,7 +10,5 @@ mod gap;
 pub mod lexer;
 pub mod mark;
 mod scan;
-#[cfg(test)]
-mod tests;
 pub mod token;
 pub mod word;

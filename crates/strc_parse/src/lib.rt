@@ -20,6 +20,3 @@ mod variable;
 
 pub use error::ParseError;
 pub use program::{one_tree, parse};
-
-#[cfg(test)]
-mod tests;

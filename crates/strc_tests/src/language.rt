@@ -258,14 +258,9 @@ fn branches_have_scopes_of_their_own(rt: HostRuntime) -> Result<(), Fail> {
 
 #[test]
 fn what_is_not_run_yet_is_said_last(rt: HostRuntime) -> Result<(), Fail> {
-    let arrays = lone(rt.alloc(), "int[4] t; work { }")?;
-    let (output, _status) = run_text(rt.alloc(), arrays.as_bytes(), &rounds(1))?;
-    assert_eq!(rt; output.as_slice(), b"refused E0 NotYet\n".as_slice());
     for filter in [
         "prework push 1 { push(1); } work push 1 { push(2); }",
         "work push 2 { push(1); push(2); }",
-        "int x; work push 1 { if (x == 0) push(1); else push(2); }",
-        "int x; work push 1 { for (int i = 0; i < 1; i++) push(x); }",
     ] {
         let text = format!(in rt.alloc();
             "void->int filter S {{ {filter} }} int->void filter P {{ work pop 1 {{ println(pop()); }} }} void->void pipeline M {{ add S; add P; }}"
@@ -278,4 +273,58 @@ fn what_is_not_run_yet_is_said_last(rt: HostRuntime) -> Result<(), Fail> {
         );
     }
     Ok(())
+}
+
+#[test]
+fn arrays_hold_their_elements(rt: HostRuntime) -> Result<(), Fail> {
+    let cases: [(&str, &str); 11] = [
+        (
+            "work { int[3] a; a[0] = 4; a[2] = a[0] + 1; println(a[0]); println(a[1]); println(a[2]); }",
+            "4\n0\n5\n",
+        ),
+        // The index is evaluated once.
+        (
+            "work { int[3] a; int i; a[i++] += 5; println(i); println(a[0]); println(a[1]); }",
+            "1\n5\n0\n",
+        ),
+        (
+            "work { int[3] a; int i; println(a[i++]++); println(i); println(a[0]); println(++a[0]); println(a[0]--); println(a[0]); }",
+            "0\n1\n1\n2\n2\n1\n",
+        ),
+        // An assignment tests its index behind its value, a compound one before it.
+        (
+            "work { int[3] a; int z; a[3] = 1 / z; }",
+            "fault DivZero node 0 firing 0 round 0\n",
+        ),
+        (
+            "work { int[3] a; int z; a[3] += 1 / z; }",
+            "fault Index node 0 firing 0 round 0\n",
+        ),
+        (
+            "work { int[3] a; println(a[2]); println(a[3]); }",
+            "fault Index node 0 firing 0 round 0\n",
+        ),
+        (
+            "work { int[3] a; println(a[0 - 1]); }",
+            "fault Index node 0 firing 0 round 0\n",
+        ),
+        (
+            "work { int[2] a, b; a[1] = 1; b[0] = 2; println(a[0] + a[1] * 10 + b[0] * 100 + b[1] * 1000); }",
+            "210\n",
+        ),
+        // The index keeps its value while the value changes its variable.
+        (
+            "work { int[3] a; int i = 1; a[i] = i++ + i; println(a[1]); println(a[2]); a[i] -= --i; println(a[2]); println(i); }",
+            "3\n0\n-1\n1\n",
+        ),
+        (
+            "work { int[3] a; a[0] = 7; a[1] %= 3; a[0] /= 2; a[0] *= 5; println(a[0]); println(a[1]); }",
+            "15\n0\n",
+        ),
+        (
+            "int[65536] t; work { t[65535] = 3; println(t[65535]); }",
+            "3\n",
+        ),
+    ];
+    compare(rt.alloc(), 1, &cases)
 }

@@ -112,3 +112,16 @@ fn a_long_block_of_branches_is_no_deep_one(rt: HostRuntime) -> Result<(), Fail> 
     assert_eq!(rt; output.as_slice(), b"0\n0\n".as_slice());
     Ok(())
 }
+
+#[test]
+fn twenty_arrays_of_the_greatest_length_live_together(rt: HostRuntime) -> Result<(), Fail> {
+    let mut text = String::from_str(rt.alloc(), "void->void filter M { work { ")?;
+    for i in 0..20 {
+        let array = format!(in rt.alloc(); "int[65536] t{i}; t{i}[65535 - {i}] = {i}; ")?;
+        text.push_str(&array)?;
+    }
+    text.push_str("println(t0[65535] + t7[65528] + t19[65516] + t19[0]); } }")?;
+    let (output, _status) = run_text(rt.alloc(), text.as_bytes(), &rounds(2))?;
+    assert_eq!(rt; output.as_slice(), b"26\n26\n".as_slice());
+    Ok(())
+}

@@ -117,12 +117,12 @@ fn each_refusal_has_its_line(rt: HostRuntime) -> Result<(), Fail> {
         ),
         ("void->void pipeline M { add M; }", "refused E0 NotYet"),
         (
-            "void->void filter A { work { int[3] t; } }",
-            "refused E0 NotYet",
+            "void->void filter A { work { int[0] t; } }",
+            "refused E12 ConstFault cause Index",
         ),
         (
-            "void->void filter A { int[2] b; work { } }",
-            "refused E0 NotYet",
+            "void->void filter A { int[65537] b; work { } }",
+            "refused E12 ConstFault cause Index",
         ),
         (
             "void->void filter A { prework { } work { } }",

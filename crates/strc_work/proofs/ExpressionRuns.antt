@@ -12,16 +12,18 @@ use Rattle.strc_parse.specs.declared.tree.StepOperator.TheVariants as step
 use Rattle.strc_work.specs.declared.fault.Cause.{Cause}
 use Rattle.strc_work.specs.declared.step.Step.TheVariants as act
 use Rattle.strc_work.specs.Arithmetic.{wrapped, truth, is_true, unary_value, binary_value}
+use Rattle.strc_work.specs.Scoping.{Scope, total, slot_of}
 use Rattle.strc_work.specs.Closed.{IsNamed, IsClosed}
-use Rattle.strc_work.specs.Firing.{Port, Store, Traffic, then_do, value_in, joined, value_of, popped_from, peeked_from, assigned, with_value}
+use Rattle.strc_work.specs.Firing.{Port, Store, Traffic, then_do, value_in, joined, value_of, popped_from, peeked_from, assigned, with_cell}
 use Rattle.strc_work.specs.Machine.{Machine, Nodes, End, Choice, before, slot_value, slot_written, step_done, chosen_by, nodes_done, nodes_room, unary_done, binary_done}
-use Rattle.strc_work.specs.Lowering.{slot_of, variable_slot, changes_none, stands_at, one, unary_step, binary_step, expr_nodes, operand_slot, operand_nodes}
-use Rattle.strc_work.proofs.Variables.{names_of, at, Holds, Holds-set_above, Holds-with_value, names_of-with_value, length-names_of}
+use Rattle.strc_work.specs.Lowering.{variable_slot, changes_none, stands_at, one, unary_step, binary_step, expr_nodes, operand_slot, operand_nodes}
+use Rattle.strc_work.proofs.Variables.{scope_of, at, Holds, Holds-set_above, Holds-assigned, scope_of-with_cell, same_slots}
 use Rattle.strc_work.proofs.Related.{Related, then_related, weaker_related, chosen_related, nodes_done-before, nodes_room-before, then_end, then_last}
-use Rattle.strc_work.proofs.Expressions.{Arrives, StandsAt, Ready, machine_at, Runs, Strict, by_operator, named_below, named_value, length-variables, variable_runs, Keeps, keeps, same_slots, stays_slot, operand_runs, arrived_stands, expr_room}
+use Rattle.strc_work.proofs.Expressions.{Arrives, StandsAt, Ready, machine_at, Runs, Strict, by_operator, named_below, named_value, total-variables, variable_runs, Keeps, keeps, stays_slot, operand_runs, arrived_stands, expr_room}
+use Rattle.strc_work.proofs.Elements.{element_runs, step_element_runs}
 
 -- a value that needs no other step
-pub arrives_at_once : (names : List (List ℕ)) (into free : ℕ) (store : Store) (slots : List ℤ) (value : ℤ) → Ready names free store slots → Arrives names into free slots (value, store) (record { slots = set slots into value; traffic = store.traffic })
+pub arrives_at_once : (names : Scope) (into free : ℕ) (store : Store) (slots : List ℤ) (value : ℤ) → Ready names free store slots → Arrives names into free slots (value, store) (record { slots = set slots into value; traffic = store.traffic })
 arrives_at_once names into free store slots value ready = record {
   slots = slots;
   written = refl;
@@ -31,7 +33,7 @@ arrives_at_once names into free store slots value ready = record {
   size = refl;
 }
 
-pop_runs : (port : Port) (names : List (List ℕ)) (into free : ℕ) (store : Store) (slots : List ℤ) (r : Result (ℤ × Traffic) Cause) → Ready names free store slots → Related (Arrives names into free slots) (then_do r (λ taken. Ok (taken.0, record store { traffic = taken.1 }))) (then_do (then_do r (λ taken. Ok (record { slots = set slots into taken.0; traffic = taken.1 }))) (nodes_done port End))
+pop_runs : (port : Port) (names : Scope) (into free : ℕ) (store : Store) (slots : List ℤ) (r : Result (ℤ × Traffic) Cause) → Ready names free store slots → Related (Arrives names into free slots) (then_do r (λ taken. Ok (taken.0, record store { traffic = taken.1 }))) (then_do (then_do r (λ taken. Ok (record { slots = set slots into taken.0; traffic = taken.1 }))) (nodes_done port End))
 pop_runs port names into free store slots (Ok taken) ready = record {
   slots = slots;
   written = refl;
@@ -47,7 +49,7 @@ unary_step_done port unary.Negate into from m = refl
 unary_step_done port unary.Not into from m = refl
 unary_step_done port unary.Complement into from m = refl
 
-binary_step_done : (port : Port) (operator : BinaryOperator) (into left right : ℕ) (m : Machine) → step_done port (binary_step operator into left right) m ≡ binary_done operator into left right m
+pub binary_step_done : (port : Port) (operator : BinaryOperator) (into left right : ℕ) (m : Machine) → step_done port (binary_step operator into left right) m ≡ binary_done operator into left right m
 binary_step_done port binary.LogicalOr into left right m = refl
 binary_step_done port binary.LogicalAnd into left right m = refl
 binary_step_done port binary.Equal into left right m = refl
@@ -68,7 +70,7 @@ binary_step_done port binary.Divide into left right m = refl
 binary_step_done port binary.Remainder into left right m = refl
 
 -- the last step of an operator before its operand
-unary_arrives : (names : List (List ℕ)) (operator : UnaryOperator) (into from free : ℕ) (before : List ℤ) (given : ℤ × Store) (after : Machine) → StandsAt names from free before given after → Arrives names into free before (unary_value operator given.0, given.1) (slot_written after into (unary_value operator (slot_value after from)))
+unary_arrives : (names : Scope) (operator : UnaryOperator) (into from free : ℕ) (before : List ℤ) (given : ℤ × Store) (after : Machine) → StandsAt names from free before given after → Arrives names into free before (unary_value operator given.0, given.1) (slot_written after into (unary_value operator (slot_value after from)))
 unary_arrives names operator into from free before given after stands = record {
   slots = after.slots;
   written =
@@ -81,7 +83,7 @@ unary_arrives names operator into from free before given after stands = record {
 }
 
 -- the last step of code whose result may be a fault
-binary_arrives : (names : List (List ℕ)) (into free : ℕ) (before : List ℤ) (store : Store) (after : Machine) (r : Result ℤ Cause) → after.traffic ≡ store.traffic → names_of store.variables ≡ names → Holds store.variables after.slots → ((k : ℕ) → length names ≤ k → k < free → at after.slots k ≡ at before k) → length after.slots ≡ length before → Related (Arrives names into free before) (then_do r (λ value. Ok (value, store))) (then_do r (λ value. Ok (slot_written after into value)))
+binary_arrives : (names : Scope) (into free : ℕ) (before : List ℤ) (store : Store) (after : Machine) (r : Result ℤ Cause) → after.traffic ≡ store.traffic → scope_of store.variables ≡ names → Holds store.variables after.slots → ((k : ℕ) → total names ≤ k → k < free → at after.slots k ≡ at before k) → length after.slots ≡ length before → Related (Arrives names into free before) (then_do r (λ value. Ok (value, store))) (then_do r (λ value. Ok (slot_written after into value)))
 binary_arrives names into free before store after (Ok value) traffic names_are holds kept size = record {
   slots = after.slots;
   written = ap (λ t. record { slots = set after.slots into value; traffic = t }) traffic;
@@ -93,11 +95,11 @@ binary_arrives names into free before store after (Ok value) traffic names_are h
 binary_arrives names into free before store after (Err cause) traffic names_are holds kept size = refl
 
 -- a machine whose traffic is a store's
-machine_is : (m : Machine) (store : Store) → m.traffic ≡ store.traffic → m ≡ machine_at m.slots store
+pub machine_is : (m : Machine) (store : Store) → m.traffic ≡ store.traffic → m ≡ machine_at m.slots store
 machine_is m store e = ap (λ t. record { slots = m.slots; traffic = t }) e
 
 -- the left operand's value is still there after the right operand's code
-left_stays : (port : Port) (names : List (List ℕ)) (left right : tree.Expr) (free : ℕ) (store : Store) (slots : List ℤ) (first second : ℤ × Store) (m1 m2 : Machine) → IsClosed names left → Ready names free store slots → value_of port right first.1 ≡ Ok second → StandsAt names (operand_slot names (changes_none right) left free) free slots first m1 → Holds second.1.variables m2.slots → ((k : ℕ) → length names ≤ k → k < free + 1 → at m2.slots k ≡ at m1.slots k) → at m2.slots (operand_slot names (changes_none right) left free) ≡ first.0
+pub left_stays : (port : Port) (names : Scope) (left right : tree.Expr) (free : ℕ) (store : Store) (slots : List ℤ) (first second : ℤ × Store) (m1 m2 : Machine) → IsClosed names left → Ready names free store slots → value_of port right first.1 ≡ Ok second → StandsAt names (operand_slot names (changes_none right) left free) free slots first m1 → Holds second.1.variables m2.slots → ((k : ℕ) → total names ≤ k → k < free + 1 → at m2.slots k ≡ at m1.slots k) → at m2.slots (operand_slot names (changes_none right) left free) ≡ first.0
 left_stays port names left right free store slots first second m1 m2 closed ready is stands holds kept =
     by_place (stands_at names (changes_none right) left) (λ slot at_slot. stays_slot names (changes_none right) left slot at_slot) stands.value
   where
@@ -109,8 +111,8 @@ left_stays port names left right free store slots first second m1 m2 closed read
         let p = place slot refl in
         let below = (variable_runs port left names free slot store slots p.1 closed ready).1 in
         let same : second.1.variables ≡ first.1.variables = subst (Keeps first.1.variables) is (keeps port right p.0 first.1) in
-        let few : length first.1.variables ≡ length names = sym (length-names_of first.1.variables) ∙ ap length stands.names_are in
-        let lt : slot < length first.1.variables = omega arith in
+        let few : total (scope_of first.1.variables) ≡ total names = ap total stands.names_are in
+        let lt : slot < total (scope_of first.1.variables) = omega arith in
         same_slots first.1.variables m2.slots m1.slots slot (subst (λ v. Holds v m2.slots) same holds) stands.holds lt ∙ value
 
 -- an operator between operands that are both evaluated
@@ -181,29 +183,29 @@ peek_runs port index run names into free store slots closed ready room =
     (binary_arrives names into free slots given.1 m (peeked_from port given.0 given.1.traffic) stands.traffic stands.names_are stands.holds stands.kept stands.size)))
 
 -- a step of a variable, whose new value is the step's own
-first_runs : (port : Port) (names : List (List ℕ)) (name : List ℕ) (amount : ℤ) (into free : ℕ) (store : Store) (slots : List ℤ) → IsNamed names name → Ready names free store slots → length names ≤ length slots → let new = wrapped (value_in store name +ℤ amount) in Arrives names into free slots (new, assigned store name new) (slot_written (slot_written (machine_at slots store) (slot_of names name) (wrapped (at slots (slot_of names name) +ℤ amount))) into (slot_value (slot_written (machine_at slots store) (slot_of names name) (wrapped (at slots (slot_of names name) +ℤ amount))) (slot_of names name)))
+first_runs : (port : Port) (names : Scope) (name : List ℕ) (amount : ℤ) (into free : ℕ) (store : Store) (slots : List ℤ) → IsNamed names name → Ready names free store slots → total names ≤ length slots → let new = wrapped (value_in store name +ℤ amount) in Arrives names into free slots (new, assigned store name new) (slot_written (slot_written (machine_at slots store) (slot_of names name) (wrapped (at slots (slot_of names name) +ℤ amount))) into (slot_value (slot_written (machine_at slots store) (slot_of names name) (wrapped (at slots (slot_of names name) +ℤ amount))) (slot_of names name)))
 first_runs port names name amount into free store slots named ready room =
     let slot = slot_of names name in
     let old = named_value names free store slots name ready named in
     let new = wrapped (value_in store name +ℤ amount) in
     let below = named_below names free store slots name ready named in
     let within : slot < length slots = omega arith in
-    let few = length-variables names free store slots ready in
-    let named' : IsNamed (names_of store.variables) name = subst (λ n. IsNamed n name) (sym ready.names_are) named in
+    let few = total-variables names free store slots ready in
+    let named' : IsNamed (scope_of store.variables) name = subst (λ n. IsNamed n name) (sym ready.names_are) named in
     let new_is : wrapped (at slots slot +ℤ amount) ≡ new = ap (λ v. wrapped (v +ℤ amount)) old in
     record {
       slots = set slots slot new;
       written =
           ap (λ v. slot_written (slot_written (machine_at slots store) slot v) into (slot_value (slot_written (machine_at slots store) slot v) slot)) new_is
           ∙ ap (λ v. record { slots = set (set slots slot new) into v; traffic = store.traffic }) (get_or-set_same slots slot new (pos 0) within);
-      names_are = names_of-with_value store.variables name new ∙ ready.names_are;
-      holds = subst (λ n. Holds (with_value store.variables name new) (set slots (slot_of n name) new)) ready.names_are (Holds-with_value store.variables slots name new (omega arith) ready.holds named');
+      names_are = scope_of-with_cell store.variables name 0 new ∙ ready.names_are;
+      holds = subst (λ n. Holds (with_cell store.variables name 0 new) (set slots (slot_of n name) new)) ready.names_are (Holds-assigned store.variables slots name new (omega arith) ready.holds named');
       kept = λ k low high. let other : k ≢ slot = omega arith in get_or-set_other slots slot k new (pos 0) other;
       size = length-set slots slot new;
     }
 
 -- a step of a variable, whose old value is the step's own and waits in the free slot
-after_runs : (port : Port) (names : List (List ℕ)) (name : List ℕ) (amount : ℤ) (into free : ℕ) (store : Store) (slots : List ℤ) → IsNamed names name → Ready names free store slots → free < length slots → let new = wrapped (value_in store name +ℤ amount) in let m1 = slot_written (machine_at slots store) free (at slots (slot_of names name)) in let m2 = slot_written m1 (slot_of names name) (wrapped (slot_value m1 (slot_of names name) +ℤ amount)) in Arrives names into free slots (value_in store name, assigned store name new) (slot_written m2 into (slot_value m2 free))
+after_runs : (port : Port) (names : Scope) (name : List ℕ) (amount : ℤ) (into free : ℕ) (store : Store) (slots : List ℤ) → IsNamed names name → Ready names free store slots → free < length slots → let new = wrapped (value_in store name +ℤ amount) in let m1 = slot_written (machine_at slots store) free (at slots (slot_of names name)) in let m2 = slot_written m1 (slot_of names name) (wrapped (slot_value m1 (slot_of names name) +ℤ amount)) in Arrives names into free slots (value_in store name, assigned store name new) (slot_written m2 into (slot_value m2 free))
 after_runs port names name amount into free store slots named ready room =
     let slot = slot_of names name in
     let old = value_in store name in
@@ -212,8 +214,8 @@ after_runs port names name amount into free store slots named ready room =
     let above = ready.above in
     let roomy = ready.roomy in
     let below = named_below names free store slots name ready named in
-    let few = length-variables names free store slots ready in
-    let named' : IsNamed (names_of store.variables) name = subst (λ n. IsNamed n name) (sym ready.names_are) named in
+    let few = total-variables names free store slots ready in
+    let named' : IsNamed (scope_of store.variables) name = subst (λ n. IsNamed n name) (sym ready.names_are) named in
     let waiting = set slots free old in
     let apart : slot ≢ free = omega arith in
     let apart' : free ≢ slot = omega arith in
@@ -229,8 +231,8 @@ after_runs port names name amount into free store slots named ready room =
           ap (λ v. slot_written (m2 (m1 v) (slot_value (m1 v) slot)) into (slot_value (m2 (m1 v) (slot_value (m1 v) slot)) free)) old_is
           ∙ ap (λ v. slot_written (m2 (m1 old) v) into (slot_value (m2 (m1 old) v) free)) still
           ∙ ap (λ v. record { slots = set stepped into v; traffic = store.traffic }) waits;
-      names_are = names_of-with_value store.variables name new ∙ ready.names_are;
-      holds = subst (λ n. Holds (with_value store.variables name new) (set waiting (slot_of n name) new)) ready.names_are (Holds-with_value store.variables waiting name new (omega arith) (Holds-set_above store.variables slots free old (omega arith) ready.holds) named');
+      names_are = scope_of-with_cell store.variables name 0 new ∙ ready.names_are;
+      holds = subst (λ n. Holds (with_cell store.variables name 0 new) (set waiting (slot_of n name) new)) ready.names_are (Holds-assigned store.variables waiting name new (omega arith) (Holds-set_above store.variables slots free old (omega arith) ready.holds) named');
       kept = λ k low high.
           let other : k ≢ slot = omega arith in
           let other' : k ≢ free = omega arith in
@@ -253,7 +255,7 @@ step_runs port step.DecrementAfter name names into free store slots closed ready
 -- ---- choices
 
 -- a value that stands in a free slot, and is copied from there
-copied_arrives : (names : List (List ℕ)) (into slot free : ℕ) (before : List ℤ) (given : ℤ × Store) (m : Machine) → StandsAt names slot free before given m → Arrives names into free before given (slot_written m into (slot_value m slot))
+copied_arrives : (names : Scope) (into slot free : ℕ) (before : List ℤ) (given : ℤ × Store) (m : Machine) → StandsAt names slot free before given m → Arrives names into free before given (slot_written m into (slot_value m slot))
 copied_arrives names into slot free before given m stands = record {
   slots = m.slots;
   written = ap (slot_written m into) stands.value ∙ ap (λ t. record { slots = set m.slots into given.0; traffic = t }) stands.traffic;
@@ -264,7 +266,7 @@ copied_arrives names into slot free before given m stands = record {
 }
 
 -- a value stands where another did, if what is kept stays kept
-stands_further : (names : List (List ℕ)) (slot free : ℕ) (before between : List ℤ) (given : ℤ × Store) (m : Machine) → ((k : ℕ) → length names ≤ k → k < free → at between k ≡ at before k) → length between ≡ length before → StandsAt names slot free between given m → StandsAt names slot free before given m
+stands_further : (names : Scope) (slot free : ℕ) (before between : List ℤ) (given : ℤ × Store) (m : Machine) → ((k : ℕ) → total names ≤ k → k < free → at between k ≡ at before k) → length between ≡ length before → StandsAt names slot free between given m → StandsAt names slot free before given m
 stands_further names slot free before between given m kept size stands = record {
   traffic = stands.traffic;
   names_are = stands.names_are;
@@ -274,7 +276,7 @@ stands_further names slot free before between given m kept size stands = record 
   size = stands.size ∙ size;
 }
 
-arrives_further : (names : List (List ℕ)) (into free : ℕ) (before between : List ℤ) (given : ℤ × Store) (m : Machine) → ((k : ℕ) → length names ≤ k → k < free → at between k ≡ at before k) → length between ≡ length before → Arrives names into free between given m → Arrives names into free before given m
+arrives_further : (names : Scope) (into free : ℕ) (before between : List ℤ) (given : ℤ × Store) (m : Machine) → ((k : ℕ) → total names ≤ k → k < free → at between k ≡ at before k) → length between ≡ length before → Arrives names into free between given m → Arrives names into free before given m
 arrives_further names into free before between given m kept size arrives = record {
   slots = arrives.slots;
   written = arrives.written;
@@ -285,13 +287,13 @@ arrives_further names into free before between given m kept size arrives = recor
 }
 
 -- the slots are ready for more after a value has come to its slot
-stands_ready : (names : List (List ℕ)) (slot free : ℕ) (before : List ℤ) (given : ℤ × Store) (m : Machine) → length names ≤ free → length names ≤ length before → StandsAt names slot free before given m → Ready names free given.1 m.slots
+stands_ready : (names : Scope) (slot free : ℕ) (before : List ℤ) (given : ℤ × Store) (m : Machine) → total names ≤ free → total names ≤ length before → StandsAt names slot free before given m → Ready names free given.1 m.slots
 stands_ready names slot free before given m above roomy stands =
     let size = stands.size in
     record { names_are = stands.names_are; holds = stands.holds; above = above; roomy = omega arith }
 
 -- an expression's code, from where other code has led
-runs_from : (port : Port) (e : tree.Expr) → Runs port e → (names : List (List ℕ)) (slot into free : ℕ) (before : List ℤ) (given : ℤ × Store) (m : Machine) → IsClosed names e → length names ≤ free → length names ≤ length before → nodes_room (expr_nodes names e into free) ≤ length before → StandsAt names slot free before given m → Related (Arrives names into free before) (value_of port e given.1) (nodes_done port (expr_nodes names e into free) m)
+runs_from : (port : Port) (e : tree.Expr) → Runs port e → (names : Scope) (slot into free : ℕ) (before : List ℤ) (given : ℤ × Store) (m : Machine) → IsClosed names e → total names ≤ free → total names ≤ length before → nodes_room (expr_nodes names e into free) ≤ length before → StandsAt names slot free before given m → Related (Arrives names into free before) (value_of port e given.1) (nodes_done port (expr_nodes names e into free) m)
 runs_from port e run names slot into free before given m closed above roomy room stands =
     let size = stands.size in
     let fits : nodes_room (expr_nodes names e into free) ≤ length m.slots = omega arith in
@@ -300,7 +302,7 @@ runs_from port e run names slot into free before given m closed above roomy room
     (run names into free given.1 m.slots closed (stands_ready names slot free before given m above roomy stands) fits) (λ result after arrives. arrives_further names into free before m.slots result after stands.kept stands.size arrives))
 
 -- an expression's code puts its value into a free slot
-comes_to_free : (port : Port) (e : tree.Expr) → Runs port e → (names : List (List ℕ)) (free : ℕ) (store : Store) (slots : List ℤ) → IsClosed names e → Ready names free store slots → nodes_room (expr_nodes names e free (free + 1)) ≤ length slots → Related (StandsAt names free free slots) (value_of port e store) (nodes_done port (expr_nodes names e free (free + 1)) (machine_at slots store))
+comes_to_free : (port : Port) (e : tree.Expr) → Runs port e → (names : Scope) (free : ℕ) (store : Store) (slots : List ℤ) → IsClosed names e → Ready names free store slots → nodes_room (expr_nodes names e free (free + 1)) ≤ length slots → Related (StandsAt names free free slots) (value_of port e store) (nodes_done port (expr_nodes names e free (free + 1)) (machine_at slots store))
 comes_to_free port e run names free store slots closed ready room =
     let above = ready.above in
     let within : free < length slots = omega (arith, expr_room names e free (free + 1) closed) in
@@ -308,7 +310,7 @@ comes_to_free port e run names free store slots closed ready room =
     weaker_related (Arrives names free (free + 1) slots) (StandsAt names free free slots) (value_of port e store) (nodes_done port (expr_nodes names e free (free + 1)) (machine_at slots store)) (run names free (free + 1) store slots closed ready' room) (λ given after arrives. arrived_stands names free slots given after above within arrives)
 
 -- the same, from where the left side's code has led
-right_comes : (port : Port) (e : tree.Expr) → Runs port e → (names : List (List ℕ)) (free : ℕ) (before : List ℤ) (given : ℤ × Store) (m : Machine) → IsClosed names e → length names ≤ free → length names ≤ length before → nodes_room (expr_nodes names e free (free + 1)) ≤ length before → StandsAt names free free before given m → Related (StandsAt names free free before) (value_of port e given.1) (nodes_done port (expr_nodes names e free (free + 1)) m)
+right_comes : (port : Port) (e : tree.Expr) → Runs port e → (names : Scope) (free : ℕ) (before : List ℤ) (given : ℤ × Store) (m : Machine) → IsClosed names e → total names ≤ free → total names ≤ length before → nodes_room (expr_nodes names e free (free + 1)) ≤ length before → StandsAt names free free before given m → Related (StandsAt names free free before) (value_of port e given.1) (nodes_done port (expr_nodes names e free (free + 1)) m)
 right_comes port e run names free before given m closed above roomy room stands =
     let size = stands.size in
     let fits : nodes_room (expr_nodes names e free (free + 1)) ≤ length m.slots = omega arith in
@@ -317,14 +319,14 @@ right_comes port e run names free before given m closed above roomy room stands 
     (comes_to_free port e run names free given.1 m.slots closed (stands_ready names free free before given m above roomy stands) fits) (λ result after there. stands_further names free free before m.slots result after stands.kept stands.size there))
 
 -- the last step of a logical operator
-logical_last : (port : Port) (names : List (List ℕ)) (into free : ℕ) (slots : List ℤ) (x : Result (ℤ × Store) Cause) (y : Result Machine Cause) → Related (StandsAt names free free slots) x y → Related (Arrives names into free slots) x (then_do y (nodes_done port (one (act.Copy into free))))
+logical_last : (port : Port) (names : Scope) (into free : ℕ) (slots : List ℤ) (x : Result (ℤ × Store) Cause) (y : Result Machine Cause) → Related (StandsAt names free free slots) x y → Related (Arrives names into free slots) x (then_do y (nodes_done port (one (act.Copy into free))))
 logical_last port names into free slots (Ok given) (Ok m) h = copied_arrives names into free free slots given m h
 logical_last port names into free slots (Ok given) (Err d) h = h
 logical_last port names into free slots (Err c) (Ok m) h = h
 logical_last port names into free slots (Err c) (Err d) h = h
 
 -- a logical operator: the left side comes to a free slot, and where it is needed the right side
-logical_runs : (port : Port) (left : tree.Expr) → Runs port left → (meant : ℤ × Store → Result (ℤ × Store) Cause) (chosen other : Nodes) (names : List (List ℕ)) (into free : ℕ) (store : Store) (slots : List ℤ) → IsClosed names left → Ready names free store slots → nodes_room (before (expr_nodes names left free (free + 1)) (Choice free chosen other (one (act.Copy into free)))) ≤ length slots → ((first : ℤ × Store) (m : Machine) → StandsAt names free free slots first m → Related (StandsAt names free free slots) (meant first) (chosen_by (is_true (slot_value m free)) (nodes_done port chosen) (nodes_done port other) m)) → Related (Arrives names into free slots) (then_do (value_of port left store) meant) (nodes_done port (before (expr_nodes names left free (free + 1)) (Choice free chosen other (one (act.Copy into free)))) (machine_at slots store))
+logical_runs : (port : Port) (left : tree.Expr) → Runs port left → (meant : ℤ × Store → Result (ℤ × Store) Cause) (chosen other : Nodes) (names : Scope) (into free : ℕ) (store : Store) (slots : List ℤ) → IsClosed names left → Ready names free store slots → nodes_room (before (expr_nodes names left free (free + 1)) (Choice free chosen other (one (act.Copy into free)))) ≤ length slots → ((first : ℤ × Store) (m : Machine) → StandsAt names free free slots first m → Related (StandsAt names free free slots) (meant first) (chosen_by (is_true (slot_value m free)) (nodes_done port chosen) (nodes_done port other) m)) → Related (Arrives names into free slots) (then_do (value_of port left store) meant) (nodes_done port (before (expr_nodes names left free (free + 1)) (Choice free chosen other (one (act.Copy into free)))) (machine_at slots store))
 logical_runs port left run_left meant chosen other names into free store slots closed ready room go =
     let a = expr_nodes names left free (free + 1) in
     let b = Choice free chosen other (one (act.Copy into free)) in
@@ -379,10 +381,12 @@ expr_runs port (tree.Number value) names into free store slots closed ready room
     arrives_at_once names into free store slots value ready
 expr_runs port (tree.Truth value) names into free store slots closed ready room =
     arrives_at_once names into free store slots (truth value) ready
-expr_runs port (tree.Element name index) names into free store slots closed ready room = absurd closed
+expr_runs port (tree.Element name index) names into free store slots closed ready room =
+    element_runs port name index (expr_runs port index) names into free store slots closed ready room
 expr_runs port (tree.Peek index) names into free store slots closed ready room =
     peek_runs port index (expr_runs port index) names into free store slots closed ready room
-expr_runs port (tree.StepElement operator name index) names into free store slots closed ready room = absurd closed
+expr_runs port (tree.StepElement operator name index) names into free store slots closed ready room =
+    step_element_runs port operator name index (expr_runs port index) names into free store slots closed ready room
 expr_runs port (tree.Conditional condition chosen other) names into free store slots closed ready room =
     conditional_runs port condition chosen other (expr_runs port condition) (expr_runs port chosen) (expr_runs port other) names into free store slots closed ready room
 expr_runs port (tree.Read name) names into free store slots closed ready room =

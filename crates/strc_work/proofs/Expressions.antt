@@ -1,8 +1,8 @@
 -- The code of an expression puts its value into its slot.
-use Rattle.std.proofs.Common.{◌≡◌, ◌≢◌, ℕ, ◌+◌, ◌<◌, ◌≤◌, Bool, true, false, ◌&&◌, cond, ℤ, pos, List, [], ◌∷◌, length, set, Option, Some, None, Result, Ok, Err, refl, sym, ap, ◌∙◌, subst, ⊎_elim, arith}
+use Rattle.std.proofs.Common.{◌≡◌, ◌≢◌, ℕ, ◌+◌, ◌<◌, ◌≤◌, Bool, true, false, ◌&&◌, cond, ℤ, pos, List, length, set, Option, Some, None, Result, Ok, Err, refl, sym, ap, ◌∙◌, subst, arith}
 use Rattle.std.specs.Prelude.{unwrap_or, if◌then◌else◌}
 use Rattle.std.proofs.lemmas.List.{get_or-set_same, get_or-set_other, length-set}
-use Rattle.std.proofs.lemmas.Bool.{false≢true, cases_lt}
+use Rattle.std.proofs.lemmas.Bool.{false≢true}
 use Rattle.strc_parse.specs.Tree as tree
 use Rattle.strc_parse.specs.declared.tree.UnaryOperator.{UnaryOperator}
 use Rattle.strc_parse.specs.declared.tree.UnaryOperator.TheVariants as unary
@@ -13,60 +13,87 @@ use Rattle.strc_parse.specs.declared.tree.StepOperator.TheVariants as step
 use Rattle.strc_work.specs.declared.fault.Cause.{Cause}
 use Rattle.strc_work.specs.declared.step.Step.TheVariants as act
 use Rattle.strc_work.specs.Arithmetic.{unary_value, binary_value, is_true}
+use Rattle.strc_work.specs.Scoping.{Scope, total, slot_of, size_of}
 use Rattle.strc_work.specs.Closed.{IsNamed, IsClosed}
-use Rattle.strc_work.specs.Firing.{Port, Store, Traffic, then_do, value_in, joined, value_of, popped_from, peeked_from}
+use Rattle.strc_work.specs.Firing.{Port, Variables, Store, Traffic, then_do, cells_named, cell_in, value_in, place_in, tested_place, place_of, joined, value_of, popped_from, peeked_from}
 use Rattle.strc_work.specs.Machine.{Machine, Nodes, End, Choice, before, nodes_done, step_room, nodes_room}
-use Rattle.strc_work.specs.Lowering.{slot_of, variable_slot, changes_none, stands_at, unless_there, one, unary_step, binary_step, step_nodes, binary_nodes, expr_nodes, operand_slot, operand_nodes}
-use Rattle.strc_work.proofs.Variables.{Variables, names_of, at, Holds, Holds-set_above, slot_of-below, slot_of-value, length-names_of}
+use Rattle.strc_work.specs.Lowering.{variable_slot, changes_none, stands_at, unless_there, one, unary_step, binary_step, step_nodes, element_step_nodes, binary_nodes, expr_nodes, operand_slot, operand_nodes}
+use Rattle.strc_work.proofs.Variables.{scope_of, at, Holds, Holds-set_above, slot_of-below, slot_of-value, size_of-some, size_of-is}
 use Rattle.strc_work.proofs.Related.{Related, weaker_related, nodes_room-before}
 
--- the machine stands where the store is, with the value about to be written into a slot; the slots from `length names` up to `free` are kept
-pub record Arrives (names : List (List ℕ)) (into free : ℕ) (before : List ℤ) (given : ℤ × Store) (after : Machine) : Type 0 where
+-- the machine stands where the store is, with the value about to be written into a slot; the slots from `total names` up to `free` are kept
+pub record Arrives (names : Scope) (into free : ℕ) (before : List ℤ) (given : ℤ × Store) (after : Machine) : Type 0 where
   pub slots : List ℤ
   pub written : after ≡ record { slots = set slots into given.0; traffic = given.1.traffic }
-  pub names_are : names_of given.1.variables ≡ names
+  pub names_are : scope_of given.1.variables ≡ names
   pub holds : Holds given.1.variables slots
-  pub kept : (k : ℕ) → length names ≤ k → k < free → at slots k ≡ at before k
+  pub kept : (k : ℕ) → total names ≤ k → k < free → at slots k ≡ at before k
   pub size : length slots ≡ length before
 
 -- the machine stands where the store is, with the value in a slot
-pub record StandsAt (names : List (List ℕ)) (slot free : ℕ) (before : List ℤ) (given : ℤ × Store) (after : Machine) : Type 0 where
+pub record StandsAt (names : Scope) (slot free : ℕ) (before : List ℤ) (given : ℤ × Store) (after : Machine) : Type 0 where
   pub traffic : after.traffic ≡ given.1.traffic
-  pub names_are : names_of given.1.variables ≡ names
+  pub names_are : scope_of given.1.variables ≡ names
   pub holds : Holds given.1.variables after.slots
   pub value : at after.slots slot ≡ given.0
-  pub kept : (k : ℕ) → length names ≤ k → k < free → at after.slots k ≡ at before k
+  pub kept : (k : ℕ) → total names ≤ k → k < free → at after.slots k ≡ at before k
   pub size : length after.slots ≡ length before
 
 -- the slots hold the store's variables, which have these names and stand below the free ones
-pub record Ready (names : List (List ℕ)) (free : ℕ) (store : Store) (slots : List ℤ) : Type 0 where
-  pub names_are : names_of store.variables ≡ names
+pub record Ready (names : Scope) (free : ℕ) (store : Store) (slots : List ℤ) : Type 0 where
+  pub names_are : scope_of store.variables ≡ names
   pub holds : Holds store.variables slots
-  pub above : length names ≤ free
-  pub roomy : length names ≤ length slots
+  pub above : total names ≤ free
+  pub roomy : total names ≤ length slots
 
 abbrev pub machine_at : List ℤ → Store → Machine
 machine_at slots store = record { slots = slots; traffic = store.traffic }
 
 -- an expression's code does what it means
 abbrev pub Runs : Port → tree.Expr → Type 0
-Runs port e = (names : List (List ℕ)) (into free : ℕ) (store : Store) (slots : List ℤ) → IsClosed names e → Ready names free store slots → nodes_room (expr_nodes names e into free) ≤ length slots → Related (Arrives names into free slots) (value_of port e store) (nodes_done port (expr_nodes names e into free) (machine_at slots store))
+Runs port e = (names : Scope) (into free : ℕ) (store : Store) (slots : List ℤ) → IsClosed names e → Ready names free store slots → nodes_room (expr_nodes names e into free) ≤ length slots → Related (Arrives names into free slots) (value_of port e store) (nodes_done port (expr_nodes names e into free) (machine_at slots store))
 
--- a named variable
-pub named_below : (names : List (List ℕ)) (free : ℕ) (store : Store) (slots : List ℤ) (name : List ℕ) → Ready names free store slots → IsNamed names name → slot_of names name < length names
+-- a named variable has a cell, and its slots stand below the free ones
+pub named_slots : (names : Scope) (variables : Variables) (slots : List ℤ) (name : List ℕ) → scope_of variables ≡ names → Holds variables slots → IsNamed names name → slot_of names name + size_of names name ≤ total names
+named_slots names variables slots name names_are holds named =
+    let named' : IsNamed (scope_of variables) name = subst (λ n. IsNamed n name) (sym names_are) named in
+    subst (λ n. slot_of n name + size_of n name ≤ total n) names_are (slot_of-below variables slots name holds named')
+
+pub named_some : (names : Scope) (variables : Variables) (slots : List ℤ) (name : List ℕ) → scope_of variables ≡ names → Holds variables slots → IsNamed names name → 1 ≤ size_of names name
+named_some names variables slots name names_are holds named =
+    let named' : IsNamed (scope_of variables) name = subst (λ n. IsNamed n name) (sym names_are) named in
+    subst (λ n. 1 ≤ size_of n name) names_are (size_of-some variables slots name holds named')
+
+-- as many slots as it has cells
+pub named_size : (names : Scope) (variables : Variables) (slots : List ℤ) (name : List ℕ) → scope_of variables ≡ names → Holds variables slots → IsNamed names name → length (cells_named variables name) ≡ size_of names name
+named_size names variables slots name names_are holds named =
+    let named' : IsNamed (scope_of variables) name = subst (λ n. IsNamed n name) (sym names_are) named in
+    subst (λ n. length (cells_named variables name) ≡ size_of n name) names_are (size_of-is variables slots name holds named')
+
+-- the value of a cell
+pub named_cell : (names : Scope) (store : Store) (slots : List ℤ) (name : List ℕ) (place : ℕ) → scope_of store.variables ≡ names → Holds store.variables slots → IsNamed names name → place < size_of names name → at slots (slot_of names name + place) ≡ cell_in store name place
+named_cell names store slots name place names_are holds named within =
+    let variables = store.variables in
+    let named' : IsNamed (scope_of variables) name = subst (λ n. IsNamed n name) (sym names_are) named in
+    let within' : place < size_of (scope_of variables) name = subst (λ n. place < size_of n name) (sym names_are) within in
+    subst (λ n. at slots (slot_of n name + place) ≡ cell_in store name place) names_are (slot_of-value variables slots name place holds named' within')
+
+-- a named variable's first slot
+pub named_below : (names : Scope) (free : ℕ) (store : Store) (slots : List ℤ) (name : List ℕ) → Ready names free store slots → IsNamed names name → slot_of names name < total names
 named_below names free store slots name ready named =
-    let named' : IsNamed (names_of store.variables) name = subst (λ n. IsNamed n name) (sym ready.names_are) named in
-    let below = slot_of-below store.variables slots name ready.holds named' in
-    let e : length (names_of store.variables) ≡ length store.variables = length-names_of store.variables in
-    subst (λ n. slot_of n name < length n) ready.names_are (subst (λ n. slot_of (names_of store.variables) name < n) (sym e) below)
+    let some = named_some names store.variables slots name ready.names_are ready.holds named in
+    let below = named_slots names store.variables slots name ready.names_are ready.holds named in
+    omega arith
 
-pub named_value : (names : List (List ℕ)) (free : ℕ) (store : Store) (slots : List ℤ) (name : List ℕ) → Ready names free store slots → IsNamed names name → at slots (slot_of names name) ≡ value_in store name
+pub named_value : (names : Scope) (free : ℕ) (store : Store) (slots : List ℤ) (name : List ℕ) → Ready names free store slots → IsNamed names name → at slots (slot_of names name) ≡ value_in store name
 named_value names free store slots name ready named =
-    let named' : IsNamed (names_of store.variables) name = subst (λ n. IsNamed n name) (sym ready.names_are) named in
-    subst (λ n. at slots (slot_of n name) ≡ value_in store name) ready.names_are (slot_of-value store.variables slots name ready.holds named')
+    let some = named_some names store.variables slots name ready.names_are ready.holds named in
+    let e : slot_of names name ≡ slot_of names name + 0 = omega arith in
+    ap (at slots) e ∙ named_cell names store slots name 0 ready.names_are ready.holds named (omega arith)
 
-pub length-variables : (names : List (List ℕ)) (free : ℕ) (store : Store) (slots : List ℤ) → Ready names free store slots → length store.variables ≡ length names
-length-variables names free store slots ready = sym (length-names_of store.variables) ∙ ap length ready.names_are
+-- the variables have as many cells as their names say
+pub total-variables : (names : Scope) (free : ℕ) (store : Store) (slots : List ℤ) → Ready names free store slots → total (scope_of store.variables) ≡ total names
+total-variables names free store slots ready = ap total ready.names_are
 
 -- an operator that evaluates both its sides
 pub record Strict (operator : BinaryOperator) : Type 0 where
@@ -111,18 +138,18 @@ by_operator P either both strict binary.Remainder =
     strict binary.Remainder (record { code = λ left right other into free. refl; value = λ first right. refl })
 
 -- a variable, in brackets or not
-pub variable_runs : (port : Port) (e : tree.Expr) (names : List (List ℕ)) (free slot : ℕ) (store : Store) (slots : List ℤ) → variable_slot names e ≡ Some slot → IsClosed names e → Ready names free store slots → (value_of port e store ≡ Ok (at slots slot, store)) × (slot < length names)
+pub variable_runs : (port : Port) (e : tree.Expr) (names : Scope) (free slot : ℕ) (store : Store) (slots : List ℤ) → variable_slot names e ≡ Some slot → IsClosed names e → Ready names free store slots → (value_of port e store ≡ Ok (at slots slot, store)) × (slot < total names)
 variable_runs port (tree.Number value) names free slot store slots is closed ready = absurd (cc)
 variable_runs port (tree.Read name) names free slot store slots is closed ready =
     let same : slot_of names name ≡ slot = cc in (
       ap (λ v. Ok (v, store)) (sym (named_value names free store slots name ready closed) ∙ ap (at slots) same),
-      subst (λ n. n < length names) same (named_below names free store slots name ready closed),
+      subst (λ n. n < total names) same (named_below names free store slots name ready closed),
     )
 variable_runs port tree.Pop names free slot store slots is closed ready = absurd (cc)
 variable_runs port (tree.Truth value) names free slot store slots is closed ready = absurd (cc)
-variable_runs port (tree.Element name index) names free slot store slots is closed ready = absurd closed
+variable_runs port (tree.Element name index) names free slot store slots is closed ready = absurd (cc)
 variable_runs port (tree.Peek index) names free slot store slots is closed ready = absurd (cc)
-variable_runs port (tree.StepElement operator name index) names free slot store slots is closed ready = absurd closed
+variable_runs port (tree.StepElement operator name index) names free slot store slots is closed ready = absurd (cc)
 variable_runs port (tree.Conditional condition chosen other) names free slot store slots is closed ready = absurd (cc)
 variable_runs port (tree.Group inner) names free slot store slots is closed ready =
     variable_runs port inner names free slot store slots is closed ready
@@ -182,11 +209,21 @@ peek_keeps : (port : Port) (variables : Variables) (r : Result (ℤ × Store) Ca
 peek_keeps port variables (Ok place) h = item_keeps variables place.1 (peeked_from port place.0 place.1.traffic) h
 peek_keeps port variables (Err cause) h = tt
 
+element_by_place : (variables : Variables) (name : List ℕ) (given : ℤ × Store) (o : Option ℕ) → given.1.variables ≡ variables → Keeps variables (then_do (tested_place o) (λ place. Ok (cell_in given.1 name place, given.1)))
+element_by_place variables name given None h = tt
+element_by_place variables name given (Some place) h = h
+
+element_keeps : (variables : Variables) (name : List ℕ) (r : Result (ℤ × Store) Cause) → Keeps variables r → Keeps variables (then_do r (λ given. then_do (place_of given.1 name given.0) (λ place. Ok (cell_in given.1 name place, given.1))))
+element_keeps variables name (Ok given) h =
+    element_by_place variables name given (place_in (length (cells_named given.1.variables name)) given.0) h
+element_keeps variables name (Err cause) h = tt
+
 pub keeps : (port : Port) (e : tree.Expr) → changes_none e ≡ true → (store : Store) → Keeps store.variables (value_of port e store)
 keeps port (tree.Number value) none store = refl
 keeps port (tree.Truth value) none store = refl
 keeps port (tree.Read name) none store = refl
-keeps port (tree.Element name index) none store = tt
+keeps port (tree.Element name index) none store =
+    element_keeps store.variables name (value_of port index store) (keeps port index none store)
 keeps port (tree.Peek index) none store =
     peek_keeps port store.variables (value_of port index store) (keeps port index none store)
 keeps port (tree.StepElement operator name index) none store = absurd (false≢true none)
@@ -202,17 +239,6 @@ keeps port (tree.Step operator name) none store = absurd (false≢true none)
 keeps port (tree.Binary operator left right) none store =
     let both = both_true (changes_none left) (changes_none right) none in
     left_keeps port store.variables operator right (value_of port left store) (keeps port right both.1) (keeps port left both.0 store)
-
--- variables that stand in two lists of slots
-pub same_slots : (variables : Variables) (first second : List ℤ) (slot : ℕ) → Holds variables first → Holds variables second → slot < length variables → at first slot ≡ at second slot
-same_slots [] first second slot h h' below = absurd (omega arith)
-same_slots (variable ∷ rest) first second slot h h' below =
-    ⊎_elim
-    (λ (lt : slot < length rest). same_slots rest first second slot h.1 h'.1 lt)
-    (λ (le : length rest ≤ slot).
-    let e : length rest ≡ slot = omega arith in
-    subst (λ n. at first n ≡ at second n) e (h.0 ∙ sym h'.0))
-    (cases_lt slot (length rest))
 
 -- the slot that an expression's code writes is one of those that it needs
 pub unary_room : (operator : UnaryOperator) (into from : ℕ) → into + 1 ≤ step_room (unary_step operator into from)
@@ -256,11 +282,14 @@ binary_nodes_room operator left right first second into free at_left at_right =
     (omega (arith, nodes_room-before first (before second (one (binary_step o into at_left at_right))), nodes_room-before second (one (binary_step o into at_left at_right)), binary_room o into at_left at_right)))
     operator
 
-pub expr_room : (names : List (List ℕ)) (e : tree.Expr) (into free : ℕ) → IsClosed names e → into + 1 ≤ nodes_room (expr_nodes names e into free)
+pub expr_room : (names : Scope) (e : tree.Expr) (into free : ℕ) → IsClosed names e → into + 1 ≤ nodes_room (expr_nodes names e into free)
 expr_room names (tree.Number value) into free closed = omega arith
 expr_room names (tree.Truth value) into free closed = omega arith
 expr_room names (tree.Read name) into free closed = omega arith
-expr_room names (tree.Element name index) into free closed = absurd closed
+expr_room names (tree.Element name index) into free closed =
+    let slot = unwrap_or (variable_slot names index) free in
+    let last = one (act.Load into (slot_of names name) (size_of names name) slot) in
+    omega (arith, nodes_room-before (unless_there (variable_slot names index) (expr_nodes names index free (free + 1))) last)
 expr_room names tree.Pop into free closed = omega arith
 expr_room names (tree.Peek index) into free closed =
     let slot = unwrap_or (variable_slot names index) free in
@@ -270,7 +299,10 @@ expr_room names (tree.Unary operator operand) into free closed =
     let slot = unwrap_or (variable_slot names operand) free in
     omega (arith, nodes_room-before (unless_there (variable_slot names operand) (expr_nodes names operand free (free + 1))) (one (unary_step operator into slot)), unary_room operator into slot)
 expr_room names (tree.Step operator name) into free closed = step_room_into operator (slot_of names name) into free
-expr_room names (tree.StepElement operator name index) into free closed = absurd closed
+expr_room names (tree.StepElement operator name index) into free closed =
+    let slot = unwrap_or (variable_slot names index) free in
+    let last = element_step_nodes operator (slot_of names name) (size_of names name) slot into (free + 1) in
+    omega (arith, nodes_room-before (unless_there (variable_slot names index) (expr_nodes names index free (free + 1))) last)
 expr_room names (tree.Binary operator left right) into free closed =
     binary_nodes_room operator (expr_nodes names left free (free + 1)) (expr_nodes names right free (free + 1))
     (unless_there (stands_at names (changes_none right) left) (expr_nodes names left free (free + 1)))
@@ -282,18 +314,18 @@ expr_room names (tree.Conditional condition chosen other) into free closed =
     omega (arith, nodes_room-before a (Choice slot (expr_nodes names chosen into free) (expr_nodes names other into free) End), expr_room names chosen into free closed.1)
 
 -- an operand that stands in its variable's slot
-pub stays_slot : (names : List (List ℕ)) (stays : Bool) (e : tree.Expr) (slot : ℕ) → stands_at names stays e ≡ Some slot → (stays ≡ true) × (variable_slot names e ≡ Some slot)
+pub stays_slot : (names : Scope) (stays : Bool) (e : tree.Expr) (slot : ℕ) → stands_at names stays e ≡ Some slot → (stays ≡ true) × (variable_slot names e ≡ Some slot)
 stays_slot names true e slot is = (refl, is)
 stays_slot names false e slot is = absurd (cc)
 
 -- a value that was written into a free slot stands there
-pub arrived_stands : (names : List (List ℕ)) (slot : ℕ) (before : List ℤ) (given : ℤ × Store) (after : Machine) → length names ≤ slot → slot < length before → Arrives names slot (slot + 1) before given after → StandsAt names slot slot before given after
+pub arrived_stands : (names : Scope) (slot : ℕ) (before : List ℤ) (given : ℤ × Store) (after : Machine) → total names ≤ slot → slot < length before → Arrives names slot (slot + 1) before given after → StandsAt names slot slot before given after
 arrived_stands names slot before given after above room arrives =
     let slots = arrives.slots in
     let value = given.0 in
     let size = arrives.size in
     let within : slot < length slots = omega arith in
-    let few : length given.1.variables ≡ length names = sym (length-names_of given.1.variables) ∙ ap length arrives.names_are in
+    let few : total (scope_of given.1.variables) ≡ total names = ap total arrives.names_are in
     let is : after.slots ≡ set slots slot value = ap (λ (m : Machine). m.slots) arrives.written in
     record {
       traffic = ap (λ (m : Machine). m.traffic) arrives.written;
@@ -307,11 +339,11 @@ arrived_stands names slot before given after above room arrives =
     }
 
 -- an operand's code brings its value to its slot
-pub operand_runs : (port : Port) (e : tree.Expr) → Runs port e → (names : List (List ℕ)) (stays : Bool) (free : ℕ) (store : Store) (slots : List ℤ) → IsClosed names e → Ready names free store slots → nodes_room (operand_nodes names stays e free) ≤ length slots → Related (StandsAt names (operand_slot names stays e free) free slots) (value_of port e store) (nodes_done port (operand_nodes names stays e free) (machine_at slots store))
+pub operand_runs : (port : Port) (e : tree.Expr) → Runs port e → (names : Scope) (stays : Bool) (free : ℕ) (store : Store) (slots : List ℤ) → IsClosed names e → Ready names free store slots → nodes_room (operand_nodes names stays e free) ≤ length slots → Related (StandsAt names (operand_slot names stays e free) free slots) (value_of port e store) (nodes_done port (operand_nodes names stays e free) (machine_at slots store))
 operand_runs port e run names stays free store slots closed ready room =
     by_place (stands_at names stays e) (λ slot is. variable_runs port e names free slot store slots (stays_slot names stays e slot is).1 closed ready) room
   where
-    by_place : (o : Option ℕ) → ((slot : ℕ) → o ≡ Some slot → (value_of port e store ≡ Ok (at slots slot, store)) × (slot < length names)) → nodes_room (unless_there o (expr_nodes names e free (free + 1))) ≤ length slots → Related (StandsAt names (unwrap_or o free) free slots) (value_of port e store) (nodes_done port (unless_there o (expr_nodes names e free (free + 1))) (machine_at slots store))
+    by_place : (o : Option ℕ) → ((slot : ℕ) → o ≡ Some slot → (value_of port e store ≡ Ok (at slots slot, store)) × (slot < total names)) → nodes_room (unless_there o (expr_nodes names e free (free + 1))) ≤ length slots → Related (StandsAt names (unwrap_or o free) free slots) (value_of port e store) (nodes_done port (unless_there o (expr_nodes names e free (free + 1))) (machine_at slots store))
     by_place (Some slot) stands fits =
         subst (λ r. Related (StandsAt names slot free slots) r (Ok (machine_at slots store))) (sym (stands slot refl).0)
         (record { traffic = refl; names_are = ready.names_are; holds = ready.holds; value = refl; kept = λ k low high. refl; size = refl })

@@ -1,4 +1,4 @@
--- What is accepted as a rate is a constant expression.
+-- What is accepted as a rate or as a length is a constant expression.
 use Rattle.std.proofs.Common.{◌≡◌, ℕ, ℤ, false, List, Option, Some, None, Ok, subst}
 use Rattle.strc_parse.specs.Tree as tree
 use Rattle.strc_parse.specs.declared.tree.UnaryOperator.{UnaryOperator}
@@ -41,7 +41,7 @@ conditional_constant condition chosen other hc ht ho =
     then_gives IsConstant IsConstantTyped (typed_as Boolean condition) (λ c. and_then (typed_as chosen.kind other) (λ o. Ok (record { kind = chosen.kind; value = tree.Conditional c chosen.value o }))) (as_constant Boolean condition hc) (λ c h.
     then_gives IsConstant IsConstantTyped (typed_as chosen.kind other) (λ o. Ok (record { kind = chosen.kind; value = tree.Conditional c chosen.value o })) (as_constant chosen.kind other ho) (λ o h'. record { 0 = h; 1 = ht; 2 = h' }))
 
--- no expression with a variable, a pop or a peek is accepted where a rate stands
+-- no expression with a variable, a pop or a peek is accepted where a rate or a length stands
 constant_gives : (constants : List (List ℕ × ℤ)) (fields : TypedNames) (e : tree.Expr) → Gives IsConstantTyped (expr_resolved (rate_site constants) fields e)
 constant_gives constants fields (tree.Number value) = tt
 constant_gives constants fields (tree.Truth value) = tt
@@ -70,6 +70,6 @@ as_gives : (constants : List (List ℕ × ℤ)) (fields : TypedNames) (kind : Va
 as_gives constants fields kind e =
     then_gives IsConstantTyped IsConstant (expr_resolved (rate_site constants) fields e) (λ typed. typed_as kind typed) (constant_gives constants fields e) (λ typed h. as_constant kind typed h)
 
--- a rate's expression, with its constants put in, names no variable and takes no item
+-- the expression of a rate or of a length, with its constants put in, names no variable and takes no item
 pub rate_is_constant : (constants : List (List ℕ × ℤ)) (fields : TypedNames) (kind : ValueType) (e e' : tree.Expr) → expr_as (rate_site constants) fields kind e ≡ Ok e' → IsConstant e'
 rate_is_constant constants fields kind e e' is = subst (Gives IsConstant) is (as_gives constants fields kind e)

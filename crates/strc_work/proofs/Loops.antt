@@ -4,22 +4,23 @@ use Rattle.std.proofs.lemmas.List.{get_or-set_same, length-set}
 use Rattle.strc_parse.specs.Tree as tree
 use Rattle.strc_work.specs.declared.fault.Cause.{Cause}
 use Rattle.strc_work.specs.Arithmetic.{is_true}
+use Rattle.strc_work.specs.Scoping.{Scope, total}
 use Rattle.strc_work.specs.Closed.{IsClosed, IsClosedInitial}
 use Rattle.strc_work.specs.Firing.{Port, Store, Traffic, then_do, value_of, one_more_turn, turned, turn_limit, looped, condition_value}
 use Rattle.strc_work.specs.Machine.{Machine, Nodes, End, Choice, Loop, before, slot_value, turned_on, chosen_by, cycled, nodes_done, nodes_room}
 use Rattle.strc_work.specs.Lowering.{operand_slot, operand_nodes, condition_nodes, condition_slot}
-use Rattle.strc_work.proofs.Variables.{Holds-set_above}
+use Rattle.strc_work.proofs.Variables.{scope_of, Holds-set_above}
 use Rattle.strc_work.proofs.Related.{Related, then_related, weaker_related, chosen_related, nodes_done-before, nodes_room-before, then_end}
-use Rattle.strc_work.proofs.Expressions.{StandsAt, Ready, machine_at, operand_runs, length-variables}
+use Rattle.strc_work.proofs.Expressions.{StandsAt, Ready, machine_at, operand_runs, total-variables}
 use Rattle.strc_work.proofs.ExpressionRuns.{expr_runs}
 use Rattle.strc_work.proofs.Reaching.{Reaches, stands_reach}
 
 -- ---- choices
 
 -- one of two pieces of code, by a condition's value
-pub choice_runs : (port : Port) (condition : tree.Expr) (chosen other : Nodes) (does does' : Store → Result Store Cause) (names : List (List ℕ)) (store : Store) (slots : List ℤ) → IsClosed names condition → Ready names (length names) store slots → nodes_room (before (operand_nodes names true condition (length names)) (Choice (operand_slot names true condition (length names)) chosen other End)) ≤ length slots → ((given : Store) (m : Machine) → Reaches names (length slots) given m → Related (Reaches names (length slots)) (does given) (nodes_done port chosen m)) → ((given : Store) (m : Machine) → Reaches names (length slots) given m → Related (Reaches names (length slots)) (does' given) (nodes_done port other m)) → Related (Reaches names (length slots)) (then_do (value_of port condition store) (λ test. cond (is_true test.0) (does test.1) (does' test.1))) (nodes_done port (before (operand_nodes names true condition (length names)) (Choice (operand_slot names true condition (length names)) chosen other End)) (machine_at slots store))
+pub choice_runs : (port : Port) (condition : tree.Expr) (chosen other : Nodes) (does does' : Store → Result Store Cause) (names : Scope) (store : Store) (slots : List ℤ) → IsClosed names condition → Ready names (total names) store slots → nodes_room (before (operand_nodes names true condition (total names)) (Choice (operand_slot names true condition (total names)) chosen other End)) ≤ length slots → ((given : Store) (m : Machine) → Reaches names (length slots) given m → Related (Reaches names (length slots)) (does given) (nodes_done port chosen m)) → ((given : Store) (m : Machine) → Reaches names (length slots) given m → Related (Reaches names (length slots)) (does' given) (nodes_done port other m)) → Related (Reaches names (length slots)) (then_do (value_of port condition store) (λ test. cond (is_true test.0) (does test.1) (does' test.1))) (nodes_done port (before (operand_nodes names true condition (total names)) (Choice (operand_slot names true condition (total names)) chosen other End)) (machine_at slots store))
 choice_runs port condition chosen other does does' names store slots closed ready room go go' =
-    let free = length names in
+    let free = total names in
     let a = operand_nodes names true condition free in
     let slot = operand_slot names true condition free in
     let choice = Choice slot chosen other End in
@@ -34,46 +35,46 @@ choice_runs port condition chosen other does does' names store slots closed read
 -- ---- loops
 
 -- a condition's value stands in its slot
-pub record Tested (names : List (List ℕ)) (size slot : ℕ) (given : ℤ × Store) (after : Machine) : Type 0 where
+pub record Tested (names : Scope) (size slot : ℕ) (given : ℤ × Store) (after : Machine) : Type 0 where
   pub reaches : Reaches names size given.1 after
   pub value : slot_value after slot ≡ given.0
 
 -- without a condition a truth stands in the first free slot
-always_runs : (names : List (List ℕ)) (store : Store) (slots : List ℤ) → Ready names (length names) store slots → length names < length slots → Tested names (length slots) (length names) (pos 1, store) (record { slots = set slots (length names) (pos 1); traffic = store.traffic })
+always_runs : (names : Scope) (store : Store) (slots : List ℤ) → Ready names (total names) store slots → total names < length slots → Tested names (length slots) (total names) (pos 1, store) (record { slots = set slots (total names) (pos 1); traffic = store.traffic })
 always_runs names store slots ready within =
-    let same = length-variables names (length names) store slots ready in
-    let le : length store.variables ≤ length names = omega arith in
+    let same = total-variables names (total names) store slots ready in
+    let le : total (scope_of store.variables) ≤ total names = omega arith in
     record {
       reaches = record {
         traffic = refl;
         names_are = ready.names_are;
-        holds = Holds-set_above store.variables slots (length names) (pos 1) le ready.holds;
-        same = length-set slots (length names) (pos 1);
+        holds = Holds-set_above store.variables slots (total names) (pos 1) le ready.holds;
+        same = length-set slots (total names) (pos 1);
         roomy = ready.roomy;
       };
-      value = get_or-set_same slots (length names) (pos 1) (pos 0) within;
+      value = get_or-set_same slots (total names) (pos 1) (pos 0) within;
     }
 
-test_runs : (port : Port) (condition : Option tree.Expr) (names : List (List ℕ)) (store : Store) (slots : List ℤ) → IsClosedInitial names condition → Ready names (length names) store slots → nodes_room (condition_nodes names condition) ≤ length slots → Related (Tested names (length slots) (condition_slot names condition)) (condition_value port condition store) (nodes_done port (condition_nodes names condition) (machine_at slots store))
+test_runs : (port : Port) (condition : Option tree.Expr) (names : Scope) (store : Store) (slots : List ℤ) → IsClosedInitial names condition → Ready names (total names) store slots → nodes_room (condition_nodes names condition) ≤ length slots → Related (Tested names (length slots) (condition_slot names condition)) (condition_value port condition store) (nodes_done port (condition_nodes names condition) (machine_at slots store))
 test_runs port None names store slots closed ready room = always_runs names store slots ready (omega arith)
 test_runs port (Some condition) names store slots closed ready room =
-    let free = length names in
+    let free = total names in
     let slot = operand_slot names true condition free in
     weaker_related (StandsAt names slot free slots) (Tested names (length slots) slot) (value_of port condition store) (nodes_done port (operand_nodes names true condition free) (machine_at slots store)) (operand_runs port condition (expr_runs port condition) names true free store slots closed ready room) (λ test m stands.
     record { reaches = stands_reach names slot slots test m ready.roomy stands; value = stands.value })
 
 -- the same, from where other code has led
-pub test_goes_on : (port : Port) (condition : Option tree.Expr) (names : List (List ℕ)) (size : ℕ) → IsClosedInitial names condition → nodes_room (condition_nodes names condition) ≤ size → (given : Store) (m : Machine) → Reaches names size given m → Related (Tested names size (condition_slot names condition)) (condition_value port condition given) (nodes_done port (condition_nodes names condition) m)
+pub test_goes_on : (port : Port) (condition : Option tree.Expr) (names : Scope) (size : ℕ) → IsClosedInitial names condition → nodes_room (condition_nodes names condition) ≤ size → (given : Store) (m : Machine) → Reaches names size given m → Related (Tested names size (condition_slot names condition)) (condition_value port condition given) (nodes_done port (condition_nodes names condition) m)
 test_goes_on port condition names size closed room given m reaches =
     let same = reaches.same in
     let roomy = reaches.roomy in
-    let ready : Ready names (length names) given m.slots = record { names_are = reaches.names_are; holds = reaches.holds; above = omega arith; roomy = omega arith } in
+    let ready : Ready names (total names) given m.slots = record { names_are = reaches.names_are; holds = reaches.holds; above = omega arith; roomy = omega arith } in
     let m_is : m ≡ machine_at m.slots given = ap (λ t. record { slots = m.slots; traffic = t }) reaches.traffic in
     subst (λ n. Related (Tested names size (condition_slot names condition)) (condition_value port condition given) (nodes_done port (condition_nodes names condition) n)) (sym m_is)
     (subst (λ n. Related (Tested names n (condition_slot names condition)) (condition_value port condition given) (nodes_done port (condition_nodes names condition) (machine_at m.slots given))) same (test_runs port condition names given m.slots closed ready (omega arith)))
 
 -- one more turn, on both sides
-turn_by_result : (names : List (List ℕ)) (size : ℕ) (given : Store) (m : Machine) (r : Result Traffic Cause) → Reaches names size given m → Related (Reaches names size) (then_do r (λ traffic. Ok (record given { traffic = traffic }))) (then_do r (λ traffic. Ok (record m { traffic = traffic })))
+turn_by_result : (names : Scope) (size : ℕ) (given : Store) (m : Machine) (r : Result Traffic Cause) → Reaches names size given m → Related (Reaches names size) (then_do r (λ traffic. Ok (record given { traffic = traffic }))) (then_do r (λ traffic. Ok (record m { traffic = traffic })))
 turn_by_result names size given m (Ok traffic) reaches = record {
   traffic = refl;
   names_are = reaches.names_are;
@@ -83,20 +84,20 @@ turn_by_result names size given m (Ok traffic) reaches = record {
 }
 turn_by_result names size given m (Err cause) reaches = refl
 
-turn_reaches : (names : List (List ℕ)) (size : ℕ) (given : Store) (m : Machine) → Reaches names size given m → Related (Reaches names size) (turned given) (turned_on m)
+turn_reaches : (names : Scope) (size : ℕ) (given : Store) (m : Machine) → Reaches names size given m → Related (Reaches names size) (turned given) (turned_on m)
 turn_reaches names size given m reaches =
     subst (λ t. Related (Reaches names size) (turned given) (then_do (one_more_turn t) (λ traffic. Ok (record m { traffic = traffic })))) (sym reaches.traffic)
     (turn_by_result names size given m (one_more_turn given.traffic) reaches)
 
 -- one more turn of a loop, or its end
-turn_by_test : (names : List (List ℕ)) (size : ℕ) (t t' : Bool) → t' ≡ t → (given : Store) (m : Machine) (turns : Store → Result Store Cause) (turns' : Machine → Result Machine Cause) → Reaches names size given m → Related (Reaches names size) (turns given) (turns' m) → Related (Reaches names size) (cond t (turns given) (Ok given)) (cond t' (turns' m) (Ok m))
+turn_by_test : (names : Scope) (size : ℕ) (t t' : Bool) → t' ≡ t → (given : Store) (m : Machine) (turns : Store → Result Store Cause) (turns' : Machine → Result Machine Cause) → Reaches names size given m → Related (Reaches names size) (turns given) (turns' m) → Related (Reaches names size) (cond t (turns given) (Ok given)) (cond t' (turns' m) (Ok m))
 turn_by_test names size true true e given m turns turns' reaches h = h
 turn_by_test names size false false e given m turns turns' reaches h = reaches
 turn_by_test names size true false e given m turns turns' reaches h = absurd (cc)
 turn_by_test names size false true e given m turns turns' reaches h = absurd (cc)
 
 -- a loop, whose condition and body lead where they mean
-pub loop_runs : (names : List (List ℕ)) (size slot fuel : ℕ) (test : Store → Result (ℤ × Store) Cause) (body : Store → Result Store Cause) (test' body' : Machine → Result Machine Cause) → ((given : Store) (m : Machine) → Reaches names size given m → Related (Tested names size slot) (test given) (test' m)) → ((given : Store) (m : Machine) → Reaches names size given m → Related (Reaches names size) (body given) (body' m)) → (given : Store) (m : Machine) → Reaches names size given m → Related (Reaches names size) (looped fuel test body given) (cycled fuel test' slot body' m)
+pub loop_runs : (names : Scope) (size slot fuel : ℕ) (test : Store → Result (ℤ × Store) Cause) (body : Store → Result Store Cause) (test' body' : Machine → Result Machine Cause) → ((given : Store) (m : Machine) → Reaches names size given m → Related (Tested names size slot) (test given) (test' m)) → ((given : Store) (m : Machine) → Reaches names size given m → Related (Reaches names size) (body given) (body' m)) → (given : Store) (m : Machine) → Reaches names size given m → Related (Reaches names size) (looped fuel test body given) (cycled fuel test' slot body' m)
 loop_runs names size slot zero test body test' body' tests turns given m reaches = refl
 loop_runs names size slot (suc fuel) test body test' body' tests turns given m reaches =
     let again : Store → Result Store Cause = λ store. then_do (turned store) (λ turning. then_do (body turning) (looped fuel test body)) in
@@ -108,7 +109,7 @@ loop_runs names size slot (suc fuel) test body test' body' tests turns given m r
     loop_runs names size slot fuel test body test' body' tests turns next m3 reaches3))))
 
 -- the code of a loop
-pub loop_nodes_run : (port : Port) (condition : Option tree.Expr) (code : Nodes) (body : Store → Result Store Cause) (names : List (List ℕ)) (size : ℕ) → IsClosedInitial names condition → nodes_room (condition_nodes names condition) ≤ size → ((given : Store) (m : Machine) → Reaches names size given m → Related (Reaches names size) (body given) (nodes_done port code m)) → (given : Store) (m : Machine) → Reaches names size given m → Related (Reaches names size) (looped (suc turn_limit) (condition_value port condition) body given) (nodes_done port (Loop (condition_nodes names condition) (condition_slot names condition) code End) m)
+pub loop_nodes_run : (port : Port) (condition : Option tree.Expr) (code : Nodes) (body : Store → Result Store Cause) (names : Scope) (size : ℕ) → IsClosedInitial names condition → nodes_room (condition_nodes names condition) ≤ size → ((given : Store) (m : Machine) → Reaches names size given m → Related (Reaches names size) (body given) (nodes_done port code m)) → (given : Store) (m : Machine) → Reaches names size given m → Related (Reaches names size) (looped (suc turn_limit) (condition_value port condition) body given) (nodes_done port (Loop (condition_nodes names condition) (condition_slot names condition) code End) m)
 loop_nodes_run port condition code body names size closed room turns given m reaches =
     let slot = condition_slot names condition in
     let test' = nodes_done port (condition_nodes names condition) in

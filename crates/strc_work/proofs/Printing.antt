@@ -1,11 +1,13 @@
 -- The code of a text prints just where it does.
-use Rattle.std.proofs.Common.{◌≡◌, ℕ, ◌+◌, Bool, true, false, ◌||◌, List, [], ◌∷◌, length, Option, Some, None, Result, Ok, Err, refl, sym, ap, ◌∙◌}
+use Rattle.std.proofs.Common.{◌≡◌, ℕ, zero, suc, ◌+◌, Bool, true, false, ◌||◌, List, [], ◌∷◌, Option, Some, None, Result, Ok, Err, refl, sym, ap, ◌∙◌}
 use Rattle.std.specs.Prelude.{unwrap_or}
 use Rattle.strc_parse.specs.Tree as tree
 use Rattle.strc_parse.specs.declared.tree.UnaryOperator.{UnaryOperator}
 use Rattle.strc_parse.specs.declared.tree.UnaryOperator.TheVariants as unary
 use Rattle.strc_parse.specs.declared.tree.BinaryOperator.{BinaryOperator}
 use Rattle.strc_parse.specs.declared.tree.BinaryOperator.TheVariants as binary
+use Rattle.strc_parse.specs.declared.tree.AssignOperator.{AssignOperator}
+use Rattle.strc_parse.specs.declared.tree.AssignOperator.TheVariants as assign
 use Rattle.strc_parse.specs.declared.tree.StepOperator.{StepOperator}
 use Rattle.strc_parse.specs.declared.tree.StepOperator.TheVariants as step
 use Rattle.strc_work.specs.declared.step.Step.{Step}
@@ -17,9 +19,9 @@ use Rattle.strc_work.specs.declared.fault.Halt.TheVariants as halt
 use Rattle.strc_work.specs.Running.{WantsOnlyWords}
 use Rattle.strc_work.specs.Filters.{Filter, stmt_prints, stmts_print, work_block, body_block, filter_prints}
 use Rattle.strc_work.specs.Firing.{assigned_value}
-use Rattle.strc_work.specs.Scoping.{names_after}
+use Rattle.strc_work.specs.Scoping.{Scope, cells_of, total, slot_of, size_of, names_after}
 use Rattle.strc_work.specs.Machine.{Nodes, End, Act, Choice, Loop, before, step_prints, nodes_print}
-use Rattle.strc_work.specs.Lowering.{unless_there, variable_slot, stands_at, changes_none, slot_of, one, unary_step, binary_step, step_nodes, binary_nodes, expr_nodes, operand_slot, operand_nodes, evaluation_nodes, used_nodes, initial_nodes, variables_nodes, condition_nodes, condition_slot, stmt_nodes, stmts_nodes, body_nodes, field_scope}
+use Rattle.strc_work.specs.Lowering.{unless_there, variable_slot, stands_at, changes_none, one, unary_step, binary_step, step_nodes, element_step_nodes, binary_nodes, expr_nodes, operand_slot, operand_nodes, evaluation_nodes, used_nodes, compound_nodes, element_nodes, initial_nodes, variables_nodes, condition_nodes, condition_slot, stmt_nodes, stmts_nodes, body_nodes, field_scope}
 use Rattle.strc_work.specs.Closed.{IsClosedStmt, AreClosed, IsClosedFilter}
 use Rattle.strc_work.proofs.Expressions.{by_operator}
 use Rattle.strc_work.proofs.FilterRuns.{body_closed}
@@ -124,11 +126,14 @@ between_silent operator left right other into free silent silent' silent'' =
     (λ o strict. ap nodes_print (strict.code left right other into free) ∙ silent'')
     operator
 
-expr_silent : (names : List (List ℕ)) (e : tree.Expr) (into free : ℕ) → nodes_print (expr_nodes names e into free) ≡ false
+expr_silent : (names : Scope) (e : tree.Expr) (into free : ℕ) → nodes_print (expr_nodes names e into free) ≡ false
 expr_silent names (tree.Number value) into free = refl
 expr_silent names (tree.Truth value) into free = refl
 expr_silent names (tree.Read name) into free = refl
-expr_silent names (tree.Element name index) into free = refl
+expr_silent names (tree.Element name index) into free =
+    let o = variable_slot names index in
+    let a = expr_nodes names index free (free + 1) in
+    silent-before (unless_there o a) (one (act.Load into (slot_of names name) (size_of names name) (unwrap_or o free))) (unless_there_silent o a (expr_silent names index free (free + 1)))
 expr_silent names tree.Pop into free = refl
 expr_silent names (tree.Peek index) into free =
     let o = variable_slot names index in
@@ -141,7 +146,10 @@ expr_silent names (tree.Unary operator operand) into free =
     let last = unary_step operator into (unwrap_or o free) in
     silent-before (unless_there o a) (one last) (unless_there_silent o a (expr_silent names operand free (free + 1))) ∙ unary_silent operator into (unwrap_or o free)
 expr_silent names (tree.Step operator name) into free = step_silent operator (slot_of names name) into free
-expr_silent names (tree.StepElement operator name index) into free = refl
+expr_silent names (tree.StepElement operator name index) into free =
+    let o = variable_slot names index in
+    let a = expr_nodes names index free (free + 1) in
+    silent-before (unless_there o a) (element_step_nodes operator (slot_of names name) (size_of names name) (unwrap_or o free) into (free + 1)) (unless_there_silent o a (expr_silent names index free (free + 1)))
 expr_silent names (tree.Binary operator left right) into free =
     let o = stands_at names (changes_none right) left in
     let p = variable_slot names right in
@@ -164,59 +172,82 @@ expr_silent names (tree.Conditional condition chosen other) into free =
 
 -- ---- statements
 
-operand_silent : (names : List (List ℕ)) (e : tree.Expr) → nodes_print (operand_nodes names true e (length names)) ≡ false
-operand_silent names e =
-    unless_there_silent (variable_slot names e) (expr_nodes names e (length names) (length names + 1)) (expr_silent names e (length names) (length names + 1))
+operand_silent : (names : Scope) (stays : Bool) (e : tree.Expr) (free : ℕ) → nodes_print (operand_nodes names stays e free) ≡ false
+operand_silent names stays e free =
+    unless_there_silent (stands_at names stays e) (expr_nodes names e free (free + 1)) (expr_silent names e free (free + 1))
 
-condition_silent : (names : List (List ℕ)) (condition : Option tree.Expr) → nodes_print (condition_nodes names condition) ≡ false
+condition_silent : (names : Scope) (condition : Option tree.Expr) → nodes_print (condition_nodes names condition) ≡ false
 condition_silent names None = refl
-condition_silent names (Some condition) = operand_silent names condition
+condition_silent names (Some condition) = operand_silent names true condition (total names)
 
-used_print : (names : List (List ℕ)) (e : tree.Expr) (last : ℕ → Step) → nodes_print (used_nodes names e last) ≡ nodes_print (one (last (operand_slot names true e (length names))))
+used_print : (names : Scope) (e : tree.Expr) (last : ℕ → Step) → nodes_print (used_nodes names e last) ≡ nodes_print (one (last (operand_slot names true e (total names))))
 used_print names e last =
-    silent-before (operand_nodes names true e (length names)) (one (last (operand_slot names true e (length names)))) (operand_silent names e)
+    silent-before (operand_nodes names true e (total names)) (one (last (operand_slot names true e (total names)))) (operand_silent names true e (total names))
 
-evaluation_silent : (names : List (List ℕ)) (e : tree.Expr) → nodes_print (evaluation_nodes names e (length names)) ≡ false
+evaluation_silent : (names : Scope) (e : tree.Expr) → nodes_print (evaluation_nodes names e (total names)) ≡ false
 evaluation_silent names (tree.Step operator name) = refl
 evaluation_silent names (tree.Number value) = refl
-evaluation_silent names (tree.Truth value) = expr_silent names (tree.Truth value) (length names) (length names + 1)
+evaluation_silent names (tree.Truth value) = expr_silent names (tree.Truth value) (total names) (total names + 1)
 evaluation_silent names (tree.Read name) = refl
-evaluation_silent names (tree.Element name index) = refl
-evaluation_silent names (tree.Peek index) = expr_silent names (tree.Peek index) (length names) (length names + 1)
-evaluation_silent names (tree.StepElement operator name index) = refl
-evaluation_silent names (tree.Conditional condition chosen other) = expr_silent names (tree.Conditional condition chosen other) (length names) (length names + 1)
+evaluation_silent names (tree.Element name index) = expr_silent names (tree.Element name index) (total names) (total names + 1)
+evaluation_silent names (tree.Peek index) = expr_silent names (tree.Peek index) (total names) (total names + 1)
+evaluation_silent names (tree.StepElement operator name index) = expr_silent names (tree.StepElement operator name index) (total names) (total names + 1)
+evaluation_silent names (tree.Conditional condition chosen other) = expr_silent names (tree.Conditional condition chosen other) (total names) (total names + 1)
 evaluation_silent names tree.Pop = refl
-evaluation_silent names (tree.Group inner) = expr_silent names (tree.Group inner) (length names) (length names + 1)
-evaluation_silent names (tree.Unary operator operand) = expr_silent names (tree.Unary operator operand) (length names) (length names + 1)
-evaluation_silent names (tree.Binary operator left right) = expr_silent names (tree.Binary operator left right) (length names) (length names + 1)
+evaluation_silent names (tree.Group inner) = expr_silent names (tree.Group inner) (total names) (total names + 1)
+evaluation_silent names (tree.Unary operator operand) = expr_silent names (tree.Unary operator operand) (total names) (total names + 1)
+evaluation_silent names (tree.Binary operator left right) = expr_silent names (tree.Binary operator left right) (total names) (total names + 1)
 
-initial_silent : (names : List (List ℕ)) (initial : Option tree.Expr) (into free : ℕ) → nodes_print (initial_nodes names initial into free) ≡ false
-initial_silent names None into free = refl
-initial_silent names (Some initial) into free = expr_silent names initial into free
+initial_silent : (names : Scope) (cells : ℕ) (initial : Option tree.Expr) (into free : ℕ) → nodes_print (initial_nodes names cells initial into free) ≡ false
+initial_silent names zero None into free = refl
+initial_silent names (suc zero) None into free = refl
+initial_silent names (suc (suc more)) None into free = refl
+initial_silent names cells (Some initial) into free = expr_silent names initial into free
 
-variables_silent : (names : List (List ℕ)) (variables : List tree.Variable) → nodes_print (variables_nodes names variables) ≡ false
-variables_silent names [] = refl
-variables_silent names (first ∷ rest) =
-    silent-before (initial_nodes names first.initial (length names) (length names + 1)) (variables_nodes (first.name ∷ names) rest) (initial_silent names first.initial (length names) (length names + 1))
-    ∙ variables_silent (first.name ∷ names) rest
+variables_silent : (names : Scope) (cells : ℕ) (variables : List tree.Variable) → nodes_print (variables_nodes names cells variables) ≡ false
+variables_silent names cells [] = refl
+variables_silent names cells (first ∷ rest) =
+    let names' : Scope = record { 0 = first.name; 1 = cells } ∷ names in
+    silent-before (initial_nodes names cells first.initial (total names) (total names + cells)) (variables_nodes names' cells rest) (initial_silent names cells first.initial (total names) (total names + cells))
+    ∙ variables_silent names' cells rest
+
+compound_silent : (names : Scope) (name : List ℕ) (index : ℕ) (operator : BinaryOperator) (value : tree.Expr) (free : ℕ) → nodes_print (compound_nodes names name index operator value free) ≡ false
+compound_silent names name index operator value free =
+    let c = operand_nodes names true value (free + 1) in
+    let last = binary_step operator free free (operand_slot names true value (free + 1)) in
+    let store = one (act.Store (slot_of names name) (size_of names name) index free) in
+    silent-before c (Act last store) (operand_silent names true value (free + 1)) ∙ binary_silent operator free free (operand_slot names true value (free + 1))
+
+element_silent : (names : Scope) (name : List ℕ) (index : ℕ) (operator : AssignOperator) (value : tree.Expr) (free : ℕ) → nodes_print (element_nodes names name index operator value free) ≡ false
+element_silent names name index assign.Set value free =
+    silent-before (operand_nodes names true value free) (one (act.Store (slot_of names name) (size_of names name) index (operand_slot names true value free))) (operand_silent names true value free)
+element_silent names name index assign.Add value free = compound_silent names name index binary.Add value free
+element_silent names name index assign.Subtract value free = compound_silent names name index binary.Subtract value free
+element_silent names name index assign.Multiply value free = compound_silent names name index binary.Multiply value free
+element_silent names name index assign.Divide value free = compound_silent names name index binary.Divide value free
+element_silent names name index assign.Remainder value free = compound_silent names name index binary.Remainder value free
 
 mutual
-  stmt_print : (names : List (List ℕ)) (s : tree.Stmt) → IsClosedStmt names s → nodes_print (stmt_nodes names s) ≡ stmt_prints s
+  stmt_print : (names : Scope) (s : tree.Stmt) → IsClosedStmt names s → nodes_print (stmt_nodes names s) ≡ stmt_prints s
   stmt_print names tree.Empty closed = refl
   stmt_print names (tree.Block body) closed = stmts_print_is names body closed
-  stmt_print names (tree.Declare kind variables) closed = variables_silent names variables
+  stmt_print names (tree.Declare kind variables) closed = variables_silent names (cells_of kind) variables
   stmt_print names (tree.Evaluate value) closed = evaluation_silent names value
-  stmt_print names (tree.Assign name operator value) closed = expr_silent names (assigned_value name operator value) (slot_of names name) (length names)
-  stmt_print names (tree.AssignElement name index operator value) closed = absurd closed
+  stmt_print names (tree.Assign name operator value) closed = expr_silent names (assigned_value name operator value) (slot_of names name) (total names)
+  stmt_print names (tree.AssignElement name index operator value) closed =
+      let stays = changes_none value in
+      let from = operand_slot names stays index (total names) in
+      silent-before (operand_nodes names stays index (total names)) (element_nodes names name from operator value (total names + 1)) (operand_silent names stays index (total names))
+      ∙ element_silent names name from operator value (total names + 1)
   stmt_print names (tree.If condition chosen) closed =
       let b = stmt_nodes names chosen in
-      silent-before (operand_nodes names true condition (length names)) (Choice (operand_slot names true condition (length names)) b End End) (operand_silent names condition)
+      silent-before (operand_nodes names true condition (total names)) (Choice (operand_slot names true condition (total names)) b End End) (operand_silent names true condition (total names))
       ∙ first_of_two (nodes_print b) false refl
       ∙ stmt_print names chosen closed.1
   stmt_print names (tree.IfElse condition chosen other) closed =
       let b = stmt_nodes names chosen in
       let c = stmt_nodes names other in
-      silent-before (operand_nodes names true condition (length names)) (Choice (operand_slot names true condition (length names)) b c End) (operand_silent names condition)
+      silent-before (operand_nodes names true condition (total names)) (Choice (operand_slot names true condition (total names)) b c End) (operand_silent names true condition (total names))
       ∙ both_of_two (nodes_print b) (nodes_print c)
       ∙ ap (λ t. t || nodes_print c) (stmt_print names chosen closed.1)
       ∙ ap (λ t. stmt_prints chosen || t) (stmt_print names other closed.2)
@@ -240,7 +271,7 @@ mutual
   stmt_print names (tree.Print value) closed = used_print names value act.Print
   stmt_print names (tree.Println value) closed = used_print names value act.Println
 
-  stmts_print_is : (names : List (List ℕ)) (b : tree.Stmts) → AreClosed names b → nodes_print (stmts_nodes names b) ≡ stmts_print b
+  stmts_print_is : (names : Scope) (b : tree.Stmts) → AreClosed names b → nodes_print (stmts_nodes names b) ≡ stmts_print b
   stmts_print_is names tree.Done closed = refl
   stmts_print_is names (tree.Then first rest) closed =
       let rest_code = stmts_nodes (names_after names first) rest in

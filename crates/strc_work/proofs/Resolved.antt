@@ -40,7 +40,6 @@ pub refusal_through : {A B : Type 0} (first : Result A LowerError) (go : A → R
 refusal_through first go (refused.UnknownName name) h = ap (λ r. judged.and_then r go) h
 refusal_through first go refused.TypeMismatch h = ap (λ r. judged.and_then r go) h
 refusal_through first go (refused.ConstFault cause) h = ap (λ r. judged.and_then r go) h
-refusal_through first go refused.NotYet h = ap (λ r. judged.and_then r go) h
 refusal_through first go refused.NoMemory h = h
 
 -- a refusal of an equal judgement
@@ -48,7 +47,6 @@ pub refusal_same : {A : Type 0} (first second : Result A LowerError) (e : LowerE
 refusal_same first second (refused.UnknownName name) same h = sym same ∙ h
 refusal_same first second refused.TypeMismatch same h = sym same ∙ h
 refusal_same first second (refused.ConstFault cause) same h = sym same ∙ h
-refusal_same first second refused.NotYet same h = sym same ∙ h
 refusal_same first second refused.NoMemory same h = h
 
 -- the judgement of a list, behind what is judged already

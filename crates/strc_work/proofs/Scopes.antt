@@ -7,8 +7,7 @@ use Rattle.std.proofs.lemmas.Bool.Decides.{leb_tells}
 use Rattle.std.proofs.Math.Dec.{leb}
 use Rattle.std.proofs.Math.Seq.{drop-append_seam}
 use Rattle.std.proofs.lemmas.Slice.Eq.{bytes_eq-Decides}
-use Rattle.strc_work.specs.Names.{has_name, value_named}
-use Rattle.strc_work.specs.Lowering.{slot_named}
+use Rattle.strc_work.specs.Names.{has_name, value_named, number_named}
 use Rattle.strc_work.specs.Scopes.{names_in, IsScope}
 use Rattle.strc_work.specs.Tables.{IsUpdated}
 use Rattle.strc_work.specs.declared.scope.Declared.{Declared}
@@ -60,41 +59,41 @@ reverse-take_of xs n =
     sym (ap (λ k. drop k (reverse xs)) e ∙ ap (λ l. drop (length (reverse left)) (reverse l)) (sym (take-append-drop n xs)) ∙ ap (drop (length (reverse left))) (reverse-append kept left) ∙ drop-append_seam (reverse left) (reverse kept))
 
 -- the slot of a name is below the number of names
-pub slot_named-below : (names : List (List ℕ)) (name : List ℕ) (slot : ℕ) → slot_named names name ≡ Some slot → slot < length names
-slot_named-below [] name slot e = cc
-slot_named-below (first ∷ rest) name slot e = by_value (bytes_eq first name) (slot_named-below rest name slot) e
+pub number_named-below : (names : List (List ℕ)) (name : List ℕ) (slot : ℕ) → number_named names name ≡ Some slot → slot < length names
+number_named-below [] name slot e = cc
+number_named-below (first ∷ rest) name slot e = by_value (bytes_eq first name) (number_named-below rest name slot) e
   where
-    by_value : (t : Bool) → (slot_named rest name ≡ Some slot → slot < length rest) → cond t (Some (length rest)) (slot_named rest name) ≡ Some slot → slot < suc (length rest)
+    by_value : (t : Bool) → (number_named rest name ≡ Some slot → slot < length rest) → cond t (Some (length rest)) (number_named rest name) ≡ Some slot → slot < suc (length rest)
     by_value true below e = let here : length rest ≡ slot = cc in omega arith
     by_value false below e = let h : slot < length rest = below e in omega arith
 
 -- whether a name stands from a place on, by the slot of its innermost variable
-pub has_name-slot : (names : List (List ℕ)) (name : List ℕ) (start slot : ℕ) → slot_named names name ≡ Some slot → leb start slot ≡ has_name (take (length names - start) names) name
+pub has_name-slot : (names : List (List ℕ)) (name : List ℕ) (start slot : ℕ) → number_named names name ≡ Some slot → leb start slot ≡ has_name (take (length names - start) names) name
 has_name-slot [] name start slot e = cc
 has_name-slot (first ∷ rest) name start slot e = ⊎_elim (λ h. within h.1 (has_name-slot rest name start slot)) (λ h. past h.1) (leb_tells start (length rest))
   where
-    by_value : (t : Bool) → cond t (Some (length rest)) (slot_named rest name) ≡ Some slot → start ≤ length rest → (slot_named rest name ≡ Some slot → leb start slot ≡ has_name (take (length rest - start) rest) name)
+    by_value : (t : Bool) → cond t (Some (length rest)) (number_named rest name) ≡ Some slot → start ≤ length rest → (number_named rest name ≡ Some slot → leb start slot ≡ has_name (take (length rest - start) rest) name)
         → leb start slot ≡ (t || has_name (take (length rest - start) rest) name)
     by_value true e h inner = let here : length rest ≡ slot = cc in le-leb start slot (subst (λ n. start ≤ n) here h)
     by_value false e h inner = inner e
 
-    within : start ≤ length rest → (slot_named rest name ≡ Some slot → leb start slot ≡ has_name (take (length rest - start) rest) name) → leb start slot ≡ has_name (take (suc (length rest) - start) (first ∷ rest)) name
+    within : start ≤ length rest → (number_named rest name ≡ Some slot → leb start slot ≡ has_name (take (length rest - start) rest) name) → leb start slot ≡ has_name (take (suc (length rest) - start) (first ∷ rest)) name
     within h inner = let m : suc (length rest) - start ≡ suc (length rest - start) = omega arith in rw m (by_value (bytes_eq first name) e h inner)
 
     past : length rest < start → leb start slot ≡ has_name (take (suc (length rest) - start) (first ∷ rest)) name
     past h =
         let m : suc (length rest) - start ≡ 0 = omega arith in
-        let below : slot < suc (length rest) = slot_named-below (first ∷ rest) name slot e in
+        let below : slot < suc (length rest) = number_named-below (first ∷ rest) name slot e in
         let out : slot < start = omega arith in
         rw m (lt-leb start slot out)
 
-pub has_name-none : (names : List (List ℕ)) (name : List ℕ) (n : ℕ) → slot_named names name ≡ None → false ≡ has_name (take n names) name
+pub has_name-none : (names : List (List ℕ)) (name : List ℕ) (n : ℕ) → number_named names name ≡ None → false ≡ has_name (take n names) name
 has_name-none [] name zero e = refl
 has_name-none [] name (suc n) e = refl
 has_name-none (first ∷ rest) name zero e = refl
 has_name-none (first ∷ rest) name (suc n) e = by_value (bytes_eq first name) (has_name-none rest name n) e
   where
-    by_value : (t : Bool) → (slot_named rest name ≡ None → false ≡ has_name (take n rest) name) → cond t (Some (length rest)) (slot_named rest name) ≡ None → false ≡ (t || has_name (take n rest) name)
+    by_value : (t : Bool) → (number_named rest name ≡ None → false ≡ has_name (take n rest) name) → cond t (Some (length rest)) (number_named rest name) ≡ None → false ≡ (t || has_name (take n rest) name)
     by_value true inner e = cc
     by_value false inner e = inner e
 
@@ -127,16 +126,16 @@ IsScope-forget seen old new last scope change = record {
   innermost = λ name. change name ∙ shown name (bytes_eq last.name.items name) scope.hidden.0 (bytes_eq-Decides last.name.items name).0 (scope.innermost name);
 }
   where
-    shown : (name : List ℕ) (t : Bool) → last.hides ≡ slot_named (names_in seen) last.name.items → (t ≡ true → last.name.items ≡ name) → old name ≡ cond t (Some (length (names_in seen))) (slot_named (names_in seen) name)
-        → cond t last.hides (old name) ≡ slot_named (names_in seen) name
-    shown name true hidden same e = hidden ∙ ap (slot_named (names_in seen)) (same refl)
+    shown : (name : List ℕ) (t : Bool) → last.hides ≡ number_named (names_in seen) last.name.items → (t ≡ true → last.name.items ≡ name) → old name ≡ cond t (Some (length (names_in seen))) (number_named (names_in seen) name)
+        → cond t last.hides (old name) ≡ number_named (names_in seen) name
+    shown name true hidden same e = hidden ∙ ap (number_named (names_in seen)) (same refl)
     shown name false hidden same e = e
 
 -- the innermost name is in the table
 pub IsScope-there : (seen : List Declared) (table : List ℕ → Option ℕ) (last : Declared) → IsScope (last ∷ seen) table → IsSome (table last.name.items)
 unfolding IsScope
 IsScope-there seen table last scope =
-    let e = scope.innermost last.name.items ∙ ap (λ t. cond t (Some (length (names_in seen))) (slot_named (names_in seen) last.name.items)) (bytes_eq_same last.name.items last.name.items refl) in
+    let e = scope.innermost last.name.items ∙ ap (λ t. cond t (Some (length (names_in seen))) (number_named (names_in seen) last.name.items)) (bytes_eq_same last.name.items last.name.items refl) in
     rw e refl
 
 -- the names that are left

@@ -5,10 +5,10 @@ use Rattle.std.proofs.Math.Seq.{drop-append_seam}
 use Rattle.std.proofs.Math.ListN.{get_or-append}
 use Rattle.std.proofs.Math.Seq.{get_or-append_seam}
 use Rattle.std.proofs.lemmas.List.{length-reverse, reverse-append, reverse-reverse}
-use Rattle.strc_work.proofs.Scopes.{slot_named-below, reverse-take_of}
+use Rattle.strc_work.proofs.Scopes.{number_named-below, reverse-take_of}
 use Rattle.strc_parse.specs.Tree as tree
 use Rattle.strc_work.specs.declared.types.ValueType.{ValueType}
-use Rattle.strc_work.specs.Lowering.{slot_named}
+use Rattle.strc_work.specs.Names.{number_named}
 use Rattle.strc_work.specs.Typing.{TypedNames, plain_names, type_named, with_types, type_of, with_declared, names_after}
 
 -- the names are others, with some inside them
@@ -73,16 +73,16 @@ drop-with_types (suc n) [] kinds e = refl
 drop-with_types (suc n) (name ∷ names) [] e = cc
 drop-with_types (suc n) (name ∷ names) (kind ∷ kinds) e = drop-with_types n names kinds cc
 
-type_at : (names : List (List ℕ)) (kinds : List ValueType) (name : List ℕ) (slot : ℕ) (d : ValueType) → length kinds ≡ length names → slot_named names name ≡ Some slot → type_named (with_types names kinds) name ≡ Some (get_or (reverse kinds) slot d)
+type_at : (names : List (List ℕ)) (kinds : List ValueType) (name : List ℕ) (slot : ℕ) (d : ValueType) → length kinds ≡ length names → number_named names name ≡ Some slot → type_named (with_types names kinds) name ≡ Some (get_or (reverse kinds) slot d)
 type_at [] kinds name slot d e at = cc
 type_at (first ∷ rest) [] name slot d e at = cc
 type_at (first ∷ rest) (kind ∷ kinds) name slot d e at =
-    by_value (bytes_eq first name) at (type_at rest kinds name slot d same) (slot_named-below rest name slot) ∙ ap (λ l. Some (get_or l slot d)) (sym (reverse-append (kind ∷ []) kinds))
+    by_value (bytes_eq first name) at (type_at rest kinds name slot d same) (number_named-below rest name slot) ∙ ap (λ l. Some (get_or l slot d)) (sym (reverse-append (kind ∷ []) kinds))
   where
     same : length kinds ≡ length rest
     same = cc
 
-    by_value : (t : Bool) → cond t (Some (length rest)) (slot_named rest name) ≡ Some slot → (slot_named rest name ≡ Some slot → type_named (with_types rest kinds) name ≡ Some (get_or (reverse kinds) slot d)) → (slot_named rest name ≡ Some slot → slot < length rest)
+    by_value : (t : Bool) → cond t (Some (length rest)) (number_named rest name) ≡ Some slot → (number_named rest name ≡ Some slot → type_named (with_types rest kinds) name ≡ Some (get_or (reverse kinds) slot d)) → (number_named rest name ≡ Some slot → slot < length rest)
         → cond t (Some kind) (type_named (with_types rest kinds) name) ≡ Some (get_or (reverse kinds ++ kind ∷ []) slot d)
     by_value true at inner below =
         let here : length rest ≡ slot = cc in
@@ -94,16 +94,16 @@ type_at (first ∷ rest) (kind ∷ kinds) name slot d e at =
         inner at ∙ ap Some (sym (get_or-append (reverse kinds) (kind ∷ []) d slot in_front))
 
 -- the type of a variable stands at its slot
-pub type_of_slot : (names : List (List ℕ)) (kinds : List ValueType) (name : List ℕ) (slot : ℕ) (kind : ValueType) → length kinds ≡ length names → slot_named names name ≡ Some slot → kind ≡ get_or kinds slot kind → Some kind ≡ type_named (with_types names (reverse kinds)) name
+pub type_of_slot : (names : List (List ℕ)) (kinds : List ValueType) (name : List ℕ) (slot : ℕ) (kind : ValueType) → length kinds ≡ length names → number_named names name ≡ Some slot → kind ≡ get_or kinds slot kind → Some kind ≡ type_named (with_types names (reverse kinds)) name
 type_of_slot names kinds name slot kind e at is =
     ap Some is ∙ ap (λ l. Some (get_or l slot kind)) (sym (reverse-reverse kinds)) ∙ sym (type_at names (reverse kinds) name slot kind (length-reverse kinds ∙ e) at)
 
-pub no_type : (names : List (List ℕ)) (kinds : List ValueType) (name : List ℕ) → length kinds ≡ length names → slot_named names name ≡ None → None ≡ type_named (with_types names kinds) name
+pub no_type : (names : List (List ℕ)) (kinds : List ValueType) (name : List ℕ) → length kinds ≡ length names → number_named names name ≡ None → None ≡ type_named (with_types names kinds) name
 no_type [] kinds name e at = refl
 no_type (first ∷ rest) [] name e at = refl
 no_type (first ∷ rest) (kind ∷ kinds) name e at = by_value (bytes_eq first name) at (no_type rest kinds name cc)
   where
-    by_value : (t : Bool) → cond t (Some (length rest)) (slot_named rest name) ≡ None → (slot_named rest name ≡ None → None ≡ type_named (with_types rest kinds) name) → None ≡ cond t (Some kind) (type_named (with_types rest kinds) name)
+    by_value : (t : Bool) → cond t (Some (length rest)) (number_named rest name) ≡ None → (number_named rest name ≡ None → None ≡ type_named (with_types rest kinds) name) → None ≡ cond t (Some kind) (type_named (with_types rest kinds) name)
     by_value true at inner = cc
     by_value false at inner = inner at
 

@@ -8,6 +8,7 @@ use Rattle.strc_parse.specs.declared.tree.ItemType.{ItemType}
 use Rattle.strc_parse.specs.declared.tree.RateKind.{RateKind}
 use Rattle.strc_parse.specs.declared.tree.RateKind.TheVariants as kind
 use Rattle.strc_work.specs.declared.code.Body.{Body}
+use Rattle.strc_work.specs.Scoping.{Scope, cells_of}
 use Rattle.strc_work.specs.declared.code.Body.TheVariants as body
 
 -- a filter: its types and its members
@@ -27,6 +28,17 @@ filter_of filter = record { input = filter.input; output = filter.output; member
 -- the names that a declaration adds, in order
 abbrev pub declared_names : List tree.Variable → List (List ℕ)
 declared_names variables = map (λ variable. variable.name) variables
+
+-- the fields with their cells, in order
+abbrev pub sized_all : (cells : ℕ) → List tree.Variable → Scope
+sized_all cells variables = map (λ variable. record { 0 = variable.name; 1 = cells }) variables
+
+abbrev pub sized_fields : List tree.Member → Scope
+sized_fields [] = []
+sized_fields (tree.Fields kind variables ∷ rest) = sized_all (cells_of kind) variables ++ sized_fields rest
+sized_fields (tree.Init block ∷ rest) = sized_fields rest
+sized_fields (tree.Prework rates block ∷ rest) = sized_fields rest
+sized_fields (tree.Work rates block ∷ rest) = sized_fields rest
 
 -- the names of the fields, in order
 abbrev pub field_names : List tree.Member → List (List ℕ)

@@ -1,5 +1,5 @@
 -- What a filter's text does: its start and one firing.
-use Rattle.std.specs.Prelude.{ℕ, zero, suc, ◌+◌, ◌-◌, ℤ, pos, negsuc, neg_ℤ, ◌+ℤ◌, List, [], ◌∷◌, ◌++◌, length, take, drop, reverse, map, Option, Some, None, Result, Ok, Err, if◌then◌else◌, nat_lt, unwrap_or, slice_get, bytes_eq, true, false}
+use Rattle.std.specs.Prelude.{ℕ, zero, suc, ◌+◌, ◌-◌, ℤ, pos, negsuc, neg_ℤ, ◌+ℤ◌, List, [], ◌∷◌, ◌++◌, length, take, drop, replicate, Option, Some, None, Result, Ok, Err, if◌then◌else◌, nat_lt, slice_get, slice_set, slice_index_or, bytes_eq, true, false}
 use Rattle.strc_parse.specs.Tree as tree
 use Rattle.strc_parse.specs.declared.tree.AssignOperator.{AssignOperator}
 use Rattle.strc_parse.specs.declared.tree.AssignOperator.TheVariants as assign
@@ -12,8 +12,8 @@ use Rattle.strc_work.specs.declared.fault.Cause.TheVariants.{Index, PeekRange, T
 use Rattle.strc_work.specs.declared.word.Word.{Word}
 use Rattle.strc_work.specs.declared.code.Body.{Body}
 use Rattle.strc_work.specs.Arithmetic.{wrapped, unary_value, binary_value, truth, is_true}
-use Rattle.strc_work.specs.Names.{value_named}
-use Rattle.strc_work.specs.Filters.{Filter, field_names, body_block, body_rates, push_rate, pop_rate, window_size, item_count}
+use Rattle.strc_work.specs.Scoping.{Scope, cells_of, total}
+use Rattle.strc_work.specs.Filters.{Filter, sized_fields, body_block, body_rates, push_rate, pop_rate, window_size, item_count}
 
 -- goes on with a result, or stops at a fault
 abbrev pub then_do : {A B : Type 0} → Result A Cause → (A → Result B Cause) → Result B Cause
@@ -38,27 +38,56 @@ pub record Traffic : Type 0 where
 unfoldable pub turn_limit : ℕ
 turn_limit = 1000000
 
--- the variables with their values, the innermost first, and the traffic so far
+-- variables with the values of their cells, the innermost first: a number or a truth value has one cell, an array one for each element
+abbrev pub Variables : Type 0
+Variables = List (List ℕ × List ℤ)
+
+-- the variables, and the traffic so far
 pub record Store : Type 0 where
-  pub variables : List (List ℕ × ℤ)
+  pub variables : Variables
   pub traffic : Traffic
 
--- the value of a variable
-abbrev pub value_in : Store → List ℕ → ℤ
-value_in store name = unwrap_or (value_named store.variables name) (pos 0)
+-- the cells of the innermost variable of a name
+abbrev pub cells_named : Variables → List ℕ → List ℤ
+cells_named [] name = []
+cells_named (first ∷ rest) name = if bytes_eq first.0 name then first.1 else cells_named rest name
 
--- the innermost variable of a name gets a value
-abbrev pub with_value : List (List ℕ × ℤ) → List ℕ → ℤ → List (List ℕ × ℤ)
-with_value [] name value = []
-with_value (first ∷ rest) name value =
-    if bytes_eq first.0 name then record { 0 = first.0; 1 = value } ∷ rest else first ∷ with_value rest name value
+-- the value of a cell
+abbrev pub cell_in : Store → List ℕ → ℕ → ℤ
+cell_in store name place = slice_index_or (cells_named store.variables name) place (pos 0)
+
+-- the value of a variable that is no array
+abbrev pub value_in : Store → List ℕ → ℤ
+value_in store name = cell_in store name 0
+
+-- a cell of the innermost variable of a name gets a value
+abbrev pub with_cell : Variables → List ℕ → ℕ → ℤ → Variables
+with_cell [] name place value = []
+with_cell (first ∷ rest) name place value =
+    if bytes_eq first.0 name then record { 0 = first.0; 1 = slice_set first.1 place value } ∷ rest else first ∷ with_cell rest name place value
+
+abbrev pub cell_set : Store → List ℕ → ℕ → ℤ → Store
+cell_set store name place value = record store { variables = with_cell store.variables name place value }
 
 abbrev pub assigned : Store → List ℕ → ℤ → Store
-assigned store name value = record store { variables = with_value store.variables name value }
+assigned store name value = cell_set store name 0 value
 
 -- a new innermost variable
-abbrev pub declared_in : Store → List ℕ → ℤ → Store
-declared_in store name value = record store { variables = record { 0 = name; 1 = value } ∷ store.variables }
+abbrev pub declared_in : Store → List ℕ → List ℤ → Store
+declared_in store name cells = record store { variables = record { 0 = name; 1 = cells } ∷ store.variables }
+
+-- the place of an index in an array of so many elements
+abbrev pub place_in : ℕ → ℤ → Option ℕ
+place_in length (pos n) = if nat_lt n length then Some n else None
+place_in length (negsuc n) = None
+
+-- an index that is tested
+abbrev pub tested_place : Option ℕ → Result ℕ Cause
+tested_place None = Err Index
+tested_place (Some place) = Ok place
+
+abbrev pub place_of : Store → List ℕ → ℤ → Result ℕ Cause
+place_of store name index = tested_place (place_in (length (cells_named store.variables name)) index)
 
 -- the next item of the window is taken; there is none past the pop rate
 abbrev pub item_popped : Option ℤ → Traffic → Result (ℤ × Traffic) Cause
@@ -120,12 +149,14 @@ joined operator first right =
     then_do (right first.1) (λ second.
     then_do (binary_value operator first.0 second.0) (λ value. Ok (value, second.1)))
 
--- the value of an expression, from left to right, and the store after it; there are no arrays yet
+-- the value of an expression, from left to right, and the store after it
 abbrev pub value_of : Port → tree.Expr → Store → Result (ℤ × Store) Cause
 value_of port (tree.Number value) store = Ok (value, store)
 value_of port (tree.Truth value) store = Ok (truth value, store)
 value_of port (tree.Read name) store = Ok (value_in store name, store)
-value_of port (tree.Element name index) store = Err Index
+value_of port (tree.Element name index) store =
+    then_do (value_of port index store) (λ at.
+    then_do (place_of at.1 name at.0) (λ place. Ok (cell_in at.1 name place, at.1)))
 value_of port tree.Pop store =
     then_do (popped_from port store.traffic) (λ taken. Ok (taken.0, record store { traffic = taken.1 }))
 value_of port (tree.Peek index) store =
@@ -138,7 +169,12 @@ value_of port (tree.Step operator name) store =
     let old = value_in store name in
     let new = value_stepped operator old in
     Ok (step_value operator old new, assigned store name new)
-value_of port (tree.StepElement operator name index) store = Err Index
+value_of port (tree.StepElement operator name index) store =
+    then_do (value_of port index store) (λ at.
+    then_do (place_of at.1 name at.0) (λ place.
+    let old = cell_in at.1 name place in
+    let new = value_stepped operator old in
+    Ok (step_value operator old new, cell_set at.1 name place new)))
 value_of port (tree.Binary operator left right) store =
     then_do (value_of port left store) (λ first. joined operator first (value_of port right))
 value_of port (tree.Conditional condition chosen other) store =
@@ -154,10 +190,30 @@ assigned_value name assign.Multiply value = tree.Binary binary.Multiply (tree.Re
 assigned_value name assign.Divide value = tree.Binary binary.Divide (tree.Read name) value
 assigned_value name assign.Remainder value = tree.Binary binary.Remainder (tree.Read name) value
 
--- the value of an initialiser; without one it is 0
-abbrev pub initial_value : Port → Option tree.Expr → Store → Result (ℤ × Store) Cause
-initial_value port None store = Ok (pos 0, store)
-initial_value port (Some initial) store = value_of port initial store
+-- an operator between an element of an array and a value
+abbrev pub element_joined : Port → List ℕ → BinaryOperator → tree.Expr → ℤ × Store → Result Store Cause
+element_joined port name operator value at =
+    then_do (place_of at.1 name at.0) (λ place.
+    let old = cell_in at.1 name place in
+    then_do (value_of port value at.1) (λ given.
+    then_do (binary_value operator old given.0) (λ new. Ok (cell_set given.1 name place new))))
+
+-- an element of an array is assigned: the index, then the value, then the test and the store; a compound assignment tests the index and
+-- reads the element before the value
+abbrev pub element_set : Port → List ℕ → AssignOperator → tree.Expr → ℤ × Store → Result Store Cause
+element_set port name assign.Set value at =
+    then_do (value_of port value at.1) (λ given.
+    then_do (place_of given.1 name at.0) (λ place. Ok (cell_set given.1 name place given.0)))
+element_set port name assign.Add value at = element_joined port name binary.Add value at
+element_set port name assign.Subtract value at = element_joined port name binary.Subtract value at
+element_set port name assign.Multiply value at = element_joined port name binary.Multiply value at
+element_set port name assign.Divide value at = element_joined port name binary.Divide value at
+element_set port name assign.Remainder value at = element_joined port name binary.Remainder value at
+
+-- the cells of a new variable: its initialiser's value, or zeros
+abbrev pub initial_cells : Port → (cells : ℕ) → Option tree.Expr → Store → Result (List ℤ × Store) Cause
+initial_cells port cells None store = Ok (replicate cells (pos 0), store)
+initial_cells port cells (Some initial) store = then_do (value_of port initial store) (λ given. Ok (given.0 ∷ [], given.1))
 
 -- the variables of a block are forgotten at its end
 abbrev pub block_left : Store → Store → Store
@@ -165,11 +221,11 @@ block_left outer inner =
     record inner { variables = drop (length inner.variables - length outer.variables) inner.variables }
 
 -- each variable of a declaration in turn, at its initialiser's value or at 0
-abbrev pub variables_declared : Port → List tree.Variable → Store → Result Store Cause
-variables_declared port [] store = Ok store
-variables_declared port (first ∷ rest) store =
-    then_do (initial_value port first.initial store) (λ given.
-    variables_declared port rest (declared_in given.1 first.name given.0))
+abbrev pub variables_declared : Port → (cells : ℕ) → List tree.Variable → Store → Result Store Cause
+variables_declared port cells [] store = Ok store
+variables_declared port cells (first ∷ rest) store =
+    then_do (initial_cells port cells first.initial store) (λ given.
+    variables_declared port cells rest (declared_in given.1 first.name given.0))
 
 -- a condition, which holds where there is none
 abbrev pub condition_value : Port → Option tree.Expr → Store → Result (ℤ × Store) Cause
@@ -194,11 +250,12 @@ abbrev mutual
   pub stmt_done : Port → tree.Stmt → Store → Result Store Cause
   stmt_done port tree.Empty store = Ok store
   stmt_done port (tree.Block body) store = inside (stmts_done port body) store
-  stmt_done port (tree.Declare kind variables) store = variables_declared port variables store
+  stmt_done port (tree.Declare kind variables) store = variables_declared port (cells_of kind) variables store
   stmt_done port (tree.Evaluate value) store = then_do (value_of port value store) (λ given. Ok given.1)
   stmt_done port (tree.Assign name operator value) store =
       then_do (value_of port (assigned_value name operator value) store) (λ given. Ok (assigned given.1 name given.0))
-  stmt_done port (tree.AssignElement name index operator value) store = Err Index
+  stmt_done port (tree.AssignElement name index operator value) store =
+      then_do (value_of port index store) (element_set port name operator value)
   stmt_done port (tree.If condition chosen) store =
       then_do (value_of port condition store) (λ test.
       if is_true test.0 then inside (stmt_done port chosen) test.1 else Ok test.1)
@@ -227,11 +284,11 @@ abbrev mutual
   stmts_done port tree.Done store = Ok store
   stmts_done port (tree.Then first rest) store = then_do (stmt_done port first store) (stmts_done port rest)
 
--- the fields with their values, each inside those before it
-abbrev pub bound_onto : List (List ℕ × ℤ) → List (List ℕ) → List ℤ → List (List ℕ × ℤ)
+-- the fields with the values of their cells, each inside those before it
+abbrev pub bound_onto : Variables → Scope → List ℤ → Variables
 bound_onto variables [] values = variables
-bound_onto variables (name ∷ names) [] = variables
-bound_onto variables (name ∷ names) (value ∷ values) = bound_onto (record { 0 = name; 1 = value } ∷ variables) names values
+bound_onto variables (field ∷ fields) values =
+    bound_onto (record { 0 = field.0; 1 = take field.1 values } ∷ variables) fields (drop field.1 values)
 
 -- no traffic
 abbrev pub no_traffic : Traffic
@@ -240,11 +297,16 @@ no_traffic = record { popped = 0; pushes = []; words = []; turns = 0 }
 -- a filter's fields with these values, before any traffic
 abbrev pub store_at : Filter → List ℤ → Store
 store_at filter values =
-    record { variables = bound_onto [] (field_names filter.members) values; traffic = no_traffic }
+    record { variables = bound_onto [] (sized_fields filter.members) values; traffic = no_traffic }
 
--- the values of the fields, in order
+-- the values of variables' cells, the outermost variable first
+abbrev pub values_of : Variables → List ℤ
+values_of [] = []
+values_of (first ∷ rest) = values_of rest ++ first.1
+
+-- the values of the fields' cells, in order
 abbrev pub field_values : Store → List ℤ
-field_values store = reverse (map (λ (variable : List ℕ × ℤ). variable.1) store.variables)
+field_values store = values_of store.variables
 
 -- a place without items
 abbrev pub shut : Port
@@ -277,15 +339,10 @@ inits_done (tree.Init block ∷ rest) store = then_do (inside (stmts_done shut b
 inits_done (tree.Prework rates block ∷ rest) store = inits_done rest store
 inits_done (tree.Work rates block ∷ rest) store = inits_done rest store
 
--- a number of zeros
-abbrev pub zeros_for : List (List ℕ) → List ℤ
-zeros_for [] = []
-zeros_for (name ∷ names) = pos 0 ∷ zeros_for names
-
--- the values of the fields after their initialisers and `init`
+-- the values of the fields' cells after their initialisers and `init`
 abbrev pub started : Filter → Result (List ℤ) Cause
 started filter =
-    then_do (members_started filter.members (store_at filter (zeros_for (field_names filter.members)))) (λ initialised.
+    then_do (members_started filter.members (store_at filter (replicate (total (sized_fields filter.members)) (pos 0)))) (λ initialised.
     then_do (inits_done filter.members initialised) (λ store. Ok (field_values store)))
 
 -- what a firing gives

@@ -6,12 +6,14 @@ pub mod Firing
 pub mod Machine
 pub mod Lowering
 pub mod Code
+pub mod Conditions
 pub mod Written
 pub mod Typing
 pub mod Constants
 pub mod Resolution
 pub mod Tables
 pub mod Scopes
+pub mod Layouts
 pub mod Kept
 pub mod States
 pub mod Closed

@@ -1,5 +1,5 @@
--- The rules on names and types, and the filter with its constants put in. Arrays aren't lowered yet.
-use Rattle.std.specs.Prelude.{ℕ, ◌+◌, ℤ, pos, Bool, true, false, ◌==◌, ◌&&◌, not, List, [], ◌∷◌, length, Option, Some, None, Result, Ok, Err, nat_lt}
+-- The rules on names and types, and the filter with its constants put in.
+use Rattle.std.specs.Prelude.{ℕ, ◌+◌, ℤ, pos, Bool, true, false, ◌==◌, ◌&&◌, ◌||◌, not, if◌then◌else◌, List, [], ◌∷◌, length, Option, Some, None, Result, Ok, Err, nat_lt}
 use Rattle.std.specs.Int.RustNames.{int_lt}
 use Rattle.strc_parse.specs.Tree as tree
 use Rattle.strc_parse.specs.declared.tree.ItemType.{ItemType}
@@ -12,15 +12,16 @@ use Rattle.strc_parse.specs.declared.tree.UnaryOperator.{UnaryOperator}
 use Rattle.strc_parse.specs.declared.tree.UnaryOperator.TheVariants as unary
 use Rattle.strc_parse.specs.declared.tree.BinaryOperator.{BinaryOperator}
 use Rattle.strc_parse.specs.declared.tree.BinaryOperator.TheVariants as binary
+use Rattle.strc_parse.specs.declared.tree.StepOperator.{StepOperator}
 use Rattle.strc_work.specs.declared.fault.Cause.{Cause}
+use Rattle.strc_work.specs.declared.fault.Cause.TheVariants.{Index}
 use Rattle.strc_work.specs.declared.lowering.LowerError.{LowerError}
 use Rattle.strc_work.specs.declared.lowering.LowerError.TheVariants as refused
 use Rattle.strc_work.specs.declared.types.ValueType.{ValueType}
-use Rattle.strc_work.specs.declared.types.ValueType.TheVariants.{Int, Boolean}
+use Rattle.strc_work.specs.declared.types.ValueType.TheVariants.{Int, Boolean, Array}
 use Rattle.strc_work.specs.Names.{has_name, value_named}
 use Rattle.strc_work.specs.Filters.{Filter, work_count}
-use Rattle.strc_work.specs.Scoping as plain
-use Rattle.strc_work.specs.Typing.{TypedNames, type_named, same_type, written_type, names_after, block_names, fields_behind}
+use Rattle.strc_work.specs.Typing.{TypedNames, type_named, same_type, is_array, names_with, names_after, block_names, fields_behind}
 use Rattle.strc_work.specs.Constants.{constant_value}
 
 -- goes on with a result, or keeps the first refusal
@@ -51,20 +52,15 @@ pub record Typed : Type 0 where
 abbrev pub typed_as : ValueType → Typed → Result tree.Expr LowerError
 typed_as kind typed = where_kept (same_type typed.kind kind) (Ok typed.value)
 
--- the type of variables, if they are no arrays
-abbrev pub type_resolved : tree.VariableType → Result ValueType LowerError
-type_resolved tree.Boolean = Ok Boolean
-type_resolved tree.Int = Ok Int
-type_resolved (tree.Array length) = Err refused.NotYet
-
 -- what a name stands for that is no variable: a constant's value
 abbrev pub constant_read : List ℕ → Option ℤ → Result Typed LowerError
 constant_read name None = Err (refused.UnknownName name)
 constant_read name (Some value) = Ok (record { kind = Int; value = tree.Number value })
 
--- what a name stands for that is read: its innermost variable, or else a constant
+-- what a name stands for that is read: its innermost variable, which is no array, or else a constant
 abbrev pub read_as : Site → List ℕ → Option ValueType → Result Typed LowerError
-read_as site name (Some kind) = where_kept (not site.fixed) (Ok (record { kind = kind; value = tree.Read name }))
+read_as site name (Some kind) =
+    where_kept (not site.fixed) (where_kept (not (is_array kind)) (Ok (record { kind = kind; value = tree.Read name })))
 read_as site name None = constant_read name (value_named site.constants name)
 
 abbrev pub name_resolved : Site → TypedNames → List ℕ → Result Typed LowerError
@@ -143,12 +139,27 @@ abbrev pub step_resolved : Site → TypedNames → List ℕ → Result (List ℕ
 step_resolved site names name =
     where_kept (not site.fixed) (and_then (write_resolved site names name) (λ kind. where_kept (same_type kind Int) (Ok name)))
 
+-- the name of an array, of which an element is read or written
+abbrev pub array_resolved : Site → TypedNames → List ℕ → Result (List ℕ) LowerError
+array_resolved site names name =
+    where_kept (not site.fixed) (and_then (write_resolved site names name) (λ kind. where_kept (is_array kind) (Ok name)))
+
+-- an element of an array, and its step
+abbrev pub element_typed : List ℕ → Typed → Result Typed LowerError
+element_typed name index = and_then (typed_as Int index) (λ index'. Ok (record { kind = Int; value = tree.Element name index' }))
+
+abbrev pub step_element_typed : StepOperator → List ℕ → Typed → Result Typed LowerError
+step_element_typed operator name index =
+    and_then (typed_as Int index) (λ index'. Ok (record { kind = Int; value = tree.StepElement operator name index' }))
+
 -- an expression, among these names of variables
 abbrev pub expr_resolved : Site → TypedNames → tree.Expr → Result Typed LowerError
 expr_resolved site names (tree.Number value) = Ok (record { kind = Int; value = tree.Number value })
 expr_resolved site names (tree.Truth value) = Ok (record { kind = Boolean; value = tree.Truth value })
 expr_resolved site names (tree.Read name) = name_resolved site names name
-expr_resolved site names (tree.Element name index) = Err refused.NotYet
+expr_resolved site names (tree.Element name index) =
+    and_then (array_resolved site names name) (λ name'.
+    and_then (expr_resolved site names index) (λ index'. element_typed name' index'))
 expr_resolved site names tree.Pop = where_kept site.pops (Ok (record { kind = Int; value = tree.Pop }))
 expr_resolved site names (tree.Peek index) = and_then (expr_resolved site names index) (λ index'. peek_typed site.pops index')
 expr_resolved site names (tree.Group inner) =
@@ -157,7 +168,9 @@ expr_resolved site names (tree.Unary operator operand) =
     and_then (expr_resolved site names operand) (λ operand'. unary_typed operator operand')
 expr_resolved site names (tree.Step operator name) =
     and_then (step_resolved site names name) (λ name'. Ok (record { kind = Int; value = tree.Step operator name' }))
-expr_resolved site names (tree.StepElement operator name index) = Err refused.NotYet
+expr_resolved site names (tree.StepElement operator name index) =
+    and_then (array_resolved site names name) (λ name'.
+    and_then (expr_resolved site names index) (λ index'. step_element_typed operator name' index'))
 expr_resolved site names (tree.Binary operator left right) =
     and_then (expr_resolved site names left) (λ left'.
     and_then (expr_resolved site names right) (λ right'. binary_typed operator left' right'))
@@ -174,6 +187,38 @@ expr_as site names kind value = and_then (expr_resolved site names value) (λ ty
 abbrev pub initial_resolved : Site → TypedNames → ValueType → Option tree.Expr → Result (Option tree.Expr) LowerError
 initial_resolved site names kind None = Ok None
 initial_resolved site names kind (Some value) = and_then (expr_as site names kind value) (λ value'. Ok (Some value'))
+
+-- the site of rates and of lengths
+abbrev pub rate_site : List (List ℕ × ℤ) → Site
+rate_site constants = record { constants = constants; pops = false; pushes = false; prints = false; fixed = true }
+
+-- the value of a constant expression, or its fault
+abbrev pub value_given : Result ℤ Cause → Result ℤ LowerError
+value_given (Ok value) = Ok value
+value_given (Err cause) = Err (refused.ConstFault cause)
+
+-- the number of a rate or of a length, over constants alone
+abbrev pub number_resolved : List (List ℕ × ℤ) → TypedNames → tree.Expr → Result ℤ LowerError
+number_resolved constants names value =
+    and_then (expr_as (rate_site constants) names Int value) (λ value'. value_given (constant_value value'))
+
+-- a declared type: what a name of it stands for, and how it is written, with a number as its length
+pub record ResolvedType : Type 0 where
+  pub kind : ValueType
+  pub written : tree.VariableType
+
+-- an array of this length has a cell, and at most 65536
+abbrev pub array_type : ℤ → Result ResolvedType LowerError
+array_type number =
+    if int_lt number (pos 1) || int_lt (pos 65536) number
+    then Err (refused.ConstFault Index)
+    else Ok (record { kind = Array; written = tree.Array (tree.Number number) })
+
+-- a declared type, with the constants and the names that can be seen where it stands
+abbrev pub type_resolved : List (List ℕ × ℤ) → TypedNames → tree.VariableType → Result ResolvedType LowerError
+type_resolved constants names tree.Boolean = Ok (record { kind = Boolean; written = tree.Boolean })
+type_resolved constants names tree.Int = Ok (record { kind = Int; written = tree.Int })
+type_resolved constants names (tree.Array length) = and_then (number_resolved constants names length) (λ number. array_type number)
 
 -- a variable, whose name no other one of its block has
 abbrev pub variable_resolved : Site → TypedNames → (outer : ℕ) → ValueType → tree.Variable → Result tree.Variable LowerError
@@ -206,6 +251,13 @@ assign_resolved site names name operator value =
     and_then (assigned_type operator kind) (λ kind'.
     and_then (expr_as site names kind' value) (λ value'. Ok (tree.Assign name operator value'))))
 
+-- an assignment to an element
+abbrev pub element_assign_resolved : Site → TypedNames → List ℕ → (index : tree.Expr) → AssignOperator → tree.Expr → Result tree.Stmt LowerError
+element_assign_resolved site names name index operator value =
+    and_then (array_resolved site names name) (λ name'.
+    and_then (expr_as site names Int index) (λ index'.
+    and_then (expr_as site names Int value) (λ value'. Ok (tree.AssignElement name' index' operator value'))))
+
 -- a number that is given away, where that may be
 abbrev pub given_resolved : Site → TypedNames → Bool → tree.Expr → Result tree.Expr LowerError
 given_resolved site names may value = where_kept may (expr_as site names Int value)
@@ -217,13 +269,14 @@ abbrev mutual
   stmt_resolved site names outer (tree.Block body) =
       and_then (stmts_resolved site names (length names) body) (λ body'. Ok (tree.Block body'))
   stmt_resolved site names outer (tree.Declare kind variables) =
-      and_then (type_resolved kind) (λ kind'.
-      and_then (variables_resolved site names outer kind' variables) (λ variables'.
-      Ok (tree.Declare (written_type kind') variables')))
+      and_then (type_resolved site.constants names kind) (λ resolved.
+      and_then (variables_resolved site names outer resolved.kind variables) (λ variables'.
+      Ok (tree.Declare resolved.written variables')))
   stmt_resolved site names outer (tree.Evaluate value) =
       and_then (expr_resolved site names value) (λ typed. Ok (tree.Evaluate typed.value))
   stmt_resolved site names outer (tree.Assign name operator value) = assign_resolved site names name operator value
-  stmt_resolved site names outer (tree.AssignElement name index operator value) = Err refused.NotYet
+  stmt_resolved site names outer (tree.AssignElement name index operator value) =
+      element_assign_resolved site names name index operator value
   stmt_resolved site names outer (tree.If condition chosen) =
       and_then (expr_as site names Boolean condition) (λ condition'.
       and_then (stmt_resolved site names (length names) chosen) (λ chosen'. Ok (tree.If condition' chosen')))
@@ -259,16 +312,13 @@ abbrev pub carries_items : ItemType → Bool
 carries_items item.Int = true
 carries_items item.Void = false
 
--- the sites of a filter: initialisers and `init`, bodies, and rates
+-- the sites of a filter: initialisers and `init`, and bodies
 abbrev pub start_site : List (List ℕ × ℤ) → Site
 start_site constants = record { constants = constants; pops = false; pushes = false; prints = false; fixed = false }
 
 abbrev pub body_site : List (List ℕ × ℤ) → (input output : ItemType) → Site
 body_site constants input output =
     record { constants = constants; pops = carries_items input; pushes = carries_items output; prints = true; fixed = false }
-
-abbrev pub rate_site : List (List ℕ × ℤ) → Site
-rate_site constants = record { constants = constants; pops = false; pushes = false; prints = false; fixed = true }
 
 -- the side of a filter that a rate speaks of
 abbrev pub side_of : (input output : ItemType) → RateKind → ItemType
@@ -279,16 +329,6 @@ side_of input output kind.Peek = input
 -- whether a rate may be declared: above 0 only where items flow
 abbrev pub rate_fits : ItemType → ItemType → RateKind → ℤ → Bool
 rate_fits input output kind number = not (int_lt (pos 0) number && not (carries_items (side_of input output kind)))
-
--- the value of a rate, or its fault
-abbrev pub value_given : Result ℤ Cause → Result ℤ LowerError
-value_given (Ok value) = Ok value
-value_given (Err cause) = Err (refused.ConstFault cause)
-
--- the number of a rate's expression, over constants alone
-abbrev pub number_resolved : List (List ℕ × ℤ) → (fields : TypedNames) → tree.Expr → Result ℤ LowerError
-number_resolved constants fields value =
-    and_then (expr_as (rate_site constants) fields Int value) (λ value'. value_given (constant_value value'))
 
 -- a rate, on a side where it may be declared
 abbrev pub rate_resolved : List (List ℕ × ℤ) → (fields : TypedNames) → ItemType → ItemType → tree.Rate → Result tree.Rate LowerError
@@ -318,7 +358,7 @@ fields_resolved site fields before kind (first ∷ rest) =
 
 -- the names of the fields after a member
 abbrev pub fields_after : List (List ℕ) → tree.Member → List (List ℕ)
-fields_after before (tree.Fields kind variables) = plain.with_declared before variables
+fields_after before (tree.Fields kind variables) = names_with before variables
 fields_after before _ = before
 
 -- the block of a body or of `init`, among the fields
@@ -339,9 +379,9 @@ work_resolved constants input output fields work =
 -- a member, with the fields before it; it sees all fields
 abbrev pub member_resolved : (constants : List (List ℕ × ℤ)) (input output : ItemType) (fields : TypedNames) (before : List (List ℕ)) → tree.Member → Result tree.Member LowerError
 member_resolved constants input output fields before (tree.Fields kind variables) =
-    and_then (type_resolved kind) (λ kind'.
-    and_then (fields_resolved (start_site constants) fields before kind' variables) (λ variables'.
-    Ok (tree.Fields (written_type kind') variables')))
+    and_then (type_resolved constants fields kind) (λ resolved.
+    and_then (fields_resolved (start_site constants) fields before resolved.kind variables) (λ variables'.
+    Ok (tree.Fields resolved.written variables')))
 member_resolved constants input output fields before (tree.Init block) =
     and_then (body_resolved (start_site constants) fields block) (λ block'. Ok (tree.Init block'))
 member_resolved constants input output fields before (tree.Prework rates block) =

@@ -1,8 +1,9 @@
 -- Names of variables with their types.
 use Rattle.std.specs.Prelude.{ℕ, ◌-◌, Bool, true, false, List, [], ◌∷◌, length, map, take, Option, Some, None, if◌then◌else◌, bytes_eq}
 use Rattle.strc_parse.specs.Tree as tree
+use Rattle.strc_work.specs.Scoping.{Scope}
 use Rattle.strc_work.specs.declared.types.ValueType.{ValueType}
-use Rattle.strc_work.specs.declared.types.ValueType.TheVariants.{Int, Boolean}
+use Rattle.strc_work.specs.declared.types.ValueType.TheVariants.{Int, Boolean, Array}
 
 -- the names that can be seen, each with its type, the innermost first
 abbrev pub TypedNames : Type 0
@@ -11,6 +12,10 @@ TypedNames = List (List ℕ × ValueType)
 -- the names alone
 abbrev pub plain_names : TypedNames → List (List ℕ)
 plain_names names = map (λ (variable : List ℕ × ValueType). variable.0) names
+
+-- the names alone of variables with their cells
+abbrev pub sized_names : Scope → List (List ℕ)
+sized_names scope = map (λ (variable : List ℕ × ℕ). variable.0) scope
 
 -- the type of the innermost variable of a name
 abbrev pub type_named : TypedNames → List ℕ → Option ValueType
@@ -23,22 +28,27 @@ with_types [] kinds = []
 with_types (name ∷ names) [] = []
 with_types (name ∷ names) (kind ∷ kinds) = record { 0 = name; 1 = kind } ∷ with_types names kinds
 
--- whether two types are one
+-- whether two values have one type; the name of an array stands for no value
 abbrev pub same_type : ValueType → ValueType → Bool
 same_type Int Int = true
 same_type Boolean Boolean = true
 same_type _ _ = false
 
--- the type of variables; that of an array is of no account, since arrays aren't lowered yet
+-- whether a name stands for an array
+abbrev pub is_array : ValueType → Bool
+is_array Array = true
+is_array _ = false
+
+-- the type of variables
 abbrev pub type_of : tree.VariableType → ValueType
 type_of tree.Boolean = Boolean
 type_of tree.Int = Int
-type_of (tree.Array length) = Int
+type_of (tree.Array length) = Array
 
--- a type as it is written
-abbrev pub written_type : ValueType → tree.VariableType
-written_type Int = tree.Int
-written_type Boolean = tree.Boolean
+-- the names alone behind a declaration, the last one innermost
+abbrev pub names_with : List (List ℕ) → List tree.Variable → List (List ℕ)
+names_with names [] = names
+names_with names (first ∷ rest) = names_with (first.name ∷ names) rest
 
 -- the names that can be seen behind a declaration, the last one innermost
 abbrev pub with_declared : TypedNames → ValueType → List tree.Variable → TypedNames

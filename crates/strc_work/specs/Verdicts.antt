@@ -1,7 +1,7 @@
 -- How code answers a judgement: with what it gives, or with its refusal, or for want of memory.
 use Rattle.std.specs.Prelude.{◌≡◌, map, Result, Ok, Err, Vec}
 use Rattle.std.specs.declared.alloc.Global.{Global}
-use Rattle.strc_parse.specs.View.{expr_view, rate_view, block_view}
+use Rattle.strc_parse.specs.View.{expr_view, type_view, rate_view, block_view}
 use Rattle.strc_parse.specs.declared.tree.Stmt.{Stmt}
 use Rattle.strc_parse.specs.declared.tree.Variable.{Variable}
 use Rattle.strc_parse.specs.declared.tree.RateTree.{RateTree}
@@ -9,6 +9,7 @@ use Rattle.strc_parse.specs.declared.tree.WorkTree.{WorkTree}
 use Rattle.strc_work.specs.declared.lowering.LowerError.{LowerError}
 use Rattle.strc_work.specs.declared.lowering.LowerError.TheVariants as refused
 use Rattle.strc_work.specs.declared.site.Site.{Site}
+use Rattle.strc_work.specs.declared.type_rules.ResolvedType.{ResolvedType}
 use Rattle.strc_work.specs.declared.typed.Typed.{Typed}
 use Rattle.strc_work.specs.Resolution as judged
 
@@ -17,7 +18,6 @@ abbrev pub IsRefusal : {A : Type 0} → Result A LowerError → LowerError → T
 IsRefusal expected (refused.UnknownName name) = expected ≡ Err (refused.UnknownName name)
 IsRefusal expected refused.TypeMismatch = expected ≡ Err refused.TypeMismatch
 IsRefusal expected (refused.ConstFault cause) = expected ≡ Err (refused.ConstFault cause)
-IsRefusal expected refused.NotYet = expected ≡ Err refused.NotYet
 IsRefusal expected refused.NoMemory = Unit {0}
 
 -- the answer x is the judgement's, seen by a view
@@ -38,6 +38,10 @@ site_of site = record {
 -- a typed expression as the judgement sees it
 abbrev pub typed_view : Typed → judged.Typed
 typed_view typed = record { kind = typed.kind; value = expr_view typed.value }
+
+-- a declared type as the judgement sees it
+abbrev pub declared_view : ResolvedType → judged.ResolvedType
+declared_view resolved = record { kind = resolved.kind; written = type_view resolved.written }
 
 -- a body with its rates as the judgement sees it
 abbrev pub work_view : WorkTree → judged.Work

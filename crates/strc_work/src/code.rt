@@ -1,8 +1,9 @@
 // Lowered code: a filter's tree with its constants put in, and the nodes that mean it.
 
-ghost use Rattle.std.specs.Prelude.{◌≡◌, [], IfOk, length, is_some};
+ghost use Rattle.std.specs.Prelude.{◌≡◌, [], IfOk, is_some};
 ghost use Rattle.strc_parse.specs.View.{block_view};
 ghost use Rattle.strc_work.specs.Filters as filters;
+ghost use Rattle.strc_work.specs.Scoping.{total};
 ghost use Rattle.strc_work.specs.Code.{code_of};
 ghost use Rattle.strc_work.specs.Lowered.{limits_of, first_routine};
 ghost use Rattle.strc_work.specs.StartErrors.{start_error_of};
@@ -95,7 +96,7 @@ impl Code {
         prework: Option<Routine>,
         work: Routine,
     ) -> Code
-        requires fields { fields ≡ length (filters.field_names (filters.filter_of tree).members) }
+        requires fields { fields ≡ total (filters.sized_fields (filters.filter_of tree).members) }
         requires start { code_of start ≡ start_nodes (filters.filter_of tree) }
         requires prework { code_of (first_routine prework work).code ≡ body_nodes bodied.Prework (filters.filter_of tree) }
         requires work { code_of work.code ≡ body_nodes bodied.Work (filters.filter_of tree) }
@@ -161,7 +162,7 @@ impl Code {
             &self.start,
             &mut slots,
             &mut tape,
-            limits,
+            &limits,
             &nothing,
             &mut words,
         ) {
@@ -217,15 +218,16 @@ impl Code {
             &routine.code,
             &mut state.slots,
             &mut frame.tape,
-            routine.limits,
+            &routine.limits,
             window,
             words,
         )
     }
 
-    /// The filter's tree, with its constants put in.
+    /// The filter's tree, with its constants put in: each name of a variable in it is declared.
     pub fn tree(&self) -> &FilterTree
-        ensures { result.now ≡ self.now }
+        ensures tree { result.now ≡ self.now }
+        ensures known { IsClosedFilter (filters.filter_of self.now) }
     {
         &self.tree
     }

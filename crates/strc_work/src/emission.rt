@@ -1,9 +1,10 @@
 // From a resolved filter to its code.
 
-ghost use Rattle.std.specs.Prelude.{◌≡◌, [], ◌∷◌, IfOk, OnOk, map};
+ghost use Rattle.std.specs.Prelude.{◌≡◌, [], ◌∷◌, IfOk, OnOk, map, reverse};
 ghost use Rattle.std.specs.Option.{option_map};
 ghost use Rattle.strc_parse.specs.View.{expr_view, variable_view, member_view};
-ghost use Rattle.strc_work.specs.Filters.{members_of, filter_of, body_block, body_rates};
+ghost use Rattle.strc_work.specs.Filters.{members_of, filter_of, sized_fields, body_block, body_rates};
+ghost use Rattle.strc_work.specs.Scoping.{with_declared};
 ghost use Rattle.strc_work.specs.Machine.{before};
 ghost use Rattle.strc_work.specs.Code.{code_of};
 ghost use Rattle.strc_work.specs.Lowering as spec;
@@ -11,26 +12,26 @@ ghost use Rattle.strc_work.specs.Lowered as lowered;
 ghost use Rattle.strc_work.specs.Closed.{IsClosedFilter};
 ghost use Rattle.strc_work.specs.Written.{written};
 
+use crate::bodies;
 use crate::builder::Builder;
 use crate::code::{Body, Code, Routine};
 use crate::expression_code::emit_expr;
+use crate::layout::Layout;
 use crate::memory::NoMemory;
 use crate::node::Node;
-use crate::operands::slot_of;
-use crate::scope::Scope;
+use crate::operands::cells_of;
 use crate::statement_code::emit_block;
-use crate::{bodies, resolution};
 use std::alloc::Global;
 use strc_parse::tree::{FilterTree, Member, Variable};
 
 /// The code of a filter that keeps the rules.
-#[tactic(auto, using(crate::proofs::Prework::no_prework_block, crate::proofs::Prework::no_prework_rates))]
+#[tactic(auto, using(crate::proofs::Prework::no_prework_block, crate::proofs::Prework::no_prework_rates, crate::proofs::Emitted::total_reverse))]
 pub fn emit_filter(alloc: Global, tree: FilterTree) -> Result<Code, NoMemory>
     requires { IsClosedFilter (filter_of tree) }
     ensures { IfOk result (λ code. code ≡ tree) }
 {
-    let mut names = resolution::field_scope(alloc, &tree.members)?;
-    let fields = names.len() as usize;
+    let mut names = field_layout(alloc, &tree.members)?;
+    let fields = names.total() as usize;
     let start = emit_start(alloc, &mut names, &tree.members)?;
     let work = emit_routine(alloc, &mut names, Body::Work, &tree.members)?;
     if bodies::has_prework(&tree.members) {
@@ -40,9 +41,32 @@ pub fn emit_filter(alloc: Global, tree: FilterTree) -> Result<Code, NoMemory>
     Ok(Code::of_parts(tree, fields, start, None, work))
 }
 
+/// The fields with their cells.
+fn field_layout(alloc: Global, members: &[Member]) -> Result<Layout, NoMemory>
+    ensures { IfOk result (λ names. names ≡ reverse (sized_fields (members_of members.now))) }
+{
+    let mut fields = Layout::new(alloc);
+    for member in members {
+        if let Member::Fields(declared) = member {
+            declare_all(&mut fields, cells_of(&declared.kind), &declared.variables)?;
+        }
+    }
+    Ok(fields)
+}
+
+/// More variables of so many cells, the last one innermost.
+fn declare_all(names: &mut Layout, cells: u32, variables: &[Variable]) -> Result<(), NoMemory>
+    ensures { OnOk result (names.new ≡ with_declared names.old cells (map variable_view variables.now)) }
+{
+    for variable in variables {
+        names.declare(&variable.name, cells)?;
+    }
+    Ok(())
+}
+
 /// The code of a filter's start: its fields' initialisers, and then `init`.
 #[tactic(auto, using(crate::proofs::Nodes::before_assoc))]
-fn emit_start(alloc: Global, names: &mut Scope, members: &[Member]) -> Result<Node, NoMemory>
+fn emit_start(alloc: Global, names: &mut Layout, members: &[Member]) -> Result<Node, NoMemory>
     ensures code { IfOk result (λ node. code_of node
         ≡ before (spec.initials_nodes names.old (members_of members.now)) (spec.inits_nodes names.old (members_of members.now))) }
     ensures names { OnOk result (names.new ≡ names.old) }
@@ -54,7 +78,7 @@ fn emit_start(alloc: Global, names: &mut Scope, members: &[Member]) -> Result<No
 }
 
 /// The code of the fields' initialisers, in order.
-fn emit_initials(code: &mut Builder, names: &Scope, members: &[Member]) -> Result<(), NoMemory>
+fn emit_initials(code: &mut Builder, names: &Layout, members: &[Member]) -> Result<(), NoMemory>
     ensures { OnOk result (written code.new
         ≡ before (written code.old) (spec.initials_nodes names.now (members_of members.now))) }
 {
@@ -66,7 +90,7 @@ fn emit_initials(code: &mut Builder, names: &Scope, members: &[Member]) -> Resul
 
 /// The code of a member's initialisers.
 #[tactic(auto, using(crate::proofs::Nodes::before_end))]
-fn emit_initial(code: &mut Builder, names: &Scope, member: &Member) -> Result<(), NoMemory>
+fn emit_initial(code: &mut Builder, names: &Layout, member: &Member) -> Result<(), NoMemory>
     ensures { OnOk result (written code.new
         ≡ before (written code.old) (spec.initials_nodes names.now (member_view member.now ∷ []))) }
 {
@@ -77,7 +101,7 @@ fn emit_initial(code: &mut Builder, names: &Scope, member: &Member) -> Result<()
 }
 
 /// The code of fields that are declared together.
-fn emit_fields(code: &mut Builder, names: &Scope, variables: &[Variable]) -> Result<(), NoMemory>
+fn emit_fields(code: &mut Builder, names: &Layout, variables: &[Variable]) -> Result<(), NoMemory>
     ensures { OnOk result (written code.new
         ≡ before (written code.old) (spec.fields_nodes names.now (map variable_view variables.now))) }
 {
@@ -89,21 +113,21 @@ fn emit_fields(code: &mut Builder, names: &Scope, variables: &[Variable]) -> Res
 
 /// The code of a field's initialiser, where it has one.
 #[tactic(auto, using(crate::proofs::Nodes::before_end))]
-fn emit_field(code: &mut Builder, names: &Scope, variable: &Variable) -> Result<(), NoMemory>
+fn emit_field(code: &mut Builder, names: &Layout, variable: &Variable) -> Result<(), NoMemory>
     ensures { OnOk result (written code.new ≡ before (written code.old)
         (spec.field_nodes names.now variable.now.name (option_map expr_view variable.now.initial))) }
 {
     match &variable.initial {
         None => Ok(()),
         Some(value) => {
-            let into = slot_of(names, &variable.name);
-            emit_expr(code, names, value, into, names.len())
+            let into = names.slot_of(&variable.name);
+            emit_expr(code, names, value, into, names.total())
         }
     }
 }
 
 /// The code of `init`.
-fn emit_inits(code: &mut Builder, names: &mut Scope, members: &[Member]) -> Result<(), NoMemory>
+fn emit_inits(code: &mut Builder, names: &mut Layout, members: &[Member]) -> Result<(), NoMemory>
     ensures code { OnOk result (written code.new
         ≡ before (written code.old) (spec.inits_nodes names.old (members_of members.now))) }
     ensures names { OnOk result (names.new ≡ names.old) }
@@ -116,7 +140,7 @@ fn emit_inits(code: &mut Builder, names: &mut Scope, members: &[Member]) -> Resu
 
 /// The code of a member that is an `init`.
 #[tactic(auto, using(crate::proofs::Nodes::before_end))]
-fn emit_init(code: &mut Builder, names: &mut Scope, member: &Member) -> Result<(), NoMemory>
+fn emit_init(code: &mut Builder, names: &mut Layout, member: &Member) -> Result<(), NoMemory>
     ensures code { OnOk result (written code.new
         ≡ before (written code.old) (spec.inits_nodes names.old (member_view member.now ∷ []))) }
     ensures names { OnOk result (names.new ≡ names.old) }
@@ -130,7 +154,7 @@ fn emit_init(code: &mut Builder, names: &mut Scope, member: &Member) -> Result<(
 /// The code of a body, and its limits.
 fn emit_routine(
     alloc: Global,
-    names: &mut Scope,
+    names: &mut Layout,
     body: Body,
     members: &[Member],
 ) -> Result<Routine, NoMemory>

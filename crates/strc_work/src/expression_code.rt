@@ -1,7 +1,9 @@
 // The code of expressions.
 
-ghost use Rattle.std.specs.Prelude.{◌≡◌, ◌+◌, IfOk, OnOk, length};
+ghost use Rattle.std.specs.Prelude.{◌≡◌, ◌+◌, IfOk, OnOk};
+ghost use Rattle.strc_parse.specs.Tree as tree;
 ghost use Rattle.strc_parse.specs.View.{expr_view};
+ghost use Rattle.strc_work.specs.Scoping.{total, slot_of};
 ghost use Rattle.strc_work.specs.Machine.{before};
 ghost use Rattle.strc_work.specs.Lowering as spec;
 ghost use Rattle.strc_work.specs.Written.{written};
@@ -10,12 +12,12 @@ ghost use Rattle.strc_work.specs.Firing.{assigned_value};
 
 use crate::arithmetic::truth;
 use crate::builder::Builder;
+use crate::layout::{Layout, Place};
 use crate::memory::NoMemory;
 use crate::operands::{
-    after, binary_step, changes_none, compound_operator, slot_of, step_amount, unary_step,
+    after, binary_step, changes_none, compound_operator, picked, step_amount, unary_step,
     variable_slot,
 };
-use crate::scope::Scope;
 use crate::step::Step;
 use strc_lex::token::Name;
 use strc_parse::tree::{AssignOperator, BinaryOperator, Expr, StepOperator};
@@ -25,7 +27,7 @@ use strc_parse::tree::{AssignOperator, BinaryOperator, Expr, StepOperator};
 #[tactic(auto, using(crate::proofs::Nodes::before_assoc, crate::proofs::Nodes::before_end))]
 pub fn emit_expr(
     code: &mut Builder,
-    names: &Scope,
+    names: &Layout,
     value: &Expr,
     into: u32,
     free: u32,
@@ -35,7 +37,7 @@ pub fn emit_expr(
     match value {
         Expr::Number(number) => code.put(Step::Const(into, *number)),
         Expr::Truth(value) => code.put(Step::Const(into, truth(*value))),
-        Expr::Read(name) => code.put(Step::Copy(into, slot_of(names, name))),
+        Expr::Read(name) => code.put(Step::Copy(into, names.slot_of(name))),
         Expr::Pop => code.put(Step::Pop(into)),
         Expr::Peek(index) => {
             let from = emit_operand(code, names, index, true, free)?;
@@ -46,7 +48,7 @@ pub fn emit_expr(
             let from = emit_operand(code, names, operand, true, free)?;
             code.put(unary_step(*operator, into, from))
         }
-        Expr::Step(operator, name) => emit_step(code, *operator, slot_of(names, name), into, free),
+        Expr::Step(operator, name) => emit_step(code, *operator, names.slot_of(name), into, free),
         Expr::Binary(operator, left, right) => match operator {
             // The right side is evaluated only where the left one leaves the value open.
             BinaryOperator::LogicalOr => {
@@ -79,8 +81,18 @@ pub fn emit_expr(
             emit_expr(&mut second, names, other, into, free)?;
             code.put_choice(slot, first, second)
         }
-        // Resolution lets no array through.
-        Expr::Element(_, _) | Expr::StepElement(_, _, _) => Ok(()),
+        Expr::Element(name, index) => {
+            let index = emit_operand(code, names, index, true, free)?;
+            code.put(Step::Load(into, names.slot_of(name), names.size_of(name), index))
+        }
+        Expr::StepElement(operator, name, index) => {
+            let place = Place {
+                slot: names.slot_of(name),
+                cells: names.size_of(name),
+            };
+            let index = emit_operand(code, names, index, true, free)?;
+            emit_element_step(code, *operator, place, index, into, after(free)?)
+        }
     }
 }
 
@@ -90,7 +102,7 @@ pub fn emit_expr(
 #[tactic(auto, using(crate::proofs::Nodes::before_end))]
 pub fn emit_operand(
     code: &mut Builder,
-    names: &Scope,
+    names: &Layout,
     value: &Expr,
     stays: bool,
     free: u32,
@@ -132,10 +144,30 @@ fn emit_step(
     }
 }
 
+/// The code of `a[i]++` and its like, where the index stands in a slot.
+#[tactic(auto, using(crate::proofs::Nodes::before_assoc))]
+fn emit_element_step(
+    code: &mut Builder,
+    operator: StepOperator,
+    place: Place,
+    index: u32,
+    into: u32,
+    free: u32,
+) -> Result<(), NoMemory>
+    ensures { OnOk result (written code.new ≡ before (written code.old)
+        (spec.element_step_nodes operator place.slot place.cells index into free)) }
+{
+    let new = after(free)?;
+    code.put(Step::Load(free, place.slot, place.cells, index))?;
+    code.put(Step::AddConst(new, free, step_amount(operator)))?;
+    code.put(Step::Store(place.slot, place.cells, index, new))?;
+    code.put(Step::Copy(into, picked(operator, free, new)))
+}
+
 /// The code of an expression whose value isn't used.
 pub fn emit_evaluation(
     code: &mut Builder,
-    names: &Scope,
+    names: &Layout,
     value: &Expr,
     free: u32,
 ) -> Result<(), NoMemory>
@@ -143,7 +175,7 @@ pub fn emit_evaluation(
 {
     match value {
         Expr::Step(operator, name) => {
-            let slot = slot_of(names, name);
+            let slot = names.slot_of(name);
             code.put(Step::AddConst(slot, slot, step_amount(*operator)))
         }
         _ => emit_expr(code, names, value, free, after(free)?),
@@ -154,18 +186,18 @@ pub fn emit_evaluation(
 #[tactic(auto, using(crate::proofs::Nodes::before_assoc))]
 pub fn emit_assign(
     code: &mut Builder,
-    names: &Scope,
+    names: &Layout,
     name: &Name,
     operator: AssignOperator,
     value: &Expr,
 ) -> Result<(), NoMemory>
     ensures { OnOk result (written code.new ≡ before (written code.old) (spec.expr_nodes names.now
         (assigned_value name.now operator (expr_view value.now))
-        (spec.slot_of names.now name.now)
-        (length names.now))) }
+        (slot_of names.now name.now)
+        (total names.now))) }
 {
-    let free = names.len();
-    let into = slot_of(names, name);
+    let free = names.total();
+    let into = names.slot_of(name);
     match compound_operator(operator) {
         None => emit_expr(code, names, value, into, free),
         Some(operator) => {
@@ -188,4 +220,67 @@ fn emit_old(code: &mut Builder, slot: u32, stays: bool, free: u32) -> Result<u32
     }
     code.put(Step::Copy(free, slot))?;
     Ok(free)
+}
+
+/// The code of an assignment to an element: the index, and then what the operator says.
+#[tactic(auto, using(crate::proofs::Nodes::before_assoc))]
+pub fn emit_assign_element(
+    code: &mut Builder,
+    names: &Layout,
+    name: &Name,
+    index: &Expr,
+    operator: AssignOperator,
+    value: &Expr,
+) -> Result<(), NoMemory>
+    ensures { OnOk result (written code.new ≡ before (written code.old)
+        (spec.stmt_nodes names.now (tree.AssignElement name.now (expr_view index.now) operator (expr_view value.now)))) }
+{
+    let free = names.total();
+    let index = emit_operand(code, names, index, changes_none(value), free)?;
+    emit_element(code, names, name, index, operator, value, after(free)?)
+}
+
+/// The code of an assignment to the element at an index that stands in a slot.
+#[tactic(auto, using(crate::proofs::Nodes::before_assoc, crate::proofs::Emitted::element_set_nodes, crate::proofs::Emitted::element_compound_nodes))]
+fn emit_element(
+    code: &mut Builder,
+    names: &Layout,
+    name: &Name,
+    index: u32,
+    operator: AssignOperator,
+    value: &Expr,
+    free: u32,
+) -> Result<(), NoMemory>
+    ensures { OnOk result (written code.new ≡ before (written code.old)
+        (spec.element_nodes names.now name.now index operator (expr_view value.now) free)) }
+{
+    match compound_operator(operator) {
+        None => {
+            let from = emit_operand(code, names, value, true, free)?;
+            code.put(Step::Store(names.slot_of(name), names.size_of(name), index, from))
+        }
+        Some(operator) => emit_compound(code, names, name, index, operator, value, free),
+    }
+}
+
+/// The code of a compound assignment to an element: its old value, the value, the operator, and the store.
+#[tactic(auto, using(crate::proofs::Nodes::before_assoc))]
+fn emit_compound(
+    code: &mut Builder,
+    names: &Layout,
+    name: &Name,
+    index: u32,
+    operator: BinaryOperator,
+    value: &Expr,
+    free: u32,
+) -> Result<(), NoMemory>
+    ensures { OnOk result (written code.new ≡ before (written code.old)
+        (spec.compound_nodes names.now name.now index operator (expr_view value.now) free)) }
+{
+    let slot = names.slot_of(name);
+    let cells = names.size_of(name);
+    code.put(Step::Load(free, slot, cells, index))?;
+    let right = emit_operand(code, names, value, true, after(free)?)?;
+    code.put(binary_step(operator, free, free, right))?;
+    code.put(Step::Store(slot, cells, index, free))
 }

@@ -10,7 +10,7 @@ use crate::lowering::LowerError;
 use crate::site::Site;
 use crate::typed::{self, Typed};
 use crate::typed_scope::TypedScope;
-use crate::types::ValueType;
+use crate::types::{self, ValueType};
 use crate::writes;
 use std::alloc::Global;
 use strc_lex::token::Name;
@@ -34,6 +34,11 @@ pub fn resolve_expr(
             value: Expr::Truth(*truth),
         }),
         Expr::Read(name) => resolve_name(site, names, name),
+        Expr::Element(name, index) => {
+            let name = writes::resolve_array(site, names, name)?;
+            let index = resolve_expr(alloc, site, names, index)?;
+            typed::element(alloc, name, index)
+        }
         Expr::Pop => {
             if !site.pops {
                 return Err(LowerError::TypeMismatch);
@@ -56,6 +61,11 @@ pub fn resolve_expr(
             let name = writes::resolve_stepped(site, names, name)?;
             Ok(typed::number(Expr::Step(*operator, name)))
         }
+        Expr::StepElement(operator, name, index) => {
+            let name = writes::resolve_array(site, names, name)?;
+            let index = resolve_expr(alloc, site, names, index)?;
+            typed::step_element(alloc, *operator, name, index)
+        }
         Expr::Binary(operator, left, right) => {
             let left = resolve_expr(alloc, site, names, left)?;
             let right = resolve_expr(alloc, site, names, right)?;
@@ -67,7 +77,6 @@ pub fn resolve_expr(
             let other = resolve_expr(alloc, site, names, other)?;
             typed::conditional(alloc, condition, chosen, other)
         }
-        Expr::Element(_, _) | Expr::StepElement(_, _, _) => Err(LowerError::NotYet),
     }
 }
 
@@ -108,12 +117,15 @@ pub fn resolve_initial(
     }
 }
 
-/// A name that is read: its innermost variable, or else a constant, whose value is put in.
+/// A name that is read: its innermost variable, which is no array, or else a constant, whose value is put in.
 fn resolve_name(site: &Site, names: &TypedScope, name: &Name) -> Result<Typed, LowerError>
     ensures { IsVerdict typed_view (judged.name_resolved (site_of site.now) names.now name.now) result }
 {
     if let Some(kind) = names.type_of(name) {
         if site.fixed {
+            return Err(LowerError::TypeMismatch);
+        }
+        if types::is_array(kind) {
             return Err(LowerError::TypeMismatch);
         }
         let name = name.copy()?;

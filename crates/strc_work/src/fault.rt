@@ -39,3 +39,31 @@ pub enum Halt {
     /// There was no room for a printed word.
     NoMemory,
 }
+
+/// Why lowered code stopped. In this form it takes one byte, so that a result with it comes back in registers.
+#[derive(Clone, Copy, Debug, PartialEq, Eq)]
+pub(crate) enum Stop {
+    DivZero,
+    Index,
+    PeekRange,
+    Turns,
+    NoMemory,
+}
+
+impl Stop {
+    ghost use Rattle.std.specs.Prelude.{◌≡◌};
+    ghost use Rattle.strc_work.specs.Running.{halt_of};
+
+    /// What it means for the firing.
+    pub(crate) fn halt(self) -> Halt
+        ensures { result ≡ halt_of self }
+    {
+        match self {
+            Stop::DivZero => Halt::Fault(Cause::DivZero),
+            Stop::Index => Halt::Fault(Cause::Index),
+            Stop::PeekRange => Halt::Fault(Cause::PeekRange),
+            Stop::Turns => Halt::Fault(Cause::Turns),
+            Stop::NoMemory => Halt::NoMemory,
+        }
+    }
+}

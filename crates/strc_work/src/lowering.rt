@@ -20,10 +20,8 @@ pub enum LowerError {
     UnknownName { name: Name },
     /// A type, kind or part isn't the one that must stand there.
     TypeMismatch,
-    /// A number that must be known faults when it is computed.
+    /// A number that must be known faults when it is computed, or can't be the length of an array.
     ConstFault { cause: Cause },
-    /// A form of the language that isn't lowered yet.
-    NotYet,
     /// Memory was refused.
     NoMemory,
 }

@@ -1,21 +1,31 @@
 // Small parts of lowering: slots, operators, and what expressions change.
 
 ghost use Rattle.std.specs.Prelude.{◌≡◌, ◌+◌, IfOk};
-ghost use Rattle.strc_parse.specs.View.{expr_view};
+ghost use Rattle.strc_parse.specs.View.{expr_view, type_view};
+ghost use Rattle.strc_work.specs.Scoping as scoping;
+ghost use Rattle.strc_work.specs.Machine.{End};
+ghost use Rattle.strc_work.specs.Code.{spelled};
 ghost use Rattle.strc_work.specs.Lowering as spec;
 ghost use Rattle.strc_work.specs.Emission.{compound_of};
 
+use crate::layout::Layout;
 use crate::memory::NoMemory;
-use crate::scope::Scope;
 use crate::step::Step;
-use strc_lex::token::Name;
-use strc_parse::tree::{AssignOperator, BinaryOperator, Expr, StepOperator, UnaryOperator};
+use strc_parse::tree::{
+    AssignOperator, BinaryOperator, Expr, StepOperator, UnaryOperator, VariableType,
+};
 
-/// The slot of a name that is declared.
-pub fn slot_of(names: &Scope, name: &Name) -> u32
-    ensures { result ≡ spec.slot_of names.now name.now }
+/// How many cells a variable of a type has. The length of an array is a number: constants are put in.
+pub fn cells_of(kind: &VariableType) -> u32
+    ensures { result ≡ scoping.cells_of (type_view kind.now) }
 {
-    names.slot_of(name).unwrap_or(0)
+    match kind {
+        VariableType::Boolean | VariableType::Int => 1,
+        VariableType::Array(length) => match length {
+            Expr::Number(length) if *length >= 0 => *length as u32,
+            _ => 0,
+        },
+    }
 }
 
 /// The slot behind a slot.
@@ -26,11 +36,11 @@ pub fn after(slot: u32) -> Result<u32, NoMemory>
 }
 
 /// The slot of an expression that is a variable, in brackets or not.
-pub fn variable_slot(names: &Scope, value: &Expr) -> Option<u32>
+pub fn variable_slot(names: &Layout, value: &Expr) -> Option<u32>
     ensures { result ≡ spec.variable_slot names.now (expr_view value.now) }
 {
     match value {
-        Expr::Read(name) => Some(slot_of(names, name)),
+        Expr::Read(name) => Some(names.slot_of(name)),
         Expr::Group(inner) => variable_slot(names, inner),
         Expr::Number(_)
         | Expr::Truth(_)
@@ -86,9 +96,32 @@ pub fn step_amount(operator: StepOperator) -> i32
     }
 }
 
+/// The step that puts 0 into so many slots.
+pub fn zeros_step(into: u32, cells: u32) -> Step
+    ensures step { result ≡ spec.zeros_step into cells }
+    ensures alone { spelled result End ≡ spec.one result }
+{
+    if cells == 1 {
+        Step::Const(into, 0)
+    } else {
+        Step::Clear(into, cells)
+    }
+}
+
+/// Which value a step has: the new one, or the old one.
+pub fn picked(operator: StepOperator, old: u32, new: u32) -> u32
+    ensures { result ≡ spec.picked operator old new }
+{
+    match operator {
+        StepOperator::IncrementFirst | StepOperator::DecrementFirst => new,
+        StepOperator::IncrementAfter | StepOperator::DecrementAfter => old,
+    }
+}
+
 /// The step of an operator before its operand.
 pub fn unary_step(operator: UnaryOperator, into: u32, from: u32) -> Step
-    ensures { result ≡ spec.unary_step operator into from }
+    ensures step { result ≡ spec.unary_step operator into from }
+    ensures alone { spelled result End ≡ spec.one result }
 {
     match operator {
         UnaryOperator::Negate => Step::Negate(into, from),
@@ -99,7 +132,8 @@ pub fn unary_step(operator: UnaryOperator, into: u32, from: u32) -> Step
 
 /// The step of an operator between its operands, where both are evaluated first.
 pub fn binary_step(operator: BinaryOperator, into: u32, left: u32, right: u32) -> Step
-    ensures { result ≡ spec.binary_step operator into left right }
+    ensures step { result ≡ spec.binary_step operator into left right }
+    ensures alone { spelled result End ≡ spec.one result }
 {
     match operator {
         BinaryOperator::LogicalOr | BinaryOperator::Or => Step::Or(into, left, right),

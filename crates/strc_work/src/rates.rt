@@ -56,19 +56,19 @@ fn resolve_rate(
     })
 }
 
-/// The number of a rate's expression, over constants alone.
-fn resolve_number(
+/// The number of a rate or of a length, over constants alone.
+pub fn resolve_number(
     alloc: Global,
     constants: &Constants,
-    fields: &TypedScope,
+    names: &TypedScope,
     value: &Expr,
 ) -> Result<i32, LowerError>
     ensures { IsVerdict (λ (number : ℤ). number)
-        (judged.number_resolved constants.now fields.now (expr_view value.now))
+        (judged.number_resolved constants.now names.now (expr_view value.now))
         result }
 {
     let site = site::rate_site(constants);
-    let value = expression_rules::resolve_as(alloc, &site, fields, ValueType::Int, value)?;
+    let value = expression_rules::resolve_as(alloc, &site, names, ValueType::Int, value)?;
     match evaluation::constant_value(&value) {
         Ok(number) => Ok(number),
         Err(cause) => Err(LowerError::ConstFault { cause }),

@@ -1,9 +1,8 @@
 // The rules on names and types of filters. A tree that keeps them is copied with its constants put in.
 
-ghost use Rattle.std.specs.Prelude.{◌≡◌, IfOk, OnOk, [], ◌∷◌, map, reverse};
+ghost use Rattle.std.specs.Prelude.{◌≡◌, IfOk, OnOk, [], ◌∷◌, map};
 ghost use Rattle.strc_parse.specs.View.{variable_view, member_view};
-ghost use Rattle.strc_work.specs.Filters.{filter_of, members_of, field_names};
-ghost use Rattle.strc_work.specs.Scoping as scoping;
+ghost use Rattle.strc_work.specs.Filters.{filter_of, members_of};
 ghost use Rattle.strc_work.specs.Typing as typing;
 ghost use Rattle.strc_work.specs.Resolution as judged;
 ghost use Rattle.strc_work.specs.Verdicts.{IsVerdict, site_of, work_view, VariableList};
@@ -15,7 +14,7 @@ use crate::scope::Scope;
 use crate::site::{self, Site};
 use crate::typed_scope::TypedScope;
 use crate::types::{self, ValueType};
-use crate::{expression_rules, parts, rates, statement_rules};
+use crate::{expression_rules, parts, rates, statement_rules, type_rules};
 use std::alloc::Global;
 use strc_parse::tree::{FilterTree, Member, Variable, Variables, WorkTree};
 
@@ -42,29 +41,6 @@ pub fn resolve_filter(
         output: tree.output,
         members: resolved,
     })
-}
-
-/// The names of the fields.
-pub fn field_scope(alloc: Global, members: &[Member]) -> Result<Scope, NoMemory>
-    ensures { IfOk result (λ names. names ≡ reverse (field_names (members_of members.now))) }
-{
-    let mut fields = Scope::new(alloc);
-    for member in members {
-        if let Member::Fields(declared) = member {
-            declare_all(&mut fields, &declared.variables)?;
-        }
-    }
-    Ok(fields)
-}
-
-/// More names, the last one innermost.
-fn declare_all(names: &mut Scope, variables: &[Variable]) -> Result<(), NoMemory>
-    ensures { OnOk result (names.new ≡ scoping.with_declared names.old (map variable_view variables.now)) }
-{
-    for variable in variables {
-        names.declare(&variable.name)?;
-    }
-    Ok(())
 }
 
 /// The fields with their types.
@@ -116,17 +92,19 @@ fn resolve_member(
     match member {
         Member::Fields(declared) => {
             let site = site::start_site(constants);
-            let kind = types::resolve_type(&declared.kind)?;
+            let resolved = type_rules::resolve_type(alloc, constants, fields, &declared.kind)?;
             let variables = resolve_fields(
                 alloc,
                 &site,
                 fields,
                 before,
-                kind,
+                resolved.kind,
                 &declared.variables,
             )?;
-            let kind = types::written_type(kind);
-            Ok(Member::Fields(Variables { kind, variables }))
+            Ok(Member::Fields(Variables {
+                kind: resolved.written,
+                variables,
+            }))
         }
         Member::Init(block) => {
             let site = site::start_site(constants);
@@ -157,7 +135,7 @@ fn resolve_fields(
         (judged.fields_resolved (site_of site.now) fields.now before.old kind (map variable_view variables.now))
         result }
     ensures before { OnOk result
-        (before.new ≡ scoping.with_declared before.old (map variable_view variables.now)) }
+        (before.new ≡ typing.names_with before.old (map variable_view variables.now)) }
 {
     let mut resolved = Vec::new(alloc);
     for variable in variables {

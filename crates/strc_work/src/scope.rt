@@ -9,19 +9,19 @@ use std::collections::HashMap;
 use std::marker::Model;
 use strc_lex::token::Name;
 
-/// A name, and the slot of the variable of this name that it hides.
+/// A name, and the number of the variable of this name that it hides.
 #[derive(Debug, Drop)]
 struct Declared {
     name: Vec<u8>,
     hides: Option<u32>,
 }
 
-/// Names in the order in which they were declared. A name's slot is its place. Contracts see the list of the names,
+/// Names in the order in which they were declared, numbered from 0. Contracts see the list of the names,
 /// the innermost first. A look-up takes expected constant time.
 #[derive(Debug, Drop)]
 pub struct Scope {
     declared: Vec<Declared>,
-    /// The slot of the innermost variable of each name.
+    /// The number of the innermost variable of each name.
     innermost: HashMap<Vec<u8>, u32>,
 }
 
@@ -40,8 +40,7 @@ impl Model for Scope {
 
 #[tactic(auto, unfolding(crate::specs::Scopes::names_of, crate::specs::Scopes::IsScope))]
 impl Scope {
-    ghost use Rattle.strc_work.specs.Names.{has_name};
-    ghost use Rattle.strc_work.specs.Lowering.{slot_named};
+    ghost use Rattle.strc_work.specs.Names.{has_name, number_named};
 
     /// No names. It takes no memory.
     pub fn new(alloc: Global) -> Scope
@@ -60,9 +59,9 @@ impl Scope {
         self.declared.len() as u32
     }
 
-    /// The slot of the innermost variable of this name.
-    pub fn slot_of(&self, name: &Name) -> Option<u32>
-        ensures { result ≡ slot_named self.now name.now }
+    /// The number of the innermost variable of this name.
+    pub fn number_of(&self, name: &Name) -> Option<u32>
+        ensures { result ≡ number_named self.now name.now }
     {
         self.innermost.get(name.as_bytes()).copied()
     }
@@ -78,7 +77,7 @@ impl Scope {
     pub fn has_since(&self, start: u32, name: &Name) -> bool
         ensures { result ≡ has_name (take (length self.now - start) self.now) name.now }
     {
-        match self.slot_of(name) {
+        match self.number_of(name) {
             Some(slot) => slot >= start,
             None => false,
         }

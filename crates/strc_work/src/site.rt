@@ -44,7 +44,7 @@ pub fn body_site(constants: &Constants, input: ItemType, output: ItemType) -> Si
     }
 }
 
-/// The site of rates.
+/// The site of rates and of lengths.
 pub fn rate_site(constants: &Constants) -> Site
     ensures { site_of result ≡ judged.rate_site constants.now }
 {

@@ -1,23 +1,25 @@
 // The code of statements.
 
-ghost use Rattle.std.specs.Prelude.{◌≡◌, ◌+◌, ◌∷◌, IfOk, OnOk, length, map};
+ghost use Rattle.std.specs.Prelude.{◌≡◌, ◌+◌, ◌∷◌, IfOk, OnOk, map};
 ghost use Rattle.std.specs.Option.{option_map};
 ghost use Rattle.strc_parse.specs.View.{expr_view, variable_view, stmt_view, block_view};
 ghost use Rattle.strc_work.specs.Machine.{before};
 ghost use Rattle.strc_work.specs.Lowering as spec;
-ghost use Rattle.strc_work.specs.Scoping.{names_after, with_declared};
+ghost use Rattle.strc_work.specs.Scoping.{names_after, total, with_declared};
 ghost use Rattle.strc_work.specs.Written.{written};
 
 use crate::builder::Builder;
-use crate::expression_code::{emit_assign, emit_evaluation, emit_expr, emit_operand};
+use crate::expression_code::{
+    emit_assign, emit_assign_element, emit_evaluation, emit_expr, emit_operand,
+};
+use crate::layout::Layout;
 use crate::memory::NoMemory;
-use crate::operands::after;
-use crate::scope::Scope;
+use crate::operands::{cells_of, zeros_step};
 use crate::step::Step;
 use strc_parse::tree::{Expr, Stmt, Variable};
 
 /// The code of a block of its own.
-pub fn emit_block(code: &mut Builder, names: &mut Scope, block: &[Stmt]) -> Result<(), NoMemory>
+pub fn emit_block(code: &mut Builder, names: &mut Layout, block: &[Stmt]) -> Result<(), NoMemory>
     ensures code { OnOk result (written code.new
         ≡ before (written code.old) (spec.stmts_nodes names.old (block_view block.now))) }
     ensures names { OnOk result (names.new ≡ names.old) }
@@ -33,26 +35,30 @@ pub fn emit_block(code: &mut Builder, names: &mut Scope, block: &[Stmt]) -> Resu
 /// The code of a statement.
 #[cycle(statement)]
 #[tactic(auto, using(crate::proofs::Nodes::before_assoc, crate::proofs::Nodes::before_end, crate::proofs::Emitted::left_after))]
-fn emit_stmt(code: &mut Builder, names: &mut Scope, statement: &Stmt) -> Result<(), NoMemory>
+fn emit_stmt(code: &mut Builder, names: &mut Layout, statement: &Stmt) -> Result<(), NoMemory>
     ensures code { OnOk result (written code.new
         ≡ before (written code.old) (spec.stmt_nodes names.old (stmt_view statement.now))) }
     ensures names { OnOk result (names.new ≡ names_after names.old (stmt_view statement.now)) }
 {
-    let free = names.len();
+    let start = names.len();
+    let free = names.total();
     match statement {
         Stmt::Empty => Ok(()),
         Stmt::Block(body) => {
             for inner in body {
                 emit_stmt(code, names, inner)?;
             }
-            names.leave(free);
+            names.leave(start);
             Ok(())
         }
-        Stmt::Declare(declared) => emit_variables(code, names, &declared.variables),
+        Stmt::Declare(declared) => {
+            emit_variables(code, names, cells_of(&declared.kind), &declared.variables)
+        }
         Stmt::Evaluate(value) => emit_evaluation(code, names, value, free),
         Stmt::Assign(name, operator, value) => emit_assign(code, names, name, *operator, value),
-        // Resolution lets no array through.
-        Stmt::AssignElement(_, _, _, _) => Ok(()),
+        Stmt::AssignElement(name, index, operator, value) => {
+            emit_assign_element(code, names, name, index, *operator, value)
+        }
         Stmt::If(condition, chosen) => {
             let slot = emit_operand(code, names, condition, true, free)?;
             let mut first = code.fresh();
@@ -82,7 +88,7 @@ fn emit_stmt(code: &mut Builder, names: &mut Scope, statement: &Stmt) -> Result<
             let mut turn = code.fresh();
             emit_inside(&mut turn, names, body)?;
             emit_inside(&mut turn, names, step)?;
-            names.leave(free);
+            names.leave(start);
             code.put_loop(test, slot, turn)
         }
         Stmt::Push(value) => {
@@ -103,7 +109,7 @@ fn emit_stmt(code: &mut Builder, names: &mut Scope, statement: &Stmt) -> Result<
 /// The code of a statement in a scope of its own.
 #[cycle(statement)]
 #[tactic(auto, using(crate::proofs::Emitted::left_after))]
-fn emit_inside(code: &mut Builder, names: &mut Scope, statement: &Stmt) -> Result<(), NoMemory>
+fn emit_inside(code: &mut Builder, names: &mut Layout, statement: &Stmt) -> Result<(), NoMemory>
     ensures code { OnOk result (written code.new
         ≡ before (written code.old) (spec.stmt_nodes names.old (stmt_view statement.now))) }
     ensures names { OnOk result (names.new ≡ names.old) }
@@ -117,7 +123,7 @@ fn emit_inside(code: &mut Builder, names: &mut Scope, statement: &Stmt) -> Resul
 /// The code of a loop's condition, and the slot that is tested.
 fn emit_condition(
     code: &mut Builder,
-    names: &Scope,
+    names: &Layout,
     condition: &Option<Expr>,
 ) -> Result<u32, NoMemory>
     ensures { IfOk result
@@ -125,7 +131,7 @@ fn emit_condition(
         × (written code.new ≡ before (written code.old)
         (spec.condition_nodes names.now (option_map expr_view condition.now)))) }
 {
-    let free = names.len();
+    let free = names.total();
     match condition {
         // A loop without a condition goes on.
         None => {
@@ -140,29 +146,38 @@ fn emit_condition(
 #[tactic(auto, using(crate::proofs::Nodes::before_assoc, crate::proofs::Nodes::before_end))]
 fn emit_variables(
     code: &mut Builder,
-    names: &mut Scope,
+    names: &mut Layout,
+    cells: u32,
     variables: &[Variable],
 ) -> Result<(), NoMemory>
     ensures code { OnOk result (written code.new
-        ≡ before (written code.old) (spec.variables_nodes names.old (map variable_view variables.now))) }
-    ensures names { OnOk result (names.new ≡ with_declared names.old (map variable_view variables.now)) }
+        ≡ before (written code.old) (spec.variables_nodes names.old cells (map variable_view variables.now))) }
+    ensures names { OnOk result (names.new ≡ with_declared names.old cells (map variable_view variables.now)) }
 {
     for variable in variables {
-        emit_variable(code, names, variable)?;
+        emit_variable(code, names, cells, variable)?;
     }
     Ok(())
 }
 
 /// The code of a variable's declaration.
-fn emit_variable(code: &mut Builder, names: &mut Scope, variable: &Variable) -> Result<(), NoMemory>
-    ensures code { OnOk result (written code.new ≡ before (written code.old) (spec.initial_nodes names.old
-        (option_map expr_view variable.now.initial) (length names.old) (length names.old + 1))) }
-    ensures names { OnOk result (names.new ≡ variable.now.name ∷ names.old) }
+fn emit_variable(
+    code: &mut Builder,
+    names: &mut Layout,
+    cells: u32,
+    variable: &Variable,
+) -> Result<(), NoMemory>
+    ensures code { OnOk result (written code.new ≡ before (written code.old) (spec.initial_nodes names.old cells
+        (option_map expr_view variable.now.initial) (total names.old) (total names.old + cells))) }
+    ensures names { OnOk result (names.new ≡ record { 0 = variable.now.name; 1 = cells } ∷ names.old) }
 {
-    let into = names.len();
+    let into = names.total();
     match &variable.initial {
-        None => code.put(Step::Const(into, 0))?,
-        Some(value) => emit_expr(code, names, value, into, after(into)?)?,
+        None => code.put(zeros_step(into, cells))?,
+        Some(value) => {
+            let free = into.checked_add(cells).ok_or(NoMemory)?;
+            emit_expr(code, names, value, into, free)?;
+        }
     }
-    names.declare(&variable.name)
+    names.declare(&variable.name, cells)
 }

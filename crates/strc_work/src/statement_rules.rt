@@ -13,7 +13,7 @@ use crate::lowering::LowerError;
 use crate::site::Site;
 use crate::typed_scope::TypedScope;
 use crate::types::{self, ValueType};
-use crate::{expression_rules, writes};
+use crate::{expression_rules, type_rules, writes};
 use std::alloc::Global;
 use strc_lex::token::Name;
 use strc_parse::tree::{AssignOperator, Expr, Stmt, Variable, Variables};
@@ -72,6 +72,9 @@ fn resolve_stmt(
         Stmt::Assign(name, operator, value) => {
             resolve_assigned(alloc, site, names, name, *operator, value)
         }
+        Stmt::AssignElement(name, index, operator, value) => {
+            resolve_element(alloc, site, names, name, index, *operator, value)
+        }
         Stmt::If(condition, chosen) => {
             let condition = resolve_condition(alloc, site, names, condition)?;
             let outside = names.len();
@@ -121,7 +124,6 @@ fn resolve_stmt(
         Stmt::Println(value) => {
             Ok(Stmt::Println(resolve_given(alloc, site, names, site.prints, value)?))
         }
-        Stmt::AssignElement(_, _, _, _) => Err(LowerError::NotYet),
     }
 }
 
@@ -177,6 +179,27 @@ fn resolve_assigned(
     Ok(Stmt::Assign(name, operator, value))
 }
 
+/// An assignment to an element of an array.
+fn resolve_element(
+    alloc: Global,
+    site: &Site,
+    names: &TypedScope,
+    name: &Name,
+    index: &Expr,
+    operator: AssignOperator,
+    value: &Expr,
+) -> Result<Stmt, LowerError>
+    ensures { IsVerdict stmt_view
+        (judged.element_assign_resolved (site_of site.now) names.now name.now (expr_view index.now) operator
+        (expr_view value.now))
+        result }
+{
+    let name = writes::resolve_array(site, names, name)?;
+    let index = expression_rules::resolve_as(alloc, site, names, ValueType::Int, index)?;
+    let value = expression_rules::resolve_as(alloc, site, names, ValueType::Int, value)?;
+    Ok(Stmt::AssignElement(name, index, operator, value))
+}
+
 /// The type of what is assigned to a variable of this type.
 fn assigned_type(operator: AssignOperator, kind: ValueType) -> Result<ValueType, LowerError>
     ensures { IsVerdict (λ (kind : Kind). kind) (judged.assigned_type operator kind) result }
@@ -210,10 +233,11 @@ fn resolve_declared(
     ensures names { OnOk result
         (names.new ≡ typing.names_after names.old (stmt_view (stmt.Declare declared.now))) }
 {
-    let kind = types::resolve_type(&declared.kind)?;
+    let resolved = type_rules::resolve_type(alloc, site.constants, names, &declared.kind)?;
+    let kind = resolved.kind;
     let variables = resolve_variables(alloc, site, names, start, kind, &declared.variables)?;
     Ok(Stmt::Declare(Variables {
-        kind: types::written_type(kind),
+        kind: resolved.written,
         variables,
     }))
 }

@@ -9,7 +9,8 @@ ghost use Rattle.strc_work.specs.Verdicts.{IsVerdict, typed_view};
 use crate::lowering::LowerError;
 use crate::types::{self, ValueType};
 use std::alloc::Global;
-use strc_parse::tree::{BinaryOperator, Expr, UnaryOperator};
+use strc_lex::token::Name;
+use strc_parse::tree::{BinaryOperator, Expr, StepOperator, UnaryOperator};
 
 /// An expression with its constants put in, and the type of its value.
 #[derive(Drop)]
@@ -59,6 +60,33 @@ pub fn peek(alloc: Global, pops: bool, index: Typed) -> Result<Typed, LowerError
     Ok(Typed {
         kind: ValueType::Int,
         value: Expr::Peek(Box::new(alloc, index)?),
+    })
+}
+
+/// An element of an array.
+pub fn element(alloc: Global, name: Name, index: Typed) -> Result<Typed, LowerError>
+    ensures { IsVerdict typed_view (judged.element_typed name (typed_view index)) result }
+{
+    let index = typed_as(ValueType::Int, index)?;
+    Ok(Typed {
+        kind: ValueType::Int,
+        value: Expr::Element(name, Box::new(alloc, index)?),
+    })
+}
+
+/// A step of an element.
+pub fn step_element(
+    alloc: Global,
+    operator: StepOperator,
+    name: Name,
+    index: Typed,
+) -> Result<Typed, LowerError>
+    ensures { IsVerdict typed_view (judged.step_element_typed operator name (typed_view index)) result }
+{
+    let index = typed_as(ValueType::Int, index)?;
+    Ok(Typed {
+        kind: ValueType::Int,
+        value: Expr::StepElement(operator, name, Box::new(alloc, index)?),
     })
 }
 

@@ -56,7 +56,7 @@ impl TypedScope {
     pub fn type_of(&self, name: &Name) -> Option<ValueType>
         ensures { result ≡ type_named self.now name.now }
     {
-        match self.names.slot_of(name) {
+        match self.names.number_of(name) {
             Some(slot) => Some(self.kinds[slot as usize]),
             None => None,
         }

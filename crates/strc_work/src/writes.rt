@@ -48,3 +48,20 @@ pub fn resolve_stepped(site: &Site, names: &TypedScope, name: &Name) -> Result<N
     let name = name.copy()?;
     Ok(name)
 }
+
+/// The name of an array, of which an element is read or written.
+pub fn resolve_array(site: &Site, names: &TypedScope, name: &Name) -> Result<Name, LowerError>
+    ensures { IsVerdict (λ (name : List ℕ). name)
+        (judged.array_resolved (site_of site.now) names.now name.now)
+        result }
+{
+    if site.fixed {
+        return Err(LowerError::TypeMismatch);
+    }
+    let kind = resolve_written(site, names, name)?;
+    if !types::is_array(kind) {
+        return Err(LowerError::TypeMismatch);
+    }
+    let name = name.copy()?;
+    Ok(name)
+}

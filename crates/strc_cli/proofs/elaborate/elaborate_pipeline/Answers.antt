@@ -23,6 +23,6 @@ loop-child-preserved c =
     let known = c.declared-found.ensures ∙ ap (declared_from 0 program) c.as_bytes.ensures in
     record {
       all = pipeline_step program c.args.top names c.loop-child.child-index name items c.push.new.self.items next c.loop-child.given c.tree.result.now.output (children_of program c.args.top 0 Void names)
-          (subst (λ (xs : List (List ℕ)). i < length xs) same c.loop-child-test.true) (subst (λ (xs : List (List ℕ)). name ≡ get_or xs i name) same c.child-item.is) (ap (λ (o : Option (ℕ × tree.Stream)). next_among o c.args.top (length items) c.loop-child.given name) (sym known) ∙ ap (λ (n : ℕ). next_among (option_map (λ f. (f.0, stream_view f.1.now)) c.declared-found.result) c.args.top n c.loop-child.given name) (sym (c.len.ensures ∙ long)) ∙ c.in-Ok.ensures.verdict) c.in_ok-push-in-Ok.ensures.items (ap (λ (t : FilterTree). t.output) c.tree.ensures) c.loop-child.invariant.all;
+          (subst (λ (xs : List (List ℕ)). i < length xs) same c.loop-child-test.true) (subst (λ (xs : List (List ℕ)). name ≡ get_or xs i name) same c.child-item.is) (ap (λ (o : Option (ℕ × tree.Stream)). next_among o c.args.top (length items) c.loop-child.given name) (sym known) ∙ ap (λ (n : ℕ). next_among (option_map (λ f. (f.0, stream_view f.1.now)) c.declared-found.result) c.args.top n c.loop-child.given name) (sym (c.len.ensures ∙ long)) ∙ c.in-Ok.ensures.verdict) c.in_ok-push-in-Ok.ensures.items (ap (λ (t : FilterTree). t.output) c.tree.ensures.tree) c.loop-child.invariant.all;
       ready = ap all_loaded_in c.in_ok-push-in-Ok.ensures.items ∙ ready_push items next c.loop-child.invariant.ready c.in-Ok.ensures.fields ∙ ap (λ (its : List _). loaded (filters_in its)) (sym c.in_ok-push-in-Ok.ensures.items);
     }

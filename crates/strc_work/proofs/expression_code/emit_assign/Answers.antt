@@ -1,7 +1,8 @@
-use Rattle.std.proofs.Common.{◌≡◌, ◌+◌, true, Some, length, rules}
+use Rattle.std.proofs.Common.{◌≡◌, ◌+◌, true, Some, rules}
 use Rattle.strc_parse.specs.View.{expr_view}
 use Rattle.strc_work.specs.Machine.{before}
-use Rattle.strc_work.specs.Lowering.{slot_of, changes_none, operand_nodes, operand_slot}
+use Rattle.strc_work.specs.Lowering.{changes_none, operand_nodes, operand_slot}
+use Rattle.strc_work.specs.Scoping.{total, slot_of}
 use Rattle.strc_work.specs.Emission.{compound_of, old_slot, old_nodes}
 use Rattle.strc_work.specs.Written.{written}
 use Rattle.strc_work.proofs.Emitted.{assigned_more, on_ok}
@@ -12,7 +13,7 @@ returns-in_ok-right-in-Some c =
     let names = c.args.names.now in
     let name = c.args.name.now in
     let value = expr_view c.args.value.now in
-    let free = length names in
+    let free = total names in
     let plain : compound_of c.args.operator ≡ Some c.in-Some.operator = search rules in
     let left : c.in_ok-left-in-Some.left ≡ old_slot (changes_none value) (slot_of names name) free = search rules in
     let first : written c.emit_old.new.code ≡ before (written c.args.code.now) (old_nodes (changes_none value) (slot_of names name) free) = search rules in

@@ -1,6 +1,6 @@
 use Rattle.std.proofs.Common.{◌≡◌, drop, map}
 use Rattle.strc_parse.specs.View.{variable_view}
-use Rattle.strc_work.specs.Scoping.{with_declared}
+use Rattle.strc_work.specs.Typing.{names_with}
 use Rattle.strc_work.specs.Resolution.{fields_resolved}
 use Rattle.strc_work.specs.Verdicts.{site_of}
 use Rattle.strc_work.proofs.Resolved.{list_behind}
@@ -9,5 +9,5 @@ use Rattle.strc_work.proofs.resolution.resolve_fields.Given as goal
 abbrev pub invariant-loop-variable : goal.invariant-loop-variable
 invariant-loop-variable l = record {
   left : list_behind variable_view l.resolved.items (fields_resolved (site_of l.site) l.fields l.before l.kind (map variable_view (drop l.variable-index l.variables))) ≡ fields_resolved (site_of l.site) l.fields l.initial.before l.kind (map variable_view l.variables);
-  before : with_declared l.before (map variable_view (drop l.variable-index l.variables)) ≡ with_declared l.initial.before (map variable_view l.variables);
+  before : names_with l.before (map variable_view (drop l.variable-index l.variables)) ≡ names_with l.initial.before (map variable_view l.variables);
 }

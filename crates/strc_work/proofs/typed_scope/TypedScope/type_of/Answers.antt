@@ -1,13 +1,13 @@
 use Rattle.std.proofs.Common.{◌<◌, length, reverse, sym, ap, ◌∙◌, arith}
 use Rattle.std.proofs.lemmas.List.{length-reverse}
 use Rattle.strc_work.specs.Typing.{type_named}
-use Rattle.strc_work.proofs.Scopes.{slot_named-below}
+use Rattle.strc_work.proofs.Scopes.{number_named-below}
 use Rattle.strc_work.proofs.TypedGrowth.{type_of_slot, no_type}
 use Rattle.strc_work.proofs.typed_scope.TypedScope.type_of.Goals as goal
 
 pub index-requires : goal.index-requires
 index-requires c =
-    let below : c.in-Some.slot < length c.self.inside.names = slot_named-below c.self.inside.names c.args.name.now c.in-Some.slot (sym c.in-Some.ensures) in
+    let below : c.in-Some.slot < length c.self.inside.names = number_named-below c.self.inside.names c.args.name.now c.in-Some.slot (sym c.in-Some.ensures) in
     omega (arith, c.self.invariant)
 
 pub returns-in-Some : goal.returns-in-Some

@@ -1,0 +1,14 @@
+// Takes nothing: this crate is tests alone.
+// Gives rows of each layer's call: tokens of texts, trees of tokens, firings of filters, rates of bodies.
+// There is no theorem here; the values are those of the language's rules.
+// Stands on strc_lex, strc_parse, strc_work and strc_rate, whose public calls it makes.
+#![tactic(auto)]
+
+#[cfg(test)]
+mod firings;
+#[cfg(test)]
+mod lexing;
+#[cfg(test)]
+mod parsing;
+#[cfg(test)]
+mod rates;

@@ -1,0 +1,17 @@
+use Rattle.strc_work.specs.Filters.{filter_of}
+use Rattle.strc_rate.specs.Kept.{KeepsRates}
+use Rattle.strc_rate.specs.Safe.{HasSafePeeks}
+use Rattle.strc_rate.proofs.FilterPeeks.{closed_peeks}
+use Rattle.strc_rate.proofs.KeptRates.{rates_kept}
+use Rattle.strc_rate.proofs.Promised.{promised}
+use Rattle.strc_rate.proofs.rates.check.Goals as goal
+
+pub returns-clause-kept : goal.returns-clause-kept
+returns-clause-kept c =
+    let filter = filter_of c.args.code.now in
+    promised filter (KeepsRates filter) c.judge.result (rates_kept filter c.tree-known.ensures.known) c.judge.ensures.verdict
+
+pub returns-clause-safe : goal.returns-clause-safe
+returns-clause-safe c =
+    let filter = filter_of c.args.code.now in
+    promised filter (HasSafePeeks filter) c.judge.result (closed_peeks filter c.tree-known.ensures.known) c.judge.ensures.verdict

@@ -1,0 +1,10 @@
+pub mod Constant
+pub mod Loops
+pub mod Counts
+pub mod Ranges
+pub mod Peeks
+pub mod Rates
+pub mod Kept
+pub mod Safe
+pub mod Verdicts
+pub mod Seen

@@ -1,0 +1,170 @@
+// How many items a part of a text pushes and pops.
+
+ghost use Rattle.std.specs.Prelude.{◌≡◌, ◌+◌, ◌*◌};
+ghost use Rattle.strc_parse.specs.View.{expr_view};
+ghost use Rattle.strc_rate.specs.Counts as spec;
+
+use crate::constant::constant;
+use strc_parse::tree::{BinaryOperator, Expr};
+
+// From here on a count is held.
+const COUNT_LIMIT: u32 = 65537;
+
+/// So many items, each number held at 65,537.
+#[derive(Clone, Copy, Debug, PartialEq, Eq)]
+pub(crate) struct Counts {
+    pub pushes: u32,
+    pub pops: u32,
+}
+
+/// When an operator's right side is evaluated.
+#[derive(Clone, Copy, Debug, PartialEq, Eq)]
+pub(crate) enum Need {
+    Always,
+    Never,
+    Sometimes,
+}
+
+pub(crate) fn no_items() -> Counts
+    ensures { result ≡ spec.no_items }
+{
+    Counts { pushes: 0, pops: 0 }
+}
+
+pub(crate) fn one_push() -> Counts
+    ensures { result ≡ spec.one_push }
+{
+    Counts { pushes: 1, pops: 0 }
+}
+
+pub(crate) fn one_pop() -> Counts
+    ensures { result ≡ spec.one_pop }
+{
+    Counts { pushes: 0, pops: 1 }
+}
+
+/// One after the other.
+pub(crate) fn both(first: Option<Counts>, second: Option<Counts>) -> Option<Counts>
+    ensures { result ≡ spec.both first second }
+{
+    match first {
+        Some(first) => match second {
+            Some(second) => Some(Counts {
+                pushes: held_sum(first.pushes, second.pushes),
+                pops: held_sum(first.pops, second.pops),
+            }),
+            None => None,
+        },
+        None => None,
+    }
+}
+
+/// One or the other, which must count the same.
+pub(crate) fn either(first: Option<Counts>, second: Option<Counts>) -> Option<Counts>
+    ensures { result ≡ spec.either first second }
+{
+    match first {
+        Some(first) => match second {
+            Some(second) => if_same(first, second),
+            None => None,
+        },
+        None => None,
+    }
+}
+
+/// What may be left out, or run several times, must count nothing.
+pub(crate) fn nothing(counts: Option<Counts>) -> Option<Counts>
+    ensures { result ≡ spec.nothing counts }
+{
+    match counts {
+        Some(counts) => if_same(no_items(), counts),
+        None => None,
+    }
+}
+
+fn if_same(first: Counts, second: Counts) -> Option<Counts>
+    ensures { result ≡ spec.if_same first second }
+{
+    if first.pushes == second.pushes && first.pops == second.pops {
+        Some(first)
+    } else {
+        None
+    }
+}
+
+/// So many times; nothing is looked at for none.
+pub(crate) fn repeated(times: u64, counts: Option<Counts>) -> Option<Counts>
+    ensures { result ≡ spec.repeated times counts }
+{
+    if times == 0 {
+        return Some(no_items());
+    }
+    match counts {
+        Some(counts) => Some(Counts {
+            pushes: held_product(times, counts.pushes),
+            pops: held_product(times, counts.pops),
+        }),
+        None => None,
+    }
+}
+
+/// The side that a constant condition takes, or both.
+pub(crate) fn sides(
+    condition: Option<i32>,
+    chosen: Option<Counts>,
+    other: Option<Counts>,
+) -> Option<Counts>
+    ensures { result ≡ spec.sides condition chosen other }
+{
+    match condition {
+        Some(0) => other,
+        Some(_) => chosen,
+        None => either(chosen, other),
+    }
+}
+
+/// When the right side of an operator is evaluated behind this left side.
+pub(crate) fn need_of(operator: BinaryOperator, left: &Expr) -> Need
+    ensures { result ≡ spec.need_of operator (expr_view left.now) }
+{
+    match operator {
+        BinaryOperator::LogicalOr => match constant(left) {
+            Some(0) => Need::Always,
+            Some(_) => Need::Never,
+            None => Need::Sometimes,
+        },
+        BinaryOperator::LogicalAnd => match constant(left) {
+            Some(0) => Need::Never,
+            Some(_) => Need::Always,
+            None => Need::Sometimes,
+        },
+        _ => Need::Always,
+    }
+}
+
+/// What a right side counts that is evaluated so.
+pub(crate) fn needed(need: Need, counts: Option<Counts>) -> Option<Counts>
+    ensures { result ≡ spec.needed need counts }
+{
+    match need {
+        Need::Always => counts,
+        Need::Never => Some(no_items()),
+        Need::Sometimes => nothing(counts),
+    }
+}
+
+/// The sum of two numbers, held.
+pub(crate) fn held_sum(first: u32, second: u32) -> u32
+    ensures { result ≡ spec.held (first + second) }
+{
+    first.saturating_add(second).min(COUNT_LIMIT)
+}
+
+/// The product of two numbers, held.
+pub(crate) fn held_product(times: u64, count: u32) -> u32
+    ensures { result ≡ spec.held (times * count) }
+{
+    times
+        .saturating_mul(u64::from(count))
+        .min(u64::from(COUNT_LIMIT)) as u32
+}

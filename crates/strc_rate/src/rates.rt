@@ -1,0 +1,271 @@
+// The rates of a filter: what is declared against what is counted.
+
+ghost use Rattle.std.specs.Prelude.{◌≡◌, ◌&&◌, IfOk, map};
+ghost use Rattle.std.specs.Option.{option_map};
+ghost use Rattle.strc_work.specs.Filters as filters;
+ghost use Rattle.strc_work.specs.Filters.{filter_of};
+ghost use Rattle.strc_rate.specs.Rates as spec;
+ghost use Rattle.strc_rate.specs.Kept.{KeepsRates};
+ghost use Rattle.strc_rate.specs.Safe.{HasSafePeeks};
+ghost use Rattle.strc_rate.specs.Verdicts.{IsVerdict, body_view, rates_view};
+
+use crate::peeks::look_at_block;
+use crate::ranged_scope::RangedScope;
+use crate::sight::{Popped, Sight};
+use std::alloc::{AllocError, AllocFailed, Global};
+use strc_parse::tree::ItemType;
+use strc_work::code::{Body, Code, DeclaredRates};
+use strc_work::memory::NoMemory;
+
+// The highest rate that may be declared.
+const RATE_LIMIT: i32 = 65536;
+
+/// What a firing of a body pushes and pops, and what is told of its peeks.
+#[derive(Debug, Drop)]
+pub struct BodyRates {
+    /// How many items each firing pushes.
+    pub push: u32,
+    /// How many items each firing pops.
+    pub pop: u32,
+    /// How many items a firing may look at.
+    pub window: u32,
+    /// Of each peek that the text is looked at for, in order, whether it stays within its window.
+    pub closed: Vec<bool>,
+}
+
+/// The rates of a filter.
+#[derive(Debug, Drop)]
+pub struct Rates {
+    /// Those of the prework, where there is one.
+    pub prework: Option<BodyRates>,
+    pub work: BodyRates,
+}
+
+/// Why a filter's rates aren't accepted.
+#[derive(Clone, Copy, Debug, PartialEq, Eq)]
+pub enum RateError {
+    /// A rate is below 0 or above 65,536, or a work has rate 0 on a side with items.
+    RateLimit,
+    /// What a body pushes or pops can't be counted from its text.
+    RateUnknown,
+    /// A declared rate isn't the counted one, which is held at 65,537.
+    RateMismatch { declared: u32, counted: u32 },
+    /// A peek can't be within its window.
+    PeekOutside,
+    /// Memory was refused.
+    NoMemory,
+}
+
+impl From<NoMemory> for RateError {
+    ghost use Rattle.std.specs.Prelude.{◌≡◌};
+    ghost use Rattle.strc_rate.specs.declared.rates.RateError.TheVariants as broken;
+
+    ghost from_gives = { λ _ e. e ≡ broken.NoMemory };
+
+    fn from(_error: NoMemory) -> RateError {
+        RateError::NoMemory
+    }
+}
+
+impl From<AllocError> for RateError {
+    ghost use Rattle.std.specs.Prelude.{◌≡◌};
+    ghost use Rattle.strc_rate.specs.declared.rates.RateError.TheVariants as broken;
+
+    ghost from_gives = { λ _ e. e ≡ broken.NoMemory };
+
+    fn from(_error: AllocError) -> RateError {
+        RateError::NoMemory
+    }
+}
+
+impl<T: Drop> From<AllocFailed<T>> for RateError {
+    ghost use Rattle.std.specs.Prelude.{◌≡◌};
+    ghost use Rattle.strc_rate.specs.declared.rates.RateError.TheVariants as broken;
+
+    ghost from_gives = { λ _ e. e ≡ broken.NoMemory };
+
+    fn from(_error: AllocFailed<T>) -> RateError {
+        RateError::NoMemory
+    }
+}
+
+/// The rates of a filter, or the first reason why they aren't accepted.
+///
+/// The prework comes before the work. Of each body these are tested in order: that each rate is from 0 to 65,536, and
+/// that a work has no rate 0 on a side with items (`RateLimit`); that the text's pushes and pops can be counted
+/// (`RateUnknown`); that the counted pushes, and then the counted pops, are the declared ones (`RateMismatch`); and that
+/// no peek must look past its window (`PeekOutside`). `NoMemory` can come in place of any answer.
+pub fn check(alloc: Global, code: &Code) -> Result<Rates, RateError>
+    ensures verdict { IsVerdict rates_view (spec.checked (filter_of code.now)) result }
+    ensures kept { IfOk result (λ rates. KeepsRates (filter_of code.now)) }
+    ensures safe { IfOk result (λ rates. HasSafePeeks (filter_of code.now)) }
+{
+    // What is promised of a firing stands on the names of the code's tree, which are known.
+    let _known = code.tree();
+    judge(alloc, code)
+}
+
+/// The rates of the prework, where there is one, and then of the work.
+fn judge(alloc: Global, code: &Code) -> Result<Rates, RateError>
+    ensures verdict { IsVerdict rates_view (spec.checked (filter_of code.now)) result }
+{
+    let prework = check_prework(alloc, code)?;
+    let work = check_body(alloc, code, Body::Work, work_lacks(code))?;
+    Ok(Rates { prework, work })
+}
+
+/// The rates of the prework, where there is one: it lacks no rate.
+fn check_prework(alloc: Global, code: &Code) -> Result<Option<BodyRates>, RateError>
+    ensures verdict { let members = (filter_of code.now).members in
+        IsVerdict (option_map body_view)
+        (spec.prework_checked (filters.prework_rates members) (filters.prework_block members)) result }
+{
+    if !code.has_prework() {
+        return Ok(None);
+    }
+    let prework = check_body(alloc, code, Body::Prework, false)?;
+    Ok(Some(prework))
+}
+
+/// Whether a rate of the work is 0 on a side with items.
+fn work_lacks(code: &Code) -> bool
+    ensures { result ≡ spec.work_lacks (filter_of code.now) }
+{
+    let tree = code.tree();
+    let rates = code.rates(Body::Work);
+    lacks_rate(tree.input, rates.pop) || lacks_rate(tree.output, rates.push)
+}
+
+fn lacks_rate(side: ItemType, rate: i32) -> bool
+    ensures { result ≡ spec.lacks_rate side rate }
+{
+    match side {
+        ItemType::Int => item_count(rate) == 0,
+        ItemType::Void => false,
+    }
+}
+
+/// The rates of a body: their limits, then the counts, then the peeks.
+fn check_body(alloc: Global, code: &Code, body: Body, lacks: bool) -> Result<BodyRates, RateError>
+    ensures verdict { let members = (filter_of code.now).members in
+        IsVerdict body_view
+        (spec.body_checked lacks (filters.body_rates body members) (filters.body_block body members)) result }
+{
+    let rates = code.rates(body);
+    if !are_within_limit(rates) || lacks {
+        return Err(RateError::RateLimit);
+    }
+    let mut names = RangedScope::new(alloc);
+    let mut sights = Vec::new(alloc);
+    let window = code.window(body);
+    let counts = look_at_block(
+        code.block(body),
+        &mut names,
+        window,
+        none_popped(),
+        &mut sights,
+    )?;
+    match counts {
+        Some(counts) => {
+            same_rate(item_count(rates.push), counts.pushes)?;
+            same_rate(item_count(rates.pop), counts.pops)?;
+            seen(alloc, code, body, &sights)
+        }
+        None => Err(RateError::RateUnknown),
+    }
+}
+
+/// Whether no rate is below 0 or above the limit.
+fn are_within_limit(rates: DeclaredRates) -> bool
+    ensures { result ≡ spec.within_limit rates.push && (spec.within_limit rates.pop && spec.within_limit rates.peek) }
+{
+    is_within_limit(rates.push) && (is_within_limit(rates.pop) && is_within_limit(rates.peek))
+}
+
+fn is_within_limit(rate: i32) -> bool
+    ensures { result ≡ spec.within_limit rate }
+{
+    !(rate < 0) && !(RATE_LIMIT < rate)
+}
+
+/// A rate as a number of items: none where it is below 0.
+fn item_count(rate: i32) -> u32
+    ensures { result ≡ filters.item_count rate }
+{
+    if rate < 0 { 0 } else { rate as u32 }
+}
+
+/// The items popped where a firing begins.
+fn none_popped() -> Popped
+    ensures { result ≡ spec.none_popped }
+{
+    Popped { low: 0, high: 0 }
+}
+
+/// A declared rate is the counted one.
+fn same_rate(declared: u32, counted: u32) -> Result<(), RateError>
+    ensures { result ≡ spec.same_rate declared counted }
+{
+    if declared == counted {
+        Ok(())
+    } else {
+        Err(RateError::RateMismatch { declared, counted })
+    }
+}
+
+/// The rates of a body whose counts are the declared ones, if no peek is outside of its window.
+fn seen(alloc: Global, code: &Code, body: Body, sights: &[Sight]) -> Result<BodyRates, RateError>
+    ensures verdict { IsVerdict body_view
+        (spec.seen (filters.body_rates body (filter_of code.now).members) sights.now) result }
+{
+    if some_outside(sights) {
+        return Err(RateError::PeekOutside);
+    }
+    let rates = code.rates(body);
+    Ok(BodyRates {
+        push: item_count(rates.push),
+        pop: item_count(rates.pop),
+        window: code.window(body),
+        closed: closed_of(alloc, sights)?,
+    })
+}
+
+fn some_outside(sights: &[Sight]) -> bool
+    ensures { result ≡ spec.some_outside sights.now }
+{
+    for sight in sights {
+        if is_outside(*sight) {
+            return true;
+        }
+    }
+    false
+}
+
+fn is_outside(sight: Sight) -> bool
+    ensures { result ≡ spec.is_outside sight }
+{
+    match sight {
+        Sight::Outside => true,
+        _ => false,
+    }
+}
+
+fn is_closed(sight: Sight) -> bool
+    ensures { result ≡ spec.is_closed sight }
+{
+    match sight {
+        Sight::Closed => true,
+        _ => false,
+    }
+}
+
+/// Of each sight, in order, whether it is closed.
+fn closed_of(alloc: Global, sights: &[Sight]) -> Result<Vec<bool>, AllocError>
+    ensures { IfOk result (λ closed. closed.items ≡ map spec.is_closed sights.now) }
+{
+    let mut closed = Vec::with_capacity(alloc, sights.len())?;
+    for sight in sights {
+        closed.push(is_closed(*sight))?;
+    }
+    Ok(closed)
+}

@@ -1,0 +1,114 @@
+// The variables that can be seen at a place of the text, with the slots of their cells.
+
+ghost use Rattle.std.specs.Prelude.{◌≡◌, ◌-◌, [], ◌∷◌, OnOk, length, drop};
+
+use crate::memory::NoMemory;
+use crate::scope::Scope;
+use std::alloc::Global;
+use std::marker::Model;
+use strc_lex::token::Name;
+
+/// Where a variable's cells stand: the first slot, and how many there are.
+#[derive(Clone, Copy, Debug, PartialEq, Eq)]
+pub struct Place {
+    pub slot: u32,
+    pub cells: u32,
+}
+
+/// Variables in the order in which they were declared, each one's cells behind those of the ones before. Contracts see
+/// the list of the names with their numbers of cells, the innermost first. A look-up takes expected constant time.
+#[derive(Drop)]
+pub struct Layout {
+    names: Scope,
+    /// The place of each variable, by its number.
+    places: Vec<Place>,
+}
+
+impl Model for Layout {
+    ghost use Rattle.std.specs.Prelude.{reverse};
+    ghost use Rattle.strc_work.specs.Scoping.{Scope as Sized};
+
+    ghost Value = { Sized };
+
+    ghost use Rattle.strc_work.specs.Layouts.{with_cells, AreLaid};
+
+    ghost view = { λ s. with_cells s.names (reverse s.places.items) };
+
+    ghost invariant = { λ s. AreLaid s.names (reverse s.places.items) };
+}
+
+impl Layout {
+    ghost use Rattle.strc_work.specs.Scoping as scoping;
+
+    /// No variables. It takes no memory.
+    pub fn new(alloc: Global) -> Layout
+        ensures { result ≡ [] }
+    {
+        Layout {
+            names: Scope::new(alloc),
+            places: Vec::new(alloc),
+        }
+    }
+
+    /// How many variables can be seen.
+    pub fn len(&self) -> u32
+        ensures { result ≡ length self.now }
+    {
+        self.names.len()
+    }
+
+    /// How many cells they have together: the first free slot.
+    pub fn total(&self) -> u32
+        ensures { result ≡ scoping.total self.now }
+    {
+        let count = self.places.len();
+        if count == 0 {
+            return 0;
+        }
+        let last = self.places[count - 1];
+        last.slot + last.cells
+    }
+
+    /// The first slot of the innermost variable of this name, and 0 where there is none.
+    pub fn slot_of(&self, name: &Name) -> u32
+        ensures { result ≡ scoping.slot_of self.now name.now }
+    {
+        match self.names.number_of(name) {
+            Some(number) => self.places[number as usize].slot,
+            None => 0,
+        }
+    }
+
+    /// How many cells the innermost variable of this name has, and 0 where there is none.
+    pub fn size_of(&self, name: &Name) -> u32
+        ensures { result ≡ scoping.size_of self.now name.now }
+    {
+        match self.names.number_of(name) {
+            Some(number) => self.places[number as usize].cells,
+            None => 0,
+        }
+    }
+
+    /// One more variable, inside all others.
+    pub fn declare(&mut self, name: &Name, cells: u32) -> Result<(), NoMemory>
+        ensures { OnOk result (self.new ≡ record { 0 = name.now; 1 = cells } ∷ self.old) }
+    {
+        let slot = self.total();
+        if slot.checked_add(cells).is_none() {
+            return Err(NoMemory);
+        }
+        // What can fail comes before the first change.
+        self.places.reserve(1)?;
+        self.names.declare(name)?;
+        self.places.push(Place { slot, cells })?;
+        Ok(())
+    }
+
+    /// Forgets the variables from this place on.
+    pub fn leave(&mut self, start: u32)
+        ensures { self.new ≡ drop (length self.old - start) self.old }
+    {
+        self.names.leave(start);
+        self.places.truncate(start as usize);
+    }
+}
