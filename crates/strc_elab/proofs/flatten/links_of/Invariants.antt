@@ -1,0 +1,7 @@
+use Rattle.std.proofs.Common.{◌≡◌, map}
+use Rattle.strc_elab.specs.View.{channel_view}
+use Rattle.strc_elab.specs.Rows.{links}
+use Rattle.strc_elab.proofs.flatten.links_of.Given as goal
+
+abbrev pub invariant-loop-node : goal.invariant-loop-node
+invariant-loop-node l = map channel_view l.channels.items ≡ links l.node

@@ -1,0 +1,103 @@
+// Which nodes in a row can be run: how many there are, which take the input or write words, and whether each feeds the next.
+
+ghost use Rattle.std.specs.Prelude.{◌≡◌, ◌↔◌, IsTrue, map, count_by};
+ghost use Rattle.strc_elab.specs.Graphs as graphs;
+ghost use Rattle.strc_elab.specs.View.{node_view};
+ghost use Rattle.strc_elab.specs.Flattening.{IsVerdict};
+ghost use Rattle.strc_elab.specs.Rows.{AreLinked};
+
+use crate::error::ElabError;
+use crate::graph::{Node, input_ports, output_ports};
+
+// How many nodes a program may have.
+const NODE_LIMIT: usize = 4096;
+
+/// Whether nodes in a row can be run, by the first test that fails.
+pub(crate) fn check(nodes: &[Node]) -> Result<(), ElabError>
+    ensures { IsVerdict (map node_view nodes.now) (AreLinked (map node_view nodes.now)) result }
+{
+    if nodes.len() > NODE_LIMIT {
+        return Err(ElabError::NodeLimit);
+    }
+    if count_inputs(nodes) > 1 {
+        return Err(ElabError::TwoInputs);
+    }
+    if count_outputs(nodes) > 1 {
+        return Err(ElabError::TwoOutputs);
+    }
+    if !are_linked(nodes) {
+        return Err(ElabError::Disconnected);
+    }
+    Ok(())
+}
+
+/// How many nodes take the program's input.
+fn count_inputs(nodes: &[Node]) -> usize
+    ensures { result ≡ count_by graphs.reads_input (map node_view nodes.now) }
+{
+    let mut count = 0;
+    for node in nodes {
+        if reads_input(node) {
+            count += 1;
+        }
+    }
+    count
+}
+
+/// How many nodes can write words.
+fn count_outputs(nodes: &[Node]) -> usize
+    ensures { result ≡ count_by graphs.gives_words (map node_view nodes.now) }
+{
+    let mut count = 0;
+    for node in nodes {
+        if gives_words(node) {
+            count += 1;
+        }
+    }
+    count
+}
+
+/// Whether a node takes the program's input.
+fn reads_input(node: &Node) -> bool
+    ensures { result ≡ graphs.reads_input (node_view node.now) }
+{
+    match node {
+        Node::FileReader => true,
+        Node::Filter(_)
+        | Node::Identity
+        | Node::FileWriter
+        | Node::Splitter(_)
+        | Node::Joiner(_)
+        | Node::Scatter(_)
+        | Node::Copy(_, _)
+        | Node::Gather(_) => false,
+    }
+}
+
+/// Whether a firing of a node can write words.
+fn gives_words(node: &Node) -> bool
+    ensures { result ≡ graphs.gives_words (node_view node.now) }
+{
+    match node {
+        Node::Filter(instance) | Node::Copy(instance, _) => instance.code.prints(),
+        Node::FileWriter => true,
+        Node::Identity
+        | Node::FileReader
+        | Node::Splitter(_)
+        | Node::Joiner(_)
+        | Node::Scatter(_)
+        | Node::Gather(_) => false,
+    }
+}
+
+/// Whether each node gives items to the next one.
+fn are_linked(nodes: &[Node]) -> bool
+    ensures { IsTrue result ↔ AreLinked (map node_view nodes.now) }
+{
+    for next in 1..nodes.len() {
+        if output_ports(&nodes[next - 1]) == 0 || input_ports(&nodes[next]) == 0 {
+            return false;
+        }
+    }
+    true
+}
