@@ -1,9 +1,11 @@
 // Takes nothing: this crate is tests alone.
-// Gives rows of each layer's call: tokens of texts, trees of tokens, firings of filters, rates of bodies, graphs of streams.
+// Gives rows of each layer's call: tokens of texts, trees of tokens, firings of filters, copies of large codes, rates of bodies, graphs of streams.
 // There is no theorem here; the values are those of the language's rules.
 // Stands on strc_lex, strc_parse, strc_work, strc_rate and strc_elab, whose public calls it makes.
 #![tactic(auto)]
 
+#[cfg(test)]
+mod copies;
 #[cfg(test)]
 mod firings;
 #[cfg(test)]

@@ -104,7 +104,7 @@ fn three_hundred_locals_live_together(rt: HostRuntime) -> Result<(), Fail> {
 #[test]
 fn a_long_block_of_branches_is_no_deep_one(rt: HostRuntime) -> Result<(), Fail> {
     let mut text = String::from_str(rt.alloc(), "void->void filter M { int x; work {")?;
-    for _ in 0..40000 {
+    for _ in 0..69900 {
         text.push_str("x++;if(x>9)x=0;")?;
     }
     text.push_str("println(x); } }")?;
