@@ -247,6 +247,7 @@ mutual
       (push_quiet port given.0 given.1.traffic) (λ traffic l. l ∙ k))
   stmt_quiet port (tree.Print value) store words none h = absurd (cc)
   stmt_quiet port (tree.Println value) store words none h = absurd (cc)
+  stmt_quiet port (tree.Compose statement) store words none h = h
 
   stmts_quiet : (port : Port) (s : tree.Stmts) (store : Store) (words : List Word) → stmts_print s ≡ false → store.traffic.words ≡ words → IsQuiet words (stmts_done port s store)
   stmts_quiet port tree.Done store words none h = h

@@ -1,7 +1,8 @@
 -- What is answered for a text and the words of a command, before anything is written.
 use Rattle.std.specs.Prelude.{◌≡◌, ℕ, ◌⊎◌, true, false, List, [], Option, Some, None, Result, Ok, Err, string_bytes}
 use Rattle.std.specs.Option.{option_map}
-use Rattle.strc_work.specs.Filters.{Filter}
+use Rattle.strc_elab.specs.Flattening.{nodes_of}
+use Rattle.strc_elab.specs.Instances.{Stream}
 use Rattle.strc_cli.specs.declared.execute.Stop.{Stop}
 use Rattle.strc_cli.specs.declared.execute.Stop.TheVariants as stop
 use Rattle.strc_cli.specs.declared.line.Command.{Command}
@@ -22,21 +23,21 @@ main_of (command.Run rounds main) = option_map string_bytes main
 abbrev pub rounds_of : Command → Option ℕ
 rounds_of (command.Run rounds main) = rounds
 
--- the text is accepted, its filters are settled, and so many rounds of them end so
+-- the text is accepted, the nodes of its stream are settled, and so many rounds of them end so
 pub record RunsTo (text : List ℕ) (main : Option (List ℕ)) (rounds : ℕ) (outcome : Outcome) : Type 0 where
-  pub filters : List Filter
-  pub accepted : Accepts text main filters
-  pub settled : are_settled filters ≡ true
-  pub ends : IsEnding outcome (laps rounds 0 (loaded filters) [])
+  pub stream : Stream
+  pub accepted : Accepts text main stream
+  pub settled : are_settled (nodes_of stream) ≡ true
+  pub ends : IsEnding outcome (laps rounds 0 (loaded (nodes_of stream)) [])
 
 -- the text is accepted, and nobody said how many rounds
 abbrev pub LacksRounds : List ℕ → Option (List ℕ) → Option ℕ → Refusal → Type 0
-LacksRounds text main rounds refused = (refused ≡ refusal.RoundsNeeded) × (rounds ≡ None) × ((filters : List Filter) × Accepts text main filters)
+LacksRounds text main rounds refused = (refused ≡ refusal.RoundsNeeded) × (rounds ≡ None) × ((stream : Stream) × Accepts text main stream)
 
--- the text is accepted, and somebody said how many rounds, but not all of its filters are run so far
+-- the text is accepted, and somebody said how many rounds, but not all nodes of its stream are run so far
 abbrev pub WaitsForMore : List ℕ → Option (List ℕ) → Option ℕ → Refusal → Type 0
 WaitsForMore text main rounds refused =
-    (refused ≡ refusal.NotYet) × ((count : ℕ) × (rounds ≡ Some count)) × ((filters : List Filter) × Accepts text main filters × (are_settled filters ≡ false))
+    (refused ≡ refusal.NotYet) × ((count : ℕ) × (rounds ≡ Some count)) × ((stream : Stream) × Accepts text main stream × (are_settled (nodes_of stream) ≡ false))
 
 -- the outcome of the run, or the refusal that holds
 abbrev pub IsAnswered : List ℕ → Option (List ℕ) → Option ℕ → Result Outcome Stop → Type 0

@@ -1,50 +1,55 @@
--- What a run of rounds means in the generic layer of streams: the answer of the pipeline.
-use Rattle.std.specs.Prelude.{◌≡◌, ℕ, suc, Bool, true, false, not, ◌&&◌, nat_le, List, [], ◌∷◌, ◌++◌, length, Option, Ok}
+-- What a run of rounds means in the generic layer of streams: the answer of the stream.
+use Rattle.std.specs.Prelude.{◌≡◌, ℕ, Bool, true, false, not, ◌&&◌, nat_le, List, [], ◌∷◌, ◌++◌, length, Option, Ok}
 use Rattle.std.specs.Int.RustNames.{int_lt}
-use Rattle.strc_parse.specs.declared.tree.ItemType.{ItemType}
-use Rattle.strc_parse.specs.declared.tree.ItemType.TheVariants as item
 use Rattle.strc_work.specs.declared.fault.Cause.{Cause}
 use Rattle.strc_work.specs.declared.word.Word.{Word}
 use Rattle.strc_work.specs.Closed.{IsClosedFilter}
-use Rattle.strc_work.specs.Filters.{Filter, work_rates, pop_rate, peek_rate, filter_prints}
-use Rattle.strc_dataflow.specs.Pipelines.{pipeline_of, nodes_from, once_each}
+use Rattle.strc_work.specs.Filters as filters
+use Rattle.strc_work.specs.Filters.{work_rates, pop_rate, peek_rate}
+use Rattle.strc_dataflow.specs.Streams as trees
+use Rattle.strc_dataflow.specs.Streams.{flat}
+use Rattle.strc_dataflow.specs.Pipelines.{IsChain, nodes_from, once_each}
 use Rattle.strc_dataflow.specs.Answer.{Outcome, Outcome.Done, Outcome.RoundFault, IsAnswer}
+use Rattle.strc_elab.specs.Flattening.{tree_of, nodes_of}
+use Rattle.strc_elab.specs.Graphs.{NodeCode, Filter, Identity, ports_of, input_ports, output_ports, gives_words}
+use Rattle.strc_elab.specs.Instances.{Stream}
 use Rattle.strc_cli.specs.Rates.{declared_pushes, declared_pops, has_prework, rates_checked}
 use Rattle.strc_cli.specs.Programs.{Accepts}
-use Rattle.strc_cli.specs.Pipeline.{filter_meaning, Ending, Ending.Ended, Ending.Faulted, laps, loaded}
+use Rattle.strc_cli.specs.Pipeline.{node_meaning, Ending, Ending.Ended, Ending.Faulted, laps, loaded}
 
--- each filter takes what the one before it gives
-abbrev pub IsJoined : Filter → List Filter → Type 0
-IsJoined first [] = Unit {0}
-IsJoined first (next ∷ others) = (next.input ≡ first.output) × IsJoined next others
-
--- the highest rate on a side: one item, and none on a void side
-abbrev pub highest_rate : ItemType → ℕ
-highest_rate item.Int = 1
-highest_rate item.Void = 0
+-- each node takes what the one before it gives
+abbrev pub AreJoined : NodeCode → List NodeCode → Type 0
+AreJoined first [] = Unit {0}
+AreJoined first (next ∷ others) = (input_ports next ≡ output_ports first) × AreJoined next others
 
 -- whether a filter is among those that are run so far: it has no prework, its work looks at no item beyond those that it takes, and no
--- declared rate is above the highest one
-abbrev pub is_settled : Filter → Bool
-is_settled filter =
+-- declared rate is above one item, or none on a void side
+abbrev pub is_settled_filter : filters.Filter → Bool
+is_settled_filter filter =
     not (has_prework filter)
     && (not (int_lt (pop_rate (work_rates filter.members)) (peek_rate (work_rates filter.members)))
-    && (nat_le (declared_pops filter) (highest_rate filter.input) && nat_le (declared_pushes filter) (highest_rate filter.output)))
+    && (nat_le (declared_pops filter) (ports_of filter.input) && nat_le (declared_pushes filter) (ports_of filter.output)))
+
+-- whether a node is
+abbrev pub is_settled : NodeCode → Bool
+is_settled (Filter name filter) = is_settled_filter filter
+is_settled Identity = true
+is_settled _ = false
 
 -- whether all are
-abbrev pub are_settled : List Filter → Bool
+abbrev pub are_settled : List NodeCode → Bool
 are_settled [] = true
-are_settled (filter ∷ others) = is_settled filter && are_settled others
+are_settled (code ∷ others) = is_settled code && are_settled others
 
--- no filter prints
-abbrev pub PrintsNothing : List Filter → Type 0
+-- no node prints
+abbrev pub PrintsNothing : List NodeCode → Type 0
 PrintsNothing [] = Unit {0}
-PrintsNothing (filter ∷ others) = (filter_prints filter ≡ false) × PrintsNothing others
+PrintsNothing (code ∷ others) = (gives_words code ≡ false) × PrintsNothing others
 
--- at most one filter prints
-abbrev pub PrintsAtMostOnce : List Filter → Type 0
+-- at most one node prints
+abbrev pub PrintsAtMostOnce : List NodeCode → Type 0
 PrintsAtMostOnce [] = Unit {0}
-PrintsAtMostOnce (filter ∷ others) = (filter_prints filter ≡ true → PrintsNothing others) × PrintsAtMostOnce others
+PrintsAtMostOnce (code ∷ others) = (gives_words code ≡ true → PrintsNothing others) × PrintsAtMostOnce others
 
 -- the words of these nodes, one node after another
 abbrev pub words_in_order : List ℕ → (ℕ → List Word) → List Word
@@ -59,35 +64,38 @@ Tells n (RoundFault q stop words) (Faulted round blame printed) =
     (q ≡ round) × (stop.node ≡ blame.node) × (stop.firing ≡ q) × (stop.cause ≡ blame.cause) × (printed ≡ words_in_order (nodes_from 0 n) words)
 Tells n _ _ = ⊥
 
--- the names in each filter are known
-abbrev pub AreKnown : List Filter → Type 0
-AreKnown [] = Unit {0}
-AreKnown (filter ∷ others) = IsClosedFilter filter × AreKnown others
+-- the names in a filter are known
+abbrev pub IsKnown : NodeCode → Type 0
+IsKnown (Filter name filter) = IsClosedFilter filter
+IsKnown _ = Unit {0}
 
--- the rounds of a pipeline of settled filters, a source first, whose rates are checked and of which at most one prints, end as its answer says
+abbrev pub AreKnown : List NodeCode → Type 0
+AreKnown [] = Unit {0}
+AreKnown (code ∷ others) = IsKnown code × AreKnown others
+
+-- so many rounds of these nodes end as the answer of a stream says, which has them
+abbrev pub EndsAsAnswered : trees.Stream NodeCode → List NodeCode → ℕ → Type 0
+EndsAsAnswered stream nodes k =
+    (outcome : Outcome Cause Word)
+    × IsAnswer node_meaning stream [] (λ node. 0) (once_each (length nodes)) [] (nodes_from 0 (length nodes)) k outcome
+    × Tells (length nodes) outcome (laps k 0 (loaded nodes) [])
+
+-- the rounds of a stream whose flat graph is a chain of settled nodes, a source first, whose rates are checked and of which at most one
+-- prints, end as its answer says
 abbrev pub LapsAreAnswers : Type 0
 LapsAreAnswers =
-    (first : Filter) (others : List Filter) (k : ℕ)
-    → first.input ≡ item.Void
+    (stream : trees.Stream NodeCode) (first : NodeCode) (others : List NodeCode) (k : ℕ)
+    → IsChain first others (flat stream)
+    → input_ports first ≡ 0
     → AreKnown (first ∷ others)
-    → IsJoined first others
+    → AreJoined first others
     → rates_checked 0 (first ∷ others) ≡ Ok tt
     → are_settled (first ∷ others) ≡ true
     → PrintsAtMostOnce (first ∷ others)
-    → (outcome : Outcome Cause Word)
-    × IsAnswer filter_meaning (pipeline_of first others) [] (λ node. 0) (once_each (suc (length others))) [] (nodes_from 0 (suc (length others))) k outcome
-    × Tells (suc (length others)) outcome (laps k 0 (loaded (first ∷ others)) [])
+    → EndsAsAnswered stream (first ∷ others) k
 
--- so many rounds of these filters, a first one and others, end as the answer of their pipeline says
-abbrev pub EndsAsAnswered : List Filter → ℕ → Type 0
-EndsAsAnswered filters k =
-    (first : Filter) × (others : List Filter)
-    × (filters ≡ first ∷ others)
-    × (outcome : Outcome Cause Word)
-    × IsAnswer filter_meaning (pipeline_of first others) [] (λ node. 0) (once_each (suc (length others))) [] (nodes_from 0 (suc (length others))) k outcome
-    × Tells (suc (length others)) outcome (laps k 0 (loaded filters) [])
-
--- the rounds of an accepted text whose filters are settled end as its answer says
+-- the rounds of an accepted text whose nodes are settled end as the answer of its stream says
 abbrev pub AcceptedRunsAreAnswers : Type 0
 AcceptedRunsAreAnswers =
-    (text : List ℕ) (main : Option (List ℕ)) (filters : List Filter) (k : ℕ) → Accepts text main filters → are_settled filters ≡ true → EndsAsAnswered filters k
+    (text : List ℕ) (main : Option (List ℕ)) (stream : Stream) (k : ℕ)
+    → Accepts text main stream → are_settled (nodes_of stream) ≡ true → EndsAsAnswered (tree_of stream) (nodes_of stream) k

@@ -1,18 +1,34 @@
--- Filters that are ready to fire, as the definitions see them.
-use Rattle.std.specs.Prelude.{List, map}
-use Rattle.strc_work.specs.Filters.{Filter, filter_of}
-use Rattle.strc_cli.specs.declared.instance.Instance.{Instance}
+-- Nodes that are ready to fire, as the definitions see them.
+use Rattle.std.specs.Prelude.{◌≡◌, ℤ, List, [], map, Ok}
+use Rattle.strc_work.specs.Filters.{filter_of}
+use Rattle.strc_work.specs.Firing.{started}
+use Rattle.strc_elab.specs.Graphs.{NodeCode, Filter, Identity}
+use Rattle.strc_cli.specs.declared.ready.ReadyNode.{ReadyNode}
+use Rattle.strc_cli.specs.declared.ready.ReadyNode.TheVariants as ready
 use Rattle.strc_cli.specs.Pipeline.{Loaded}
 
-abbrev pub filter_in : Instance → Filter
-filter_in instance = filter_of instance.code
+-- a node's code
+abbrev pub code_in : ReadyNode → NodeCode
+code_in (ready.Filter filter) = Filter filter.instance.name (filter_of filter.instance.code)
+code_in ready.Identity = Identity
 
--- a filter with the values of its fields
-abbrev pub loaded_in : Instance → Loaded
-loaded_in instance = record { filter = filter_of instance.code; fields = instance.state.fields }
+-- the values of its fields
+abbrev pub fields_in : ReadyNode → List ℤ
+fields_in (ready.Filter filter) = filter.state.fields
+fields_in ready.Identity = []
 
-abbrev pub filters_in : List Instance → List Filter
-filters_in instances = map filter_in instances
+-- both
+abbrev pub loaded_in : ReadyNode → Loaded
+loaded_in node = record { code = code_in node; fields = fields_in node }
 
-abbrev pub all_loaded_in : List Instance → List Loaded
-all_loaded_in instances = map loaded_in instances
+abbrev pub codes_in : List ReadyNode → List NodeCode
+codes_in nodes = map code_in nodes
+
+abbrev pub all_loaded_in : List ReadyNode → List Loaded
+all_loaded_in nodes = map loaded_in nodes
+
+-- a node that starts without a fault; those of other kinds aren't made yet
+abbrev pub CanStart : NodeCode → Type 0
+CanStart (Filter name filter) = (fields : List ℤ) × (started filter ≡ Ok fields)
+CanStart Identity = Unit {0}
+CanStart _ = ⊥

@@ -61,13 +61,16 @@ refusal_words (refusal.UnknownName name) = codes "E4 UnknownName" ++ codes " nam
 refusal_words (refusal.TypeMismatch stream) = codes "E5 TypeMismatch" ++ codes " stream " ++ decimal stream
 refusal_words refusal.NoMain = codes "E6 NoMain"
 refusal_words refusal.ManyMains = codes "E7 ManyMains"
+refusal_words refusal.DepthLimit = codes "E8 DepthLimit"
 refusal_words refusal.NodeLimit = codes "E9 NodeLimit"
+refusal_words (refusal.BadArguments stream) = codes "E10 BadArguments" ++ codes " stream " ++ decimal stream
 refusal_words (refusal.ConstFault cause) = codes "E12 ConstFault" ++ codes " cause " ++ cause_name cause
 refusal_words (refusal.RateUnknown node) = codes "E13 RateUnknown" ++ codes " node " ++ decimal node
 refusal_words (refusal.RateMismatch node declared counted) =
     codes "E14 RateMismatch" ++ codes " node " ++ decimal node ++ (codes " declared " ++ decimal declared ++ codes " counted " ++ decimal counted)
 refusal_words (refusal.PeekOutside node) = codes "E15 PeekOutside" ++ codes " node " ++ decimal node
 refusal_words (refusal.RateLimit node) = codes "E16 RateLimit" ++ codes " node " ++ decimal node
+refusal_words refusal.TwoInputs = codes "E17 TwoInputs"
 refusal_words refusal.TwoOutputs = codes "E18 TwoOutputs"
 refusal_words refusal.Disconnected = codes "E19 Disconnected"
 refusal_words refusal.NoMemory = codes "E25 NoMemory"

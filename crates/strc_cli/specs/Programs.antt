@@ -1,15 +1,15 @@
--- Which texts are accepted, with which filters, and which are refused, with which refusal.
-use Rattle.std.specs.Prelude.{◌≡◌, ℕ, ◌<◌, ◌≤◌, ◌⊎◌, List, length, Option, Ok, Err}
+-- Which texts are accepted, with which stream, and which are refused, with which refusal.
+use Rattle.std.specs.Prelude.{ℕ, ◌<◌, ◌≤◌, ◌⊎◌, List, length, Option}
 use Rattle.strc_lex.specs.Text.{Lexes, StopsAt, text_limit}
 use Rattle.strc_lex.specs.declared.token.Token.{Token}
 use Rattle.strc_parse.specs.Tree.{Declaration}
 use Rattle.strc_parse.specs.Grammar as grammar
 use Rattle.strc_parse.specs.declared.error.ParseError.{ParseError}
 use Rattle.strc_parse.specs.declared.error.ParseError.TheVariants as parsing
-use Rattle.strc_work.specs.Filters.{Filter}
+use Rattle.strc_elab.specs.Instances.{Stream}
 use Rattle.strc_cli.specs.declared.refusal.Refusal.{Refusal}
 use Rattle.strc_cli.specs.declared.refusal.Refusal.TheVariants as refusal
-use Rattle.strc_cli.specs.Elaboration.{compiled}
+use Rattle.strc_cli.specs.Compiling.{Compiles, Breaks}
 
 -- the tokens of a text that isn't too long
 pub record HasTokens (text : List ℕ) (tokens : List Token) : Type 0 where
@@ -22,11 +22,11 @@ pub record IsText (text : List ℕ) (program : List Declaration) : Type 0 where
   pub has_tokens : HasTokens text tokens
   pub parses : grammar.Parses (grammar.kinds tokens) program
 
--- the text is accepted, with these filters
-pub record Accepts (text : List ℕ) (main : Option (List ℕ)) (filters : List Filter) : Type 0 where
+-- the text is accepted, with this stream
+pub record Accepts (text : List ℕ) (main : Option (List ℕ)) (stream : Stream) : Type 0 where
   pub program : List Declaration
   pub is_text : IsText text program
-  pub compiles : compiled program main ≡ Ok filters
+  pub compiles : Compiles program main stream
 
 -- the text's tokens are refused so by the grammar
 abbrev pub IsNoProgram : List ℕ → ParseError → Type 0
@@ -34,7 +34,7 @@ IsNoProgram text broken = (tokens : List Token) × HasTokens text tokens × gram
 
 -- the text spells a program that breaks this rule
 abbrev pub BreaksRule : List ℕ → Option (List ℕ) → Refusal → Type 0
-BreaksRule text main refused = (program : List Declaration) × IsText text program × (compiled program main ≡ Err refused)
+BreaksRule text main refused = (program : List Declaration) × IsText text program × Breaks program main refused
 
 -- the text is refused so before there is a program: for its length, its tokens or its tree
 abbrev pub IsUnreadable : List ℕ → Refusal → Type 0
@@ -60,4 +60,4 @@ IsReadRefusal text refused = IsUnreadable text refused
 
 -- no text is both accepted and refused
 abbrev pub AcceptedOrRefused : Type 0
-AcceptedOrRefused = (text : List ℕ) (main : Option (List ℕ)) (filters : List Filter) (refused : Refusal) → Accepts text main filters → Refuses text main refused → ⊥
+AcceptedOrRefused = (text : List ℕ) (main : Option (List ℕ)) (stream : Stream) (refused : Refusal) → Accepts text main stream → Refuses text main refused → ⊥

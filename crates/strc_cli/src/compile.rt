@@ -1,34 +1,32 @@
-// From the text to the filters that are run, or the first refusal.
+// From the text to the nodes that are run, or the first refusal.
 
-ghost use Rattle.std.specs.Prelude.{◌≡◌, IfOk, IfErr, true, false};
+ghost use Rattle.std.specs.Prelude.{IfOk, IfErr};
 ghost use Rattle.std.specs.Option.{option_map};
 ghost use Rattle.strc_parse.specs.View.{program_view};
-ghost use Rattle.strc_cli.specs.Elaboration as spec;
-ghost use Rattle.strc_cli.specs.Loading.{filters_in, all_loaded_in};
-ghost use Rattle.strc_cli.specs.Pipeline.{loaded};
-ghost use Rattle.strc_cli.specs.Programs.{Accepts, IsTrueOf, IsText, IsReadRefusal};
-ghost use Rattle.strc_cli.specs.Verdicts.{IsVerdict};
+ghost use Rattle.strc_cli.specs.Compiling.{IsCompiled};
+ghost use Rattle.strc_cli.specs.Programs.{IsText, IsReadRefusal};
+ghost use Rattle.strc_cli.specs.Readiness.{HasNodes};
 
-use crate::elaborate::elaborate;
-use crate::instance::Instance;
 use crate::rates::check_rates;
+use crate::ready::ReadyNode;
 use crate::refusal::Refusal;
+use crate::start::ready_nodes;
 use std::alloc::Global;
+use strc_elab::elaborate::elaborate;
+use strc_elab::flatten::flatten;
 use strc_lex::error::LexError;
 use strc_lex::lexer::lex;
-use strc_parse::tree::{ItemType, Program};
+use strc_parse::tree::Program;
 use strc_parse::{ParseError, parse};
 
-/// The filters of the program's main stream, in order; the first rule that is broken refuses it:
-/// those of its tokens, its tree, its elaboration, its outputs and connections, and its rates.
+/// The nodes of the program's main stream in preorder, ready to fire; the first rule that is broken refuses it:
+/// those of its tokens, its tree, its elaboration, its flat graph, and its rates.
 pub(crate) fn compile(
     alloc: Global,
     text: &[u8],
     main: Option<&str>,
-) -> Result<Vec<Instance>, Refusal>
-    ensures accepted { IfOk result (λ v. Accepts text.now (option_map (λ n. n.now) main.entry) (filters_in v.items)) }
-    ensures refused { IfErr result (λ e. IsTrueOf text.now (option_map (λ n. n.now) main.entry) e) }
-    ensures loaded { IfOk result (λ v. all_loaded_in v.items ≡ loaded (filters_in v.items)) }
+) -> Result<Vec<ReadyNode>, Refusal>
+    ensures { HasNodes text.now (option_map (λ n. n.now) main.entry) result }
 {
     match read_program(alloc, text) {
         Ok(program) => compile_program(alloc, &program, main),
@@ -36,37 +34,18 @@ pub(crate) fn compile(
     }
 }
 
-// The filters of a program that was read.
+// The nodes of a program that was read.
 fn compile_program(
     alloc: Global,
     program: &Program,
     main: Option<&str>,
-) -> Result<Vec<Instance>, Refusal>
-    ensures verdict { IsVerdict (λ v. filters_in v.items) (spec.compiled (program_view program.now) (option_map (λ n. n.now) main.entry)) result }
-    ensures loaded { IfOk result (λ v. all_loaded_in v.items ≡ loaded (filters_in v.items)) }
+) -> Result<Vec<ReadyNode>, Refusal>
+    ensures { IsCompiled (program_view program.now) (option_map (λ n. n.now) main.entry) result }
 {
-    let filters = match elaborate(alloc, program, main) {
-        Ok(filters) => filters,
-        Err(refusal) => return Err(refusal),
-    };
-    match check_filters(alloc, &filters) {
-        Ok(()) => Ok(filters),
-        Err(refusal) => Err(refusal),
-    }
-}
-
-// What is asked of filters together: outputs, connections, rates.
-fn check_filters(alloc: Global, filters: &[Instance]) -> Result<(), Refusal>
-    ensures { IsVerdict (λ done. done) (spec.filters_checked (filters_in filters.now)) result }
-{
-    match check_outputs(filters) {
-        Ok(()) => {}
-        Err(refusal) => return Err(refusal),
-    }
-    match check_connections(filters) {
-        Ok(()) => check_rates(alloc, filters),
-        Err(refusal) => Err(refusal),
-    }
+    let stream = elaborate(alloc, program, main)?;
+    let graph = flatten(alloc, stream)?;
+    check_rates(alloc, graph.nodes())?;
+    Ok(ready_nodes(alloc, graph.into_nodes())?)
 }
 
 fn read_program(alloc: Global, text: &[u8]) -> Result<Program, Refusal>
@@ -85,34 +64,4 @@ fn read_program(alloc: Global, text: &[u8]) -> Result<Program, Refusal>
         Err(ParseError::Nesting) => Err(Refusal::Nesting),
         Err(ParseError::NoMemory) => Err(Refusal::NoMemory),
     }
-}
-
-// At most one filter prints.
-fn check_outputs(filters: &[Instance]) -> Result<(), Refusal>
-    ensures { result ≡ spec.outputs_checked false (filters_in filters.now) }
-{
-    let mut found = false;
-    for filter in filters {
-        if filter.code.prints() {
-            if found {
-                return Err(Refusal::TwoOutputs);
-            }
-            found = true;
-        }
-    }
-    Ok(())
-}
-
-// Each filter but the last one has a channel to the next.
-fn check_connections(filters: &[Instance]) -> Result<(), Refusal>
-    ensures { result ≡ spec.connections_checked true (filters_in filters.now) }
-{
-    let mut joined = true;
-    for filter in filters {
-        if !joined {
-            return Err(Refusal::Disconnected);
-        }
-        joined = filter.code.tree().output == ItemType::Int;
-    }
-    Ok(())
 }

@@ -139,17 +139,17 @@ enum Stop {
 fn answer(alloc: Global, text: &[u8], command: &Command) -> Result<Outcome, Stop>
     ensures { IsAnswered text.now (main_of command.now) (rounds_of command.now) result }
 {
-    let mut filters = match compile(alloc, text, main_name(command)) {
-        Ok(filters) => filters,
+    let mut nodes = match compile(alloc, text, main_name(command)) {
+        Ok(nodes) => nodes,
         Err(refusal) => return Err(Stop::Refused(refusal)),
     };
     let Some(rounds) = round_count(command) else {
         return Err(Stop::Refused(Refusal::RoundsNeeded));
     };
-    if !are_settled(&filters) {
+    if !are_settled(&nodes) {
         return Err(Stop::Refused(Refusal::NotYet));
     }
-    match run(alloc, &mut filters, rounds) {
+    match run(alloc, &mut nodes, rounds) {
         Ok(outcome) => Ok(outcome),
         Err(_) => Err(Stop::NoMemory),
     }

@@ -1,23 +1,22 @@
 // Takes the words of the command line, a program's text and its input.
 // Gives the printed numbers, or one named fault and the numbers before its round, or one named refusal.
 // The theorem to rely on: `execute` tells exactly the answer of a text: an outcome of its rounds, or a refusal that holds.
-// Stands on strc_lex, strc_parse, strc_work and strc_rate, and on clap for the command line.
+// Stands on strc_lex, strc_parse, strc_elab, strc_work and strc_rate, and on clap for the command line.
 #![tactic(auto)]
 
 mod compile;
 pub mod device;
-mod elaborate;
 pub mod execute;
-mod index;
-mod instance;
 pub mod laws;
 pub mod line;
 mod outcome;
 mod output;
 pub mod program_text;
 mod rates;
+mod ready;
 pub mod refusal;
 mod runner;
 mod settled;
+mod start;
 mod text;
 pub mod words;

@@ -106,7 +106,11 @@ fn push_refusal(text: &mut Vec<u8>, refusal: &Refusal) -> Result<(), AllocError>
         }
         Refusal::NoMain => push_bytes(text, b"E6 NoMain"),
         Refusal::ManyMains => push_bytes(text, b"E7 ManyMains"),
+        Refusal::DepthLimit => push_bytes(text, b"E8 DepthLimit"),
         Refusal::NodeLimit => push_bytes(text, b"E9 NodeLimit"),
+        Refusal::BadArguments { stream } => {
+            push_field(text, b"E10 BadArguments", b" stream ", *stream as u64)
+        }
         Refusal::ConstFault { cause } => {
             push_named(text, b"E12 ConstFault", b" cause ", cause_name(*cause))
         }
@@ -122,6 +126,7 @@ fn push_refusal(text: &mut Vec<u8>, refusal: &Refusal) -> Result<(), AllocError>
             push_field(text, b"E15 PeekOutside", b" node ", *node as u64)
         }
         Refusal::RateLimit { node } => push_field(text, b"E16 RateLimit", b" node ", *node as u64),
+        Refusal::TwoInputs => push_bytes(text, b"E17 TwoInputs"),
         Refusal::TwoOutputs => push_bytes(text, b"E18 TwoOutputs"),
         Refusal::Disconnected => push_bytes(text, b"E19 Disconnected"),
         Refusal::NoMemory => push_bytes(text, b"E25 NoMemory"),

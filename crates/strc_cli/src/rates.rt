@@ -1,28 +1,48 @@
-// The rates of the filters of a program, node by node.
+// The rates of the nodes of a program, one by one.
 
 ghost use Rattle.std.specs.Prelude.{◌≡◌, map};
 ghost use Rattle.strc_work.specs.Filters as filters;
-ghost use Rattle.strc_work.specs.Filters.{filter_of};
+ghost use Rattle.strc_elab.specs.View.{node_view};
 ghost use Rattle.strc_cli.specs.Rates as spec;
 ghost use Rattle.strc_cli.specs.Verdicts.{IsVerdict};
 
-use crate::instance::Instance;
 use crate::refusal::Refusal;
 use std::alloc::Global;
+use strc_elab::graph::Node;
 use strc_rate::rates::{RateError, check};
 
-/// Tests the rates of each filter, in order, and tells the first refusal of its node: limits, counts, declared against
-/// counted, and peeks; of each filter the prework before the work.
-pub(crate) fn check_rates(alloc: Global, filters: &[Instance]) -> Result<(), Refusal>
-    ensures { IsVerdict (λ done. done) (spec.rates_checked 0 (map (λ i. filter_of i.code) filters.now)) result }
+/// Tests the rates of each node, in order, and tells the first refusal of its node: of a filter limits, counts, declared
+/// against counted, and peeks, of the prework before the work.
+pub(crate) fn check_rates(alloc: Global, nodes: &[Node]) -> Result<(), Refusal>
+    ensures { IsVerdict (λ done. done) (spec.rates_checked 0 (map node_view nodes.now)) result }
 {
-    for (node, filter) in filters.iter().enumerate() {
-        match check(alloc, &filter.code) {
-            Ok(_) => {}
-            Err(error) => return Err(told_of_node(node, error)),
+    for (number, node) in nodes.iter().enumerate() {
+        match check_node(alloc, number, node) {
+            Ok(()) => {}
+            Err(refusal) => return Err(refusal),
         }
     }
     Ok(())
+}
+
+// Tests the rates of a node; nodes other than filters have none to test.
+fn check_node(alloc: Global, number: usize, node: &Node) -> Result<(), Refusal>
+    ensures { IsVerdict (λ done. done) (spec.node_checked number (node_view node.now)) result }
+{
+    match node {
+        Node::Filter(instance) => match check(alloc, &instance.code) {
+            Ok(_) => Ok(()),
+            Err(error) => Err(told_of_node(number, error)),
+        },
+        Node::Identity
+        | Node::FileReader
+        | Node::FileWriter
+        | Node::Splitter(_)
+        | Node::Joiner(_)
+        | Node::Scatter(_)
+        | Node::Copy(_, _)
+        | Node::Gather(_) => Ok(()),
+    }
 }
 
 // A refusal of a filter's rates, told of its node.

@@ -1,11 +1,14 @@
 // Why a program isn't run.
 
 ghost use Rattle.std.specs.Prelude.{◌≡◌};
+ghost use Rattle.strc_cli.specs.Compiling.{refusal_of};
 ghost use Rattle.strc_cli.specs.declared.refusal.Refusal.TheVariants.{NoMemory};
 
 use std::alloc::{AllocError, AllocFailed};
+use strc_elab::error::ElabError;
 use strc_lex::token::Name;
 use strc_work::fault::Cause;
+use strc_work::memory;
 
 /// Why a text is refused. Bytes, tokens, declarations and nodes are numbered from 0.
 #[derive(Debug, Drop)]
@@ -34,9 +37,15 @@ pub enum Refusal {
     NoMain,
     /// Several declarations can be the main stream, and none is named.
     ManyMains,
+    /// A stream would stand deeper than 64 levels, the main one being at level 1.
+    DepthLimit,
     /// More than 4,096 nodes.
     NodeLimit,
-    /// A fault in an initialiser.
+    /// The wrong number of arguments; the declaration that holds the statement.
+    BadArguments {
+        stream: usize,
+    },
+    /// A fault in the statements of a composite stream, in a rate, a length, an initialiser or `init`.
     ConstFault {
         cause: Cause,
     },
@@ -58,6 +67,8 @@ pub enum Refusal {
     RateLimit {
         node: usize,
     },
+    /// More than one node takes the input.
+    TwoInputs,
     /// More than one node prints.
     TwoOutputs,
     /// The nodes aren't all connected.
@@ -68,6 +79,36 @@ pub enum Refusal {
     Nesting,
     /// No number of rounds is given, and no input bounds it.
     RoundsNeeded,
+}
+
+impl From<ElabError> for Refusal {
+    ghost from_gives = { λ e r. r ≡ refusal_of e };
+
+    fn from(error: ElabError) -> Refusal {
+        match error {
+            ElabError::NotYet => Refusal::NotYet,
+            ElabError::UnknownName { name } => Refusal::UnknownName { name },
+            ElabError::TypeMismatch { stream } => Refusal::TypeMismatch { stream },
+            ElabError::NoMain => Refusal::NoMain,
+            ElabError::ManyMains => Refusal::ManyMains,
+            ElabError::DepthLimit => Refusal::DepthLimit,
+            ElabError::NodeLimit => Refusal::NodeLimit,
+            ElabError::BadArguments { stream } => Refusal::BadArguments { stream },
+            ElabError::ConstFault { cause } => Refusal::ConstFault { cause },
+            ElabError::TwoInputs => Refusal::TwoInputs,
+            ElabError::TwoOutputs => Refusal::TwoOutputs,
+            ElabError::Disconnected => Refusal::Disconnected,
+            ElabError::NoMemory => Refusal::NoMemory,
+        }
+    }
+}
+
+impl From<memory::NoMemory> for Refusal {
+    ghost from_gives = { λ _ e. e ≡ NoMemory };
+
+    fn from(_error: memory::NoMemory) -> Refusal {
+        Refusal::NoMemory
+    }
 }
 
 impl From<AllocError> for Refusal {

@@ -1,15 +1,14 @@
-// Runs a pipeline of filters, round by round.
+// Runs nodes in a row, round by round.
 
 ghost use Rattle.std.specs.Prelude.{◌≡◌, ◌++◌, [], List, ℤ, Ok, Err, IfOk, MatchResult};
 ghost use Rattle.strc_work.specs.Answers.{Fires};
-ghost use Rattle.strc_work.specs.Firing.{fired};
 ghost use Rattle.strc_work.specs.Running.{MoreWords};
-ghost use Rattle.strc_cli.specs.Loading.{filter_in, all_loaded_in};
-ghost use Rattle.strc_cli.specs.Pipeline.{laps, lap_from};
+ghost use Rattle.strc_cli.specs.Loading.{code_in, fields_in, all_loaded_in};
+ghost use Rattle.strc_cli.specs.Pipeline.{laps, lap_from, node_fired};
 ghost use Rattle.strc_cli.specs.Running.{Laps, IsEnding};
 
-use crate::instance::Instance;
 use crate::outcome::{Fault, Outcome};
+use crate::ready::{ReadyFilter, ReadyNode};
 use std::alloc::{AllocError, Global};
 use strc_work::code::Body;
 use strc_work::fault::{Cause, Halt};
@@ -22,19 +21,19 @@ enum Stop {
     NoMemory,
 }
 
-/// Fires each filter once a round, in order. An error is want of memory.
+/// Fires each node once a round, in order. An error is want of memory.
 pub(crate) fn run(
     alloc: Global,
-    filters: &mut [Instance],
+    nodes: &mut [ReadyNode],
     rounds: u32,
 ) -> Result<Outcome, AllocError>
-    ensures { IfOk result (λ outcome. IsEnding outcome (laps rounds 0 (all_loaded_in filters.old) [])) }
+    ensures { IfOk result (λ outcome. IsEnding outcome (laps rounds 0 (all_loaded_in nodes.old) [])) }
 {
     let mut words = Vec::new(alloc);
     let mut channel = Vec::with_capacity(alloc, 1)?;
     for round in 0..rounds {
         let before = words.len();
-        match run_round(filters, &mut channel, &mut words) {
+        match run_round(nodes, &mut channel, &mut words) {
             Ok(()) => {}
             Err(Stop::Fault { node, cause }) => {
                 words.truncate(before);
@@ -52,18 +51,18 @@ pub(crate) fn run(
     Ok(Outcome::Done(words))
 }
 
-// One round: what a filter pushes stands on the channel to the next one.
+// One round: what a node pushes stands on the channel to the next one.
 fn run_round(
-    filters: &mut [Instance],
+    nodes: &mut [ReadyNode],
     channel: &mut Vec<i32>,
     words: &mut Vec<Word>,
 ) -> Result<(), Stop>
-    ensures { Laps (lap_from 0 (all_loaded_in filters.old) []) result (all_loaded_in filters.new)
+    ensures { Laps (lap_from 0 (all_loaded_in nodes.old) []) result (all_loaded_in nodes.new)
         words.old.items words.new.items }
 {
     channel.clear();
-    for node in 0..filters.len() {
-        match fire(&mut filters[node], channel, words) {
+    for node in 0..nodes.len() {
+        match fire(&mut nodes[node], channel, words) {
             Ok(()) => {}
             Err(Halt::Fault(cause)) => return Err(Stop::Fault { node, cause }),
             Err(Halt::NoMemory) => return Err(Stop::NoMemory),
@@ -72,15 +71,32 @@ fn run_round(
     Ok(())
 }
 
-// One firing, from the items on the channel before the filter to those behind it.
-fn fire(filter: &mut Instance, channel: &mut Vec<i32>, words: &mut Vec<Word>) -> Result<(), Halt>
-    ensures fires { Fires (fired (filter_in filter.old) Body.Work filter.old.state.fields channel.old.items) result
-        filter.new.state.fields channel.new.items words.old.items words.new.items }
+// One firing, from the items on the channel before the node to those behind it.
+fn fire(node: &mut ReadyNode, channel: &mut Vec<i32>, words: &mut Vec<Word>) -> Result<(), Halt>
+    ensures fires { Fires (node_fired (code_in node.old) (fields_in node.old) channel.old.items) result
+        (fields_in node.new) channel.new.items words.old.items words.new.items }
     ensures words { MoreWords words.old.items words.new.items }
-    ensures same { filter_in filter.new ≡ filter_in filter.old }
+    ensures same { code_in node.new ≡ code_in node.old }
+{
+    match node {
+        ReadyNode::Filter(filter) => fire_filter(filter, channel, words),
+        ReadyNode::Identity => Ok(()),
+    }
+}
+
+// One firing of a filter.
+fn fire_filter(
+    filter: &mut ReadyFilter,
+    channel: &mut Vec<i32>,
+    words: &mut Vec<Word>,
+) -> Result<(), Halt>
+    ensures fires { Fires (node_fired (code_in (ReadyNode.Filter filter.old)) filter.old.state.fields channel.old.items)
+        result filter.new.state.fields channel.new.items words.old.items words.new.items }
+    ensures words { MoreWords words.old.items words.new.items }
+    ensures same { filter.new.instance ≡ filter.old.instance }
 {
     let window = channel.as_slice();
-    filter.code.fire(
+    filter.instance.code.fire(
         Body::Work,
         &mut filter.state,
         &mut filter.frame,

@@ -1,30 +1,42 @@
-// Which filters are run so far.
+// Which nodes are run so far.
 
-ghost use Rattle.std.specs.Prelude.{◌≡◌, map};
+ghost use Rattle.std.specs.Prelude.{◌≡◌};
 ghost use Rattle.strc_work.specs.Filters.{filter_of};
+ghost use Rattle.strc_elab.specs.Graphs as graphs;
 ghost use Rattle.strc_cli.specs.Answers as spec;
+ghost use Rattle.strc_cli.specs.Loading.{code_in, codes_in};
 
-use crate::instance::Instance;
 use crate::rates::item_count;
+use crate::ready::ReadyNode;
 use strc_parse::tree::ItemType;
 use strc_work::code::{Body, Code};
 
-/// Whether all filters are run so far.
-pub(crate) fn are_settled(filters: &[Instance]) -> bool
-    ensures { result ≡ spec.are_settled (map (λ i. filter_of i.code) filters.now) }
+/// Whether all nodes are run so far.
+pub(crate) fn are_settled(nodes: &[ReadyNode]) -> bool
+    ensures { result ≡ spec.are_settled (codes_in nodes.now) }
 {
-    for filter in filters {
-        if !is_settled(&filter.code) {
+    for node in nodes {
+        if !is_settled(node) {
             return false;
         }
     }
     true
 }
 
-/// Whether a filter is: it has no prework, its work looks at no item beyond those that it takes, and no declared rate
-/// is above the highest one.
-fn is_settled(code: &Code) -> bool
-    ensures { result ≡ spec.is_settled (filter_of code.now) }
+// Whether a node is: a filter that is settled, or an identity.
+fn is_settled(node: &ReadyNode) -> bool
+    ensures { result ≡ spec.is_settled (code_in node.now) }
+{
+    match node {
+        ReadyNode::Filter(filter) => is_settled_filter(&filter.instance.code),
+        ReadyNode::Identity => true,
+    }
+}
+
+// Whether a filter is: it has no prework, its work looks at no item beyond those that it takes, and no declared rate
+// is above the highest one.
+fn is_settled_filter(code: &Code) -> bool
+    ensures { result ≡ spec.is_settled_filter (filter_of code.now) }
 {
     let rates = code.rates(Body::Work);
     let tree = code.tree();
@@ -36,7 +48,7 @@ fn is_settled(code: &Code) -> bool
 
 // The highest rate on a side that is run so far: one item, and none on a void side.
 fn highest_rate(side: ItemType) -> u32
-    ensures { result ≡ spec.highest_rate side }
+    ensures { result ≡ graphs.ports_of side }
 {
     match side {
         ItemType::Int => 1,

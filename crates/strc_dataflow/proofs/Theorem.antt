@@ -1,5 +1,5 @@
 -- The theorems of streams, from those of any graph and any solutions.
-use Rattle.std.proofs.Common.{◌≡◌, sym, ◌∙◌, ℕ, List, ℤ, ◌≤◌}
+use Rattle.std.proofs.Common.{◌≡◌, sym, subst, ◌∙◌, ℕ, List, ℤ, ◌≤◌}
 use Rattle.strc_dataflow.specs.Node.{Meaning}
 use Rattle.strc_dataflow.specs.Histories.{KeepsRates}
 use Rattle.strc_dataflow.specs.Flat.{Graph, runs_at}
@@ -8,10 +8,11 @@ use Rattle.strc_dataflow.specs.Order.{counts_after, IsSchedule}
 use Rattle.strc_dataflow.specs.Machine.{Stop, go, at_first}
 use Rattle.strc_dataflow.specs.Queues.{Fifo, fifo_go, fifo_at_first, IsQueued, IsAlike, TakesWithinWindow}
 use Rattle.strc_dataflow.specs.Answer.{Outcome, Outcome.Done, Outcome.StartupFault, Outcome.RoundFault, IsAnswer, stream_runs, whole_run}
-use Rattle.strc_dataflow.specs.Laws.{ExactlyOne, OrdersAgree, QueueRunGivesAnswer}
+use Rattle.strc_dataflow.specs.Laws.{ChainRunsInOrder, ExactlyOne, OrdersAgree, QueueRunGivesAnswer}
 use mathlib.Core.Logic.{inl, inr}
 use Rattle.strc_dataflow.proofs.WholeRun.{run_gives, answer_is_run, same_verdict}
 use Rattle.strc_dataflow.proofs.Solved.{stream_solves}
+use Rattle.strc_dataflow.proofs.Chain.{chain_schedule}
 use Rattle.strc_dataflow.proofs.Queued.{machines_alike, queued_at_first, fifo_run-whole_run}
 
 module _ {Code State Cause Word : Type 0} (meaning : Meaning Code State Cause Word) (stream : Stream Code) (input : List ℤ) (startup round : ℕ → ℕ) (startup_order round_order : List ℕ) (k : ℕ)
@@ -89,3 +90,9 @@ orders_agree meaning stream input startup round startup_order round_order other_
     let b = run_gives meaning (flat stream) input keeps startup round other_startup other_round k other inputs solves in
     same_verdict (λ q. runs_at meaning (flat stream) (counts_after startup round q) (inputs q)) startup round startup_order round_order other_startup other_round k
     (whole_run meaning (flat stream) input round_order startup_order k) (whole_run meaning (flat stream) input other_round other_startup k) a.0 b.0 b.1
+
+-- A chain of nodes, in order.
+pub chain_runs : {Code State Cause Word : Type 0} → ChainRunsInOrder Code State Cause Word
+chain_runs meaning stream first others input k chain keeps matched =
+    let schedule = chain_schedule meaning (flat stream) input first others chain matched k in
+    (schedule, stream_run_gives meaning stream input _ _ _ _ k (λ node. subst (KeepsRates meaning) (sym (chain.codes node)) (keeps node)) schedule)

@@ -117,6 +117,18 @@ OrderIsValidAgain Code State Cause Word =
     → IsOrder meaning graph input (counts_after startup round 0) round_order
     → (q : ℕ) → q < k → IsOrder meaning graph input (counts_after startup round q) round_order
 
+-- A stream whose flat graph is a chain of nodes, a source first, in which each node looks at no more than the one before gives: firing its
+-- nodes in order, each once a round, is a schedule without start-up, and gives the answer.
+abbrev pub ChainRunsInOrder : (Code State Cause Word : Type 0) → Type 0
+ChainRunsInOrder Code State Cause Word =
+    (meaning : Meaning Code State Cause Word) (stream : Stream Code) (first : Code) (others : List Code) (input : List ℤ) (k : ℕ)
+    → IsChain first others (flat stream)
+    → ((node : ℕ) → KeepsRates meaning (get_or (first ∷ others) node first))
+    → IsMatched meaning first others
+    → IsSchedule meaning (flat stream) input (λ node. 0) (once_each (suc (length others))) [] (nodes_from 0 (suc (length others))) k
+    × IsAnswer meaning stream input (λ node. 0) (once_each (suc (length others))) [] (nodes_from 0 (suc (length others))) k
+    (whole_run meaning (flat stream) input (nodes_from 0 (suc (length others))) [] k)
+
 -- A pipeline of filters, a source first, in which each filter looks at no more than the one before gives, is a chain of nodes; firing
 -- them in order, each once a round, is a schedule without start-up, and gives the answer.
 abbrev pub PipelineRunsInOrder : (Code State Cause Word : Type 0) → Type 0

@@ -5,7 +5,7 @@
 // Stands on std alone.
 #![tactic(auto)]
 
-ghost use Rattle.strc_dataflow.specs.Laws.{AnswerIsOne, AnySolution, FillsAreByCounts, OnlyPortsMatter, OrderIsValidAgain, OrdersAgree, PipelineRunsInOrder, QueueRunGivesAnswer, QueuesHoldTheRest, RunGivesAnswer, SolutionSolves, SplittersAndJoiners, StateSolves};
+ghost use Rattle.strc_dataflow.specs.Laws.{AnswerIsOne, AnySolution, ChainRunsInOrder, FillsAreByCounts, OnlyPortsMatter, OrderIsValidAgain, OrdersAgree, PipelineRunsInOrder, QueueRunGivesAnswer, QueuesHoldTheRest, RunGivesAnswer, SolutionSolves, SplittersAndJoiners, StateSolves};
 ghost use Rattle.strc_dataflow.specs.Rows.{BalanceRow, DivisionFaultRow, DownstreamFaultRow, ExampleSplitters, FaultInLoopRow, FibonacciRow, MatchedRow, MinimalRow, PlacesRow, StartupFaultRow, TwoFaultsRow, WeightsRow};
 
 /// The solution that the recursion over a stream gives solves the equations of its flat graph.
@@ -62,6 +62,11 @@ pub fn order_is_valid_again<Code, State, Cause, Word>()
 /// What stands at ports that a node doesn't have makes no difference to a run.
 pub fn only_ports_matter<Code, State, Cause, Word>()
     ensures { OnlyPortsMatter Code State Cause Word }
+{}
+
+/// A stream whose nodes stand in a chain, each taking what the one before gives, runs in order, each node once a round.
+pub fn chain_runs_in_order<Code, State, Cause, Word>()
+    ensures { ChainRunsInOrder Code State Cause Word }
 {}
 
 /// A pipeline of filters that take what the one before gives runs in order, each node once a round.

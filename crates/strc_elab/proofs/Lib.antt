@@ -1,3 +1,17 @@
+pub mod Bodies
+pub mod Children
+pub mod Doubles
+pub mod Examples
+pub mod Levels
+pub mod LoopRuns
+pub mod NameTables
+pub mod Pipelines
+pub mod Refusals
+pub mod Slots
+pub mod Soundness
+pub mod Surroundings
+pub mod Tallies
+pub mod Turns
 pub mod Views
 pub mod Chains
 pub mod Rows

@@ -5,8 +5,9 @@ use std::process::Abort;
 use std::test::Fail;
 use strc_lex::token::Name;
 use strc_parse::tree::{
-    AssignOperator, BinaryOperator, Expr, FilterTree, ItemType, Member, RateKind, RateTree,
-    StepOperator, Stmt, UnaryOperator, Variable, VariableType, Variables, WorkTree,
+    AssignOperator, BinaryOperator, Brackets, Child, Composition, Expr, FilterTree, ItemType,
+    Member, RateKind, RateTree, Role, Splitter, StepOperator, Stmt, UnaryOperator, Variable,
+    VariableType, Variables,
 };
 use strc_work::code::{Body, Code, StartError};
 use strc_work::constants::Constants;
@@ -72,7 +73,7 @@ fn filter(
         kind: RateKind::Pop,
         rate: Expr::Number(pop),
     })?;
-    members.push(Member::Work(WorkTree { rates, block }))?;
+    members.push(Member::Work(rates, block))?;
     Ok(FilterTree {
         input: ItemType::Int,
         output: ItemType::Int,
@@ -494,12 +495,8 @@ fn peek(alloc: Global, index: Expr) -> Result<Expr, AllocError> {
     Ok(Expr::Peek(Box::new(alloc, index)?))
 }
 
-/// A body of these rates.
-fn body(
-    alloc: Global,
-    rates: &[(RateKind, i32)],
-    block: Vec<Stmt>,
-) -> Result<WorkTree, AllocError> {
+/// Rates as they are written.
+fn written(alloc: Global, rates: &[(RateKind, i32)]) -> Result<Vec<RateTree>, AllocError> {
     let mut written = Vec::new(alloc);
     for (kind, rate) in rates {
         written.push(RateTree {
@@ -507,10 +504,7 @@ fn body(
             rate: Expr::Number(*rate),
         })?;
     }
-    Ok(WorkTree {
-        rates: written,
-        block,
-    })
+    Ok(written)
 }
 
 /// What one firing of a body over a window pushes, or how it halts.
@@ -536,7 +530,7 @@ fn looking_ahead(alloc: Global) -> Result<FilterTree, AllocError> {
     block.push(Stmt::Push(peek(alloc, Expr::Pop)?))?;
     let rates = [(RateKind::Push, 1), (RateKind::Pop, 1), (RateKind::Peek, 3)];
     let mut members = Vec::new(alloc);
-    members.push(Member::Work(body(alloc, &rates, block)?))?;
+    members.push(Member::Work(written(alloc, &rates)?, block))?;
     Ok(FilterTree {
         input: ItemType::Int,
         output: ItemType::Int,
@@ -566,7 +560,7 @@ fn looking_twice(alloc: Global) -> Result<FilterTree, AllocError> {
     block.push(Stmt::Evaluate(Expr::Pop))?;
     let rates = [(RateKind::Push, 1), (RateKind::Pop, 1), (RateKind::Peek, 3)];
     let mut members = Vec::new(alloc);
-    members.push(Member::Work(body(alloc, &rates, block)?))?;
+    members.push(Member::Work(written(alloc, &rates)?, block))?;
     Ok(FilterTree {
         input: ItemType::Int,
         output: ItemType::Int,
@@ -594,9 +588,9 @@ fn with_prework(alloc: Global) -> Result<FilterTree, AllocError> {
     let mut then = Vec::new(alloc);
     then.push(Stmt::Push(unary(alloc, UnaryOperator::Negate, Expr::Pop)?))?;
     let mut members = Vec::new(alloc);
-    members.push(Member::Prework(body(alloc, &[(RateKind::Push, 2)], first)?))?;
+    members.push(Member::Prework(written(alloc, &[(RateKind::Push, 2)])?, first))?;
     let rates = [(RateKind::Push, 1), (RateKind::Pop, 1)];
-    members.push(Member::Work(body(alloc, &rates, then)?))?;
+    members.push(Member::Work(written(alloc, &rates)?, then))?;
     Ok(FilterTree {
         input: ItemType::Int,
         output: ItemType::Int,
@@ -606,8 +600,8 @@ fn with_prework(alloc: Global) -> Result<FilterTree, AllocError> {
 
 #[test]
 fn a_prework_is_a_body_of_its_own(rt: HostRuntime) -> Result<(), Fail> {
-    let written = lowered(rt.alloc(), &with_prework(rt.alloc())?).expect(&rt, "lower");
-    let code = written.copy(rt.alloc())?;
+    let first = lowered(rt.alloc(), &with_prework(rt.alloc())?).expect(&rt, "lower");
+    let code = first.copy(rt.alloc())?;
     assert!(rt; code.has_prework());
     let pushes = fired(&rt, rt.alloc(), &code, Body::Prework, &[])?;
     assert_eq!(rt; pushes.expect(&rt, "a value").as_slice(), [7, 8].as_slice());
@@ -618,5 +612,70 @@ fn a_prework_is_a_body_of_its_own(rt: HostRuntime) -> Result<(), Fail> {
     assert_eq!(rt; code.block(Body::Prework).len(), 2);
     assert_eq!(rt; code.window(Body::Prework), 0);
     assert_eq!(rt; code.window(Body::Work), 1);
+    Ok(())
+}
+
+/// The members of a filter with these blocks as its `init`, its `prework` and its `work`.
+fn staged(
+    alloc: Global,
+    init: Vec<Stmt>,
+    prework: Vec<Stmt>,
+    work: Vec<Stmt>,
+) -> Result<Vec<Member>, AllocError> {
+    let mut members = Vec::new(alloc);
+    members.push(Member::Init(init))?;
+    members.push(Member::Prework(Vec::new(alloc), prework))?;
+    members.push(Member::Work(Vec::new(alloc), work))?;
+    Ok(members)
+}
+
+/// A block of one statement of a composite stream.
+fn composing(alloc: Global, statement: Composition) -> Result<Vec<Stmt>, AllocError> {
+    let mut block = Vec::new(alloc);
+    block.push(Stmt::Compose(statement))?;
+    Ok(block)
+}
+
+/// One statement of each kind that only a composite stream has.
+fn compositions(alloc: Global) -> Result<Vec<Composition>, AllocError> {
+    let named = Child::Named(name(alloc, "A")?, None);
+    let mut all = Vec::new(alloc);
+    all.push(Composition::Child(Role::Add, named))?;
+    all.push(Composition::Child(Role::Body, Child::Identity(Brackets::Written)))?;
+    all.push(Composition::Child(Role::Loop, Child::Identity(Brackets::Missing)))?;
+    all.push(Composition::Split(Splitter::Duplicate(Brackets::Missing)))?;
+    all.push(Composition::Split(Splitter::Roundrobin(None)))?;
+    all.push(Composition::Join(None))?;
+    all.push(Composition::Enqueue(Expr::Number(0)))?;
+    Ok(all)
+}
+
+/// Whether the filter of these members is refused for what stands in it.
+fn is_mismatch(alloc: Global, members: &[Member]) -> bool {
+    let constants = Constants::new(alloc);
+    let code = lowering::lower_parts(alloc, ItemType::Void, ItemType::Void, members, &constants);
+    matches!(&code, Err(LowerError::TypeMismatch))
+}
+
+#[test]
+fn a_filter_has_no_stream_statements(rt: HostRuntime) -> Result<(), Fail> {
+    let alloc = rt.alloc();
+    let nothing = staged(alloc, Vec::new(alloc), Vec::new(alloc), Vec::new(alloc))?;
+    assert!(rt; !is_mismatch(alloc, &nothing));
+    for statement in compositions(alloc)? {
+        let init = composing(alloc, statement)?;
+        let members = staged(alloc, init, Vec::new(alloc), Vec::new(alloc))?;
+        assert!(rt; is_mismatch(alloc, &members));
+    }
+    for statement in compositions(alloc)? {
+        let prework = composing(alloc, statement)?;
+        let members = staged(alloc, Vec::new(alloc), prework, Vec::new(alloc))?;
+        assert!(rt; is_mismatch(alloc, &members));
+    }
+    for statement in compositions(alloc)? {
+        let work = composing(alloc, statement)?;
+        let members = staged(alloc, Vec::new(alloc), Vec::new(alloc), work)?;
+        assert!(rt; is_mismatch(alloc, &members));
+    }
     Ok(())
 }

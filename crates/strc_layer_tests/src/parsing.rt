@@ -1,10 +1,8 @@
+use crate::showing::show_statement;
 use std::alloc::{AllocError, Global};
 use std::test::*;
-use strc_lex::token::{Mark, Name, Span, Token, TokenKind, Word};
-use strc_parse::tree::{
-    AssignOperator, BinaryOperator, Expr, Member, Program, StepOperator, Stmt, StreamTree,
-    UnaryOperator, VariableType, Variables,
-};
+use strc_lex::token::{Mark, Name, Span, Text, Token, TokenKind, Word};
+use strc_parse::tree::{Member, Program, Stmt, StreamTree};
 use strc_parse::{ParseError, one_tree, parse};
 
 fn stream_word(spelling: &str) -> Option<Word> {
@@ -17,7 +15,25 @@ fn stream_word(spelling: &str) -> Option<Word> {
         "push" => Some(Word::Push),
         "pop" => Some(Word::Pop),
         "peek" => Some(Word::Peek),
+        "splitjoin" => Some(Word::Splitjoin),
+        "feedbackloop" => Some(Word::Feedbackloop),
+        "Identity" => Some(Word::Identity),
+        "FileReader" => Some(Word::FileReader),
+        "FileWriter" => Some(Word::FileWriter),
+        _ => None,
+    }
+}
+
+fn composition_word(spelling: &str) -> Option<Word> {
+    match spelling {
         "add" => Some(Word::Add),
+        "body" => Some(Word::Body),
+        "loop" => Some(Word::Loop),
+        "split" => Some(Word::Split),
+        "join" => Some(Word::Join),
+        "duplicate" => Some(Word::Duplicate),
+        "roundrobin" => Some(Word::Roundrobin),
+        "enqueue" => Some(Word::Enqueue),
         _ => None,
     }
 }
@@ -100,6 +116,9 @@ fn kind(alloc: Global, spelling: &str) -> Result<TokenKind, AllocError> {
     if let Some(word) = stream_word(spelling) {
         return Ok(TokenKind::Word(word));
     }
+    if let Some(word) = composition_word(spelling) {
+        return Ok(TokenKind::Word(word));
+    }
     if let Some(word) = statement_word(spelling) {
         return Ok(TokenKind::Word(word));
     }
@@ -116,11 +135,15 @@ fn kind(alloc: Global, spelling: &str) -> Result<TokenKind, AllocError> {
         return Ok(TokenKind::Number(number));
     }
     let bytes = Vec::from_slice(alloc, spelling.as_bytes())?;
+    if spelling.starts_with('"') {
+        return Ok(TokenKind::Text(Text::new(bytes)));
+    }
     Ok(TokenKind::Name(Name::new(bytes)))
 }
 
-/// Puts the tokens of a text at the end. Spaces stand between them; what is no word, mark or number is a name.
-fn put(tokens: &mut Vec<Token>, alloc: Global, text: &str) -> Result<(), AllocError> {
+/// Puts the tokens of a text at the end. Spaces stand between them; what begins with a quote is a string, and what else is
+/// no word, mark or number a name.
+pub(crate) fn put(tokens: &mut Vec<Token>, alloc: Global, text: &str) -> Result<(), AllocError> {
     for spelling in text.split_whitespace() {
         let kind = kind(alloc, spelling)?;
         let span = Span { start: 0, end: 0 };
@@ -130,7 +153,7 @@ fn put(tokens: &mut Vec<Token>, alloc: Global, text: &str) -> Result<(), AllocEr
 }
 
 /// The tokens of a text with a part that stands so many times in a row.
-fn repeated(
+pub(crate) fn repeated(
     alloc: Global,
     front: &str,
     part: &str,
@@ -162,14 +185,14 @@ fn copied(token: &Token) -> Result<Token, AllocError> {
     Ok(Token { kind, span })
 }
 
-fn refusal(alloc: Global, text: &str) -> Result<Option<ParseError>, AllocError> {
+pub(crate) fn refusal(alloc: Global, text: &str) -> Result<Option<ParseError>, AllocError> {
     let tokens = repeated(alloc, text, "", 0, "")?;
     Ok(parse(alloc, &tokens).err())
 }
 
-const BEGIN: &str = "void -> int filter A { work push 1 {";
+pub(crate) const BEGIN: &str = "void -> int filter A { work push 1 {";
 
-const END: &str = "} }";
+pub(crate) const END: &str = "} }";
 
 #[test]
 fn takes_programs(rt: HostRuntime) -> Result<(), Fail> {
@@ -224,8 +247,6 @@ fn names_the_refused_token(rt: HostRuntime) -> Result<(), Fail> {
         ("int -> void filter F { work 1 { } }", 7),
         ("void -> void pipeline P { add A ; }  }", 10),
         ("void -> void pipeline P { add A ; add", 10),
-        ("void -> void pipeline P { A ; }", 6),
-        ("void -> void pipeline P { add A ( ) ; }", 8),
     ];
     for (text, token) in cases {
         assert_eq!(rt;
@@ -283,7 +304,6 @@ fn names_the_refused_token_of_a_statement(rt: HostRuntime) -> Result<(), Fail> {
         ("boolean ;", 1),
         ("void x ;", 0),
         ("( 1 ;", 2),
-        ("add A ;", 0),
         ("else ;", 0),
         ("if a ;", 1),
         ("if ( ) ;", 2),
@@ -435,236 +455,20 @@ fn takes_long_texts(rt: HostRuntime) -> Result<(), Fail> {
     Ok(())
 }
 
-fn symbol(operator: BinaryOperator) -> &'static str {
-    match operator {
-        BinaryOperator::LogicalOr => "||",
-        BinaryOperator::LogicalAnd => "&&",
-        BinaryOperator::Or => "|",
-        BinaryOperator::ExclusiveOr => "^",
-        BinaryOperator::And => "&",
-        BinaryOperator::Equal => "==",
-        BinaryOperator::NotEqual => "!=",
-        BinaryOperator::Less => "<",
-        BinaryOperator::LessOrEqual => "<=",
-        BinaryOperator::Greater => ">",
-        BinaryOperator::GreaterOrEqual => ">=",
-        BinaryOperator::ShiftLeft => "<<",
-        BinaryOperator::ShiftRight => ">>",
-        BinaryOperator::Add => "+",
-        BinaryOperator::Subtract => "-",
-        BinaryOperator::Multiply => "*",
-        BinaryOperator::Divide => "/",
-        BinaryOperator::Remainder => "%",
-    }
-}
-
-fn assign_symbol(operator: AssignOperator) -> &'static str {
-    match operator {
-        AssignOperator::Set => "=",
-        AssignOperator::Add => "+=",
-        AssignOperator::Subtract => "-=",
-        AssignOperator::Multiply => "*=",
-        AssignOperator::Divide => "/=",
-        AssignOperator::Remainder => "%=",
-    }
-}
-
-fn unary_symbol(operator: UnaryOperator) -> &'static str {
-    match operator {
-        UnaryOperator::Negate => "-",
-        UnaryOperator::Not => "!",
-        UnaryOperator::Complement => "~",
-    }
-}
-
-/// What a step writes before its target, and behind it.
-fn step_symbols(operator: StepOperator) -> (&'static str, &'static str) {
-    match operator {
-        StepOperator::IncrementFirst => ("++", ""),
-        StepOperator::DecrementFirst => ("--", ""),
-        StepOperator::IncrementAfter => ("", "++"),
-        StepOperator::DecrementAfter => ("", "--"),
-    }
-}
-
-fn show_name(name: &Name, out: &mut String) -> Result<(), AllocError> {
-    for byte in name.as_bytes() {
-        out.push(char::from(*byte))?;
-    }
-    Ok(())
-}
-
-/// Writes an expression with angle brackets round each operation.
-fn show(expression: &Expr, out: &mut String) -> Result<(), AllocError> {
-    match expression {
-        Expr::Number(value) => write!(out, "{value}"),
-        Expr::Truth(value) => write!(out, "{value}"),
-        Expr::Read(name) => show_name(name, out),
-        Expr::Element(name, index) => {
-            show_name(name, out)?;
-            out.push_str("[")?;
-            show(index, out)?;
-            out.push_str("]")
-        }
-        Expr::Pop => out.push_str("pop()"),
-        Expr::Peek(index) => {
-            out.push_str("peek(")?;
-            show(index, out)?;
-            out.push_str(")")
-        }
-        Expr::Group(inner) => {
-            out.push_str("(")?;
-            show(inner, out)?;
-            out.push_str(")")
-        }
-        Expr::Unary(operator, operand) => {
-            write!(out, "<{}", unary_symbol(*operator))?;
-            show(operand, out)?;
-            out.push_str(">")
-        }
-        Expr::Step(operator, name) => {
-            let (before, behind) = step_symbols(*operator);
-            write!(out, "<{before}")?;
-            show_name(name, out)?;
-            write!(out, "{behind}>")
-        }
-        Expr::StepElement(operator, name, index) => {
-            let (before, behind) = step_symbols(*operator);
-            write!(out, "<{before}")?;
-            show_name(name, out)?;
-            out.push_str("[")?;
-            show(index, out)?;
-            write!(out, "]{behind}>")
-        }
-        Expr::Binary(operator, left, right) => {
-            out.push_str("<")?;
-            show(left, out)?;
-            out.push_str(symbol(*operator))?;
-            show(right, out)?;
-            out.push_str(">")
-        }
-        Expr::Conditional(condition, chosen, other) => {
-            out.push_str("<")?;
-            show(condition, out)?;
-            out.push_str("?")?;
-            show(chosen, out)?;
-            out.push_str(":")?;
-            show(other, out)?;
-            out.push_str(">")
-        }
-    }
-}
-
-fn show_element(name: &Name, index: &Expr, out: &mut String) -> Result<(), AllocError> {
-    show_name(name, out)?;
-    out.push_str("[")?;
-    show(index, out)?;
-    out.push_str("]")
-}
-
-fn show_declared(declared: &Variables, out: &mut String) -> Result<(), AllocError> {
-    match &declared.kind {
-        VariableType::Boolean => out.push_str("boolean")?,
-        VariableType::Int => out.push_str("int")?,
-        VariableType::Array(length) => {
-            out.push_str("int[")?;
-            show(length, out)?;
-            out.push_str("]")?;
-        }
-    }
-    for variable in &declared.variables {
-        out.push_str(" ")?;
-        show_name(&variable.name, out)?;
-        if let Some(initial) = &variable.initial {
-            out.push_str("=")?;
-            show(initial, out)?;
-        }
-    }
-    Ok(())
-}
-
-fn show_value(word: &str, value: &Expr, out: &mut String) -> Result<(), AllocError> {
-    write!(out, "{word} ")?;
-    show(value, out)
-}
-
-/// Writes a statement with curly brackets round each that has others in it.
-fn show_statement(statement: &Stmt, out: &mut String) -> Result<(), AllocError> {
-    match statement {
-        Stmt::Empty => out.push_str(";"),
-        Stmt::Block(body) => {
-            out.push_str("{")?;
-            for inner in body {
-                show_statement(inner, out)?;
-                out.push_str(" ")?;
-            }
-            out.push_str("}")
-        }
-        Stmt::Declare(declared) => show_declared(declared, out),
-        Stmt::Evaluate(value) => show(value, out),
-        Stmt::Assign(name, operator, value) => {
-            show_name(name, out)?;
-            out.push_str(assign_symbol(*operator))?;
-            show(value, out)
-        }
-        Stmt::AssignElement(name, index, operator, value) => {
-            show_element(name, index, out)?;
-            out.push_str(assign_symbol(*operator))?;
-            show(value, out)
-        }
-        Stmt::If(condition, chosen) => {
-            show_value("{if", condition, out)?;
-            out.push_str(" ")?;
-            show_statement(chosen, out)?;
-            out.push_str("}")
-        }
-        Stmt::IfElse(condition, chosen, other) => {
-            show_value("{if", condition, out)?;
-            out.push_str(" ")?;
-            show_statement(chosen, out)?;
-            out.push_str(" else ")?;
-            show_statement(other, out)?;
-            out.push_str("}")
-        }
-        Stmt::While(condition, body) => {
-            show_value("{while", condition, out)?;
-            out.push_str(" ")?;
-            show_statement(body, out)?;
-            out.push_str("}")
-        }
-        Stmt::For(first, condition, step, body) => {
-            out.push_str("{for ")?;
-            show_statement(first, out)?;
-            out.push_str(" ")?;
-            if let Some(condition) = condition {
-                show(condition, out)?;
-            }
-            out.push_str(" ")?;
-            show_statement(step, out)?;
-            out.push_str(" ")?;
-            show_statement(body, out)?;
-            out.push_str("}")
-        }
-        Stmt::Push(value) => show_value("push", value, out),
-        Stmt::Print(value) => show_value("print", value, out),
-        Stmt::Println(value) => show_value("println", value, out),
-    }
-}
-
 /// The first statement of the first filter's first work.
 fn first_statement(program: &Program) -> Option<&Stmt> {
     let declared = program.declarations.first()?;
     let StreamTree::Filter(filter) = &declared.stream else {
         return None;
     };
-    let Member::Work(work) = filter.members.first()? else {
+    let Member::Work(_, block) = filter.members.first()? else {
         return None;
     };
-    work.block.first()
+    block.first()
 }
 
 /// What the only statement of a work is, with its parts.
-fn shown(alloc: Global, text: &str) -> Result<String, Fail> {
+pub(crate) fn shown(alloc: Global, text: &str) -> Result<String, Fail> {
     let tokens = repeated(alloc, BEGIN, text, 1, END)?;
     let program = parse(alloc, &tokens)?;
     let mut out = String::new(alloc);

@@ -6,7 +6,7 @@ use Rattle.strc_parse.specs.declared.error.Fault.{Fault}
 use Rattle.strc_parse.specs.declared.error.Fault.TheVariants.{Unexpected, Nesting}
 use Rattle.strc_parse.specs.Tree.{Declaration}
 use Rattle.strc_parse.specs.Grammar.{spelling, IsTree, height, height_limit, Parses, IsUnambiguous}
-use Rattle.strc_parse.specs.Reading.{declarations, program}
+use Rattle.strc_parse.specs.Streams.{declarations, program}
 use Rattle.strc_parse.proofs.Again.{Again}
 use Rattle.strc_parse.proofs.ProgramAgain.{program_again}
 use Rattle.strc_parse.proofs.Holds.{Holds, Holds-then}

@@ -116,6 +116,20 @@ module _ {B : Type 0} (Q : B → Type 0) (deep : ℕ) (all : List TokenKind) whe
         | inr le ↦ subst (λ (r : Result ℕ Fault). Holds Q deep all (r >>= f)) (sym (raised_high depth height le)) (room le)
       ]
 
+-- a mark that ends what is read
+pub Holds-last : (deep : ℕ) (all : List TokenKind) (wanted : Mark) (tokens : List TokenKind) → length tokens ≤ length all → (P : List TokenKind → Type 0) → ((rest : List TokenKind) → tokens ≡ token.Mark wanted ∷ rest → P rest)
+    → Holds P deep all (expect wanted tokens)
+Holds-last deep all wanted tokens le P then =
+    elim (expect_cases wanted tokens) [
+      | inl found ↦ subst (λ (r : Result (List TokenKind) Fault). Holds P deep all r) (sym found.2) (then found.0 found.1)
+      | inr e ↦ subst (λ (r : Result (List TokenKind) Fault). Holds P deep all r) (sym e) le
+    ]
+
+pub name_holds : (deep : ℕ) (tokens : List TokenKind) → Holds (λ x. tokens ≡ token.Name x.0 ∷ x.1) deep tokens (name tokens)
+unfolding name
+name_holds deep (token.Name x ∷ rest) = refl
+name_holds deep _ = omega arith
+
 -- ---- loops
 
 module _ {S : Type 0} (stop : List TokenKind → Option (List TokenKind)) (turn : S → List TokenKind → Read S) (Kept : S → List TokenKind → Type 0) (deep : ℕ) (all : List TokenKind) where

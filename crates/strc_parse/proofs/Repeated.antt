@@ -1,12 +1,5 @@
 -- A loop of turns, beside the code's loop that counts up.
-use Rattle.std.proofs.Common.{◌≡◌, ℕ, eqb, suc, ◌+◌, ◌-◌, ◌<◌, ◌≤◌, true, false, List, [], ◌∷◌, ◌++◌, length, map, Bool, Option, Some, None, Result, Ok, Err, refl, sym, ap, ◌∙◌, arith}
-use Rattle.std.specs.Prelude.{◌||◌}
-use Rattle.std.specs.List.{list_any}
-use denote.Enum.Bare.{sameb}
-use Rattle.strc_parse.specs.contracts.tree.RateKind.{the_type as rate_type}
-use Rattle.strc_parse.specs.declared.tree.RateTree.{RateTree}
-use Rattle.strc_parse.specs.View.{rate_view}
-use Rattle.strc_parse.specs.Seen.{seen_rate}
+use Rattle.std.proofs.Common.{◌≡◌, ℕ, eqb, suc, ◌+◌, ◌-◌, ◌<◌, ◌≤◌, max, true, false, List, [], ◌∷◌, ◌++◌, length, Option, Some, None, Result, Ok, Err, refl, ◌∙◌, arith}
 use Rattle.strc_lex.specs.declared.token.TokenKind.{TokenKind}
 use Rattle.strc_lex.specs.declared.token.Mark.TheVariants as mark
 use Rattle.std.proofs.lemmas.Bool.{eqb-true}
@@ -15,7 +8,8 @@ use Rattle.strc_parse.specs.declared.tree.RateKind.{RateKind}
 use Rattle.strc_parse.specs.declared.error.Fault.{Fault}
 use Rattle.strc_parse.specs.declared.error.ReadError.{ReadError}
 use Rattle.strc_parse.specs.declared.error.ReadError.TheVariants as errors
-use Rattle.strc_parse.specs.Reading.{◌>>=◌, Fails, Read, unexpected, tail, is_mark, brace, repeated, rate_kind, no_rate, has_rate, rate_of, rate_turn, no_comma, at_end}
+use Rattle.strc_parse.specs.Reading.{◌>>=◌, Fails, Read, unexpected, tail, is_mark, brace, repeated, no_comma}
+use Rattle.strc_parse.specs.Streams.{rate_kind, no_rate, rate_of, rate_turn, at_end}
 use Rattle.strc_parse.specs.Tree as tree
 use Rattle.strc_parse.specs.Grammar.{kinds}
 
@@ -67,16 +61,16 @@ pub no_rate_stays : (tokens : List TokenKind) (kind : RateKind) → rate_kind to
 unfolding no_rate
 no_rate_stays tokens kind is = rw is refl
 
-pub rate_turn_at : (limit : ℕ) (so_far : List tree.Rate) (tokens : List TokenKind) (kind : RateKind) (value : tree.Expr) (height : ℕ) (after : List TokenKind) → rate_kind tokens ≡ Some kind
-    → rate_of limit kind so_far tokens ≡ Ok (value, height, after) → rate_turn limit so_far tokens ≡ Ok (so_far ++ record { kind = kind; rate = value } ∷ [], after)
+pub rate_turn_at : (limit : ℕ) (front : List tree.Rate) (high : ℕ) (tokens : List TokenKind) (kind : RateKind) (value : tree.Expr) (height : ℕ) (after : List TokenKind) → rate_kind tokens ≡ Some kind
+    → rate_of limit kind front tokens ≡ Ok (value, height, after) → rate_turn limit (front, high) tokens ≡ Ok ((front ++ record { kind = kind; rate = value } ∷ [], max high height), after)
 unfolding rate_turn
-rate_turn_at limit so_far tokens kind value height after stands is_read = rw (stands, is_read) refl
+rate_turn_at limit front high tokens kind value height after stands is_read = rw (stands, is_read) refl
 
-pub rate_turn_fails : (limit : ℕ) (e : ReadError) (so_far : List tree.Rate) (tokens : List TokenKind) (kind : RateKind) → rate_kind tokens ≡ Some kind → Fails e (rate_of limit kind so_far tokens)
-    → Fails e (rate_turn limit so_far tokens)
+pub rate_turn_fails : (limit : ℕ) (e : ReadError) (front : List tree.Rate) (high : ℕ) (tokens : List TokenKind) (kind : RateKind) → rate_kind tokens ≡ Some kind → Fails e (rate_of limit kind front tokens)
+    → Fails e (rate_turn limit (front, high) tokens)
 unfolding rate_turn
-rate_turn_fails limit errors.Memory so_far tokens kind stands fails = tt
-rate_turn_fails limit (errors.Fault f) so_far tokens kind stands fails = rw (stands, fails) refl
+rate_turn_fails limit errors.Memory front high tokens kind stands fails = tt
+rate_turn_fails limit (errors.Fault f) front high tokens kind stands fails = rw (stands, fails) refl
 
 pub no_comma_ends : (tokens : List TokenKind) → is_mark mark.Comma tokens ≡ false → no_comma tokens ≡ Some tokens
 unfolding no_comma
@@ -95,11 +89,3 @@ pub end_ahead : (tokens : List Token) → eqb (length tokens) 0 ≡ false → at
 unfolding at_end
 end_ahead [] is = absurd cc
 end_ahead (t ∷ rest) is = refl
-
-any_view : (kind : RateKind) (rates : List RateTree) → list_any (λ (r : RateTree). sameb rate_type r.kind kind) rates ≡ list_any (λ (r : tree.Rate). sameb rate_type r.kind kind) (map rate_view rates)
-any_view kind [] = refl
-any_view kind (r ∷ others) = ap (λ (b : Bool). sameb rate_type r.kind kind || b) (any_view kind others)
-
-pub has_rate_view : (kind : RateKind) (rates : List RateTree) → has_rate kind (map rate_view rates) ≡ seen_rate kind rates
-unfolding has_rate
-has_rate_view kind rates = sym (any_view kind rates)

@@ -3,7 +3,8 @@ use Rattle.std.proofs.Common.{◌≡◌, ℕ, zero, suc, ◌+◌, ◌-◌, ◌<�
 use Rattle.strc_lex.specs.declared.token.TokenKind.{TokenKind}
 use Rattle.strc_parse.specs.declared.tree.BinaryOperator.{BinaryOperator}
 use Rattle.strc_parse.specs.Tree as tree
-use Rattle.strc_parse.specs.Reading.{◌>>=◌, Below, tail, raised, operator, chain, climb, ranked, expression, shallow, statement}
+use Rattle.strc_parse.specs.Reading.{◌>>=◌, Below, tail, raised, operator, chain, climb, ranked, expression}
+use Rattle.strc_parse.specs.Streams.{shallow, statement}
 
 pub expression_at : (depth rank : ℕ) (tokens : List TokenKind) → 0 < depth → expression depth rank tokens ≡ ranked depth (expression (depth - 1)) rank tokens
 unfolding expression

@@ -15,7 +15,8 @@ use Rattle.strc_parse.specs.declared.tree.AssignOperator.{AssignOperator}
 use Rattle.strc_parse.specs.declared.tree.AssignOperator.TheVariants as assign
 use Rattle.strc_parse.specs.Tree as tree
 use Rattle.strc_parse.specs.Grammar.{binary_mark, assign_mark, expr_spelled, each_spelled, highest, type_spelled, initial_spelled, variable_spelled, next_spelled, variables_spelled, declared_spelled, part_spelled, condition_spelled, bracketed_spelled, heading_spelled, loosest, IsExpr, IsOptional, IsVariableType, IsVariable, AreVariables, IsStep, IsFirst, expr_height, optional_height, type_height, variable_height, declared_height, stmt_height}
-use Rattle.strc_parse.specs.Reading.{◌>>=◌, Inner, mark_at, is_mark, is_word, name, brace, initial, variable, no_comma, next_variable, more_variables, variables, int_type, variable_type, declared, declare, evaluate, assign_to, assign_element, assign_at, assignment, after_value, simple, optional, part, ended, bracketed, argument, condition, last_part, behind_first, for_heading, keyword, shallow}
+use Rattle.strc_parse.specs.Reading.{◌>>=◌, mark_at, is_mark, is_word, name, brace, initial, variable, no_comma, next_variable, more_variables, variables, int_type, variable_type, declared, declare, evaluate, assign_to, assign_element, assign_at, assignment, after_value, simple, optional, part, ended, bracketed, argument, condition, last_part, behind_first, for_heading}
+use Rattle.strc_parse.specs.Streams.{Inner, keyword, shallow}
 use Rattle.strc_parse.proofs.Again.{Again, Again-then, Again-inside, Again-leaf, Again-raised, expect_mark}
 use Rattle.strc_parse.proofs.ExpressionAgain.{Stops, Stops-semicolon, Stops-comma, Stops-bracket, Stops-square, Stops-assign, expr_length, height_some, expression_again, closed_again, found}
 use Rattle.strc_parse.proofs.Lists.{TallAgain, each_taller_again}
@@ -39,7 +40,7 @@ unfolding assign_at mark_at is_mark
 Ends-comma rest = record { stops = Stops-comma loosest rest; no_assign = refl; no_initial = refl }
 
 -- the higher of two parts that were read
-Again-max : (d low high : ℕ) {Y : Type 0} (y : Y) (read : Result Y Fault) → low ≤ d → Again d high y read → Again d (max low high) y read
+pub Again-max : (d low high : ℕ) {Y : Type 0} (y : Y) (read : Result Y Fault) → low ≤ d → Again d high y read → Again d (max low high) y read
 Again-max d low high y read le again = record { fits = λ h. again.fits (omega arith); over = λ h. again.over (omega arith) }
 
 pub Again-done : (d height : ℕ) {Y : Type 0} (y : Y) (read : Result Y Fault) → height ≤ d → read ≡ Ok y → Again d height y read
@@ -161,9 +162,9 @@ fields_again kind vs typed shape d rest = declared_again d kind vs typed shape (
 -- ---- how an expression begins
 
 -- tokens that begin as an expression does
-record Opens (tokens : List TokenKind) : Type 0 where
-  no_semicolon : is_mark mark.Semicolon tokens ≡ false
-  no_bracket : is_mark mark.CloseBracket tokens ≡ false
+pub record Opens (tokens : List TokenKind) : Type 0 where
+  pub no_semicolon : is_mark mark.Semicolon tokens ≡ false
+  pub no_bracket : is_mark mark.CloseBracket tokens ≡ false
   no_brace : brace tokens ≡ None
   no_else : is_word word.Else tokens ≡ false
   is_part : (depth : ℕ) → part depth tokens ≡ optional depth mark.Semicolon tokens
@@ -173,7 +174,7 @@ opens_name : (x : List ℕ) (rest : List TokenKind) → Opens (token.Name x ∷ 
 unfolding shallow part brace is_mark is_word
 opens_name x rest = record { no_semicolon = refl; no_bracket = refl; no_brace = refl; no_else = refl; is_part = λ depth. refl; is_ended = λ depth inner. refl }
 
-opens : (e : tree.Expr) (rest : List TokenKind) → Opens (expr_spelled e rest)
+pub opens : (e : tree.Expr) (rest : List TokenKind) → Opens (expr_spelled e rest)
 unfolding shallow keyword part brace is_mark is_word
 opens (tree.Number value) rest = record { no_semicolon = refl; no_bracket = refl; no_brace = refl; no_else = refl; is_part = λ depth. refl; is_ended = λ depth inner. refl }
 opens (tree.Truth true) rest = record { no_semicolon = refl; no_bracket = refl; no_brace = refl; no_else = refl; is_part = λ depth. refl; is_ended = λ depth inner. refl }
@@ -447,6 +448,7 @@ stmt_height_some (tree.For begun tested stepped body) = omega arith
 stmt_height_some (tree.Push e) = omega arith
 stmt_height_some (tree.Print e) = omega arith
 stmt_height_some (tree.Println e) = omega arith
+stmt_height_some (tree.Compose c) = omega arith
 
 -- a part has no more height than tokens, with its semicolon
 pub part_length : (s : tree.Stmt) → IsFirst s → (rest : List TokenKind) → stmt_height s + length rest ≤ length (part_spelled s rest) + 1

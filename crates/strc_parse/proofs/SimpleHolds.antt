@@ -91,7 +91,7 @@ AreVariables-push : (front : List tree.Variable) (v : tree.Variable) → AreVari
 AreVariables-push [] v shape one = absurd shape
 AreVariables-push (w ∷ front) v shape one = (shape.0, All-push IsVariable front v shape.1 one)
 
-comma_is : (tokens : List TokenKind) → no_comma tokens ≡ None → tokens ≡ token.Mark mark.Comma ∷ tail tokens
+pub comma_is : (tokens : List TokenKind) → no_comma tokens ≡ None → tokens ≡ token.Mark mark.Comma ∷ tail tokens
 unfolding no_comma
 comma_is tokens e =
     elim (cases_Bool (is_mark mark.Comma tokens)) [
@@ -99,7 +99,7 @@ comma_is tokens e =
       | inr is ↦ let left : cond false None (Some tokens) ≡ None = subst (λ (b : Bool). cond b None (Some tokens) ≡ None) is e in absurd cc
     ]
 
-no_comma_is : (tokens after : List TokenKind) → no_comma tokens ≡ Some after → tokens ≡ after
+pub no_comma_is : (tokens after : List TokenKind) → no_comma tokens ≡ Some after → tokens ≡ after
 unfolding no_comma
 no_comma_is tokens after e =
     elim (cases_Bool (is_mark mark.Comma tokens)) [

@@ -1,19 +1,33 @@
--- A statement's spelling is read again, where no `else` follows that it would take.
+-- A statement's spelling is read again, where no `else` follows that it would take: by what holds of the statements in
+-- it. No tree has more height than tokens.
 use Rattle.std.proofs.Common.{◌≡◌, ℕ, zero, suc, ◌+◌, ◌≤◌, max, true, false, List, [], ◌∷◌, length, Option, Some, None, refl, ap, arith}
 use Rattle.std.specs.List.{AllByRecursion}
 use Rattle.strc_lex.specs.declared.token.TokenKind.{TokenKind}
 use Rattle.strc_lex.specs.declared.token.TokenKind.TheVariants as token
 use Rattle.strc_lex.specs.declared.token.Word.TheVariants as word
 use Rattle.strc_lex.specs.declared.token.Mark.TheVariants as mark
+use Rattle.strc_parse.specs.declared.tree.Role.TheVariants as role
+use Rattle.strc_parse.specs.declared.tree.Brackets.{Brackets}
+use Rattle.strc_parse.specs.declared.tree.Brackets.TheVariants as brackets
 use Rattle.strc_parse.specs.Tree as tree
-use Rattle.strc_parse.specs.Grammar.{each_spelled, highest, part_spelled, bracketed_spelled, stmt_spelled, row_spelled, IsExpr, IsOptional, IsFirst, IsStep, takes_else, IsStmt, AreStmts, expr_height, stmt_height, row_height}
-use Rattle.strc_parse.specs.Reading.{is_mark, is_word, brace, row, statements, block, other_branch, after_branch, branch, while_loop, for_loop, keyword, shallow, statement}
+use Rattle.strc_parse.specs.Grammar.{each_spelled, highest, part_spelled, bracketed_spelled, brackets_spelled, next_argument_spelled, listed_spelled, arguments_spelled, rate_spelled, block_spelled, stmt_spelled, row_spelled, composition_spelled, child_spelled, member_spelled, members_spelled, IsExpr, IsOptional, IsFirst, IsStep, takes_else, IsStmt, AreStmts, IsComposition, IsChild, IsMember, AreMembers, expr_height, arguments_height, rate_height, stmt_height, row_height, composition_height, child_height, member_height, members_height}
+use Rattle.strc_parse.specs.Reading.{is_mark, is_word, brace}
+use Rattle.strc_parse.specs.Streams.{row, statements, block, other_branch, after_branch, branch, while_loop, for_loop, keyword, shallow, statement}
 use Rattle.strc_parse.proofs.Again.{Again, Again-then, Again-inside, Again-raised}
 use Rattle.strc_parse.proofs.ExpressionAgain.{expr_length, found}
 use Rattle.strc_parse.proofs.Lists.{TallAgain, each_taller_again}
-use Rattle.strc_parse.proofs.SimpleAgain.{made, ended_again, heading_height, heading_again, bracketed_again, of_argument, begins, part_length, heading_length, stmt_height_some}
+use Rattle.strc_parse.proofs.SimpleAgain.{made, ended_again, heading_height, heading_again, bracketed_again, begins, declared_length, part_length, heading_length, stmt_height_some}
 
 -- ---- how a statement begins
+
+no_brace_composed : (c : tree.Composition) (rest : List TokenKind) → brace (composition_spelled c rest) ≡ None
+unfolding brace is_mark
+no_brace_composed (tree.ChildOf role.Add child) rest = refl
+no_brace_composed (tree.ChildOf role.Body child) rest = refl
+no_brace_composed (tree.ChildOf role.Loop child) rest = refl
+no_brace_composed (tree.Split splitter) rest = refl
+no_brace_composed (tree.Join weights) rest = refl
+no_brace_composed (tree.Enqueue e) rest = refl
 
 -- no statement begins with the brace that closes a block
 pub no_brace_before : (s : tree.Stmt) → IsStmt s → (rest : List TokenKind) → brace (stmt_spelled s rest) ≡ None
@@ -31,9 +45,19 @@ no_brace_before (tree.For begun tested stepped body) shape rest = refl
 no_brace_before (tree.Push e) shape rest = refl
 no_brace_before (tree.Print e) shape rest = refl
 no_brace_before (tree.Println e) shape rest = refl
+no_brace_before (tree.Compose c) shape rest = no_brace_composed c rest
 
 abbrev pub NoElse : List TokenKind → Type 0
 NoElse tokens = is_word word.Else tokens ≡ false
+
+no_else_composed : (c : tree.Composition) (rest : List TokenKind) → NoElse (composition_spelled c rest)
+unfolding is_word
+no_else_composed (tree.ChildOf role.Add child) rest = refl
+no_else_composed (tree.ChildOf role.Body child) rest = refl
+no_else_composed (tree.ChildOf role.Loop child) rest = refl
+no_else_composed (tree.Split splitter) rest = refl
+no_else_composed (tree.Join weights) rest = refl
+no_else_composed (tree.Enqueue e) rest = refl
 
 -- nor with `else`
 no_else_before : (s : tree.Stmt) → IsStmt s → (rest : List TokenKind) → NoElse (stmt_spelled s rest)
@@ -51,6 +75,7 @@ no_else_before (tree.For begun tested stepped body) shape rest = refl
 no_else_before (tree.Push e) shape rest = refl
 no_else_before (tree.Print e) shape rest = refl
 no_else_before (tree.Println e) shape rest = refl
+no_else_before (tree.Compose c) shape rest = no_else_composed c rest
 
 no_else_brace : (rest : List TokenKind) → NoElse (token.Mark mark.CloseBrace ∷ rest)
 unfolding is_word
@@ -60,6 +85,26 @@ no_else_brace rest = refl
 
 bracketed_length : (e : tree.Expr) (rest : List TokenKind) → expr_height e + length rest + 2 ≤ length (bracketed_spelled e rest)
 bracketed_length e rest = omega (arith, expr_length e (token.Mark mark.CloseBracket ∷ rest))
+
+pub nexts_length : (others : List tree.Expr) (rest : List TokenKind) → highest expr_height others + length rest ≤ length (each_spelled next_argument_spelled others rest)
+nexts_length [] rest = omega arith
+nexts_length (e ∷ others) rest = omega (arith, expr_length e (each_spelled next_argument_spelled others rest), nexts_length others rest)
+
+pub listed_length : (es : List tree.Expr) (rest : List TokenKind) → highest expr_height es + length rest ≤ length (listed_spelled es rest)
+listed_length [] rest = omega arith
+listed_length (e ∷ others) rest = omega (arith, expr_length e (each_spelled next_argument_spelled others rest), nexts_length others rest)
+
+pub arguments_length : (given : Option (List tree.Expr)) (rest : List TokenKind) → arguments_height given + length rest ≤ length (arguments_spelled given rest)
+arguments_length None rest = omega arith
+arguments_length (Some es) rest = omega (arith, listed_length es (token.Mark mark.CloseBracket ∷ rest))
+
+pub brackets_length : (pair : Brackets) (rest : List TokenKind) → length rest ≤ length (brackets_spelled pair rest)
+brackets_length brackets.Written rest = omega arith
+brackets_length brackets.Missing rest = omega arith
+
+pub rates_length : (rates : List tree.Rate) (rest : List TokenKind) → highest rate_height rates + length rest ≤ length (each_spelled rate_spelled rates rest)
+rates_length [] rest = omega arith
+rates_length (a ∷ others) rest = omega (arith, expr_length a.rate (each_spelled rate_spelled others rest), rates_length others rest)
 
 mutual
   pub stmt_length : (s : tree.Stmt) → IsStmt s → (rest : List TokenKind) → stmt_height s + length rest ≤ length (stmt_spelled s rest)
@@ -79,10 +124,39 @@ mutual
   stmt_length (tree.Push e) shape rest = omega (arith, bracketed_length e (token.Mark mark.Semicolon ∷ rest))
   stmt_length (tree.Print e) shape rest = omega (arith, bracketed_length e (token.Mark mark.Semicolon ∷ rest))
   stmt_length (tree.Println e) shape rest = omega (arith, bracketed_length e (token.Mark mark.Semicolon ∷ rest))
+  stmt_length (tree.Compose c) shape rest = composition_length c shape rest
 
   pub row_length : (body : tree.Stmts) → AreStmts body → (rest : List TokenKind) → row_height body + length rest ≤ length (row_spelled body rest)
   row_length tree.Done shape rest = omega arith
   row_length (tree.Then s others) shape rest = omega (arith, stmt_length s shape.0 (row_spelled others rest), row_length others shape.1 rest)
+
+  pub composition_length : (c : tree.Composition) → IsComposition c → (rest : List TokenKind) → composition_height c + 1 + length rest ≤ length (composition_spelled c rest)
+  composition_length (tree.ChildOf role child) shape rest = omega (arith, child_length child shape rest)
+  composition_length (tree.Split (tree.Duplicate pair)) shape rest = omega (arith, brackets_length pair (token.Mark mark.Semicolon ∷ rest))
+  composition_length (tree.Split (tree.Roundrobin weights)) shape rest = omega (arith, arguments_length weights (token.Mark mark.Semicolon ∷ rest))
+  composition_length (tree.Join weights) shape rest = omega (arith, arguments_length weights (token.Mark mark.Semicolon ∷ rest))
+  composition_length (tree.Enqueue e) shape rest = omega (arith, expr_length e (token.Mark mark.Semicolon ∷ rest))
+
+  pub child_length : (c : tree.Child) → IsChild c → (rest : List TokenKind) → child_height c + length rest + 1 ≤ length (child_spelled c rest)
+  child_length (tree.Named x given) shape rest = omega (arith, arguments_length given (token.Mark mark.Semicolon ∷ rest))
+  child_length (tree.Identity pair) shape rest = omega (arith, brackets_length pair (token.Mark mark.Semicolon ∷ rest))
+  child_length (tree.FileReader text) shape rest = omega arith
+  child_length (tree.FileWriter text) shape rest = omega arith
+  child_length (tree.AnonymousFilter types members) shape rest = omega (arith, members_length members shape (token.Mark mark.CloseBrace ∷ rest))
+  child_length (tree.AnonymousComposite None kind body) shape rest = omega (arith, row_length body shape (token.Mark mark.CloseBrace ∷ rest))
+  child_length (tree.AnonymousComposite (Some types) kind body) shape rest = omega (arith, row_length body shape (token.Mark mark.CloseBrace ∷ rest))
+
+  pub member_length : (m : tree.Member) → IsMember m → (rest : List TokenKind) → member_height m + length rest + 1 ≤ length (member_spelled m rest)
+  member_length (tree.Fields kind vs) shape rest = omega (arith, declared_length kind vs (token.Mark mark.Semicolon ∷ rest))
+  member_length (tree.Init body) shape rest = omega (arith, row_length body shape (token.Mark mark.CloseBrace ∷ rest))
+  member_length (tree.Prework rates body) shape rest =
+      omega (arith, rates_length rates (block_spelled body rest), row_length body shape.1 (token.Mark mark.CloseBrace ∷ rest))
+  member_length (tree.Work rates body) shape rest =
+      omega (arith, rates_length rates (block_spelled body rest), row_length body shape.1 (token.Mark mark.CloseBrace ∷ rest))
+
+  pub members_length : (members : tree.Members) → AreMembers members → (rest : List TokenKind) → members_height members + length rest ≤ length (members_spelled members rest)
+  members_length tree.NoMember shape rest = omega arith
+  members_length (tree.And m others) shape rest = omega (arith, member_length m shape.0 (members_spelled others rest), members_length others shape.1 rest)
 
 -- ---- statements in a row
 
@@ -95,18 +169,18 @@ pub row_listed : (body : tree.Stmts) → row (listed body) ≡ body
 row_listed tree.Done = refl
 row_listed (tree.Then s others) = ap (tree.Then s) (row_listed others)
 
-listed_spelled : (body : tree.Stmts) (rest : List TokenKind) → each_spelled stmt_spelled (listed body) rest ≡ row_spelled body rest
-listed_spelled tree.Done rest = refl
-listed_spelled (tree.Then s others) rest = ap (stmt_spelled s) (listed_spelled others rest)
+spelled_listed : (body : tree.Stmts) (rest : List TokenKind) → each_spelled stmt_spelled (listed body) rest ≡ row_spelled body rest
+spelled_listed tree.Done rest = refl
+spelled_listed (tree.Then s others) rest = ap (stmt_spelled s) (spelled_listed others rest)
 
 listed_height : (body : tree.Stmts) → highest stmt_height (listed body) ≡ row_height body
 listed_height tree.Done = refl
 listed_height (tree.Then s others) = ap (λ (n : ℕ). max (stmt_height s) n) (listed_height others)
 
 -- read again before what doesn't go on with an `else` that the statement would take
-record StmtAgain (s : tree.Stmt) : Type 0 where
-  shape : IsStmt s
-  reads : (depth : ℕ) (rest : List TokenKind) → (takes_else s ≡ true → NoElse rest) → Again depth (stmt_height s) (made s rest) (statement depth (stmt_spelled s rest))
+pub record StmtAgain (s : tree.Stmt) : Type 0 where
+  pub shape : IsStmt s
+  pub reads : (depth : ℕ) (rest : List TokenKind) → (takes_else s ≡ true → NoElse rest) → Again depth (stmt_height s) (made s rest) (statement depth (stmt_spelled s rest))
 
 module _ (d : ℕ) where
   abbrev IsRowAgain : tree.Stmt → Type 0
@@ -124,11 +198,11 @@ module _ (d : ℕ) where
   all_again [] again = tt
   all_again (s ∷ others) again = (one_again s again.0, all_again others again.1)
 
-  brace_closing : (rest : List TokenKind) → brace (token.Mark mark.CloseBrace ∷ rest) ≡ Some rest
+  pub brace_closing : (rest : List TokenKind) → brace (token.Mark mark.CloseBrace ∷ rest) ≡ Some rest
   unfolding brace is_mark
   brace_closing rest = refl
 
-  row_again : (body : tree.Stmts) → AllByRecursion StmtAgain (listed body) → (rest : List TokenKind)
+  pub row_again : (body : tree.Stmts) → AllByRecursion StmtAgain (listed body) → (rest : List TokenKind)
       → Again d (row_height body) ((listed body, row_height body), rest) (statements (statement d) (row_spelled body (token.Mark mark.CloseBrace ∷ rest)))
   unfolding statements
   row_again body again rest =
@@ -137,19 +211,19 @@ module _ (d : ℕ) where
       let read = each_taller_again stmt_spelled stmt_height (statement d) brace NoElse d (listed body) (all_again (listed body) again) [] 0 (length tokens) end rest
       (brace_closing rest) (no_else_brace rest) (omega arith) in
       let none : max 0 (row_height body) ≡ row_height body = omega arith in
-      rw (listed_spelled body end, listed_height body, none) at read
+      rw (spelled_listed body end, listed_height body, none) at read
 
 -- ---- statements with others in them
 
 module _ (d : ℕ) (rest : List TokenKind) where
-  block_again : (body : tree.Stmts) → AllByRecursion StmtAgain (listed body)
+  pub block_again : (body : tree.Stmts) → AllByRecursion StmtAgain (listed body)
       → Again (suc d) (row_height body + 1) (made (tree.Block body) rest) (shallow (suc d) (statement d) (stmt_spelled (tree.Block body) rest))
   unfolding shallow block
   block_again body again =
       Again-inside d (row_height body) (row_height body + 1) ((listed body, row_height body), rest) (made (tree.Block body) rest) _ _ (row_again d body again rest) (omega arith)
       (λ low. rw (row_listed body) (Again-raised (suc d) (row_height body) (made (tree.Block body) rest) _ refl))
 
-  if_again : (c : tree.Expr) (a : tree.Stmt) → IsExpr c → StmtAgain a → NoElse rest
+  pub if_again : (c : tree.Expr) (a : tree.Stmt) → IsExpr c → StmtAgain a → NoElse rest
       → Again (suc d) (stmt_height (tree.If c a)) (made (tree.If c a) rest) (shallow (suc d) (statement d) (stmt_spelled (tree.If c a) rest))
   unfolding shallow keyword branch after_branch
   if_again c a shape again free =
@@ -166,7 +240,7 @@ module _ (d : ℕ) (rest : List TokenKind) where
       Again-inside d (stmt_height b) high (made b rest) (made (tree.IfElse c a b) rest) _ _ (again.reads d rest free) (omega arith) (λ three.
       Again-raised (suc d) (max (max (expr_height c) (stmt_height a)) (stmt_height b)) (made (tree.IfElse c a b) rest) _ refl)
 
-  if_else_again : (c : tree.Expr) (a b : tree.Stmt) → IsExpr c → takes_else a ≡ false → StmtAgain a → StmtAgain b → (takes_else b ≡ true → NoElse rest)
+  pub if_else_again : (c : tree.Expr) (a b : tree.Stmt) → IsExpr c → takes_else a ≡ false → StmtAgain a → StmtAgain b → (takes_else b ≡ true → NoElse rest)
       → Again (suc d) (stmt_height (tree.IfElse c a b)) (made (tree.IfElse c a b) rest) (shallow (suc d) (statement d) (stmt_spelled (tree.IfElse c a b) rest))
   unfolding shallow keyword branch after_branch is_word
   if_else_again c a b shape closed again others free =
@@ -176,7 +250,7 @@ module _ (d : ℕ) (rest : List TokenKind) where
       Again-inside d (stmt_height a) high (made a behind) (made (tree.IfElse c a b) rest) _ _ (again.reads d behind (λ takes. absurd cc)) (omega arith) (λ two.
       other_again c a b others free one two))
 
-  while_again : (c : tree.Expr) (body : tree.Stmt) → IsExpr c → StmtAgain body → (takes_else body ≡ true → NoElse rest)
+  pub while_again : (c : tree.Expr) (body : tree.Stmt) → IsExpr c → StmtAgain body → (takes_else body ≡ true → NoElse rest)
       → Again (suc d) (stmt_height (tree.While c body)) (made (tree.While c body) rest) (shallow (suc d) (statement d) (stmt_spelled (tree.While c body) rest))
   unfolding shallow keyword while_loop
   while_again c body shape again free =
@@ -185,7 +259,7 @@ module _ (d : ℕ) (rest : List TokenKind) where
       Again-inside d (stmt_height body) high (made body rest) (made (tree.While c body) rest) _ _ (again.reads d rest free) (omega arith) (λ two.
       Again-raised (suc d) (max (expr_height c) (stmt_height body)) (made (tree.While c body) rest) _ refl))
 
-  for_again : (begun : tree.Stmt) (tested : Option tree.Expr) (stepped body : tree.Stmt) → IsFirst begun → IsOptional tested → IsStep stepped → StmtAgain body → (takes_else body ≡ true → NoElse rest)
+  pub for_again : (begun : tree.Stmt) (tested : Option tree.Expr) (stepped body : tree.Stmt) → IsFirst begun → IsOptional tested → IsStep stepped → StmtAgain body → (takes_else body ≡ true → NoElse rest)
       → Again (suc d) (stmt_height (tree.For begun tested stepped body)) (made (tree.For begun tested stepped body) rest) (shallow (suc d) (statement d) (stmt_spelled (tree.For begun tested stepped body) rest))
   unfolding shallow keyword for_loop
   for_again begun tested stepped body is_first is_tested is_step again free =
@@ -196,12 +270,12 @@ module _ (d : ℕ) (rest : List TokenKind) where
       Again-inside d (stmt_height body) high (made body rest) all _ _ (again.reads d rest free) (omega arith) (λ two.
       Again-raised (suc d) (max (heading_height begun tested stepped) (stmt_height body)) all _ refl))
 
-  part_statement : (s : tree.Stmt) → IsFirst s → Again (suc d) (stmt_height s) (made s rest) (shallow (suc d) (statement d) (part_spelled s (token.Mark mark.Semicolon ∷ rest)))
+  pub part_statement : (s : tree.Stmt) → IsFirst s → Again (suc d) (stmt_height s) (made s rest) (shallow (suc d) (statement d) (part_spelled s (token.Mark mark.Semicolon ∷ rest)))
   part_statement s shape = rw ((begins s shape).is_ended (suc d) (statement d) rest) (ended_again d rest s shape)
 
--- ---- every statement
+-- ---- statements at every depth
 
-abbrev IsShallow : tree.Stmt → Type 0
+abbrev pub IsShallow : tree.Stmt → Type 0
 IsShallow s = (d : ℕ) (rest : List TokenKind) → (takes_else s ≡ true → NoElse rest) → Again (suc d) (stmt_height s) (made s rest) (shallow (suc d) (statement d) (stmt_spelled s rest))
 
 at_depth : (s : tree.Stmt) → IsShallow s → (depth : ℕ) (rest : List TokenKind) → (takes_else s ≡ true → NoElse rest) → Again depth (stmt_height s) (made s rest) (statement depth (stmt_spelled s rest))
@@ -209,37 +283,5 @@ unfolding statement
 at_depth s again zero rest free = record { fits = λ h. absurd (omega (arith, stmt_height_some s)); over = λ h. refl }
 at_depth s again (suc d) rest free = again d rest free
 
-always : (s : tree.Stmt) → IsStmt s → IsShallow s → StmtAgain s
+pub always : (s : tree.Stmt) → IsStmt s → IsShallow s → StmtAgain s
 always s shape again = record { shape = shape; reads = at_depth s again }
-
-mutual
-  unfolding shallow keyword
-
-  stmt_again : (s : tree.Stmt) → IsStmt s → StmtAgain s
-  stmt_again tree.Empty shape = always tree.Empty shape (λ d rest free. part_statement d rest tree.Empty shape)
-  stmt_again (tree.Block body) shape = let inside = rows_again body shape in always (tree.Block body) shape (λ d rest free. block_again d rest body inside)
-  stmt_again (tree.Declare kind vs) shape = always (tree.Declare kind vs) shape (λ d rest free. part_statement d rest (tree.Declare kind vs) shape)
-  stmt_again (tree.Evaluate e) shape = always (tree.Evaluate e) shape (λ d rest free. part_statement d rest (tree.Evaluate e) shape)
-  stmt_again (tree.Assign x o e) shape = always (tree.Assign x o e) shape (λ d rest free. part_statement d rest (tree.Assign x o e) shape)
-  stmt_again (tree.AssignElement x at o e) shape = always (tree.AssignElement x at o e) shape (λ d rest free. part_statement d rest (tree.AssignElement x at o e) shape)
-  stmt_again (tree.If c a) shape =
-      let inside = stmt_again a shape.1 in always (tree.If c a) shape (λ d rest free. if_again d rest c a shape.0 inside (free refl))
-  stmt_again (tree.IfElse c a b) shape =
-      let first = stmt_again a shape.2 in
-      let second = stmt_again b shape.3 in
-      always (tree.IfElse c a b) shape (λ d rest free. if_else_again d rest c a b shape.0 shape.1 first second free)
-  stmt_again (tree.While c body) shape = let inside = stmt_again body shape.1 in always (tree.While c body) shape (λ d rest free. while_again d rest c body shape.0 inside free)
-  stmt_again (tree.For begun tested stepped body) shape =
-      let inside = stmt_again body shape.3 in
-      always (tree.For begun tested stepped body) shape (λ d rest free. for_again d rest begun tested stepped body shape.0 shape.1 shape.2 inside free)
-  stmt_again (tree.Push e) shape = always (tree.Push e) shape (λ d rest free. of_argument d rest e shape tree.Push)
-  stmt_again (tree.Print e) shape = always (tree.Print e) shape (λ d rest free. of_argument d rest e shape tree.Print)
-  stmt_again (tree.Println e) shape = always (tree.Println e) shape (λ d rest free. of_argument d rest e shape tree.Println)
-
-  rows_again : (body : tree.Stmts) → AreStmts body → AllByRecursion StmtAgain (listed body)
-  rows_again tree.Done shape = tt
-  rows_again (tree.Then s others) shape = (stmt_again s shape.0, rows_again others shape.1)
-
-pub statements_again : (body : tree.Stmts) → AreStmts body → (d : ℕ) (rest : List TokenKind)
-    → Again d (row_height body) ((listed body, row_height body), rest) (statements (statement d) (row_spelled body (token.Mark mark.CloseBrace ∷ rest)))
-statements_again body shape d rest = row_again d body (rows_again body shape) rest

@@ -1,5 +1,6 @@
--- What is read as a statement is one, and these are its tokens.
-use Rattle.std.proofs.Common.{◌≡◌, ℕ, zero, suc, ◌+◌, ◌-◌, ◌≤◌, max, Bool, true, false, List, [], ◌∷◌, length, Ok, refl, sym, ap, ◌∙◌, arith, inl, inr}
+-- What is read as a statement of the first kinds is one, and these are its tokens: by what holds of the reader of the
+-- statements in it.
+use Rattle.std.proofs.Common.{◌≡◌, ℕ, suc, ◌+◌, ◌-◌, ◌≤◌, max, Bool, true, false, List, [], ◌∷◌, length, Ok, refl, sym, ap, ◌∙◌, arith, inl, inr}
 use Rattle.std.proofs.lemmas.Bool.{cases_Bool}
 use Rattle.std.specs.List.{AllByRecursion}
 use denote.Enum.Bare.{same_true}
@@ -11,7 +12,8 @@ use Rattle.strc_lex.specs.declared.token.Word.TheVariants as word
 use Rattle.strc_lex.specs.declared.token.Mark.TheVariants as mark
 use Rattle.strc_parse.specs.Tree as tree
 use Rattle.strc_parse.specs.Grammar.{part_spelled, bracketed_spelled, heading_spelled, stmt_spelled, row_spelled, each_spelled, highest, IsExpr, IsFirst, takes_else, IsStmt, AreStmts, expr_height, stmt_height, row_height}
-use Rattle.strc_parse.specs.Reading.{◌>>=◌, Inner, tail, is_word, row, repeated, brace, one_taller, statements, block, bracketed, argument, ended, other_branch, after_branch, branch, for_heading, while_loop, for_loop, keyword, shallow, statement}
+use Rattle.strc_parse.specs.Reading.{◌>>=◌, tail, is_word, repeated, brace, one_taller, bracketed, argument, ended, for_heading}
+use Rattle.strc_parse.specs.Streams.{Inner, row, statements, block, other_branch, after_branch, branch, while_loop, for_loop}
 use Rattle.strc_parse.proofs.ExpressionAgain.{expr_length}
 use Rattle.strc_parse.proofs.SimpleAgain.{heading_length}
 use Rattle.strc_parse.proofs.StatementAgain.{NoElse, stmt_length}
@@ -21,7 +23,7 @@ use Rattle.strc_parse.proofs.SimpleHolds.{EndedRead, ended_holds, HeadingRead, h
 abbrev count : List TokenKind → ℕ
 count ts = length ts
 
-word_is : (wanted : Word) (tokens : List TokenKind) → is_word wanted tokens ≡ true → tokens ≡ token.Word wanted ∷ tail tokens
+pub word_is : (wanted : Word) (tokens : List TokenKind) → is_word wanted tokens ≡ true → tokens ≡ token.Word wanted ∷ tail tokens
 unfolding is_word
 word_is wanted [] e = absurd cc
 word_is wanted (token.Word found ∷ rest) e = ap (λ (w : Word). token.Word w ∷ rest) (same_true word_type tt found wanted e)
@@ -38,7 +40,7 @@ pub record StmtRead (depth : ℕ) (tokens : List TokenKind) (x : tree.Stmt × �
   pub low : x.1 ≤ depth
   pub free : takes_else x.0 ≡ true → NoElse x.2
 
-StmtRead-long : {depth : ℕ} {tokens : List TokenKind} {x : tree.Stmt × ℕ × List TokenKind} → StmtRead depth tokens x → x.1 + length x.2 ≤ length tokens
+pub StmtRead-long : {depth : ℕ} {tokens : List TokenKind} {x : tree.Stmt × ℕ × List TokenKind} → StmtRead depth tokens x → x.1 + length x.2 ≤ length tokens
 StmtRead-long {depth} {tokens} {x} read = omega (arith, stmt_length x.0 read.shape x.2, read.high, ap count read.spelled)
 
 -- ---- statements with a semicolon
@@ -71,7 +73,7 @@ not_both : {P : Type 0} (b : Bool) → b ≡ false → b ≡ true → P
 not_both b is_false is_true = absurd cc
 
 module _ (d : ℕ) where
-  ended_stmt : (tokens : List TokenKind) → Holds (StmtRead (suc d) tokens) d tokens (ended (suc d) tokens)
+  pub ended_stmt : (tokens : List TokenKind) → Holds (StmtRead (suc d) tokens) d tokens (ended (suc d) tokens)
   ended_stmt tokens =
       Holds-on (EndedRead IsFirst mark.Semicolon (suc d) tokens) (StmtRead (suc d) tokens) d d tokens tokens (ended (suc d) tokens) (omega arith) (omega arith) (ended_holds d tokens)
       (λ x read. record {
@@ -82,7 +84,7 @@ module _ (d : ℕ) where
         free = λ takes. not_both (takes_else x.0) (first_takes x.0 read.shape) takes;
       })
 
-  argument_stmt : (w : Word) (make : tree.Expr → tree.Stmt) (behind : List TokenKind) → ((e : tree.Expr) → stmt_height (make e) ≡ expr_height e + 1) → ((e : tree.Expr) → IsExpr e → IsStmt (make e))
+  pub argument_stmt : (w : Word) (make : tree.Expr → tree.Stmt) (behind : List TokenKind) → ((e : tree.Expr) → stmt_height (make e) ≡ expr_height e + 1) → ((e : tree.Expr) → IsExpr e → IsStmt (make e))
       → ((e : tree.Expr) (rest : List TokenKind) → token.Word w ∷ bracketed_spelled e (token.Mark mark.Semicolon ∷ rest) ≡ stmt_spelled (make e) rest) → ((e : tree.Expr) → takes_else (make e) ≡ false)
       → Holds (StmtRead (suc d) (token.Word w ∷ behind)) d (token.Word w ∷ behind) (argument (suc d) behind >>= λ x. Ok (make x.0, x.1, x.2))
   argument_stmt w make behind heights shapes spells takes_none =
@@ -155,7 +157,7 @@ module _ (d : ℕ) (inner : Inner) (holds : (tokens : List TokenKind) → Holds 
         low = stopped.1.low;
       })
 
-  block_holds : (behind : List TokenKind) → Holds (StmtRead (suc d) (token.Mark mark.OpenBrace ∷ behind)) d (token.Mark mark.OpenBrace ∷ behind) (block (suc d) inner behind)
+  pub block_holds : (behind : List TokenKind) → Holds (StmtRead (suc d) (token.Mark mark.OpenBrace ∷ behind)) d (token.Mark mark.OpenBrace ∷ behind) (block (suc d) inner behind)
   unfolding block
   block_holds behind =
       let all : List TokenKind = token.Mark mark.OpenBrace ∷ behind in
@@ -206,7 +208,7 @@ module _ (d : ℕ) (inner : Inner) (holds : (tokens : List TokenKind) → Holds 
         | inr none ↦ none
       ]
 
-  branch_holds : (behind : List TokenKind) → Holds (StmtRead (suc d) (token.Word word.If ∷ behind)) d (token.Word word.If ∷ behind) (branch (suc d) inner behind)
+  pub branch_holds : (behind : List TokenKind) → Holds (StmtRead (suc d) (token.Word word.If ∷ behind)) d (token.Word word.If ∷ behind) (branch (suc d) inner behind)
   unfolding branch after_branch
   branch_holds behind =
       let all : List TokenKind = token.Word word.If ∷ behind in
@@ -236,7 +238,7 @@ module _ (d : ℕ) (inner : Inner) (holds : (tokens : List TokenKind) → Holds 
             rw is read
       ]))
 
-  while_holds : (behind : List TokenKind) → Holds (StmtRead (suc d) (token.Word word.While ∷ behind)) d (token.Word word.While ∷ behind) (while_loop (suc d) inner behind)
+  pub while_holds : (behind : List TokenKind) → Holds (StmtRead (suc d) (token.Word word.While ∷ behind)) d (token.Word word.While ∷ behind) (while_loop (suc d) inner behind)
   unfolding while_loop
   while_holds behind =
       let all : List TokenKind = token.Word word.While ∷ behind in
@@ -253,7 +255,7 @@ module _ (d : ℕ) (inner : Inner) (holds : (tokens : List TokenKind) → Holds 
         free = body.free;
       }) (λ le. absurd (omega (arith, condition.low, body.low)))))
 
-  for_holds : (behind : List TokenKind) → Holds (StmtRead (suc d) (token.Word word.For ∷ behind)) d (token.Word word.For ∷ behind) (for_loop (suc d) inner behind)
+  pub for_holds : (behind : List TokenKind) → Holds (StmtRead (suc d) (token.Word word.For ∷ behind)) d (token.Word word.For ∷ behind) (for_loop (suc d) inner behind)
   unfolding for_loop
   for_holds behind =
       let all : List TokenKind = token.Word word.For ∷ behind in
@@ -270,29 +272,3 @@ module _ (d : ℕ) (inner : Inner) (holds : (tokens : List TokenKind) → Holds 
         low = omega arith;
         free = body.free;
       }) (λ le. omega (arith, body.low))))
-
-  keyword_holds : (w : Word) (behind : List TokenKind) → Holds (StmtRead (suc d) (token.Word w ∷ behind)) d (token.Word w ∷ behind) (keyword (suc d) inner w (token.Word w ∷ behind))
-  unfolding keyword
-  keyword_holds word.If behind = branch_holds behind
-  keyword_holds word.While behind = while_holds behind
-  keyword_holds word.For behind = for_holds behind
-  keyword_holds word.Push behind = argument_stmt d word.Push tree.Push behind (λ e. refl) (λ e h. h) (λ e rest. refl) (λ e. refl)
-  keyword_holds word.Print behind = argument_stmt d word.Print tree.Print behind (λ e. refl) (λ e h. h) (λ e rest. refl) (λ e. refl)
-  keyword_holds word.Println behind = argument_stmt d word.Println tree.Println behind (λ e. refl) (λ e h. h) (λ e rest. refl) (λ e. refl)
-  keyword_holds w behind = ended_stmt d (token.Word w ∷ behind)
-
-  shallow_holds : (tokens : List TokenKind) → Holds (StmtRead (suc d) tokens) d tokens (shallow (suc d) inner tokens)
-  unfolding shallow
-  shallow_holds [] = ended_stmt d []
-  shallow_holds (token.Mark mark.OpenBrace ∷ rest) = block_holds rest
-  shallow_holds (token.Mark m ∷ rest) = ended_stmt d (token.Mark m ∷ rest)
-  shallow_holds (token.Word w ∷ rest) = keyword_holds w rest
-  shallow_holds (token.Name x ∷ rest) = ended_stmt d (token.Name x ∷ rest)
-  shallow_holds (token.Number n ∷ rest) = ended_stmt d (token.Number n ∷ rest)
-  shallow_holds (token.Text t ∷ rest) = ended_stmt d (token.Text t ∷ rest)
-
--- what is read at a depth
-pub statement_holds : (depth : ℕ) (tokens : List TokenKind) → Holds (StmtRead depth tokens) (depth - 1) tokens (statement depth tokens)
-unfolding statement
-statement_holds zero tokens = omega arith
-statement_holds (suc d) tokens = let same : suc d - 1 ≡ d = omega arith in rw same (shallow_holds d (statement d) (λ ts. statement_holds d ts) tokens)

@@ -9,6 +9,13 @@ use Rattle.strc_lex.specs.declared.token.Mark.{Mark}
 use Rattle.strc_lex.specs.declared.token.Mark.TheVariants as mark
 use Rattle.strc_parse.specs.declared.tree.ItemType.{ItemType}
 use Rattle.strc_parse.specs.declared.tree.ItemType.TheVariants as item
+use Rattle.strc_parse.specs.declared.tree.StreamType.{StreamType}
+use Rattle.strc_parse.specs.declared.tree.CompositeKind.{CompositeKind}
+use Rattle.strc_parse.specs.declared.tree.CompositeKind.TheVariants as composite
+use Rattle.strc_parse.specs.declared.tree.Role.{Role}
+use Rattle.strc_parse.specs.declared.tree.Role.TheVariants as role
+use Rattle.strc_parse.specs.declared.tree.Brackets.{Brackets}
+use Rattle.strc_parse.specs.declared.tree.Brackets.TheVariants as brackets
 use Rattle.strc_parse.specs.declared.tree.RateKind.{RateKind}
 use Rattle.strc_parse.specs.declared.tree.RateKind.TheVariants as rate
 use Rattle.strc_parse.specs.declared.tree.AssignOperator.{AssignOperator}
@@ -154,6 +161,71 @@ heading_spelled first condition step rest =
     ∷ condition_spelled condition (token.Mark mark.Semicolon
     ∷ part_spelled step (token.Mark mark.CloseBracket ∷ rest)))
 
+-- `()`, or nothing
+abbrev pub brackets_spelled : Brackets → List TokenKind → List TokenKind
+brackets_spelled brackets.Written rest = token.Mark mark.OpenBracket ∷ token.Mark mark.CloseBracket ∷ rest
+brackets_spelled brackets.Missing rest = rest
+
+-- a further expression, behind its comma
+abbrev pub next_argument_spelled : tree.Expr → List TokenKind → List TokenKind
+next_argument_spelled argument rest = token.Mark mark.Comma ∷ expr_spelled argument rest
+
+-- expressions with commas between them
+abbrev pub listed_spelled : List tree.Expr → List TokenKind → List TokenKind
+listed_spelled [] rest = rest
+listed_spelled (first ∷ others) rest = expr_spelled first (each_spelled next_argument_spelled others rest)
+
+-- `(1, 2)`, or nothing
+abbrev pub arguments_spelled : Option (List tree.Expr) → List TokenKind → List TokenKind
+arguments_spelled None rest = rest
+arguments_spelled (Some arguments) rest = token.Mark mark.OpenBracket ∷ listed_spelled arguments (token.Mark mark.CloseBracket ∷ rest)
+
+-- `duplicate`, or `roundrobin` with its weights
+abbrev pub splitter_spelled : tree.Splitter → List TokenKind → List TokenKind
+splitter_spelled (tree.Duplicate pair) rest = token.Word word.Duplicate ∷ brackets_spelled pair rest
+splitter_spelled (tree.Roundrobin weights) rest = token.Word word.Roundrobin ∷ arguments_spelled weights rest
+
+abbrev pub role_word : Role → TokenKind
+role_word role.Add = token.Word word.Add
+role_word role.Body = token.Word word.Body
+role_word role.Loop = token.Word word.Loop
+
+abbrev pub kind_word : CompositeKind → TokenKind
+kind_word composite.Pipeline = token.Word word.Pipeline
+kind_word composite.Splitjoin = token.Word word.Splitjoin
+kind_word composite.Feedbackloop = token.Word word.Feedbackloop
+
+abbrev pub type_word : ItemType → TokenKind
+type_word item.Int = token.Word word.Int
+type_word item.Void = token.Word word.Void
+
+-- `int->void`
+abbrev pub stream_type_spelled : StreamType → List TokenKind → List TokenKind
+stream_type_spelled types rest = type_word types.input ∷ token.Mark mark.Arrow ∷ type_word types.output ∷ rest
+
+-- the type of an anonymous stream, or nothing
+abbrev pub found_type_spelled : Option StreamType → List TokenKind → List TokenKind
+found_type_spelled None rest = rest
+found_type_spelled (Some types) rest = stream_type_spelled types rest
+
+-- `<int>`
+abbrev pub int_items_spelled : List TokenKind → List TokenKind
+int_items_spelled rest = token.Mark mark.Less ∷ token.Word word.Int ∷ token.Mark mark.Greater ∷ rest
+
+-- `<int>("numbers");`
+abbrev pub file_spelled : List ℕ → List TokenKind → List TokenKind
+file_spelled text rest =
+    int_items_spelled (token.Mark mark.OpenBracket ∷ token.Text text ∷ token.Mark mark.CloseBracket ∷ token.Mark mark.Semicolon ∷ rest)
+
+abbrev pub rate_word : RateKind → TokenKind
+rate_word rate.Push = token.Word word.Push
+rate_word rate.Pop = token.Word word.Pop
+rate_word rate.Peek = token.Word word.Peek
+
+-- `push 1`
+abbrev pub rate_spelled : tree.Rate → List TokenKind → List TokenKind
+rate_spelled written rest = rate_word written.kind ∷ expr_spelled written.rate rest
+
 abbrev mutual
   -- the tokens of a statement, before what follows
   pub stmt_spelled : tree.Stmt → List TokenKind → List TokenKind
@@ -172,50 +244,81 @@ abbrev mutual
   stmt_spelled (tree.Push value) rest = token.Word word.Push ∷ bracketed_spelled value (token.Mark mark.Semicolon ∷ rest)
   stmt_spelled (tree.Print value) rest = token.Word word.Print ∷ bracketed_spelled value (token.Mark mark.Semicolon ∷ rest)
   stmt_spelled (tree.Println value) rest = token.Word word.Println ∷ bracketed_spelled value (token.Mark mark.Semicolon ∷ rest)
+  stmt_spelled (tree.Compose statement) rest = composition_spelled statement rest
 
   -- the statements of a block, without its braces
   pub row_spelled : tree.Stmts → List TokenKind → List TokenKind
   row_spelled tree.Done rest = rest
   row_spelled (tree.Then first others) rest = stmt_spelled first (row_spelled others rest)
 
+  -- a statement of a composite stream; `enqueue` has no brackets of its own
+  pub composition_spelled : tree.Composition → List TokenKind → List TokenKind
+  composition_spelled (tree.ChildOf role child) rest = role_word role ∷ child_spelled child rest
+  composition_spelled (tree.Split splitter) rest = token.Word word.Split ∷ splitter_spelled splitter (token.Mark mark.Semicolon ∷ rest)
+  composition_spelled (tree.Join weights) rest =
+      token.Word word.Join ∷ token.Word word.Roundrobin ∷ arguments_spelled weights (token.Mark mark.Semicolon ∷ rest)
+  composition_spelled (tree.Enqueue value) rest = token.Word word.Enqueue ∷ expr_spelled value (token.Mark mark.Semicolon ∷ rest)
+
+  -- a child: a named one has a semicolon, an anonymous one ends at its brace
+  pub child_spelled : tree.Child → List TokenKind → List TokenKind
+  child_spelled (tree.Named name arguments) rest = token.Name name ∷ arguments_spelled arguments (token.Mark mark.Semicolon ∷ rest)
+  child_spelled (tree.Identity pair) rest =
+      token.Word word.Identity ∷ int_items_spelled (brackets_spelled pair (token.Mark mark.Semicolon ∷ rest))
+  child_spelled (tree.FileReader text) rest = token.Word word.FileReader ∷ file_spelled text rest
+  child_spelled (tree.FileWriter text) rest = token.Word word.FileWriter ∷ file_spelled text rest
+  child_spelled (tree.AnonymousFilter types members) rest =
+      stream_type_spelled types (token.Word word.Filter ∷ token.Mark mark.OpenBrace ∷ members_spelled members (token.Mark mark.CloseBrace ∷ rest))
+  child_spelled (tree.AnonymousComposite types kind block) rest =
+      found_type_spelled types (kind_word kind ∷ token.Mark mark.OpenBrace ∷ row_spelled block (token.Mark mark.CloseBrace ∷ rest))
+
+  -- a part of a filter
+  pub member_spelled : tree.Member → List TokenKind → List TokenKind
+  member_spelled (tree.Fields kind variables) rest = declared_spelled kind variables (token.Mark mark.Semicolon ∷ rest)
+  member_spelled (tree.Init block) rest = token.Word word.Init ∷ token.Mark mark.OpenBrace ∷ row_spelled block (token.Mark mark.CloseBrace ∷ rest)
+  member_spelled (tree.Prework rates block) rest =
+      token.Word word.Prework ∷ each_spelled rate_spelled rates (token.Mark mark.OpenBrace ∷ row_spelled block (token.Mark mark.CloseBrace ∷ rest))
+  member_spelled (tree.Work rates block) rest =
+      token.Word word.Work ∷ each_spelled rate_spelled rates (token.Mark mark.OpenBrace ∷ row_spelled block (token.Mark mark.CloseBrace ∷ rest))
+
+  pub members_spelled : tree.Members → List TokenKind → List TokenKind
+  members_spelled tree.NoMember rest = rest
+  members_spelled (tree.And first others) rest = member_spelled first (members_spelled others rest)
+
 -- a block with its braces
 abbrev pub block_spelled : tree.Stmts → List TokenKind → List TokenKind
 block_spelled block rest = token.Mark mark.OpenBrace ∷ row_spelled block (token.Mark mark.CloseBrace ∷ rest)
 
-abbrev pub rate_word : RateKind → TokenKind
-rate_word rate.Push = token.Word word.Push
-rate_word rate.Pop = token.Word word.Pop
-rate_word rate.Peek = token.Word word.Peek
+-- a parameter: `int n`
+abbrev pub parameter_spelled : List ℕ → List TokenKind → List TokenKind
+parameter_spelled name rest = token.Word word.Int ∷ token.Name name ∷ rest
 
--- `push 1`
-abbrev pub rate_spelled : tree.Rate → List TokenKind → List TokenKind
-rate_spelled written rest = rate_word written.kind ∷ expr_spelled written.rate rest
+-- a further parameter, behind its comma
+abbrev pub next_parameter_spelled : List ℕ → List TokenKind → List TokenKind
+next_parameter_spelled name rest = token.Mark mark.Comma ∷ parameter_spelled name rest
 
-abbrev pub member_spelled : tree.Member → List TokenKind → List TokenKind
-member_spelled (tree.Fields kind variables) rest = declared_spelled kind variables (token.Mark mark.Semicolon ∷ rest)
-member_spelled (tree.Init block) rest = token.Word word.Init ∷ block_spelled block rest
-member_spelled (tree.Prework rates block) rest = token.Word word.Prework ∷ each_spelled rate_spelled rates (block_spelled block rest)
-member_spelled (tree.Work rates block) rest = token.Word word.Work ∷ each_spelled rate_spelled rates (block_spelled block rest)
+-- parameters with commas between them
+abbrev pub listed_parameters_spelled : List (List ℕ) → List TokenKind → List TokenKind
+listed_parameters_spelled [] rest = rest
+listed_parameters_spelled (first ∷ others) rest = parameter_spelled first (each_spelled next_parameter_spelled others rest)
 
--- `add A;`
-abbrev pub child_spelled : List ℕ → List TokenKind → List TokenKind
-child_spelled name rest = token.Word word.Add ∷ token.Name name ∷ token.Mark mark.Semicolon ∷ rest
-
-abbrev pub type_word : ItemType → TokenKind
-type_word item.Int = token.Word word.Int
-type_word item.Void = token.Word word.Void
+-- `(int n, int m)`, or nothing
+abbrev pub parameters_spelled : Option (List (List ℕ)) → List TokenKind → List TokenKind
+parameters_spelled None rest = rest
+parameters_spelled (Some parameters) rest =
+    token.Mark mark.OpenBracket ∷ listed_parameters_spelled parameters (token.Mark mark.CloseBracket ∷ rest)
 
 -- a named stream
-abbrev pub stream_spelled : List ℕ → tree.Stream → List TokenKind → List TokenKind
-stream_spelled name (tree.Filter input output members) rest =
-    type_word input ∷ token.Mark mark.Arrow ∷ type_word output ∷ token.Word word.Filter ∷ token.Name name ∷ token.Mark mark.OpenBrace
-    ∷ each_spelled member_spelled members (token.Mark mark.CloseBrace ∷ rest)
-stream_spelled name (tree.Pipeline input output children) rest =
-    type_word input ∷ token.Mark mark.Arrow ∷ type_word output ∷ token.Word word.Pipeline ∷ token.Name name ∷ token.Mark mark.OpenBrace
-    ∷ each_spelled child_spelled children (token.Mark mark.CloseBrace ∷ rest)
+abbrev pub stream_spelled : List ℕ → Option (List (List ℕ)) → tree.Stream → List TokenKind → List TokenKind
+stream_spelled name parameters (tree.Filter input output members) rest =
+    stream_type_spelled (record { input = input; output = output })
+    (token.Word word.Filter ∷ token.Name name ∷ parameters_spelled parameters (token.Mark mark.OpenBrace
+    ∷ each_spelled member_spelled members (token.Mark mark.CloseBrace ∷ rest)))
+stream_spelled name parameters (tree.Composite types kind block) rest =
+    stream_type_spelled types
+    (kind_word kind ∷ token.Name name ∷ parameters_spelled parameters (block_spelled block rest))
 
 abbrev pub declaration_spelled : tree.Declaration → List TokenKind → List TokenKind
-declaration_spelled declaration rest = stream_spelled declaration.name declaration.stream rest
+declaration_spelled declaration rest = stream_spelled declaration.name declaration.parameters declaration.stream rest
 
 -- the tokens of a program
 abbrev pub spelling : List tree.Declaration → List TokenKind
@@ -307,6 +410,19 @@ takes_else (tree.While condition body) = takes_else body
 takes_else (tree.For first condition step body) = takes_else body
 takes_else _ = false
 
+-- a rate word stands at most once
+abbrev pub AreRates : List tree.Rate → Type 0
+AreRates [] = Unit {0}
+AreRates (first ∷ others) = IsExpr first.rate × AllByRecursion (λ other. first.kind ≡ other.kind → ⊥) others × AreRates others
+
+abbrev pub AreArguments : Option (List tree.Expr) → Type 0
+AreArguments None = Unit {0}
+AreArguments (Some arguments) = AllByRecursion IsExpr arguments
+
+abbrev pub IsSplitter : tree.Splitter → Type 0
+IsSplitter (tree.Duplicate pair) = Unit {0}
+IsSplitter (tree.Roundrobin weights) = AreArguments weights
+
 abbrev mutual
   -- an `else` belongs to the nearest `if` that can have it
   pub IsStmt : tree.Stmt → Type 0
@@ -323,25 +439,39 @@ abbrev mutual
   IsStmt (tree.Push value) = IsExpr value
   IsStmt (tree.Print value) = IsExpr value
   IsStmt (tree.Println value) = IsExpr value
+  IsStmt (tree.Compose statement) = IsComposition statement
 
   pub AreStmts : tree.Stmts → Type 0
   AreStmts tree.Done = Unit {0}
   AreStmts (tree.Then first others) = IsStmt first × AreStmts others
 
--- a rate word stands at most once
-abbrev pub AreRates : List tree.Rate → Type 0
-AreRates [] = Unit {0}
-AreRates (first ∷ others) = IsExpr first.rate × AllByRecursion (λ other. first.kind ≡ other.kind → ⊥) others × AreRates others
+  pub IsComposition : tree.Composition → Type 0
+  IsComposition (tree.ChildOf role child) = IsChild child
+  IsComposition (tree.Split splitter) = IsSplitter splitter
+  IsComposition (tree.Join weights) = AreArguments weights
+  IsComposition (tree.Enqueue value) = IsExpr value
 
-abbrev pub IsMember : tree.Member → Type 0
-IsMember (tree.Fields kind variables) = IsVariableType kind × AreVariables variables
-IsMember (tree.Init block) = AreStmts block
-IsMember (tree.Prework rates block) = AreRates rates × AreStmts block
-IsMember (tree.Work rates block) = AreRates rates × AreStmts block
+  pub IsChild : tree.Child → Type 0
+  IsChild (tree.Named name arguments) = AreArguments arguments
+  IsChild (tree.Identity pair) = Unit {0}
+  IsChild (tree.FileReader text) = Unit {0}
+  IsChild (tree.FileWriter text) = Unit {0}
+  IsChild (tree.AnonymousFilter types members) = AreMembers members
+  IsChild (tree.AnonymousComposite types kind block) = AreStmts block
+
+  pub IsMember : tree.Member → Type 0
+  IsMember (tree.Fields kind variables) = IsVariableType kind × AreVariables variables
+  IsMember (tree.Init block) = AreStmts block
+  IsMember (tree.Prework rates block) = AreRates rates × AreStmts block
+  IsMember (tree.Work rates block) = AreRates rates × AreStmts block
+
+  pub AreMembers : tree.Members → Type 0
+  AreMembers tree.NoMember = Unit {0}
+  AreMembers (tree.And first others) = IsMember first × AreMembers others
 
 abbrev pub IsStream : tree.Stream → Type 0
 IsStream (tree.Filter input output members) = AllByRecursion IsMember members
-IsStream (tree.Pipeline input output children) = Unit {0}
+IsStream (tree.Composite types kind block) = AreStmts block
 
 abbrev pub IsDeclaration : tree.Declaration → Type 0
 IsDeclaration declaration = IsStream declaration.stream
@@ -388,6 +518,18 @@ variable_height variable = optional_height variable.initial
 abbrev pub declared_height : tree.VariableType → List tree.Variable → ℕ
 declared_height kind variables = max (type_height kind) (highest variable_height variables)
 
+abbrev pub rate_height : tree.Rate → ℕ
+rate_height written = expr_height written.rate
+
+-- that of the highest argument, or 0
+abbrev pub arguments_height : Option (List tree.Expr) → ℕ
+arguments_height None = 0
+arguments_height (Some arguments) = highest expr_height arguments
+
+abbrev pub splitter_height : tree.Splitter → ℕ
+splitter_height (tree.Duplicate pair) = 1
+splitter_height (tree.Roundrobin weights) = arguments_height weights + 1
+
 abbrev mutual
   -- a part of a `for` has the height of the statement
   pub stmt_height : tree.Stmt → ℕ
@@ -405,25 +547,43 @@ abbrev mutual
   stmt_height (tree.Push value) = expr_height value + 1
   stmt_height (tree.Print value) = expr_height value + 1
   stmt_height (tree.Println value) = expr_height value + 1
+  stmt_height (tree.Compose statement) = composition_height statement + 1
 
   -- the highest statement's, or 0
   pub row_height : tree.Stmts → ℕ
   row_height tree.Done = 0
   row_height (tree.Then first others) = max (stmt_height first) (row_height others)
 
-abbrev pub rate_height : tree.Rate → ℕ
-rate_height written = expr_height written.rate
+  -- that of the part of a statement of a composite stream
+  pub composition_height : tree.Composition → ℕ
+  composition_height (tree.ChildOf role child) = child_height child
+  composition_height (tree.Split splitter) = splitter_height splitter
+  composition_height (tree.Join weights) = arguments_height weights + 1
+  composition_height (tree.Enqueue value) = expr_height value
 
--- the height of the highest statement or expression of a member
-abbrev pub member_height : tree.Member → ℕ
-member_height (tree.Fields kind variables) = declared_height kind variables
-member_height (tree.Init block) = row_height block
-member_height (tree.Prework rates block) = max (highest rate_height rates) (row_height block)
-member_height (tree.Work rates block) = max (highest rate_height rates) (row_height block)
+  -- a nested anonymous stream is a part, and so are its own statements and expressions
+  pub child_height : tree.Child → ℕ
+  child_height (tree.Named name arguments) = arguments_height arguments + 1
+  child_height (tree.Identity pair) = 1
+  child_height (tree.FileReader text) = 1
+  child_height (tree.FileWriter text) = 1
+  child_height (tree.AnonymousFilter types members) = members_height members + 1
+  child_height (tree.AnonymousComposite types kind block) = row_height block + 1
+
+  -- the height of the highest statement or expression of a member
+  pub member_height : tree.Member → ℕ
+  member_height (tree.Fields kind variables) = declared_height kind variables
+  member_height (tree.Init block) = row_height block
+  member_height (tree.Prework rates block) = max (highest rate_height rates) (row_height block)
+  member_height (tree.Work rates block) = max (highest rate_height rates) (row_height block)
+
+  pub members_height : tree.Members → ℕ
+  members_height tree.NoMember = 0
+  members_height (tree.And first others) = max (member_height first) (members_height others)
 
 abbrev pub stream_height : tree.Stream → ℕ
 stream_height (tree.Filter input output members) = highest member_height members
-stream_height (tree.Pipeline input output children) = 0
+stream_height (tree.Composite types kind block) = row_height block
 
 abbrev pub declaration_height : tree.Declaration → ℕ
 declaration_height declaration = stream_height declaration.stream

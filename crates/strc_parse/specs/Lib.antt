@@ -1,7 +1,8 @@
 pub mod Tree
 pub mod View
 pub mod Grammar
-pub mod Seen
 pub mod Reading
+pub mod Streams
+pub mod Seen
 pub mod Readers
 pub mod Sentences

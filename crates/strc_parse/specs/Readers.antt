@@ -8,7 +8,8 @@ use Rattle.strc_parse.specs.declared.tree.Stmt.{Stmt}
 use Rattle.strc_parse.specs.declared.error.ReadError.{ReadError}
 use Rattle.strc_parse.specs.Grammar.{kinds}
 use Rattle.strc_parse.specs.Seen.{seen_expr, seen_stmt}
-use Rattle.strc_parse.specs.Reading.{Gives, expression, statement}
+use Rattle.strc_parse.specs.Reading.{Gives, expression}
+use Rattle.strc_parse.specs.Streams.{statement}
 
 pub record ReadsExpressions (depth : ℕ) (pre : Global → ℕ → ℕ → Bor (List Token) → Type 0)
     (post : Global → ℕ → ℕ → Bor (List Token) → Result (Expr × ℕ × Bor (List Token)) ReadError → Type 0) : Type 0 where

@@ -1,6 +1,6 @@
--- Reading trees from the front of a token list, rule by rule, as the code does. It serves the proofs: no public clause cites it.
+-- Reading trees from the front of a token list, rule by rule, as the code does: expressions, and what has no statement
+-- in it. It serves the proofs: no public clause cites it.
 use Rattle.std.specs.Prelude.{◌≡◌, ℕ, zero, suc, ◌+◌, ◌-◌, max, Bool, true, false, if◌then◌else◌, ◌==◌, nat_lt, List, [], ◌∷◌, ◌++◌, length, Option, Some, None, Result, Ok, Err}
-use Rattle.std.specs.List.{list_any}
 use denote.Enum.Bare.{sameb}
 use Rattle.strc_lex.specs.contracts.token.Mark.{the_type as mark_type}
 use Rattle.strc_lex.specs.contracts.token.Word.{the_type as word_type}
@@ -12,9 +12,11 @@ use Rattle.strc_lex.specs.declared.token.Mark.{Mark}
 use Rattle.strc_lex.specs.declared.token.Mark.TheVariants as mark
 use Rattle.strc_parse.specs.declared.tree.ItemType.{ItemType}
 use Rattle.strc_parse.specs.declared.tree.ItemType.TheVariants as item
-use Rattle.strc_parse.specs.declared.tree.RateKind.{RateKind}
-use Rattle.strc_parse.specs.declared.tree.RateKind.TheVariants as rate
-use Rattle.strc_parse.specs.contracts.tree.RateKind.{the_type as rate_type}
+use Rattle.strc_parse.specs.declared.tree.StreamType.{StreamType}
+use Rattle.strc_parse.specs.declared.tree.CompositeKind.{CompositeKind}
+use Rattle.strc_parse.specs.declared.tree.CompositeKind.TheVariants as composite
+use Rattle.strc_parse.specs.declared.tree.Brackets.{Brackets}
+use Rattle.strc_parse.specs.declared.tree.Brackets.TheVariants as brackets
 use Rattle.strc_parse.specs.declared.tree.AssignOperator.{AssignOperator}
 use Rattle.strc_parse.specs.declared.tree.AssignOperator.TheVariants as assign
 use Rattle.strc_parse.specs.declared.tree.UnaryOperator.{UnaryOperator}
@@ -98,6 +100,14 @@ name_by _ tokens = unexpected tokens
 
 unfoldable pub name : List TokenKind → Read (List ℕ)
 name tokens = name_by (first tokens) tokens
+
+abbrev pub text_by : Option TokenKind → List TokenKind → Read (List ℕ)
+text_by (Some (token.Text text)) tokens = Ok (text, tail tokens)
+text_by _ tokens = unexpected tokens
+
+-- what the string that stands first has between its quotes
+unfoldable pub text : List TokenKind → Read (List ℕ)
+text tokens = text_by (first tokens) tokens
 
 -- the height of a node whose highest part has this height
 unfoldable pub raised : ℕ → ℕ → Result ℕ Fault
@@ -462,56 +472,6 @@ argument depth tokens = do
   height ← raised depth value.1
   Ok (value.0, height, rest)
 
--- ---- statements
-
--- The reader of statements at the depth below.
-abbrev pub Inner : Type 0
-Inner = List TokenKind → Tall tree.Stmt
-
-abbrev pub row : List tree.Stmt → tree.Stmts
-row [] = tree.Done
-row (s ∷ others) = tree.Then s (row others)
-
--- the statements up to the brace that closes them, and the height of the highest or 0
-unfoldable pub statements : Inner → List TokenKind → Read (List tree.Stmt × ℕ)
-statements inner tokens = repeated brace (one_taller inner) (length tokens) ([], 0) tokens
-
--- a block as a statement: behind its brace
-unfoldable pub block : ℕ → Inner → List TokenKind → Tall tree.Stmt
-block depth inner tokens = do
-  body ← statements inner tokens
-  height ← raised depth body.0.1
-  Ok (tree.Block (row body.0.0), height, body.1)
-
--- the branch behind `else`, with the height of what stands before it
-unfoldable pub other_branch : ℕ → Inner → tree.Expr → tree.Stmt → ℕ → List TokenKind → Tall tree.Stmt
-other_branch depth inner condition chosen height tokens = do
-  other ← inner tokens
-  high ← raised depth (max height other.1)
-  Ok (tree.IfElse condition chosen other.0, high, other.2)
-
--- what follows a branch, to which an `else` belongs that stands there
-unfoldable pub after_branch : ℕ → Inner → tree.Expr → tree.Stmt → ℕ → List TokenKind → Tall tree.Stmt
-after_branch depth inner condition chosen height tokens =
-    if is_word word.Else tokens
-    then other_branch depth inner condition chosen height (tail tokens)
-    else (raised depth height >>= λ high. Ok (tree.If condition chosen, high, tokens))
-
--- `if`: behind the word
-unfoldable pub branch : ℕ → Inner → List TokenKind → Tall tree.Stmt
-branch depth inner tokens = do
-  condition ← bracketed depth tokens
-  chosen ← inner condition.2
-  after_branch depth inner condition.0 chosen.0 (max condition.1 chosen.1) chosen.2
-
--- `while`: behind the word
-unfoldable pub while_loop : ℕ → Inner → List TokenKind → Tall tree.Stmt
-while_loop depth inner tokens = do
-  condition ← bracketed depth tokens
-  body ← inner condition.2
-  height ← raised depth (max condition.1 body.1)
-  Ok (tree.While condition.0 body.0, height, body.2)
-
 -- the condition of a `for`, if there is one, and its semicolon
 unfoldable pub condition : ℕ → List TokenKind → Tall (Option tree.Expr)
 condition depth tokens =
@@ -541,42 +501,62 @@ for_heading depth tokens = do
   behind ← behind_first depth begun.2
   Ok ((begun.0, behind.0.0, behind.0.1), max begun.1 behind.1, behind.2)
 
--- `for`: behind the word
-unfoldable pub for_loop : ℕ → Inner → List TokenKind → Tall tree.Stmt
-for_loop depth inner tokens = do
-  heading ← for_heading depth tokens
-  body ← inner heading.2
-  height ← raised depth (max heading.1 body.1)
-  Ok (tree.For heading.0.0 heading.0.1 heading.0.2 body.0, height, body.2)
+-- ---- arguments and parameters
 
-abbrev pub keyword_by : ℕ → Inner → Word → List TokenKind → Tall tree.Stmt
-keyword_by depth inner word.If tokens = branch depth inner (tail tokens)
-keyword_by depth inner word.While tokens = while_loop depth inner (tail tokens)
-keyword_by depth inner word.For tokens = for_loop depth inner (tail tokens)
-keyword_by depth inner word.Push tokens = argument depth (tail tokens) >>= λ read. Ok (tree.Push read.0, read.1, read.2)
-keyword_by depth inner word.Print tokens = argument depth (tail tokens) >>= λ read. Ok (tree.Print read.0, read.1, read.2)
-keyword_by depth inner word.Println tokens = argument depth (tail tokens) >>= λ read. Ok (tree.Println read.0, read.1, read.2)
-keyword_by depth inner _ tokens = ended depth tokens
+-- a further argument: at its comma
+unfoldable pub next_argument : ℕ → List TokenKind → Tall tree.Expr
+next_argument depth tokens = expression depth loosest (tail tokens)
 
--- a statement that begins with this word
-unfoldable pub keyword : ℕ → Inner → Word → List TokenKind → Tall tree.Stmt
-keyword depth inner found tokens = keyword_by depth inner found tokens
+-- the arguments behind these
+unfoldable pub more_arguments : ℕ → List tree.Expr × ℕ → List TokenKind → Read (List tree.Expr × ℕ)
+more_arguments depth so_far tokens = repeated no_comma (one_taller (next_argument depth)) (length tokens + 1) so_far tokens
 
-abbrev pub statement_by : ℕ → Inner → List TokenKind → Option TokenKind → Tall tree.Stmt
-statement_by depth inner tokens (Some (token.Mark mark.OpenBrace)) = block depth inner (tail tokens)
-statement_by depth inner tokens (Some (token.Word found)) = keyword depth inner found tokens
-statement_by depth inner tokens _ = ended depth tokens
+-- expressions with commas between them, or none before the bracket that closes them, and the height of the highest or 0
+unfoldable pub listed_arguments : ℕ → List TokenKind → Read (List tree.Expr × ℕ)
+listed_arguments depth tokens =
+    if is_mark mark.CloseBracket tokens
+    then Ok (([], 0), tokens)
+    else (expression depth loosest tokens >>= λ read. more_arguments depth (read.0 ∷ [], read.1) read.2)
 
--- a statement, behind the test of its depth
-unfoldable pub shallow : ℕ → Inner → List TokenKind → Tall tree.Stmt
-shallow depth inner tokens = statement_by depth inner tokens (first tokens)
+-- `(1, 2)`, if it stands there
+unfoldable pub arguments : ℕ → List TokenKind → Tall (Option (List tree.Expr))
+arguments depth tokens =
+    if is_mark mark.OpenBracket tokens
+    then (listed_arguments depth (tail tokens) >>= λ read. expect mark.CloseBracket read.1 >>= λ rest. Ok (Some read.0.0, read.0.1, rest))
+    else Ok (None, 0, tokens)
 
--- a statement of at most this height
-unfoldable pub statement : ℕ → List TokenKind → Tall tree.Stmt
-statement zero tokens = Err Nesting
-statement (suc depth) tokens = shallow (suc depth) (statement depth) tokens
+-- `()`, if it stands there
+unfoldable pub empty_brackets : List TokenKind → Read Brackets
+empty_brackets tokens =
+    if is_mark mark.OpenBracket tokens
+    then (expect mark.CloseBracket (tail tokens) >>= λ rest. Ok (brackets.Written, rest))
+    else Ok (brackets.Missing, tokens)
 
--- ---- declarations
+-- `int n`
+unfoldable pub parameter : List TokenKind → Read (List ℕ)
+parameter tokens = expect_word word.Int tokens >>= λ named. name named
+
+-- a further parameter: at its comma
+unfoldable pub next_parameter : List TokenKind → Read (List ℕ)
+next_parameter tokens = parameter (tail tokens)
+
+-- the parameters behind these
+unfoldable pub more_parameters : List (List ℕ) → List TokenKind → Read (List (List ℕ))
+more_parameters so_far tokens = repeated no_comma (one_more next_parameter) (length tokens + 1) so_far tokens
+
+-- parameters with commas between them, or none before the bracket that closes them
+unfoldable pub listed_parameters : List TokenKind → Read (List (List ℕ))
+listed_parameters tokens =
+    if is_mark mark.CloseBracket tokens then Ok ([], tokens) else (parameter tokens >>= λ read. more_parameters (read.0 ∷ []) read.1)
+
+-- `(int n, int m)`, if it stands there
+unfoldable pub parameters : List TokenKind → Read (Option (List (List ℕ)))
+parameters tokens =
+    if is_mark mark.OpenBracket tokens
+    then (listed_parameters (tail tokens) >>= λ read. expect mark.CloseBracket read.1 >>= λ rest. Ok (Some read.0, rest))
+    else Ok (None, tokens)
+
+-- ---- types of streams
 
 abbrev pub type_by : Option TokenKind → List TokenKind → Read ItemType
 type_by (Some (token.Word word.Int)) tokens = Ok (item.Int, tail tokens)
@@ -586,147 +566,43 @@ type_by _ tokens = unexpected tokens
 unfoldable pub item_type : List TokenKind → Read ItemType
 item_type tokens = type_by (first tokens) tokens
 
-abbrev pub rate_kind_of : Option TokenKind → Option RateKind
-rate_kind_of (Some (token.Word word.Push)) = Some rate.Push
-rate_kind_of (Some (token.Word word.Pop)) = Some rate.Pop
-rate_kind_of (Some (token.Word word.Peek)) = Some rate.Peek
-rate_kind_of _ = None
-
--- the kind of rate whose word stands first
-unfoldable pub rate_kind : List TokenKind → Option RateKind
-rate_kind tokens = rate_kind_of (first tokens)
-
--- whether a rate of this kind is among these
-unfoldable pub has_rate : RateKind → List tree.Rate → Bool
-has_rate kind rates = list_any (λ r. sameb rate_type r.kind kind) rates
-
--- From here on the limit is the greatest height of a statement or an expression.
-
--- a rate of this kind, which the rates so far don't have: at its word
-unfoldable pub rate_of : ℕ → RateKind → List tree.Rate → List TokenKind → Tall tree.Expr
-rate_of limit kind so_far tokens = if has_rate kind so_far then unexpected tokens else expression limit loosest (tail tokens)
-
-abbrev pub rate_by : ℕ → List tree.Rate → List TokenKind → Option RateKind → Read (List tree.Rate)
-rate_by limit so_far tokens None = unexpected tokens
-rate_by limit so_far tokens (Some kind) = rate_of limit kind so_far tokens >>= λ read. Ok (so_far ++ record { kind = kind; rate = read.0 } ∷ [], read.2)
-
--- one more rate
-unfoldable pub rate_turn : ℕ → List tree.Rate → List TokenKind → Read (List tree.Rate)
-rate_turn limit so_far tokens = rate_by limit so_far tokens (rate_kind tokens)
-
-abbrev pub no_rate_by : List TokenKind → Option RateKind → Option (List TokenKind)
-no_rate_by tokens None = Some tokens
-no_rate_by tokens (Some kind) = None
-
--- rates stop where no rate word stands
-unfoldable pub no_rate : List TokenKind → Option (List TokenKind)
-no_rate tokens = no_rate_by tokens (rate_kind tokens)
-
-unfoldable pub rates : ℕ → List TokenKind → Read (List tree.Rate)
-rates limit tokens = repeated no_rate (rate_turn limit) (length tokens + 1) [] tokens
-
--- a block with its braces
-unfoldable pub braced : ℕ → List TokenKind → Read tree.Stmts
-braced limit tokens = do
-  opened ← expect mark.OpenBrace tokens
-  body ← statements (statement limit) opened
-  Ok (row body.0.0, body.1)
-
--- an initialisation: behind the word
-unfoldable pub init : ℕ → List TokenKind → Read tree.Member
-init limit tokens = braced limit tokens >>= λ block. Ok (tree.Init block.0, block.1)
-
--- rates and a block
-unfoldable pub phase : ℕ → List TokenKind → Read (List tree.Rate × tree.Stmts)
-phase limit tokens = do
-  rated ← rates limit tokens
-  block ← braced limit rated.1
-  Ok ((rated.0, block.0), block.1)
-
--- fields of one type
-unfoldable pub fields : ℕ → List TokenKind → Read tree.Member
-fields limit tokens = do
-  read ← declared limit tokens
-  rest ← expect mark.Semicolon read.2
-  Ok (tree.Fields read.0.0 read.0.1, rest)
-
-abbrev pub member_by : ℕ → List TokenKind → Option TokenKind → Read tree.Member
-member_by limit tokens (Some (token.Word word.Boolean)) = fields limit tokens
-member_by limit tokens (Some (token.Word word.Int)) = fields limit tokens
-member_by limit tokens (Some (token.Word word.Init)) = init limit (tail tokens)
-member_by limit tokens (Some (token.Word word.Prework)) = phase limit (tail tokens) >>= λ read. Ok (tree.Prework read.0.0 read.0.1, read.1)
-member_by limit tokens (Some (token.Word word.Work)) = phase limit (tail tokens) >>= λ read. Ok (tree.Work read.0.0 read.0.1, read.1)
-member_by limit tokens _ = unexpected tokens
-
-unfoldable pub member : ℕ → List TokenKind → Read tree.Member
-member limit tokens = member_by limit tokens (first tokens)
-
--- the members of a filter, and the brace that closes them
-unfoldable pub members : ℕ → List TokenKind → Read (List tree.Member)
-members limit tokens = repeated brace (one_more (member limit)) (length tokens) [] tokens
-
--- `add A;`
-unfoldable pub child : List TokenKind → Read (List ℕ)
-child tokens = do
-  named ← expect_word word.Add tokens
-  read ← name named
-  rest ← expect mark.Semicolon read.1
-  Ok (read.0, rest)
-
--- the children of a pipeline, and the brace that closes them
-unfoldable pub children : List TokenKind → Read (List (List ℕ))
-children tokens = repeated brace (one_more child) (length tokens) [] tokens
-
 -- `int->void`
-unfoldable pub stream_type : List TokenKind → Read (ItemType × ItemType)
+unfoldable pub stream_type : List TokenKind → Read StreamType
 stream_type tokens = do
   input ← item_type tokens
   arrow ← expect mark.Arrow input.1
   output ← item_type arrow
-  Ok ((input.0, output.0), output.1)
+  Ok (record { input = input.0; output = output.0 }, output.1)
 
--- the name of a stream and the brace that opens it
-unfoldable pub heading : List TokenKind → Read (List ℕ)
-heading tokens = do
-  read ← name tokens
-  rest ← expect mark.OpenBrace read.1
+abbrev pub composite_kind_of : Option TokenKind → Option CompositeKind
+composite_kind_of (Some (token.Word word.Pipeline)) = Some composite.Pipeline
+composite_kind_of (Some (token.Word word.Splitjoin)) = Some composite.Splitjoin
+composite_kind_of (Some (token.Word word.Feedbackloop)) = Some composite.Feedbackloop
+composite_kind_of _ = None
+
+-- the kind of composite stream whose word stands first
+unfoldable pub composite_kind : List TokenKind → Option CompositeKind
+composite_kind tokens = composite_kind_of (first tokens)
+
+-- `<int>`
+unfoldable pub int_items : List TokenKind → Result (List TokenKind) Fault
+int_items tokens = do
+  opened ← expect mark.Less tokens
+  named ← expect_word word.Int opened
+  expect mark.Greater named
+
+-- `("numbers")`
+unfoldable pub bracketed_text : List TokenKind → Read (List ℕ)
+bracketed_text tokens = do
+  opened ← expect mark.OpenBracket tokens
+  read ← text opened
+  rest ← expect mark.CloseBracket read.1
   Ok (read.0, rest)
 
--- a filter: behind its word
-unfoldable pub filter : ℕ → ItemType → ItemType → List TokenKind → Read tree.Declaration
-filter limit input output tokens = do
-  head ← heading tokens
-  body ← members limit head.1
-  Ok (record { name = head.0; stream = tree.Filter input output body.0 }, body.1)
-
--- a pipeline: behind its word
-unfoldable pub pipeline : ItemType → ItemType → List TokenKind → Read tree.Declaration
-pipeline input output tokens = do
-  head ← heading tokens
-  body ← children head.1
-  Ok (record { name = head.0; stream = tree.Pipeline input output body.0 }, body.1)
-
-abbrev pub stream_by : ℕ → ItemType → ItemType → List TokenKind → Option TokenKind → Read tree.Declaration
-stream_by limit input output tokens (Some (token.Word word.Filter)) = filter limit input output (tail tokens)
-stream_by limit input output tokens (Some (token.Word word.Pipeline)) = pipeline input output (tail tokens)
-stream_by limit input output tokens _ = unexpected tokens
-
--- a stream: behind its type
-unfoldable pub stream : ℕ → ItemType → ItemType → List TokenKind → Read tree.Declaration
-stream limit input output tokens = stream_by limit input output tokens (first tokens)
-
-unfoldable pub declaration : ℕ → List TokenKind → Read tree.Declaration
-declaration limit tokens = stream_type tokens >>= λ types. stream limit types.0.0 types.0.1 types.1
-
--- declarations stop at the end
-unfoldable pub at_end : List TokenKind → Option (List TokenKind)
-at_end [] = Some []
-at_end (t ∷ rest) = None
-
--- all declarations of a text
-unfoldable pub declarations : ℕ → List TokenKind → Read (List tree.Declaration)
-declarations limit tokens = repeated at_end (one_more (declaration limit)) (length tokens + 1) [] tokens
-
--- the program that the tokens spell
-abbrev pub program : ℕ → List TokenKind → Result (List tree.Declaration) Fault
-program limit tokens = declarations limit tokens >>= λ read. Ok read.0
+-- `<int>("numbers");`
+unfoldable pub file : List TokenKind → Read (List ℕ)
+file tokens = do
+  opened ← int_items tokens
+  read ← bracketed_text opened
+  rest ← expect mark.Semicolon read.1
+  Ok (read.0, rest)

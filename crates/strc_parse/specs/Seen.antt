@@ -16,12 +16,15 @@ use denote.Enum.Bare.{sameb}
 use Rattle.strc_parse.specs.declared.tree.RateKind.{RateKind}
 use Rattle.strc_parse.specs.contracts.tree.RateKind.{the_type as rate_type}
 use Rattle.strc_parse.specs.declared.tree.RateTree.{RateTree}
-use Rattle.strc_parse.specs.declared.tree.WorkTree.{WorkTree}
 use Rattle.strc_parse.specs.declared.tree.Member.{Member}
+use Rattle.strc_parse.specs.declared.tree.Child.{Child}
+use Rattle.strc_parse.specs.declared.tree.Splitter.{Splitter}
+use Rattle.strc_parse.specs.declared.tree.Composition.{Composition}
 use Rattle.strc_parse.specs.declared.tree.Decl.{Decl}
 use Rattle.strc_parse.specs.Tree as tree
-use Rattle.strc_parse.specs.View.{expr_view, type_view, variable_view, stmt_view, block_view, rate_view, member_view, declaration_view}
+use Rattle.strc_parse.specs.View.{expr_view, type_view, variable_view, stmt_view, rate_view, weights_view, splitter_view, member_view, child_view, composition_view, declaration_view}
 use Rattle.strc_parse.specs.Grammar.{kinds}
+use Rattle.strc_parse.specs.Streams.{row}
 
 -- a value and the tokens after it
 abbrev pub seen : {A : Type 0} → A × Bor (List Token) → A × List TokenKind
@@ -60,21 +63,53 @@ abbrev pub seen_body : Vec Stmt × ℕ × Bor (List Token) → (List tree.Stmt �
 seen_body x = ((map stmt_view x.0.items, x.1), kinds x.2.now)
 
 -- a block with its braces
-abbrev pub seen_block : Vec Stmt × Bor (List Token) → tree.Stmts × List TokenKind
-seen_block x = (block_view x.0.items, kinds x.1.now)
+abbrev pub seen_block : Vec Stmt × ℕ × Bor (List Token) → tree.Stmts × ℕ × List TokenKind
+seen_block x = (row (map stmt_view x.0.items), x.1, kinds x.2.now)
 
-abbrev pub seen_rates : Vec RateTree × Bor (List Token) → List tree.Rate × List TokenKind
-seen_rates x = (map rate_view x.0.items, kinds x.1.now)
+abbrev pub seen_rates : Vec RateTree × ℕ × Bor (List Token) → (List tree.Rate × ℕ) × List TokenKind
+seen_rates x = ((map rate_view x.0.items, x.1), kinds x.2.now)
 
 -- whether a rate of this kind is among these
 abbrev pub seen_rate : RateKind → List RateTree → Bool
 seen_rate kind rates = list_any (λ r. sameb rate_type r.kind kind) rates
 
-abbrev pub seen_phase : WorkTree × Bor (List Token) → (List tree.Rate × tree.Stmts) × List TokenKind
-seen_phase x = ((map rate_view x.0.rates.items, block_view x.0.block.items), kinds x.1.now)
+abbrev pub seen_phase : Vec RateTree × Vec Stmt × ℕ × Bor (List Token) → (List tree.Rate × tree.Stmts) × ℕ × List TokenKind
+seen_phase x = ((map rate_view x.0.items, row (map stmt_view x.1.items)), x.2, kinds x.3.now)
 
-abbrev pub seen_member : Member × Bor (List Token) → tree.Member × List TokenKind
-seen_member x = (member_view x.0, kinds x.1.now)
+abbrev pub seen_member : Member × ℕ × Bor (List Token) → tree.Member × ℕ × List TokenKind
+seen_member x = (member_view x.0, x.1, kinds x.2.now)
+
+abbrev pub seen_members : Vec Member × ℕ × Bor (List Token) → (List tree.Member × ℕ) × List TokenKind
+seen_members x = ((map member_view x.0.items, x.1), kinds x.2.now)
+
+-- arguments in their brackets
+abbrev pub seen_listed : Vec Expr × ℕ × Bor (List Token) → (List tree.Expr × ℕ) × List TokenKind
+seen_listed x = ((map expr_view x.0.items, x.1), kinds x.2.now)
+
+-- arguments with their brackets, or nothing
+abbrev pub seen_arguments : Option (Vec Expr) × ℕ × Bor (List Token) → Option (List tree.Expr) × ℕ × List TokenKind
+seen_arguments x = (weights_view x.0, x.1, kinds x.2.now)
+
+abbrev pub seen_child : Child × ℕ × Bor (List Token) → tree.Child × ℕ × List TokenKind
+seen_child x = (child_view x.0, x.1, kinds x.2.now)
+
+abbrev pub seen_splitter : Splitter × ℕ × Bor (List Token) → tree.Splitter × ℕ × List TokenKind
+seen_splitter x = (splitter_view x.0, x.1, kinds x.2.now)
+
+abbrev pub seen_composition : Composition × ℕ × Bor (List Token) → tree.Composition × ℕ × List TokenKind
+seen_composition x = (composition_view x.0, x.1, kinds x.2.now)
+
+-- parameters in their brackets
+abbrev pub seen_names : Vec (List ℕ) × Bor (List Token) → List (List ℕ) × List TokenKind
+seen_names x = (x.0.items, kinds x.1.now)
+
+-- parameters with their brackets, or nothing
+abbrev pub seen_parameters : Option (Vec (List ℕ)) × Bor (List Token) → Option (List (List ℕ)) × List TokenKind
+seen_parameters x = (option_map (λ names. names.items) x.0, kinds x.1.now)
+
+-- the name and the parameters of a stream
+abbrev pub seen_stream_heading : List ℕ × Option (Vec (List ℕ)) × Bor (List Token) → (List ℕ × Option (List (List ℕ))) × List TokenKind
+seen_stream_heading x = ((x.0, option_map (λ names. names.items) x.1), kinds x.2.now)
 
 abbrev pub seen_declaration : Decl × Bor (List Token) → tree.Declaration × List TokenKind
 seen_declaration x = (declaration_view x.0, kinds x.1.now)

@@ -1,6 +1,10 @@
 -- The syntax tree of a program, without where it lies in memory.
 use Rattle.std.specs.Prelude.{ℕ, ℤ, Bool, List, Option}
 use Rattle.strc_parse.specs.declared.tree.ItemType.{ItemType}
+use Rattle.strc_parse.specs.declared.tree.StreamType.{StreamType}
+use Rattle.strc_parse.specs.declared.tree.CompositeKind.{CompositeKind}
+use Rattle.strc_parse.specs.declared.tree.Role.{Role}
+use Rattle.strc_parse.specs.declared.tree.Brackets.{Brackets}
 use Rattle.strc_parse.specs.declared.tree.RateKind.{RateKind}
 use Rattle.strc_parse.specs.declared.tree.AssignOperator.{AssignOperator}
 use Rattle.strc_parse.specs.declared.tree.UnaryOperator.{UnaryOperator}
@@ -33,7 +37,17 @@ pub record Variable : Type 0 where
   pub name : List ℕ
   pub initial : Option Expr
 
--- a statement, and statements in a row
+-- a rate as it is written
+pub record Rate : Type 0 where
+  pub kind : RateKind
+  pub rate : Expr
+
+-- how items are split
+pub data Splitter : Type 0 where
+  Duplicate : (brackets : Brackets) → Splitter
+  Roundrobin : (weights : Option (List Expr)) → Splitter
+
+-- a statement, and statements in a row; a child of a composite stream; a part of a filter, and parts in a row
 mutual
   pub data Stmt : Type 0 where
     Empty : Stmt
@@ -49,29 +63,43 @@ mutual
     Push : (value : Expr) → Stmt
     Print : (value : Expr) → Stmt
     Println : (value : Expr) → Stmt
+    Compose : (statement : Composition) → Stmt
 
   pub data Stmts : Type 0 where
     Done : Stmts
     Then : (first : Stmt) (rest : Stmts) → Stmts
 
--- a rate as it is written
-pub record Rate : Type 0 where
-  pub kind : RateKind
-  pub rate : Expr
+  pub data Composition : Type 0 where
+    ChildOf : (role : Role) (child : Child) → Composition
+    Split : (splitter : Splitter) → Composition
+    Join : (weights : Option (List Expr)) → Composition
+    Enqueue : (value : Expr) → Composition
 
--- a part of a filter
-pub data Member : Type 0 where
-  Fields : (kind : VariableType) (variables : List Variable) → Member
-  Init : (block : Stmts) → Member
-  Prework : (rates : List Rate) (block : Stmts) → Member
-  Work : (rates : List Rate) (block : Stmts) → Member
+  pub data Child : Type 0 where
+    Named : (name : List ℕ) (arguments : Option (List Expr)) → Child
+    Identity : (brackets : Brackets) → Child
+    FileReader : (text : List ℕ) → Child
+    FileWriter : (text : List ℕ) → Child
+    AnonymousFilter : (types : StreamType) (members : Members) → Child
+    AnonymousComposite : (types : Option StreamType) (kind : CompositeKind) (block : Stmts) → Child
+
+  pub data Member : Type 0 where
+    Fields : (kind : VariableType) (variables : List Variable) → Member
+    Init : (block : Stmts) → Member
+    Prework : (rates : List Rate) (block : Stmts) → Member
+    Work : (rates : List Rate) (block : Stmts) → Member
+
+  pub data Members : Type 0 where
+    NoMember : Members
+    And : (first : Member) (rest : Members) → Members
 
 -- a stream without its name
 pub data Stream : Type 0 where
   Filter : (input output : ItemType) (members : List Member) → Stream
-  Pipeline : (input output : ItemType) (children : List (List ℕ)) → Stream
+  Composite : (types : StreamType) (kind : CompositeKind) (block : Stmts) → Stream
 
 -- a named stream; a program is a list of them
 pub record Declaration : Type 0 where
   pub name : List ℕ
+  pub parameters : Option (List (List ℕ))
   pub stream : Stream

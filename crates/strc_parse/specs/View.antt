@@ -1,5 +1,5 @@
 -- A declared tree as the tree that contracts speak of.
-use Rattle.std.specs.Prelude.{List, [], ◌∷◌, map}
+use Rattle.std.specs.Prelude.{List, [], ◌∷◌, Option, map}
 use Rattle.std.specs.Option.{option_map}
 use Rattle.strc_parse.specs.Tree as tree
 use Rattle.strc_parse.specs.declared.tree.Expr.{Expr}
@@ -12,6 +12,13 @@ use Rattle.strc_parse.specs.declared.tree.Variable.{Variable}
 use Rattle.strc_parse.specs.declared.tree.RateTree.{RateTree}
 use Rattle.strc_parse.specs.declared.tree.Member.{Member}
 use Rattle.strc_parse.specs.declared.tree.Member.TheVariants as member
+use Rattle.strc_parse.specs.declared.tree.Composition.{Composition}
+use Rattle.strc_parse.specs.declared.tree.Composition.TheVariants as composition
+use Rattle.strc_parse.specs.declared.tree.Child.{Child, Row_of-Member, end_of-Member, more_of-Member}
+use Rattle.strc_parse.specs.declared.tree.Child.TheVariants as child
+use Rattle.strc_parse.specs.declared.tree.Splitter.{Splitter}
+use Rattle.strc_parse.specs.declared.tree.Splitter.TheVariants as splitter
+use Rattle.std.specs.Global.{Vec}
 use Rattle.strc_parse.specs.declared.tree.FilterTree.{FilterTree}
 use Rattle.strc_parse.specs.declared.tree.StreamTree.{StreamTree}
 use Rattle.strc_parse.specs.declared.tree.StreamTree.TheVariants as stream
@@ -41,6 +48,16 @@ type_view (kind.Array length) = tree.Array (expr_view length)
 abbrev pub variable_view : Variable → tree.Variable
 variable_view variable = record { name = variable.name; initial = option_map expr_view variable.initial }
 
+abbrev pub weights_view : Option (Vec Expr) → Option (List tree.Expr)
+weights_view weights = option_map (λ w. map expr_view w.items) weights
+
+abbrev pub splitter_view : Splitter → tree.Splitter
+splitter_view (splitter.Duplicate brackets) = tree.Duplicate brackets
+splitter_view (splitter.Roundrobin weights) = tree.Roundrobin (weights_view weights)
+
+abbrev pub rate_view : RateTree → tree.Rate
+rate_view written = record { kind = written.kind; rate = expr_view written.rate }
+
 abbrev mutual
   pub stmt_view : Stmt → tree.Stmt
   stmt_view stmt.Empty = tree.Empty
@@ -57,34 +74,54 @@ abbrev mutual
   stmt_view (stmt.Push value) = tree.Push (expr_view value)
   stmt_view (stmt.Print value) = tree.Print (expr_view value)
   stmt_view (stmt.Println value) = tree.Println (expr_view value)
+  stmt_view (stmt.Compose statement) = tree.Compose (composition_view statement)
 
   pub row_view : {m : _} → Row_of-Stmt m → tree.Stmts
   row_view end_of-Stmt = tree.Done
   row_view (more_of-Stmt first rest) = tree.Then (stmt_view first) (row_view rest)
+
+  pub composition_view : Composition → tree.Composition
+  composition_view (composition.Child role child) = tree.ChildOf role (child_view child)
+  composition_view (composition.Split split) = tree.Split (splitter_view split)
+  composition_view (composition.Join weights) = tree.Join (weights_view weights)
+  composition_view (composition.Enqueue value) = tree.Enqueue (expr_view value)
+
+  pub child_view : Child → tree.Child
+  child_view (child.Named name arguments) = tree.Named name (weights_view arguments)
+  child_view (child.Identity brackets) = tree.Identity brackets
+  child_view (child.FileReader text) = tree.FileReader text
+  child_view (child.FileWriter text) = tree.FileWriter text
+  child_view (child.Filter' types shape members) = tree.AnonymousFilter types (members_view members)
+  child_view (child.Composite' types kind shape block) = tree.AnonymousComposite types kind (row_view block)
+
+  pub member_view : Member → tree.Member
+  member_view (member.Fields declared) = tree.Fields (type_view declared.kind) (map variable_view declared.variables.items)
+  member_view (member.Init' shape block) = tree.Init (row_view block)
+  member_view (member.Prework' rates shape block) = tree.Prework (map rate_view rates.items) (row_view block)
+  member_view (member.Work' rates shape block) = tree.Work (map rate_view rates.items) (row_view block)
+
+  pub members_view : {m : _} → Row_of-Member m → tree.Members
+  members_view end_of-Member = tree.NoMember
+  members_view (more_of-Member first rest) = tree.And (member_view first) (members_view rest)
 
 -- the statements of a block
 abbrev pub block_view : List Stmt → tree.Stmts
 block_view [] = tree.Done
 block_view (first ∷ rest) = tree.Then (stmt_view first) (block_view rest)
 
-abbrev pub rate_view : RateTree → tree.Rate
-rate_view written = record { kind = written.kind; rate = expr_view written.rate }
-
-abbrev pub member_view : Member → tree.Member
-member_view (member.Fields declared) = tree.Fields (type_view declared.kind) (map variable_view declared.variables.items)
-member_view (member.Init block) = tree.Init (block_view block.items)
-member_view (member.Prework work) = tree.Prework (map rate_view work.rates.items) (block_view work.block.items)
-member_view (member.Work work) = tree.Work (map rate_view work.rates.items) (block_view work.block.items)
-
 abbrev pub filter_view : FilterTree → tree.Stream
 filter_view filter = tree.Filter filter.input filter.output (map member_view filter.members.items)
 
 abbrev pub stream_view : StreamTree → tree.Stream
 stream_view (stream.Filter filter) = filter_view filter
-stream_view (stream.Pipeline pipeline) = tree.Pipeline pipeline.input pipeline.output pipeline.children.items
+stream_view (stream.Composite composite) = tree.Composite composite.types composite.kind (block_view composite.block.items)
 
 abbrev pub declaration_view : Decl → tree.Declaration
-declaration_view declaration = record { name = declaration.name; stream = stream_view declaration.stream }
+declaration_view declaration = record {
+  name = declaration.name;
+  parameters = option_map (λ names. names.items) declaration.parameters;
+  stream = stream_view declaration.stream;
+}
 
 abbrev pub program_view : Program → List tree.Declaration
 program_view program = map declaration_view program.declarations.items

@@ -4,8 +4,8 @@
 ghost use Rattle.std.specs.Prelude.{◌≡◌, ◌-◌, ◌<◌, map};
 ghost use Rattle.strc_parse.specs.View.{expr_view, stmt_view};
 ghost use Rattle.strc_parse.specs.Grammar.{kinds};
-ghost use Rattle.strc_parse.specs.Seen.{seen_stmt, seen_body};
-ghost use Rattle.strc_parse.specs.Reading as spec;
+ghost use Rattle.strc_parse.specs.Seen.{seen_stmt, seen_body, seen_members};
+ghost use Rattle.strc_parse.specs.Streams as spec;
 ghost use Rattle.strc_parse.specs.Reading.{Gives};
 ghost use Rattle.strc_parse.specs.Readers.{ReadsStatements};
 
@@ -13,7 +13,7 @@ use crate::error::{Fault, ReadError};
 use crate::lookahead::{is_mark, is_word, peek, raised, tail, unexpected};
 use crate::node::{block_of, for_of, if_else_of, if_of, while_of};
 use crate::simple::{ForHeading, argument, bracketed, ended, for_heading};
-use crate::tree::{Expr, Stmt};
+use crate::tree::{Expr, Member, Stmt};
 use std::alloc::Global;
 use strc_lex::token::{Mark, Token, TokenKind, Word};
 
@@ -26,7 +26,7 @@ pub(crate) struct StatementRules<F> {
 }
 
 /// A statement of at most this height, its height and what follows it.
-#[tactic(auto, unfolding(crate::specs::Reading::statement))]
+#[tactic(auto, unfolding(crate::specs::Streams::statement))]
 fn statement(
     alloc: Global,
     depth: usize,
@@ -46,7 +46,7 @@ fn statement(
 }
 
 /// Statements up to the brace that closes them, each of at most this height, and the height of the highest or 0.
-#[tactic(auto, unfolding(crate::specs::Reading::statements))]
+#[tactic(auto, unfolding(crate::specs::Streams::statements))]
 pub(crate) fn statements(
     alloc: Global,
     depth: usize,
@@ -63,6 +63,24 @@ pub(crate) fn statements(
     rules.statements(tokens)
 }
 
+/// The members of a filter up to the brace that closes it, their statements and expressions each of at most this height,
+/// and the height of the highest or 0.
+pub(crate) fn members(
+    alloc: Global,
+    depth: usize,
+    tokens: &[Token],
+) -> Result<(Vec<Member>, usize, &[Token]), ReadError>
+    requires bound { depth < 1000 }
+    ensures { Gives seen_members result (spec.members depth (spec.statement depth) (kinds tokens.now)) }
+{
+    let rules = StatementRules {
+        alloc,
+        depth: depth + 1,
+        reader: statement,
+    };
+    rules.members(tokens)
+}
+
 impl<F: Fn(Global, usize, &[Token]) -> Result<(Stmt, usize, &[Token]), ReadError>> StatementRules<
     F,
 > {
@@ -75,7 +93,7 @@ impl<F: Fn(Global, usize, &[Token]) -> Result<(Stmt, usize, &[Token]), ReadError
         (self.reader)(self.alloc, self.depth - 1, tokens)
     }
 
-    #[tactic(auto, unfolding(crate::specs::Reading::shallow))]
+    #[tactic(auto, unfolding(crate::specs::Streams::shallow))]
     fn shallow<'t>(&self, tokens: &'t [Token]) -> Result<(Stmt, usize, &'t [Token]), ReadError>
         requires deep { 0 < self.now.depth }
         requires reads { ReadsStatements (self.now.depth - 1) (F.pre self.now.reader) (F.post self.now.reader) }
@@ -90,7 +108,7 @@ impl<F: Fn(Global, usize, &[Token]) -> Result<(Stmt, usize, &[Token]), ReadError
     }
 
     /// A statement that begins with this word.
-    #[tactic(auto, unfolding(crate::specs::Reading::keyword))]
+    #[tactic(auto, unfolding(crate::specs::Streams::keyword))]
     fn keyword<'t>(
         &self,
         word: Word,
@@ -117,12 +135,18 @@ impl<F: Fn(Global, usize, &[Token]) -> Result<(Stmt, usize, &[Token]), ReadError
                 let (value, height, rest) = argument(self.alloc, self.depth, tail(tokens))?;
                 Ok((Stmt::Println(value), height, rest))
             }
+            Word::Add => self.compose(word, tokens),
+            Word::Body => self.compose(word, tokens),
+            Word::Loop => self.compose(word, tokens),
+            Word::Split => self.compose(word, tokens),
+            Word::Join => self.compose(word, tokens),
+            Word::Enqueue => self.compose(word, tokens),
             _ => ended(self.alloc, self.depth, tokens),
         }
     }
 
     /// `if`: behind the word.
-    #[tactic(auto, unfolding(crate::specs::Reading::branch))]
+    #[tactic(auto, unfolding(crate::specs::Streams::branch))]
     fn branch<'t>(&self, tokens: &'t [Token]) -> Result<(Stmt, usize, &'t [Token]), ReadError>
         requires deep { 0 < self.now.depth }
         requires reads { ReadsStatements (self.now.depth - 1) (F.pre self.now.reader) (F.post self.now.reader) }
@@ -135,7 +159,7 @@ impl<F: Fn(Global, usize, &[Token]) -> Result<(Stmt, usize, &[Token]), ReadError
     }
 
     /// What follows a branch, to which an `else` belongs that stands there.
-    #[tactic(auto, unfolding(crate::specs::Reading::after_branch))]
+    #[tactic(auto, unfolding(crate::specs::Streams::after_branch))]
     fn after_branch<'t>(
         &self,
         condition: Expr,
@@ -157,7 +181,7 @@ impl<F: Fn(Global, usize, &[Token]) -> Result<(Stmt, usize, &[Token]), ReadError
     }
 
     /// The branch behind `else`, with the height of what stands before it.
-    #[tactic(auto, unfolding(crate::specs::Reading::other_branch))]
+    #[tactic(auto, unfolding(crate::specs::Streams::other_branch))]
     fn other_branch<'t>(
         &self,
         condition: Expr,
@@ -181,7 +205,7 @@ impl<F: Fn(Global, usize, &[Token]) -> Result<(Stmt, usize, &[Token]), ReadError
     }
 
     /// `while`: behind the word.
-    #[tactic(auto, unfolding(crate::specs::Reading::while_loop))]
+    #[tactic(auto, unfolding(crate::specs::Streams::while_loop))]
     fn while_loop<'t>(&self, tokens: &'t [Token]) -> Result<(Stmt, usize, &'t [Token]), ReadError>
         requires deep { 0 < self.now.depth }
         requires reads { ReadsStatements (self.now.depth - 1) (F.pre self.now.reader) (F.post self.now.reader) }
@@ -195,7 +219,7 @@ impl<F: Fn(Global, usize, &[Token]) -> Result<(Stmt, usize, &[Token]), ReadError
     }
 
     /// `for`: behind the word.
-    #[tactic(auto, unfolding(crate::specs::Reading::for_loop))]
+    #[tactic(auto, unfolding(crate::specs::Streams::for_loop))]
     fn for_loop<'t>(&self, tokens: &'t [Token]) -> Result<(Stmt, usize, &'t [Token]), ReadError>
         requires deep { 0 < self.now.depth }
         requires reads { ReadsStatements (self.now.depth - 1) (F.pre self.now.reader) (F.post self.now.reader) }
@@ -215,7 +239,7 @@ impl<F: Fn(Global, usize, &[Token]) -> Result<(Stmt, usize, &[Token]), ReadError
     }
 
     /// A block as a statement: behind its brace.
-    #[tactic(auto, unfolding(crate::specs::Reading::block))]
+    #[tactic(auto, unfolding(crate::specs::Streams::block))]
     fn block<'t>(&self, tokens: &'t [Token]) -> Result<(Stmt, usize, &'t [Token]), ReadError>
         requires deep { 0 < self.now.depth }
         requires reads { ReadsStatements (self.now.depth - 1) (F.pre self.now.reader) (F.post self.now.reader) }
@@ -228,8 +252,8 @@ impl<F: Fn(Global, usize, &[Token]) -> Result<(Stmt, usize, &[Token]), ReadError
     }
 
     /// Statements one depth below, up to the brace that closes them, and the height of the highest or 0.
-    #[tactic(auto, unfolding(crate::specs::Reading::statements))]
-    fn statements<'t>(
+    #[tactic(auto, unfolding(crate::specs::Streams::statements))]
+    pub(crate) fn statements<'t>(
         &self,
         tokens: &'t [Token],
     ) -> Result<(Vec<Stmt>, usize, &'t [Token]), ReadError>

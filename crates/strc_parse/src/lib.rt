@@ -5,16 +5,21 @@
 // Stands on strc_lex, whose tokens it reads.
 #![tactic(auto)]
 
+mod argument;
+mod composition;
 mod control;
 mod declaration;
 mod error;
 mod expression;
 mod lookahead;
+mod member;
 mod node;
 mod operand;
 mod operator;
+mod parameter;
 mod program;
 mod simple;
+mod stream_type;
 pub mod tree;
 mod variable;
 

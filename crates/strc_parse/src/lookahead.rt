@@ -10,7 +10,7 @@ ghost use Rattle.strc_parse.specs.Reading as spec;
 ghost use Rattle.strc_parse.specs.Reading.{Gives};
 
 use crate::error::{Fault, ReadError};
-use strc_lex::token::{Mark, Name, Token, TokenKind, Word};
+use strc_lex::token::{Mark, Name, Text, Token, TokenKind, Word};
 
 /// The kind of the first token.
 pub(crate) fn peek(tokens: &[Token]) -> Option<&TokenKind>
@@ -103,6 +103,17 @@ pub(crate) fn name(tokens: &[Token]) -> Result<(Name, &[Token]), ReadError>
 {
     match peek(tokens) {
         Some(TokenKind::Name(name)) => Ok((name.copy()?, tail(tokens))),
+        _ => Err(unexpected(tokens)),
+    }
+}
+
+/// The string that has to stand first.
+#[tactic(auto, unfolding(crate::specs::Reading::text))]
+pub(crate) fn text(tokens: &[Token]) -> Result<(Text, &[Token]), ReadError>
+    ensures { Gives seen result (spec.text (kinds tokens.now)) }
+{
+    match peek(tokens) {
+        Some(TokenKind::Text(text)) => Ok((text.copy()?, tail(tokens))),
         _ => Err(unexpected(tokens)),
     }
 }

@@ -1,12 +1,16 @@
-// The nodes of expressions and statements, made of their parts.
+// The nodes of expressions, statements and streams, made of their parts.
 
 ghost use Rattle.std.specs.Prelude.{◌≡◌, IfOk, map};
 ghost use Rattle.std.specs.Option.{option_map};
-ghost use Rattle.strc_parse.specs.View.{expr_view, stmt_view};
+ghost use Rattle.strc_parse.specs.View.{expr_view, stmt_view, rate_view, member_view, child_view};
 ghost use Rattle.strc_parse.specs.Reading as spec;
+ghost use Rattle.strc_parse.specs.Streams.{row, chain};
 ghost use Rattle.strc_parse.specs.Tree as tree;
 
-use crate::tree::{BinaryOperator, Expr, StepOperator, Stmt, UnaryOperator};
+use crate::tree::{
+    BinaryOperator, Child, CompositeKind, Expr, Member, RateTree, StepOperator, Stmt, StreamType,
+    UnaryOperator,
+};
 use std::alloc::{AllocError, Global};
 use strc_lex::token::Name;
 
@@ -85,7 +89,7 @@ pub(crate) fn conditional_of(
 
 #[tactic(auto, using(crate::proofs::Views::stmt_view_block))]
 pub(crate) fn block_of(body: Vec<Stmt>) -> Stmt
-    ensures { stmt_view result ≡ tree.Block (spec.row (map stmt_view body.items)) }
+    ensures { stmt_view result ≡ tree.Block (row (map stmt_view body.items)) }
 {
     Stmt::Block(body)
 }
@@ -129,4 +133,43 @@ pub(crate) fn for_of(
         Box::new(alloc, step)?,
         Box::new(alloc, body)?,
     ))
+}
+
+#[tactic(auto, using(crate::proofs::Views::member_view_init))]
+pub(crate) fn init_of(block: Vec<Stmt>) -> Member
+    ensures { member_view result ≡ tree.Init (row (map stmt_view block.items)) }
+{
+    Member::Init(block)
+}
+
+#[tactic(auto, using(crate::proofs::Views::member_view_prework))]
+pub(crate) fn prework_of(rates: Vec<RateTree>, block: Vec<Stmt>) -> Member
+    ensures { member_view result ≡ tree.Prework (map rate_view rates.items) (row (map stmt_view block.items)) }
+{
+    Member::Prework(rates, block)
+}
+
+#[tactic(auto, using(crate::proofs::Views::member_view_work))]
+pub(crate) fn work_of(rates: Vec<RateTree>, block: Vec<Stmt>) -> Member
+    ensures { member_view result ≡ tree.Work (map rate_view rates.items) (row (map stmt_view block.items)) }
+{
+    Member::Work(rates, block)
+}
+
+/// A filter without a name.
+pub(crate) fn filter_of(types: StreamType, members: Vec<Member>) -> Child
+    ensures { child_view result ≡ tree.AnonymousFilter types (chain (map member_view members.items)) }
+{
+    Child::Filter(types, members)
+}
+
+/// A composite stream without a name.
+pub(crate) fn composite_of(
+    types: Option<StreamType>,
+    kind: CompositeKind,
+    block: Vec<Stmt>,
+) -> Child
+    ensures { child_view result ≡ tree.AnonymousComposite types kind (row (map stmt_view block.items)) }
+{
+    Child::Composite(types, kind, block)
 }

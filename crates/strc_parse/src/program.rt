@@ -4,7 +4,7 @@ ghost use Rattle.std.specs.Prelude.{◌≡◌, List, IfOk, IfErr};
 ghost use Rattle.strc_parse.specs.Tree.{Declaration};
 ghost use Rattle.strc_parse.specs.View.{program_view};
 ghost use Rattle.strc_parse.specs.Grammar.{kinds, height_limit, Parses, Refuses, IsFound, IsUnambiguous};
-ghost use Rattle.strc_parse.specs.Reading as spec;
+ghost use Rattle.strc_parse.specs.Streams as spec;
 ghost use Rattle.strc_parse.specs.Reading.{Gives};
 
 use crate::declaration::declarations;

@@ -1,6 +1,6 @@
 // The syntax tree of a program. Brackets are nodes, so that a tree has one spelling.
 
-use strc_lex::token::Name;
+use strc_lex::token::{Name, Text};
 
 /// A whole text: its declarations, in order.
 #[derive(Debug, Drop)]
@@ -8,10 +8,12 @@ pub struct Program {
     pub declarations: Vec<Decl>,
 }
 
-/// A named stream: `int->void filter Printer { .. }`.
+/// A named stream: `int->void filter Printer(int n) { .. }`.
 #[derive(Debug, Drop)]
 pub struct Decl {
     pub name: Name,
+    /// The names of its parameters; nothing where no brackets are written.
+    pub parameters: Option<Vec<Name>>,
     pub stream: StreamTree,
 }
 
@@ -19,7 +21,7 @@ pub struct Decl {
 #[derive(Debug, Drop)]
 pub enum StreamTree {
     Filter(FilterTree),
-    Pipeline(PipelineTree),
+    Composite(CompositeTree),
 }
 
 /// What flows on a stream's input or output: numbers, or nothing.
@@ -38,23 +40,17 @@ pub struct FilterTree {
 }
 
 /// A part of a filter.
+#[cycle(tree)]
 #[derive(Debug, Drop)]
 pub enum Member {
     /// `int x = 1, y;`
     Fields(Variables),
     /// `init { .. }`
     Init(Vec<Stmt>),
-    /// `prework push 1 { .. }`
-    Prework(WorkTree),
+    /// `prework push 1 { .. }`: its rates, each at most once, and its block
+    Prework(Vec<RateTree>, Vec<Stmt>),
     /// `work push 1 { .. }`
-    Work(WorkTree),
-}
-
-/// A `work` or a `prework`: its rates, each at most once, and its block.
-#[derive(Debug, Drop)]
-pub struct WorkTree {
-    pub rates: Vec<RateTree>,
-    pub block: Vec<Stmt>,
+    Work(Vec<RateTree>, Vec<Stmt>),
 }
 
 /// A rate as it is written: `push 1`.
@@ -72,12 +68,27 @@ pub enum RateKind {
     Peek,
 }
 
-/// A pipeline without its name: its types and the streams that it adds, in order.
+/// A pipeline, a split-join or a feedback loop without its name: its types, its kind and its block.
 #[derive(Debug, Drop)]
-pub struct PipelineTree {
+pub struct CompositeTree {
+    pub types: StreamType,
+    pub kind: CompositeKind,
+    pub block: Vec<Stmt>,
+}
+
+/// What a stream takes and what it gives: `int->void`.
+#[derive(Clone, Copy, Debug, PartialEq, Eq)]
+pub struct StreamType {
     pub input: ItemType,
     pub output: ItemType,
-    pub children: Vec<Name>,
+}
+
+/// How a composite stream puts its children together.
+#[derive(Clone, Copy, Debug, PartialEq, Eq)]
+pub enum CompositeKind {
+    Pipeline,
+    Splitjoin,
+    Feedbackloop,
 }
 
 /// A declaration of variables of one type: `int x = 1, y`.
@@ -107,6 +118,7 @@ pub struct Variable {
 }
 
 /// A statement.
+#[cycle(tree)]
 #[derive(Debug, Drop)]
 pub enum Stmt {
     /// `;`
@@ -136,6 +148,67 @@ pub enum Stmt {
     Print(Expr),
     /// `println(x);`
     Println(Expr),
+    /// A statement of a composite stream: `add A;`
+    Compose(Composition),
+}
+
+/// A statement of a composite stream.
+#[cycle(tree)]
+#[derive(Debug, Drop)]
+pub enum Composition {
+    /// `add A(1);`, `body A;` or `loop A;`
+    Child(Role, Child),
+    /// `split duplicate;` or `split roundrobin(1, 2);`
+    Split(Splitter),
+    /// `join roundrobin(1, 2);`, or without weights
+    Join(Option<Vec<Expr>>),
+    /// `enqueue 0;`
+    Enqueue(Expr),
+}
+
+/// What a child is for.
+#[derive(Clone, Copy, Debug, PartialEq, Eq)]
+pub enum Role {
+    /// `add`
+    Add,
+    /// `body`
+    Body,
+    /// `loop`
+    Loop,
+}
+
+/// A child of a composite stream.
+#[cycle(tree)]
+#[derive(Debug, Drop)]
+pub enum Child {
+    /// `A(1, 2)`, or `A` without brackets
+    Named(Name, Option<Vec<Expr>>),
+    /// `Identity<int>`, with or without `()`
+    Identity(Brackets),
+    /// `FileReader<int>("numbers")`
+    FileReader(Text),
+    /// `FileWriter<int>("numbers")`
+    FileWriter(Text),
+    /// `int->int filter { .. }`
+    Filter(StreamType, Vec<Member>),
+    /// `int->int pipeline { .. }`, or without its types
+    Composite(Option<StreamType>, CompositeKind, Vec<Stmt>),
+}
+
+/// Whether an empty pair of brackets is written.
+#[derive(Clone, Copy, Debug, PartialEq, Eq)]
+pub enum Brackets {
+    Written,
+    Missing,
+}
+
+/// How items are split.
+#[derive(Debug, Drop)]
+pub enum Splitter {
+    /// `duplicate`, with or without `()`
+    Duplicate(Brackets),
+    /// `roundrobin(1, 2)`, or without weights
+    Roundrobin(Option<Vec<Expr>>),
 }
 
 /// An expression.

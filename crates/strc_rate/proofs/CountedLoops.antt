@@ -98,6 +98,7 @@ first_told : (locals : Locals) (s : tree.Stmt) → IfSome (first_of locals s) (B
 first_told locals (tree.Declare kind variables) = first_declared_told locals kind variables
 first_told locals (tree.Assign name operator value) = first_assigned_told locals name operator value
 first_told locals tree.Empty = tt
+first_told locals (tree.Compose statement) = tt
 first_told locals (tree.Block body) = tt
 first_told locals (tree.Evaluate value) = tt
 first_told locals (tree.AssignElement array index operator value) = tt

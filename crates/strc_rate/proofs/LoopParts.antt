@@ -116,6 +116,7 @@ seen_declared locals scope names cells (first ∷ rest) closed seen =
 pub seen_after : (s : tree.Stmt) (locals : Locals) (scope names : Scope) → IsClosedStmt names s → Seen locals scope → Seen (locals_after locals s) (names_after scope s)
 seen_after (tree.Declare kind variables) locals scope names closed seen = seen_declared locals scope names (cells_of kind) variables closed seen
 seen_after tree.Empty locals scope names closed seen = seen
+seen_after (tree.Compose statement) locals scope names closed seen = seen
 seen_after (tree.Block body) locals scope names closed seen = seen
 seen_after (tree.Evaluate value) locals scope names closed seen = seen
 seen_after (tree.Assign assigned operator value) locals scope names closed seen = seen
@@ -297,6 +298,7 @@ pub step_told : (name : List ℕ) (s : tree.Stmt) → IfSome (move_of name s) (S
 step_told name (tree.Evaluate value) = evaluated_told name value
 step_told name (tree.Assign assigned operator value) = assigned_told_by name assigned operator value (bytes_eq assigned name) refl
 step_told name tree.Empty = tt
+step_told name (tree.Compose statement) = tt
 step_told name (tree.Block body) = tt
 step_told name (tree.Declare kind variables) = tt
 step_told name (tree.AssignElement array index operator value) = tt

@@ -31,6 +31,7 @@ stands_on_declared base names (first ∷ rest) h =
 pub stands_on_after : (base names : Ranges) (s : tree.Stmt) → StandsOn base names → StandsOn base (ranges_after names s)
 stands_on_after base names (tree.Declare kind variables) h = stands_on_declared base names variables h
 stands_on_after base names tree.Empty h = h
+stands_on_after base names (tree.Compose statement) h = h
 stands_on_after base names (tree.Block body) h = h
 stands_on_after base names (tree.Evaluate value) h = h
 stands_on_after base names (tree.Assign name operator value) h = h
@@ -66,6 +67,7 @@ names_declared names (first ∷ rest) = names_declared (record { 0 = first.name;
 pub names_behind : (names : Ranges) (s : tree.Stmt) → names_of (ranges_after names s) ≡ locals_after (names_of names) s
 names_behind names (tree.Declare kind variables) = names_declared names variables
 names_behind names tree.Empty = refl
+names_behind names (tree.Compose statement) = refl
 names_behind names (tree.Block body) = refl
 names_behind names (tree.Evaluate value) = refl
 names_behind names (tree.Assign name operator value) = refl

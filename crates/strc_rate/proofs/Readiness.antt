@@ -151,6 +151,7 @@ names_unknown ranges (first ∷ rest) = names_unknown (record { 0 = first.name; 
 pub names_after_ranges : (ranges : Ranges) (s : tree.Stmt) → names_of (ranges_after ranges s) ≡ locals_after (names_of ranges) s
 names_after_ranges ranges (tree.Declare kind variables) = names_unknown ranges variables
 names_after_ranges ranges tree.Empty = refl
+names_after_ranges ranges (tree.Compose statement) = refl
 names_after_ranges ranges (tree.Block body) = refl
 names_after_ranges ranges (tree.Evaluate value) = refl
 names_after_ranges ranges (tree.Assign assigned operator value) = refl
@@ -182,6 +183,7 @@ unknown_before ranges (first ∷ rest) name e =
 pub known_before : (ranges : Ranges) (s : tree.Stmt) (name : List ℕ) → is_some (range_named (ranges_after ranges s) name) ≡ true → (is_some (range_named ranges name) ≡ true) × (hides name s ≡ false)
 known_before ranges (tree.Declare kind variables) name e = unknown_before ranges variables name e
 known_before ranges tree.Empty name e = (e, refl)
+known_before ranges (tree.Compose statement) name e = (e, refl)
 known_before ranges (tree.Block body) name e = (e, refl)
 known_before ranges (tree.Evaluate value) name e = (e, refl)
 known_before ranges (tree.Assign assigned operator value) name e = (e, refl)
@@ -208,6 +210,7 @@ range_unknown ranges (first ∷ rest) name e =
 range_after : (ranges : Ranges) (s : tree.Stmt) (name : List ℕ) → hides name s ≡ false → range_named (ranges_after ranges s) name ≡ range_named ranges name
 range_after ranges (tree.Declare kind variables) name e = range_unknown ranges variables name e
 range_after ranges tree.Empty name e = refl
+range_after ranges (tree.Compose statement) name e = refl
 range_after ranges (tree.Block body) name e = refl
 range_after ranges (tree.Evaluate value) name e = refl
 range_after ranges (tree.Assign assigned operator value) name e = refl
@@ -244,6 +247,7 @@ shown_declared (first ∷ rest) scope cells n name le bare e =
 shown : (s : tree.Stmt) (scope : Scope) (n : ℕ) (name : List ℕ) → n ≤ length scope → is_declared (above n scope) name ≡ false → hides name s ≡ false → is_declared (above n (names_after scope s)) name ≡ false
 shown (tree.Declare kind variables) scope n name le bare e = shown_declared variables scope (cells_of kind) n name le bare e
 shown tree.Empty scope n name le bare e = bare
+shown (tree.Compose statement) scope n name le bare e = bare
 shown (tree.Block body) scope n name le bare e = bare
 shown (tree.Evaluate value) scope n name le bare e = bare
 shown (tree.Assign assigned operator value) scope n name le bare e = bare

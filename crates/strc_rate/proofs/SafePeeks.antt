@@ -121,6 +121,7 @@ mutual
   -- each closed peek that a statement runs finds its item
   pub stmt_safe : (window : ℕ) (port : Port) → IsWhole window port → (s : tree.Stmt) (names : Scope) (ranges : Ranges) (popped : Popped) (store : Store) → IsClosedStmt names s → is_some (stmt_counts (names_of ranges) s) ≡ true → Fixed ranges (λ name. stmt_writes name s) → Ready ranges popped store → StmtIsSafe window port ranges popped s store
   stmt_safe window port whole tree.Empty names ranges popped store closed counted fixed ready = tt
+  stmt_safe window port whole (tree.Compose statement) names ranges popped store closed counted fixed ready = tt
   stmt_safe window port whole (tree.Block body) names ranges popped store closed counted fixed ready = stmts_safe window port whole body names ranges popped store closed counted fixed ready
   stmt_safe window port whole (tree.Declare kind variables) names ranges popped store closed counted fixed ready = variables_safe window port whole (cells_of kind) variables names ranges popped store closed counted fixed ready
   stmt_safe window port whole (tree.Evaluate value) names ranges popped store closed counted fixed ready = expr_safe window port whole value ranges popped store counted fixed ready

@@ -177,6 +177,7 @@ printed_counted (Some x) before traffic after e f h = record { pops = h.pops; pu
 mutual
   pub stmt_counted : (port : Port) (s : tree.Stmt) (locals : Locals) (names : Scope) (store : Store) → IsClosedStmt names s → Seen locals (scope_of store.variables) → CountedOk store_traffic (stmt_counts locals s) store.traffic (stmt_done port s store)
   stmt_counted port tree.Empty locals names store closed seen = stays store.traffic
+  stmt_counted port (tree.Compose statement) locals names store closed seen = stays store.traffic
   stmt_counted port (tree.Block body) locals names store closed seen =
       inside_counts (stmts_counts locals body) (stmts_done port body) store (stmts_counted port body locals names store closed seen)
   stmt_counted port (tree.Declare kind variables) locals names store closed seen = declared_counts port (cells_of kind) variables store

@@ -84,6 +84,7 @@ declared_bares (first ∷ rest) scope cells n name le bare =
 stmt_bares : (s : tree.Stmt) (scope : Scope) → Bares (λ name. hides name s) scope (names_after scope s)
 stmt_bares (tree.Declare kind variables) scope n name le bare = declared_bares variables scope (cells_of kind) n name le bare
 stmt_bares tree.Empty scope n name le bare = (bare, refl)
+stmt_bares (tree.Compose statement) scope n name le bare = (bare, refl)
 stmt_bares (tree.Block body) scope n name le bare = (bare, refl)
 stmt_bares (tree.Evaluate value) scope n name le bare = (bare, refl)
 stmt_bares (tree.Assign assigned operator value) scope n name le bare = (bare, refl)
@@ -223,6 +224,7 @@ mutual
   -- a statement of known names leaves its variables, and keeps the cells of those that it doesn't write
   pub stmt_keeps : (port : Port) (s : tree.Stmt) (names : Scope) (store : Store) → IsClosedStmt names s → IfOk (stmt_done port s store) (λ after. Done (λ name. stmt_writes name s) (names_after (scope_of store.variables) s) store.variables after.variables)
   stmt_keeps port tree.Empty names store closed = record { grown = grown_same _ store.variables store.variables (same_refl _ store.variables); exact = refl }
+  stmt_keeps port (tree.Compose statement) names store closed = record { grown = grown_same _ store.variables store.variables (same_refl _ store.variables); exact = refl }
   stmt_keeps port (tree.Block body) names store closed =
       plain (λ name. stmts_write name body) store.variables (inside (stmts_done port body) store)
       (inside_same (λ name. stmts_write name body) (λ name. stmts_write name body) (stmts_done port body) store (λ name e. e) (stmts_keep port body names store closed))

@@ -109,6 +109,7 @@ abbrev mutual
   -- the counts of a statement behind these local variables
   pub stmt_counts : Locals → tree.Stmt → Option Counts
   stmt_counts locals tree.Empty = Some no_items
+  stmt_counts locals (tree.Compose statement) = Some no_items
   stmt_counts locals (tree.Block body) = stmts_counts locals body
   stmt_counts locals (tree.Declare kind variables) = variables_counts variables
   stmt_counts locals (tree.Evaluate value) = expr_counts value

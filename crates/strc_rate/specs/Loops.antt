@@ -69,6 +69,7 @@ abbrev mutual
   -- whether a statement writes the variable that this name has where it stands, and not an inner one of the same name
   pub stmt_writes : List ℕ → tree.Stmt → Bool
   stmt_writes name tree.Empty = false
+  stmt_writes name (tree.Compose statement) = false
   stmt_writes name (tree.Block body) = stmts_write name body
   stmt_writes name (tree.Declare kind variables) = variables_write name variables
   stmt_writes name (tree.Evaluate value) = expr_writes name value

@@ -90,6 +90,7 @@ abbrev mutual
   -- the peeks of a statement
   pub stmt_sights : (window : ℕ) → Ranges → Popped → tree.Stmt → List Sight
   stmt_sights window ranges popped tree.Empty = []
+  stmt_sights window ranges popped (tree.Compose statement) = []
   stmt_sights window ranges popped (tree.Block body) = stmts_sights window ranges popped body
   stmt_sights window ranges popped (tree.Declare kind variables) = variables_sights window ranges popped variables
   stmt_sights window ranges popped (tree.Evaluate value) = expr_sights window ranges popped value

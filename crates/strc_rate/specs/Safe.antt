@@ -86,6 +86,7 @@ abbrev mutual
   -- each closed peek of a statement that is run from this store
   pub StmtIsSafe : (window : ℕ) → Port → Ranges → Popped → tree.Stmt → Store → Type 0
   StmtIsSafe window port ranges popped tree.Empty store = Unit {0}
+  StmtIsSafe window port ranges popped (tree.Compose statement) store = Unit {0}
   StmtIsSafe window port ranges popped (tree.Block body) store = StmtsAreSafe window port ranges popped body store
   StmtIsSafe window port ranges popped (tree.Declare kind variables) store =
       VariablesAreSafe window port ranges popped (cells_of kind) variables store

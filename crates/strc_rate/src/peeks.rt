@@ -64,7 +64,7 @@ fn look_at_statement(
     ensures names { OnOk result (names.new ≡ ranges_after names.old (stmt_view statement.now)) }
 {
     match statement {
-        Stmt::Empty => Ok(Some(no_items())),
+        Stmt::Empty | Stmt::Compose(_) => Ok(Some(no_items())),
         Stmt::Block(body) => look_at_block(body, names, window, popped, sights),
         Stmt::Declare(declared) => {
             look_at_variables(&declared.variables, names, window, popped, sights)

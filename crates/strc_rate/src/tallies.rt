@@ -47,7 +47,7 @@ pub(crate) fn statement_counts(
     ensures names { OnOk result (names.new ≡ ranges_after names.old (stmt_view statement.now)) }
 {
     match statement {
-        Stmt::Empty => Ok(Some(no_items())),
+        Stmt::Empty | Stmt::Compose(_) => Ok(Some(no_items())),
         Stmt::Block(body) => block_counts(body, names),
         Stmt::Declare(declared) => variables_counts(&declared.variables, names),
         Stmt::Evaluate(value)

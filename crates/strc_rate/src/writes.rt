@@ -38,7 +38,7 @@ pub(crate) fn statement_writes(statement: &Stmt, name: &Name) -> bool
     ensures { result ≡ spec.stmt_writes name.now (stmt_view statement.now) }
 {
     match statement {
-        Stmt::Empty => false,
+        Stmt::Empty | Stmt::Compose(_) => false,
         Stmt::Block(body) => block_writes(body, name),
         Stmt::Declare(declared) => variables_write(&declared.variables, name),
         Stmt::Assign(assigned, _, value) => {

@@ -15,6 +15,8 @@ mod language;
 #[cfg(test)]
 mod large;
 #[cfg(test)]
+mod nested;
+#[cfg(test)]
 mod programs;
 #[cfg(test)]
 mod refusals;

@@ -37,7 +37,7 @@ fn each_refusal_has_its_line(rt: HostRuntime) -> Result<(), Fail> {
         ),
         (
             "void->void pipeline M { add N; } void->int pipeline N { }",
-            "refused E0 NotYet",
+            "refused E5 TypeMismatch stream 1",
         ),
         (
             "void->void filter A { }",
@@ -115,7 +115,7 @@ fn each_refusal_has_its_line(rt: HostRuntime) -> Result<(), Fail> {
             "void->int filter S { work push 1 { } } int->void filter P { work pop 1 { pop(); } } void->void pipeline M { add S; add P; add S; add P; }",
             "refused E19 Disconnected",
         ),
-        ("void->void pipeline M { add M; }", "refused E0 NotYet"),
+        ("void->void pipeline M { add M; }", "refused E8 DepthLimit"),
         (
             "void->void filter A { work { int[0] t; } }",
             "refused E12 ConstFault cause Index",

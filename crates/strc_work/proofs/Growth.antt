@@ -37,6 +37,7 @@ with_declared-reverse names cells (first ∷ rest) =
 pub stands_on_after : (base names : Scope) (s : tree.Stmt) → StandsOn base names → StandsOn base (names_after names s)
 stands_on_after base names (tree.Declare kind variables) h = stands_on_declared base names (cells_of kind) variables h
 stands_on_after base names tree.Empty h = h
+stands_on_after base names (tree.Compose statement) h = h
 stands_on_after base names (tree.Block body) h = h
 stands_on_after base names (tree.Evaluate value) h = h
 stands_on_after base names (tree.Assign name operator value) h = h
@@ -68,6 +69,6 @@ fields_before kind variables rest names =
 -- no other member has fields
 pub no_fields : (m : Member) (rest : List tree.Member) → ((declared : _) → m ≡ member.Fields declared → ⊥) → sized_fields rest ≡ sized_fields (member_view m ∷ rest)
 no_fields (member.Fields declared) rest other = absurd (other declared refl)
-no_fields (member.Init block) rest other = refl
-no_fields (member.Prework work) rest other = refl
-no_fields (member.Work work) rest other = refl
+no_fields (member.Init' shape block) rest other = refl
+no_fields (member.Prework' rates shape block) rest other = refl
+no_fields (member.Work' rates shape block) rest other = refl

@@ -1,10 +1,12 @@
 pub mod Wrapping
 pub mod Tables
 pub mod Scopes
+pub mod Numbered
 pub mod Layouts
 pub mod Growth
 pub mod TypedGrowth
 pub mod Blocks
+pub mod Members
 pub mod Spelled
 pub mod Nodes
 pub mod Turns

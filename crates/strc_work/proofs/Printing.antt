@@ -230,6 +230,7 @@ element_silent names name index assign.Remainder value free = compound_silent na
 mutual
   stmt_print : (names : Scope) (s : tree.Stmt) → IsClosedStmt names s → nodes_print (stmt_nodes names s) ≡ stmt_prints s
   stmt_print names tree.Empty closed = refl
+  stmt_print names (tree.Compose statement) closed = refl
   stmt_print names (tree.Block body) closed = stmts_print_is names body closed
   stmt_print names (tree.Declare kind variables) closed = variables_silent names (cells_of kind) variables
   stmt_print names (tree.Evaluate value) closed = evaluation_silent names value

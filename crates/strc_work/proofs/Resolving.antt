@@ -279,6 +279,7 @@ element_assign_gives site scope names name index operator value sees =
 mutual
   stmt_gives : (site : Site) (scope : Scope) (names : TypedNames) (outer : ℕ) (s : tree.Stmt) → Sees scope names → Gives (IsLike scope names s) (stmt_resolved site names outer s)
   stmt_gives site scope names outer tree.Empty sees = (tt, sees)
+  stmt_gives site scope names outer (tree.Compose statement) sees = tt
   stmt_gives site scope names outer (tree.Block body) sees =
       then_gives (AreClosed scope) (IsLike scope names (tree.Block body)) (stmts_resolved site names (length names) body) (λ b. Ok (tree.Block b)) (stmts_gives site scope names (length names) body sees) (λ b h. (h, sees))
   stmt_gives site scope names outer (tree.Declare kind variables) sees = declare_gives site scope names outer kind variables sees

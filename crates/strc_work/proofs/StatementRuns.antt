@@ -125,6 +125,7 @@ mutual
   -- every statement's code does what it means
   pub stmt_runs : (port : Port) (s : tree.Stmt) → RunsStmt port s
   stmt_runs port tree.Empty names store slots closed ready room = empty_reaches names store slots ready
+  stmt_runs port (tree.Compose statement) names store slots closed ready room = empty_reaches names store slots ready
   stmt_runs port (tree.Block body) names store slots closed ready room =
       map_related (ReachesOn names (length slots)) (Reaches names (length slots)) (block_left store) (stmts_done port body store) (nodes_done port (stmts_nodes names body) (machine_at slots store)) (stmts_runs port body names store slots closed ready room) (λ inner after reaches. left_reaches names slots store inner after ready reaches)
   stmt_runs port (tree.Declare kind variables) names store slots closed ready room =

@@ -29,6 +29,7 @@ stands_on_declared base names kind (first ∷ rest) h =
 pub stands_on_after : (base names : TypedNames) (s : tree.Stmt) → StandsOn base names → StandsOn base (names_after names s)
 stands_on_after base names (tree.Declare kind variables) h = stands_on_declared base names (type_of kind) variables h
 stands_on_after base names tree.Empty h = h
+stands_on_after base names (tree.Compose statement) h = h
 stands_on_after base names (tree.Block body) h = h
 stands_on_after base names (tree.Evaluate value) h = h
 stands_on_after base names (tree.Assign name operator value) h = h

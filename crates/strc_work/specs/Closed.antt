@@ -42,6 +42,7 @@ AreClosedVariables names cells (first ∷ rest) =
 abbrev mutual
   pub IsClosedStmt : Scope → tree.Stmt → Type 0
   IsClosedStmt names tree.Empty = Unit {0}
+  IsClosedStmt names (tree.Compose statement) = Unit {0}
   IsClosedStmt names (tree.Block body) = AreClosed names body
   IsClosedStmt names (tree.Declare kind variables) = AreClosedVariables names (cells_of kind) variables
   IsClosedStmt names (tree.Evaluate value) = IsClosed names value

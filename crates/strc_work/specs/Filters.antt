@@ -21,9 +21,13 @@ pub record Filter : Type 0 where
 abbrev pub members_of : List Member → List tree.Member
 members_of members = map member_view members
 
+-- a filter of these types and members
+abbrev pub filter_parts : (input output : ItemType) → List Member → Filter
+filter_parts input output members = record { input = input; output = output; members = members_of members }
+
 -- the filter of a syntax tree
 abbrev pub filter_of : FilterTree → Filter
-filter_of filter = record { input = filter.input; output = filter.output; members = members_of filter.members.items }
+filter_of filter = filter_parts filter.input filter.output filter.members.items
 
 -- the names that a declaration adds, in order
 abbrev pub declared_names : List tree.Variable → List (List ℕ)
@@ -144,6 +148,7 @@ abbrev mutual
   -- whether a statement prints
   pub stmt_prints : tree.Stmt → Bool
   stmt_prints tree.Empty = false
+  stmt_prints (tree.Compose statement) = false
   stmt_prints (tree.Block body) = stmts_print body
   stmt_prints (tree.Declare kind variables) = false
   stmt_prints (tree.Evaluate value) = false

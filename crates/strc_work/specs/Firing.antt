@@ -249,6 +249,7 @@ abbrev mutual
   -- what a statement does
   pub stmt_done : Port → tree.Stmt → Store → Result Store Cause
   stmt_done port tree.Empty store = Ok store
+  stmt_done port (tree.Compose statement) store = Ok store
   stmt_done port (tree.Block body) store = inside (stmts_done port body) store
   stmt_done port (tree.Declare kind variables) store = variables_declared port (cells_of kind) variables store
   stmt_done port (tree.Evaluate value) store = then_do (value_of port value store) (λ given. Ok given.1)

@@ -266,6 +266,7 @@ abbrev mutual
   -- a statement, among the names that can be seen, of which so many stand outside its block
   pub stmt_resolved : Site → TypedNames → (outer : ℕ) → tree.Stmt → Result tree.Stmt LowerError
   stmt_resolved site names outer tree.Empty = Ok tree.Empty
+  stmt_resolved site names outer (tree.Compose statement) = Err refused.TypeMismatch
   stmt_resolved site names outer (tree.Block body) =
       and_then (stmts_resolved site names (length names) body) (λ body'. Ok (tree.Block body'))
   stmt_resolved site names outer (tree.Declare kind variables) =
@@ -312,7 +313,7 @@ abbrev pub carries_items : ItemType → Bool
 carries_items item.Int = true
 carries_items item.Void = false
 
--- the sites of a filter: initialisers and `init`, and bodies
+-- the sites: initialisers and `init`, as also the block of a composite stream; and bodies
 abbrev pub start_site : List (List ℕ × ℤ) → Site
 start_site constants = record { constants = constants; pops = false; pushes = false; prints = false; fixed = false }
 

@@ -5,9 +5,9 @@ use Rattle.strc_parse.specs.View.{expr_view, type_view, rate_view, block_view}
 use Rattle.strc_parse.specs.declared.tree.Stmt.{Stmt}
 use Rattle.strc_parse.specs.declared.tree.Variable.{Variable}
 use Rattle.strc_parse.specs.declared.tree.RateTree.{RateTree}
-use Rattle.strc_parse.specs.declared.tree.WorkTree.{WorkTree}
 use Rattle.strc_work.specs.declared.lowering.LowerError.{LowerError}
 use Rattle.strc_work.specs.declared.lowering.LowerError.TheVariants as refused
+use Rattle.strc_work.specs.declared.resolution.ResolvedWork.{ResolvedWork}
 use Rattle.strc_work.specs.declared.site.Site.{Site}
 use Rattle.strc_work.specs.declared.type_rules.ResolvedType.{ResolvedType}
 use Rattle.strc_work.specs.declared.typed.Typed.{Typed}
@@ -44,7 +44,7 @@ abbrev pub declared_view : ResolvedType → judged.ResolvedType
 declared_view resolved = record { kind = resolved.kind; written = type_view resolved.written }
 
 -- a body with its rates as the judgement sees it
-abbrev pub work_view : WorkTree → judged.Work
+abbrev pub work_view : ResolvedWork → judged.Work
 work_view work = record { rates = map rate_view work.rates.items; block = block_view work.block.items }
 
 -- a list of statements, of variables, and of rates

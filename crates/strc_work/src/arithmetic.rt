@@ -49,24 +49,28 @@ pub fn flip(value: i32) -> i32
     if value == 0 { 1 } else { 0 }
 }
 
+/// The sum, brought back into 32 bits.
 pub fn sum(left: i32, right: i32) -> i32
     ensures { result ≡ wrapped (left +ℤ right) }
 {
     left.wrapping_add(right)
 }
 
+/// The difference, brought back into 32 bits.
 pub fn difference(left: i32, right: i32) -> i32
     ensures { result ≡ wrapped (left -ℤ right) }
 {
     left.wrapping_sub(right)
 }
 
+/// The product, brought back into 32 bits.
 pub fn product(left: i32, right: i32) -> i32
     ensures { result ≡ wrapped (left *ℤ right) }
 {
     left.wrapping_mul(right)
 }
 
+/// The value with the other sign; the minimum stays.
 pub fn negate(value: i32) -> i32
     ensures { result ≡ wrapped (neg_ℤ value) }
 {

@@ -15,7 +15,7 @@ pub fn has_prework(members: &[Member]) -> bool
     ensures { result ≡ is_some (filters.prework_block (filters.members_of members.now)) }
 {
     for member in members {
-        if let Member::Prework(_) = member {
+        if let Member::Prework(_, _) = member {
             return true;
         }
     }
@@ -40,8 +40,8 @@ fn work_rates(members: &[Member]) -> &[RateTree]
     ensures { map rate_view result.now ≡ filters.work_rates (filters.members_of members.now) }
 {
     for member in members {
-        if let Member::Work(work) = member {
-            return &work.rates;
+        if let Member::Work(rates, _) = member {
+            return rates;
         }
     }
     &[]
@@ -53,8 +53,8 @@ fn prework_rates(members: &[Member]) -> Option<&[RateTree]>
         ≡ filters.prework_rates (filters.members_of members.now) }
 {
     for member in members {
-        if let Member::Prework(work) = member {
-            return Some(&work.rates);
+        if let Member::Prework(rates, _) = member {
+            return Some(rates);
         }
     }
     None
@@ -78,8 +78,9 @@ fn work_block(members: &[Member]) -> &[Stmt]
     ensures { block_view result.now ≡ filters.work_block (filters.members_of members.now) }
 {
     for member in members {
-        if let Member::Work(work) = member {
-            return &work.block;
+        match member {
+            Member::Work(_, block) => return block,
+            Member::Fields(_) | Member::Init(_) | Member::Prework(_, _) => {}
         }
     }
     &[]
@@ -91,8 +92,9 @@ fn prework_block(members: &[Member]) -> Option<&[Stmt]>
         ≡ filters.prework_block (filters.members_of members.now) }
 {
     for member in members {
-        if let Member::Prework(work) = member {
-            return Some(&work.block);
+        match member {
+            Member::Prework(_, block) => return Some(block),
+            Member::Fields(_) | Member::Init(_) | Member::Work(_, _) => {}
         }
     }
     None
@@ -205,6 +207,7 @@ fn stmt_prints(statement: &Stmt) -> bool
             stmt_prints(first) || stmt_prints(step) || stmt_prints(body)
         }
         Stmt::Empty
+        | Stmt::Compose(_)
         | Stmt::Declare(_)
         | Stmt::Evaluate(_)
         | Stmt::Assign(_, _, _)

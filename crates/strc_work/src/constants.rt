@@ -1,6 +1,6 @@
 // The constants of a filter: the parameters and the surrounding numbers that its text may name.
 
-ghost use Rattle.std.specs.Prelude.{◌≡◌, [], ◌∷◌, OnOk, OnErr};
+ghost use Rattle.std.specs.Prelude.{◌≡◌, [], ◌∷◌, OnOk, OnErr, reverse};
 
 use crate::memory::NoMemory;
 use std::alloc::Global;
@@ -41,6 +41,13 @@ impl Constants {
     {
         self.pairs.push((name, value))?;
         Ok(())
+    }
+
+    /// The names with their values, the one pushed first first.
+    pub fn pairs(&self) -> &[(Name, i32)]
+        ensures { self.now ≡ reverse result.now }
+    {
+        self.pairs.as_slice()
     }
 
     /// The value of the last constant of this name.

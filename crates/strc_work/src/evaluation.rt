@@ -53,14 +53,14 @@ pub fn constant_value(value: &Expr) -> Result<i32, Cause>
 }
 
 /// Whether a truth value's number is that of `true`.
-fn is_true(value: i32) -> bool
+pub fn is_true(value: i32) -> bool
     ensures { result ≡ spec.is_true value }
 {
     value != 0
 }
 
 /// Whether the left side's value is the operator's, so that the right side doesn't count.
-fn decides(operator: BinaryOperator, left: i32) -> bool
+pub fn decides(operator: BinaryOperator, left: i32) -> bool
     ensures { result ≡ constants.decides operator left }
 {
     match operator {
@@ -71,7 +71,7 @@ fn decides(operator: BinaryOperator, left: i32) -> bool
 }
 
 /// The value of an operator before its operand.
-fn unary_value(operator: UnaryOperator, value: i32) -> i32
+pub fn unary_value(operator: UnaryOperator, value: i32) -> i32
     ensures { result ≡ spec.unary_value operator value }
 {
     match operator {
@@ -82,7 +82,7 @@ fn unary_value(operator: UnaryOperator, value: i32) -> i32
 }
 
 /// The value of an operator, where both sides count.
-fn both_value(operator: BinaryOperator, left: i32, right: i32) -> Result<i32, Cause>
+pub fn both_value(operator: BinaryOperator, left: i32, right: i32) -> Result<i32, Cause>
     ensures { result ≡ constants.both_value operator left right }
 {
     match operator {

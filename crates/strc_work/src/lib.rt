@@ -4,7 +4,7 @@
 // Stands on strc_parse, whose trees it lowers, and on strc_lex, whose names they hold.
 #![tactic(auto)]
 
-mod arithmetic;
+pub mod arithmetic;
 mod bodies;
 mod builder;
 pub mod code;
@@ -14,7 +14,7 @@ mod copies;
 mod emission;
 pub mod evaluation;
 mod expression_code;
-mod expression_rules;
+pub mod expression_rules;
 pub mod fault;
 pub mod frame;
 mod layout;
@@ -27,15 +27,15 @@ mod parts;
 mod rates;
 mod resolution;
 pub mod scope;
-mod site;
+pub mod site;
 pub mod state;
 mod statement_code;
-mod statement_rules;
+pub mod statement_rules;
 mod step;
-mod type_rules;
-mod typed;
-mod typed_scope;
-mod types;
+pub mod type_rules;
+pub mod typed;
+pub mod typed_scope;
+pub mod types;
 pub mod window;
 pub mod word;
 mod writes;

@@ -1,6 +1,6 @@
 // From a filter's syntax tree to its code.
 
-ghost use Rattle.strc_work.specs.Filters.{filter_of};
+ghost use Rattle.strc_work.specs.Filters.{filter_of, filter_parts};
 ghost use Rattle.strc_work.specs.Resolution.{filter_resolved};
 ghost use Rattle.strc_work.specs.Verdicts.{IsVerdict};
 
@@ -11,7 +11,7 @@ use crate::memory::NoMemory;
 use crate::{emission, resolution};
 use std::alloc::{AllocError, AllocFailed, Global};
 use strc_lex::token::Name;
-use strc_parse::tree::FilterTree;
+use strc_parse::tree::{FilterTree, ItemType, Member};
 
 /// Why a filter isn't lowered: the first rule that it breaks, in order of the text.
 #[derive(Debug, Drop)]
@@ -63,7 +63,20 @@ impl<T: Drop> From<AllocFailed<T>> for LowerError {
 pub fn lower(alloc: Global, tree: &FilterTree, constants: &Constants) -> Result<Code, LowerError>
     ensures { IsVerdict filter_of (filter_resolved constants.now (filter_of tree.now)) result }
 {
-    let tree = resolution::resolve_filter(alloc, tree, constants)?;
+    lower_parts(alloc, tree.input, tree.output, &tree.members, constants)
+}
+
+/// The code of a filter that is given by its types and its members, with its constants put in.
+pub fn lower_parts(
+    alloc: Global,
+    input: ItemType,
+    output: ItemType,
+    members: &[Member],
+    constants: &Constants,
+) -> Result<Code, LowerError>
+    ensures { IsVerdict filter_of (filter_resolved constants.now (filter_parts input output members.now)) result }
+{
+    let tree = resolution::resolve_filter(alloc, input, output, members, constants)?;
     let code = emission::emit_filter(alloc, tree)?;
     Ok(code)
 }

@@ -22,7 +22,7 @@ fn work_count(members: &[Member]) -> usize
 {
     let mut count = 0;
     for member in members {
-        if let Member::Work(_) = member {
+        if let Member::Work(_, _) = member {
             count += 1;
         }
     }
@@ -35,7 +35,7 @@ fn prework_count(members: &[Member]) -> usize
 {
     let mut count = 0;
     for member in members {
-        if let Member::Prework(_) = member {
+        if let Member::Prework(_, _) = member {
             count += 1;
         }
     }

@@ -1,8 +1,8 @@
 // The rules on names and types of filters. A tree that keeps them is copied with its constants put in.
 
 ghost use Rattle.std.specs.Prelude.{◌≡◌, IfOk, OnOk, [], ◌∷◌, map};
-ghost use Rattle.strc_parse.specs.View.{variable_view, member_view};
-ghost use Rattle.strc_work.specs.Filters.{filter_of, members_of};
+ghost use Rattle.strc_parse.specs.View.{variable_view, member_view, rate_view, block_view};
+ghost use Rattle.strc_work.specs.Filters.{filter_of, filter_parts, members_of};
 ghost use Rattle.strc_work.specs.Typing as typing;
 ghost use Rattle.strc_work.specs.Resolution as judged;
 ghost use Rattle.strc_work.specs.Verdicts.{IsVerdict, site_of, work_view, VariableList};
@@ -16,29 +16,48 @@ use crate::typed_scope::TypedScope;
 use crate::types::{self, ValueType};
 use crate::{expression_rules, parts, rates, statement_rules, type_rules};
 use std::alloc::Global;
-use strc_parse::tree::{FilterTree, Member, Variable, Variables, WorkTree};
+use strc_parse::tree::{FilterTree, ItemType, Member, RateTree, Stmt, Variable, Variables};
 
-/// The filter with its constants put in.
+/// A body with its constants put in.
+#[derive(Drop)]
+pub struct ResolvedWork {
+    pub rates: Vec<RateTree>,
+    pub block: Vec<Stmt>,
+}
+
+/// The filter of these types and members, with its constants put in.
 pub fn resolve_filter(
     alloc: Global,
-    tree: &FilterTree,
+    input: ItemType,
+    output: ItemType,
+    members: &[Member],
     constants: &Constants,
 ) -> Result<FilterTree, LowerError>
-    ensures { IsVerdict filter_of (judged.filter_resolved constants.now (filter_of tree.now)) result }
+    ensures { IsVerdict filter_of
+        (judged.filter_resolved constants.now (filter_parts input output members.now))
+        result }
 {
-    if !parts::has_parts(&tree.members) {
+    if !parts::has_parts(members) {
         return Err(LowerError::TypeMismatch);
     }
-    let mut fields = typed_fields(alloc, &tree.members)?;
+    let mut fields = typed_fields(alloc, members)?;
     let mut before = Scope::new(alloc);
     let mut resolved = Vec::new(alloc);
-    for member in &tree.members {
-        let member = resolve_member(alloc, tree, constants, &mut fields, &mut before, member)?;
+    for member in members {
+        let member = resolve_member(
+            alloc,
+            input,
+            output,
+            constants,
+            &mut fields,
+            &mut before,
+            member,
+        )?;
         resolved.push(member)?;
     }
     Ok(FilterTree {
-        input: tree.input,
-        output: tree.output,
+        input,
+        output,
         members: resolved,
     })
 }
@@ -76,14 +95,15 @@ fn declare_typed(
 
 fn resolve_member(
     alloc: Global,
-    tree: &FilterTree,
+    input: ItemType,
+    output: ItemType,
     constants: &Constants,
     fields: &mut TypedScope,
     before: &mut Scope,
     member: &Member,
 ) -> Result<Member, LowerError>
     ensures verdict { IsVerdict member_view
-        (judged.member_resolved constants.now tree.now.input tree.now.output fields.old before.old
+        (judged.member_resolved constants.now input output fields.old before.old
         (member_view member.now))
         result }
     ensures fields { OnOk result (fields.new ≡ fields.old) }
@@ -111,13 +131,13 @@ fn resolve_member(
             let block = statement_rules::resolve_block(alloc, &site, fields, block)?;
             Ok(Member::Init(block))
         }
-        Member::Prework(work) => {
-            let work = resolve_work(alloc, tree, constants, fields, work)?;
-            Ok(Member::Prework(work))
+        Member::Prework(rates, block) => {
+            let work = resolve_work(alloc, input, output, constants, fields, rates, block)?;
+            Ok(Member::Prework(work.rates, work.block))
         }
-        Member::Work(work) => {
-            let work = resolve_work(alloc, tree, constants, fields, work)?;
-            Ok(Member::Work(work))
+        Member::Work(rates, block) => {
+            let work = resolve_work(alloc, input, output, constants, fields, rates, block)?;
+            Ok(Member::Work(work.rates, work.block))
         }
     }
 }
@@ -170,25 +190,21 @@ fn resolve_field(
 /// A body, with its rates.
 fn resolve_work(
     alloc: Global,
-    tree: &FilterTree,
+    input: ItemType,
+    output: ItemType,
     constants: &Constants,
     fields: &mut TypedScope,
-    work: &WorkTree,
-) -> Result<WorkTree, LowerError>
+    rates: &[RateTree],
+    block: &[Stmt],
+) -> Result<ResolvedWork, LowerError>
     ensures verdict { IsVerdict work_view
-        (judged.work_resolved constants.now tree.now.input tree.now.output fields.old (work_view work.now))
+        (judged.work_resolved constants.now input output fields.old
+        (record { rates = map rate_view rates.now; block = block_view block.now }))
         result }
     ensures fields { OnOk result (fields.new ≡ fields.old) }
 {
-    let rates = rates::resolve_rates(
-        alloc,
-        constants,
-        fields,
-        tree.input,
-        tree.output,
-        &work.rates,
-    )?;
-    let site = site::body_site(constants, tree.input, tree.output);
-    let block = statement_rules::resolve_block(alloc, &site, fields, &work.block)?;
-    Ok(WorkTree { rates, block })
+    let rates = rates::resolve_rates(alloc, constants, fields, input, output, rates)?;
+    let site = site::body_site(constants, input, output);
+    let block = statement_rules::resolve_block(alloc, &site, fields, block)?;
+    Ok(ResolvedWork { rates, block })
 }

@@ -1,6 +1,6 @@
 // The names of variables that can be seen at a place of the text.
 
-ghost use Rattle.std.specs.Prelude.{◌≡◌, ◌-◌, ◌<◌, ◌≤◌, ◌^◌, [], ◌∷◌, OnOk, OnErr, IfErr, IsSome, length, drop, take};
+ghost use Rattle.std.specs.Prelude.{◌≡◌, ◌-◌, ◌<◌, ◌≤◌, ◌^◌, suc, [], ◌∷◌, OnOk, OnErr, IfErr, IsSome, Some, length, drop, take, slice_get};
 ghost use Rattle.strc_work.specs.Tables.{slot_in, IsUpdated};
 
 use crate::memory::NoMemory;
@@ -64,6 +64,14 @@ impl Scope {
         ensures { result ≡ number_named self.now name.now }
     {
         self.innermost.get(name.as_bytes()).copied()
+    }
+
+    /// The name of this number.
+    pub fn name_at(&self, number: u32) -> &[u8]
+        requires { number < length self.now }
+        ensures { slice_get self.now (length self.now - suc number) ≡ Some result.now }
+    {
+        self.declared[number as usize].name.as_slice()
     }
 
     /// Whether one of the names is this one.

@@ -18,7 +18,7 @@ pub struct Site<'a> {
     pub fixed: bool,
 }
 
-/// The site of initialisers and of `init`.
+/// The site of initialisers and of `init`, and of the block of a composite stream.
 pub fn start_site(constants: &Constants) -> Site
     ensures { site_of result ≡ judged.start_site constants.now }
 {
@@ -32,7 +32,7 @@ pub fn start_site(constants: &Constants) -> Site
 }
 
 /// The site of a body.
-pub fn body_site(constants: &Constants, input: ItemType, output: ItemType) -> Site
+pub(crate) fn body_site(constants: &Constants, input: ItemType, output: ItemType) -> Site
     ensures { site_of result ≡ judged.body_site constants.now input output }
 {
     Site {
@@ -45,7 +45,7 @@ pub fn body_site(constants: &Constants, input: ItemType, output: ItemType) -> Si
 }
 
 /// The site of rates and of lengths.
-pub fn rate_site(constants: &Constants) -> Site
+pub(crate) fn rate_site(constants: &Constants) -> Site
     ensures { site_of result ≡ judged.rate_site constants.now }
 {
     Site {
@@ -58,7 +58,7 @@ pub fn rate_site(constants: &Constants) -> Site
 }
 
 /// Whether items flow on a side.
-pub fn carries_items(side: ItemType) -> bool
+pub(crate) fn carries_items(side: ItemType) -> bool
     ensures { result ≡ judged.carries_items side }
 {
     match side {

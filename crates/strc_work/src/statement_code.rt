@@ -43,7 +43,7 @@ fn emit_stmt(code: &mut Builder, names: &mut Layout, statement: &Stmt) -> Result
     let start = names.len();
     let free = names.total();
     match statement {
-        Stmt::Empty => Ok(()),
+        Stmt::Empty | Stmt::Compose(_) => Ok(()),
         Stmt::Block(body) => {
             for inner in body {
                 emit_stmt(code, names, inner)?;

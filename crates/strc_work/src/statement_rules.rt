@@ -19,7 +19,7 @@ use strc_lex::token::Name;
 use strc_parse::tree::{AssignOperator, Expr, Stmt, Variable, Variables};
 
 /// The statements of a body or of `init`, among the fields.
-pub fn resolve_block(
+pub(crate) fn resolve_block(
     alloc: Global,
     site: &Site,
     names: &mut TypedScope,
@@ -41,7 +41,7 @@ pub fn resolve_block(
 
 /// A statement, among the names that can be seen; those of its own block stand from `start` on.
 #[tactic(auto, using(crate::proofs::TypedGrowth::drop_own, crate::proofs::TypedGrowth::drop_both))]
-fn resolve_stmt(
+pub fn resolve_stmt(
     alloc: Global,
     site: &Site,
     names: &mut TypedScope,
@@ -55,6 +55,7 @@ fn resolve_stmt(
 {
     match statement {
         Stmt::Empty => Ok(Stmt::Empty),
+        Stmt::Compose(_) => Err(LowerError::TypeMismatch),
         Stmt::Block(body) => {
             let inner_start = names.len();
             let mut resolved = Vec::new(alloc);
@@ -160,7 +161,7 @@ fn resolve_given(
 }
 
 /// An assignment to a variable.
-fn resolve_assigned(
+pub fn resolve_assigned(
     alloc: Global,
     site: &Site,
     names: &TypedScope,
@@ -180,7 +181,7 @@ fn resolve_assigned(
 }
 
 /// An assignment to an element of an array.
-fn resolve_element(
+pub fn resolve_element(
     alloc: Global,
     site: &Site,
     names: &TypedScope,

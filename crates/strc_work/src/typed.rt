@@ -20,7 +20,7 @@ pub struct Typed {
 }
 
 /// An expression whose value is a number.
-pub fn number(value: Expr) -> Typed
+pub(crate) fn number(value: Expr) -> Typed
     ensures { typed_view result ≡ record { kind = Int; value = expr_view value } }
 {
     Typed {
@@ -30,7 +30,7 @@ pub fn number(value: Expr) -> Typed
 }
 
 /// The expression, if its value has the type.
-pub fn typed_as(kind: ValueType, typed: Typed) -> Result<Expr, LowerError>
+pub(crate) fn typed_as(kind: ValueType, typed: Typed) -> Result<Expr, LowerError>
     ensures { IsVerdict expr_view (judged.typed_as kind (typed_view typed)) result }
 {
     if !types::same_type(typed.kind, kind) {
@@ -40,7 +40,7 @@ pub fn typed_as(kind: ValueType, typed: Typed) -> Result<Expr, LowerError>
 }
 
 /// An expression in brackets.
-pub fn group(alloc: Global, inner: Typed) -> Result<Typed, LowerError>
+pub(crate) fn group(alloc: Global, inner: Typed) -> Result<Typed, LowerError>
     ensures { IsVerdict typed_view (Ok (judged.group_typed (typed_view inner))) result }
 {
     Ok(Typed {
@@ -50,7 +50,7 @@ pub fn group(alloc: Global, inner: Typed) -> Result<Typed, LowerError>
 }
 
 /// A look at an item, where one may pop.
-pub fn peek(alloc: Global, pops: bool, index: Typed) -> Result<Typed, LowerError>
+pub(crate) fn peek(alloc: Global, pops: bool, index: Typed) -> Result<Typed, LowerError>
     ensures { IsVerdict typed_view (judged.peek_typed pops (typed_view index)) result }
 {
     if !pops {
@@ -64,7 +64,7 @@ pub fn peek(alloc: Global, pops: bool, index: Typed) -> Result<Typed, LowerError
 }
 
 /// An element of an array.
-pub fn element(alloc: Global, name: Name, index: Typed) -> Result<Typed, LowerError>
+pub(crate) fn element(alloc: Global, name: Name, index: Typed) -> Result<Typed, LowerError>
     ensures { IsVerdict typed_view (judged.element_typed name (typed_view index)) result }
 {
     let index = typed_as(ValueType::Int, index)?;
@@ -75,7 +75,7 @@ pub fn element(alloc: Global, name: Name, index: Typed) -> Result<Typed, LowerEr
 }
 
 /// A step of an element.
-pub fn step_element(
+pub(crate) fn step_element(
     alloc: Global,
     operator: StepOperator,
     name: Name,
@@ -91,7 +91,11 @@ pub fn step_element(
 }
 
 /// An operator before its operand.
-pub fn unary(alloc: Global, operator: UnaryOperator, operand: Typed) -> Result<Typed, LowerError>
+pub(crate) fn unary(
+    alloc: Global,
+    operator: UnaryOperator,
+    operand: Typed,
+) -> Result<Typed, LowerError>
     ensures { IsVerdict typed_view (judged.unary_typed operator (typed_view operand)) result }
 {
     let kind = operand_type(operator);
@@ -103,7 +107,7 @@ pub fn unary(alloc: Global, operator: UnaryOperator, operand: Typed) -> Result<T
 }
 
 /// An operator between its operands.
-pub fn binary(
+pub(crate) fn binary(
     alloc: Global,
     operator: BinaryOperator,
     left: Typed,
@@ -123,7 +127,7 @@ pub fn binary(
 }
 
 /// A choice between two values of one type.
-pub fn conditional(
+pub(crate) fn conditional(
     alloc: Global,
     condition: Typed,
     chosen: Typed,

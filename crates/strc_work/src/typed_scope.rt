@@ -1,6 +1,6 @@
 // The variables that can be seen at a place of the text, with their types.
 
-ghost use Rattle.std.specs.Prelude.{◌≡◌, ◌-◌, [], ◌∷◌, OnOk, length, drop, take};
+ghost use Rattle.std.specs.Prelude.{◌≡◌, ◌-◌, ◌<◌, suc, [], ◌∷◌, OnOk, OnErr, Some, length, drop, take, slice_get};
 
 use crate::memory::NoMemory;
 use crate::scope::Scope;
@@ -32,7 +32,7 @@ impl Model for TypedScope {
 }
 
 impl TypedScope {
-    ghost use Rattle.strc_work.specs.Names.{has_name};
+    ghost use Rattle.strc_work.specs.Names.{has_name, number_named};
     ghost use Rattle.strc_work.specs.Typing.{type_named, plain_names};
 
     /// No names. It takes no memory.
@@ -62,6 +62,21 @@ impl TypedScope {
         }
     }
 
+    /// The number of the innermost variable of this name: how many stand outside it.
+    pub fn number_of(&self, name: &Name) -> Option<u32>
+        ensures { result ≡ number_named (plain_names self.now) name.now }
+    {
+        self.names.number_of(name)
+    }
+
+    /// The name of this number, with its type.
+    pub fn at(&self, number: u32) -> (&[u8], ValueType)
+        requires { number < length self.now }
+        ensures { slice_get self.now (length self.now - suc number) ≡ Some (record { 0 = result.0.now; 1 = result.1 }) }
+    {
+        (self.names.name_at(number), self.kinds[number as usize])
+    }
+
     /// Whether one of the names from this place on is this one.
     pub fn has_since(&self, start: u32, name: &Name) -> bool
         ensures { result ≡ has_name (take (length self.now - start) (plain_names self.now)) name.now }
@@ -71,7 +86,8 @@ impl TypedScope {
 
     /// One more variable, inside all others.
     pub fn declare(&mut self, name: &Name, kind: ValueType) -> Result<(), NoMemory>
-        ensures { OnOk result (self.new ≡ record { 0 = name.now; 1 = kind } ∷ self.old) }
+        ensures ok { OnOk result (self.new ≡ record { 0 = name.now; 1 = kind } ∷ self.old) }
+        ensures err { OnErr result (self.new ≡ self.old) }
     {
         // What can fail comes before the first change.
         self.kinds.reserve(1)?;

@@ -1,8 +1,8 @@
-use Rattle.strc_cli.proofs.Refusals.{compile_refused, read_refused}
+use Rattle.strc_cli.proofs.Refusals.{program_answered, read_refused}
 use Rattle.strc_cli.proofs.compile.compile.Goals as goal
 
-pub returns-in-Ok-clause-refused : goal.returns-in-Ok-clause-refused
-returns-in-Ok-clause-refused c = compile_refused _ _ c.in-Ok.program c.compile_program.result c.in-Ok.ensures.read c.compile_program.ensures.verdict
+pub returns-in-Ok : goal.returns-in-Ok
+returns-in-Ok c = program_answered _ _ _ c.compile_program.result c.in-Ok.ensures.read c.compile_program.ensures
 
-pub returns-in-Err-clause-refused : goal.returns-in-Err-clause-refused
-returns-in-Err-clause-refused c = read_refused _ _ c.in-Err.refusal c.in-Err.ensures.refused
+pub returns-in-Err : goal.returns-in-Err
+returns-in-Err c = read_refused _ _ c.in-Err.refusal c.in-Err.ensures.refused

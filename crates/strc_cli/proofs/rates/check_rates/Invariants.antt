@@ -1,8 +1,8 @@
 use Rattle.std.proofs.Common.{◌≡◌, drop, map}
-use Rattle.strc_work.specs.Filters.{filter_of}
+use Rattle.strc_elab.specs.View.{node_view}
 use Rattle.strc_cli.specs.Rates.{rates_checked}
 use Rattle.strc_cli.proofs.rates.check_rates.Given as goal
 
--- the test of the filters left is that of all
-abbrev pub invariant-loop-node : goal.invariant-loop-node
-invariant-loop-node l = rates_checked l.node (map (λ i. filter_of i.code) (drop l.node l.filters)) ≡ rates_checked 0 (map (λ i. filter_of i.code) l.filters)
+-- the test of the nodes left is that of all
+abbrev pub invariant-loop-number : goal.invariant-loop-number
+invariant-loop-number l = rates_checked l.number (map node_view (drop l.number l.nodes)) ≡ rates_checked 0 (map node_view l.nodes)

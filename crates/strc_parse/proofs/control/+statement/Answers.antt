@@ -1,6 +1,6 @@
 use Rattle.std.proofs.Common.{◌≡◌, ap, arith}
 use Rattle.strc_parse.specs.Grammar.{kinds}
-use Rattle.strc_parse.specs.Reading.{statement}
+use Rattle.strc_parse.specs.Streams.{statement}
 use Rattle.strc_parse.proofs.Rounds.{statement_at}
 use Rattle.strc_parse.proofs.control.+statement.Goals as goal
 

@@ -8,9 +8,9 @@ use Rattle.strc_work.proofs.resolution.resolve_filter.Goals as goal
 pub loop-member-preserved : goal.loop-member-preserved
 loop-member-preserved c =
     let constants = c.args.constants.now in
-    let input = c.args.tree.now.input in
-    let output = c.args.tree.now.output in
-    let members = c.deref-member-items.result.now in
+    let input = c.args.input in
+    let output = c.args.output in
+    let members = c.args.members.now in
     let i = c.loop-member.member-index in
     let x = c.member-item.result in
     let within : i < length members = omega arith in

@@ -3,7 +3,8 @@ use Rattle.std.proofs.lemmas.Result.{err_from_is_err_and}
 use Rattle.std.proofs.lemmas.List.{map_push}
 use Rattle.strc_parse.specs.View.{stmt_view}
 use Rattle.strc_parse.specs.Grammar.{kinds}
-use Rattle.strc_parse.specs.Reading.{brace, one_taller, statement}
+use Rattle.strc_parse.specs.Reading.{brace, one_taller}
+use Rattle.strc_parse.specs.Streams.{statement}
 use Rattle.strc_parse.proofs.Repeated.{Fails-then, brace_closes, brace_stays, repeated_on, repeated_ends, repeated_fails, repeated_over}
 use Rattle.strc_parse.proofs.control.StatementRules.statements.Goals as goal
 

@@ -1,0 +1,16 @@
+use Rattle.std.proofs.Common.{[], ap, ◌∙◌, subst}
+use Rattle.std.proofs.lemmas.Result.{err_from_is_err_and}
+use Rattle.strc_parse.specs.View.{block_view}
+use Rattle.strc_elab.specs.Elaboration.{stmts_run}
+use Rattle.strc_elab.specs.Answering.{progress_of, IsRefusal}
+use Rattle.strc_elab.specs.Tasks.{setting_of}
+use Rattle.strc_elab.proofs.body.Body.run.Goals as goal
+
+pub returns-in_err-statements : goal.returns-in_err-statements
+returns-in_err-statements g c =
+    let p = err_from_is_err_and c.from_residual.result c.from_residual.ensures.1 in
+    let setting = setting_of c.args.self.now.task in
+    let block = block_view c.args.block.now in
+    let begun = c.begun-progress.result in
+    let same = ap (λ names. stmts_run setting names 0 block (progress_of begun)) c.begun-progress.ensures.names ∙ ap (stmts_run setting [] 0 block) c.begun-progress.ensures.progress in
+    rw (p.1, p.2) (subst (λ outcome. IsRefusal outcome c.in_err-statements.field-0.0) same c.in_err-statements.ensures.runs)

@@ -1,0 +1,13 @@
+use Rattle.std.proofs.Common.{ap, arith}
+use Rattle.strc_elab.specs.Elaboration.{computed}
+use Rattle.strc_elab.specs.Saying.{store_of}
+use Rattle.strc_elab.proofs.Turns.{turned_under, turned_over}
+use Rattle.strc_elab.proofs.body.turn.Goals as goal
+
+pub returns-then-store-ge1000000-clause-done : goal.returns-then-store-ge1000000-clause-done
+returns-then-store-ge1000000-clause-done c =
+    ap (λ r. computed r) (turned_over (store_of c.args.store.now) (omega (arith, c.if-store-ge1000000.true)))
+
+pub returns-clause-done : goal.returns-clause-done
+returns-clause-done c =
+    ap (λ r. computed r) (turned_under (store_of c.args.store.now) (omega (arith, c.if-store-ge1000000.false)))

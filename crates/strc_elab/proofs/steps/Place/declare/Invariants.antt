@@ -1,0 +1,13 @@
+use Rattle.std.proofs.Common.{◌≡◌, map, drop}
+use Rattle.strc_parse.specs.View.{variable_view}
+use Rattle.strc_work.specs.Typing as typing
+use Rattle.strc_elab.specs.Elaboration as spec
+use Rattle.strc_elab.specs.Saying.{store_of}
+use Rattle.strc_elab.specs.Places.{place_of}
+use Rattle.strc_elab.proofs.steps.Place.declare.Given as goal
+
+abbrev pub invariant-loop-variable : goal.invariant-loop-variable
+invariant-loop-variable l = record {
+  left : spec.variables_done (place_of l.self) l.store.variables.names l.start l.resolved.kind l.cells (map variable_view (drop l.variable-index l.variable-items)) (store_of l.store) ≡ spec.variables_done (place_of l.self) l.initial.store.variables.names l.start l.resolved.kind l.cells (map variable_view l.variable-items) (store_of l.initial.store);
+  names : typing.with_declared l.store.variables.names l.resolved.kind (map variable_view (drop l.variable-index l.variable-items)) ≡ typing.with_declared l.initial.store.variables.names l.resolved.kind (map variable_view l.variable-items);
+}

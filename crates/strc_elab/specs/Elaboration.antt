@@ -1,0 +1,403 @@
+-- Which stream of instances a program means: composite streams' bodies run, in order of execution, up to the first rule that is broken
+-- (StreamIt specification 2.1, "Streams", "Pipelines").
+use Rattle.std.specs.Prelude.{ℕ, zero, suc, ◌+◌, ℤ, pos, Bool, true, false, ◌&&◌, not, nat_lt, nat_eq, List, [], ◌∷◌, ◌++◌, length, Option, Some, None, unwrap_or, Result, Ok, Err, if◌then◌else◌}
+use Rattle.std.specs.List.{list_any}
+use Rattle.std.specs.Cmp.Lexicographic.{pointwise}
+use Rattle.strc_parse.specs.Tree as tree
+use Rattle.strc_parse.specs.Tree.{Declaration}
+use Rattle.strc_parse.specs.declared.tree.ItemType.{ItemType}
+use Rattle.strc_parse.specs.declared.tree.ItemType.TheVariants as item
+use Rattle.strc_parse.specs.declared.tree.StreamType.{StreamType}
+use Rattle.strc_parse.specs.declared.tree.CompositeKind.{CompositeKind}
+use Rattle.strc_parse.specs.declared.tree.CompositeKind.TheVariants as composite
+use Rattle.strc_parse.specs.declared.tree.Role.TheVariants as role
+use Rattle.strc_work.specs.Filters.{Filter}
+use Rattle.strc_work.specs.Arithmetic.{is_true}
+use Rattle.strc_work.specs.Firing as firing
+use Rattle.strc_work.specs.Firing.{Store, value_of, stmt_done, initial_cells, declared_in, block_left, no_traffic, shut, started, turn_limit}
+use Rattle.strc_work.specs.Resolution.{expr_as, type_resolved, variable_resolved, stmt_resolved, filter_resolved, start_site}
+use Rattle.strc_work.specs.Scoping.{cells_of}
+use Rattle.strc_work.specs.Typing.{TypedNames, names_after}
+use Rattle.strc_work.specs.declared.fault.Cause.{Cause}
+use Rattle.strc_work.specs.declared.fault.Cause.TheVariants as causes
+use Rattle.strc_work.specs.declared.lowering.LowerError.{LowerError}
+use Rattle.strc_work.specs.declared.lowering.LowerError.TheVariants as lowering
+use Rattle.strc_work.specs.declared.types.ValueType.{ValueType}
+use Rattle.strc_work.specs.declared.types.ValueType.TheVariants as kind
+use Rattle.strc_elab.specs.Instances.{Stream, in_a_row}
+use Rattle.strc_elab.specs.Instances as instance
+use Rattle.strc_elab.specs.Texts.{Constants, Place, Text, FilterText, CompositeText, IdentityText, ReaderText, WriterText, anonymous, text_of, parameters_of, is_doubled, declared_from, seen}
+use Rattle.strc_elab.specs.declared.error.ElabError.{ElabError}
+use Rattle.strc_elab.specs.declared.error.ElabError.TheVariants as refused
+
+-- goes on with a result, or keeps the first refusal
+abbrev pub then_do : {A B : Type 0} → Result A ElabError → (A → Result B ElabError) → Result B ElabError
+then_do (Ok value) go = go value
+then_do (Err refusal) go = Err refusal
+
+-- goes on where a rule is kept
+abbrev pub where_kept : {A : Type 0} → Bool → ElabError → Result A ElabError → Result A ElabError
+where_kept true refusal next = next
+where_kept false refusal next = Err refusal
+
+-- a refusal of the rules on names and types, told of the declaration that holds the text
+abbrev pub told_of : ℕ → LowerError → ElabError
+told_of holder (lowering.UnknownName name) = refused.UnknownName name
+told_of holder lowering.TypeMismatch = refused.TypeMismatch holder
+told_of holder (lowering.ConstFault cause) = refused.ConstFault cause
+told_of holder lowering.NoMemory = refused.NoMemory
+
+abbrev pub ruled : {A : Type 0} → (holder : ℕ) → Result A LowerError → Result A ElabError
+ruled holder (Ok value) = Ok value
+ruled holder (Err broken) = Err (told_of holder broken)
+
+-- what is computed, or its fault
+abbrev pub computed : {A : Type 0} → Result A Cause → Result A ElabError
+computed (Ok value) = Ok value
+computed (Err cause) = Err (refused.ConstFault cause)
+
+-- how many turns all loops have made, and how many filters there are, so far
+pub record Tally : Type 0 where
+  pub turns : ℕ
+  pub filters : ℕ
+
+-- what the elaboration of a stream gives: its instances, what it takes and gives, and the tally after it
+pub record Made : Type 0 where
+  pub stream : Stream
+  pub types : StreamType
+  pub tally : Tally
+
+-- what a composite stream's body stands in: the program, its place, and how a child is elaborated
+pub record Setting : Type 0 where
+  pub program : List Declaration
+  pub place : Place
+  pub elaborate : Place → Text → Tally → Result Made ElabError
+
+-- how far a body has run: its variables and the turns so far, its children with their type in a row, and how many filters there are
+pub record Progress : Type 0 where
+  pub store : Store
+  pub children : List Stream
+  pub types : Option StreamType
+  pub filters : ℕ
+
+-- the work language's statements
+
+-- the value of an expression of this type, among these names, and the store after it; names and types are checked just before
+abbrev pub given : Place → TypedNames → ValueType → tree.Expr → Store → Result (ℤ × Store) ElabError
+given place names kind value store =
+    then_do (ruled place.holder (expr_as (start_site place.constants) names kind value)) (λ value'.
+    computed (value_of shut value' store))
+
+-- an expression or an assignment as a statement; one that gives items or words away is refused here, as every text but a filter's bodies
+abbrev pub simple_done : Place → TypedNames → (outer : ℕ) → tree.Stmt → Store → Result Store ElabError
+simple_done place names outer statement store =
+    then_do (ruled place.holder (stmt_resolved (start_site place.constants) names outer statement)) (λ statement'.
+    computed (stmt_done shut statement' store))
+
+-- a variable of a declaration, and its variables in turn, each checked and evaluated before the next one, which sees it
+abbrev pub variable_done : Place → TypedNames → (outer : ℕ) → ValueType → (cells : ℕ) → tree.Variable → Store → Result Store ElabError
+variable_done place names outer kind cells variable store =
+    then_do (ruled place.holder (variable_resolved (start_site place.constants) names outer kind variable)) (λ variable'.
+    then_do (computed (initial_cells shut cells variable'.initial store)) (λ initial.
+    Ok (declared_in initial.1 variable.name initial.0)))
+
+abbrev pub variables_done : Place → TypedNames → (outer : ℕ) → ValueType → (cells : ℕ) → List tree.Variable → Store → Result Store ElabError
+variables_done place names outer kind cells [] store = Ok store
+variables_done place names outer kind cells (first ∷ rest) store =
+    then_do (variable_done place names outer kind cells first store)
+    (variables_done place (record { 0 = first.name; 1 = kind } ∷ names) outer kind cells rest)
+
+-- a declaration: its type, and then its variables
+abbrev pub declaration_done : Place → TypedNames → (outer : ℕ) → tree.VariableType → List tree.Variable → Store → Result Store ElabError
+declaration_done place names outer kind variables store =
+    then_do (ruled place.holder (type_resolved place.constants names kind)) (λ resolved.
+    variables_done place names outer resolved.kind (cells_of resolved.written) variables store)
+
+-- a step of a body that works on its variables alone
+abbrev pub on_store : (Store → Result Store ElabError) → Progress → Result Progress ElabError
+on_store does progress = then_do (does progress.store) (λ store. Ok (record progress { store = store }))
+
+-- a condition, which holds where there is none
+abbrev pub condition_given : Setting → TypedNames → Option tree.Expr → Progress → Result (ℤ × Progress) ElabError
+condition_given setting names None progress = Ok (pos 1, progress)
+condition_given setting names (Some condition) progress =
+    then_do (given setting.place names kind.Boolean condition progress.store) (λ test. Ok (test.0, record progress { store = test.1 }))
+
+-- statements in a scope of their own
+abbrev pub inside : (Progress → Result Progress ElabError) → Progress → Result Progress ElabError
+inside runs progress = then_do (runs progress) (λ inner. Ok (record inner { store = block_left progress.store inner.store }))
+
+-- one more turn of a loop
+abbrev pub turned : Progress → Result Progress ElabError
+turned progress = then_do (computed (firing.turned progress.store)) (λ store. Ok (record progress { store = store }))
+
+-- a loop: as long as the test holds, one more turn; `fuel` is more than the turns that there may be
+abbrev pub looped : (fuel : ℕ) → (test : Progress → Result (ℤ × Progress) ElabError) → (body : Progress → Result Progress ElabError) → Progress → Result Progress ElabError
+looped zero test body progress = Err (refused.ConstFault causes.Turns)
+looped (suc fuel) test body progress =
+    then_do (test progress) (λ tested.
+    if is_true tested.0
+    then then_do (turned tested.1) (λ turning. then_do (body turning) (looped fuel test body))
+    else Ok tested.1)
+
+-- children
+
+-- a child before it is elaborated: where its text stands, its text, and the store after its arguments
+pub record Found : Type 0 where
+  pub place : Place
+  pub text : Text
+  pub store : Store
+
+-- the arguments of a child, from left to right, bound to its parameters
+abbrev pub arguments_given : Setting → TypedNames → (parameters : List (List ℕ)) → List tree.Expr → Constants → Store → Result (Constants × Store) ElabError
+arguments_given setting names [] arguments bound store = Ok (bound, store)
+arguments_given setting names (parameter ∷ parameters) [] bound store = Ok (bound, store)
+arguments_given setting names (parameter ∷ parameters) (argument ∷ arguments) bound store =
+    then_do (given setting.place names kind.Int argument store) (λ value.
+    arguments_given setting names parameters arguments (record { 0 = parameter; 1 = value.0 } ∷ bound) value.1)
+
+-- a child by the name of its declaration: the name is known, each parameter has an argument, and no two parameters have one name
+abbrev pub named_found : Setting → TypedNames → List ℕ → Option (ℕ × Declaration) → List tree.Expr → Store → Result Found ElabError
+named_found setting names name None arguments store = Err (refused.UnknownName name)
+named_found setting names name (Some (number, declaration)) arguments store =
+    where_kept (nat_eq (length arguments) (length (parameters_of declaration))) (refused.BadArguments setting.place.holder)
+    (then_do (arguments_given setting names (parameters_of declaration) arguments [] store) (λ bound.
+    where_kept (not (is_doubled (parameters_of declaration))) (refused.TypeMismatch number)
+    (Ok (record { place = record { holder = number; constants = bound.0 }; text = text_of declaration.name declaration.stream; store = bound.1 }))))
+
+-- a child without a name: it stands in the same declaration, and sees the numbers of its surroundings
+abbrev pub unnamed_found : Setting → TypedNames → Text → Store → Found
+unnamed_found setting names text store = record {
+  place = record { holder = setting.place.holder; constants = seen names store.variables setting.place.constants };
+  text = text;
+  store = store;
+}
+
+abbrev pub child_found : Setting → TypedNames → tree.Child → Store → Result Found ElabError
+child_found setting names (tree.Named name arguments) store =
+    named_found setting names name (declared_from 0 setting.program name) (unwrap_or arguments []) store
+child_found setting names (tree.Identity brackets) store = Ok (unnamed_found setting names IdentityText store)
+child_found setting names (tree.FileReader text) store = Ok (unnamed_found setting names ReaderText store)
+child_found setting names (tree.FileWriter text) store = Ok (unnamed_found setting names WriterText store)
+child_found setting names (tree.AnonymousFilter types members) store =
+    Ok (unnamed_found setting names (FilterText None (anonymous types members)) store)
+child_found setting names (tree.AnonymousComposite written kind block) store =
+    Ok (unnamed_found setting names (CompositeText written kind block) store)
+
+-- one type is the other
+abbrev pub same_item : ItemType → ItemType → Bool
+same_item item.Int item.Int = true
+same_item item.Void item.Void = true
+same_item item.Int item.Void = false
+same_item item.Void item.Int = false
+
+-- the type of a pipeline so far with one more child, which takes what the last one gives
+abbrev pub types_joined : (holder : ℕ) → Option StreamType → StreamType → Result StreamType ElabError
+types_joined holder None next = Ok next
+types_joined holder (Some before) next =
+    where_kept (same_item before.output next.input) (refused.TypeMismatch holder) (Ok (record { input = before.input; output = next.output }))
+
+-- a pipeline with one more child
+abbrev pub child_added : Setting → Progress → Store → Made → Result Progress ElabError
+child_added setting progress store made =
+    then_do (types_joined setting.place.holder progress.types made.types) (λ types.
+    Ok (record {
+      store = record store { traffic = record store.traffic { turns = made.tally.turns } };
+      children = progress.children ++ made.stream ∷ [];
+      types = Some types;
+      filters = made.tally.filters;
+    }))
+
+-- a child of a pipeline that was found is elaborated and added
+abbrev pub found_run : Setting → Result Found ElabError → Progress → Result Progress ElabError
+found_run setting outcome progress =
+    then_do outcome (λ found.
+    then_do (setting.elaborate found.place found.text (record { turns = found.store.traffic.turns; filters = progress.filters })) (λ made.
+    child_added setting progress found.store made))
+
+-- a child of a pipeline, elaborated at the moment that its statement runs
+abbrev pub child_run : Setting → TypedNames → tree.Child → Progress → Result Progress ElabError
+child_run setting names child progress = found_run setting (child_found setting names child progress.store) progress
+
+-- a stream statement in a pipeline, which has no other than `add`
+abbrev pub composed : Setting → TypedNames → tree.Composition → Progress → Result Progress ElabError
+composed setting names (tree.ChildOf role.Add child) progress = child_run setting names child progress
+composed setting names _ progress = Err (refused.TypeMismatch setting.place.holder)
+
+-- bodies
+
+abbrev mutual
+  -- a statement of a pipeline's body, among the names that can be seen, of which so many stand outside its block
+  pub stmt_run : Setting → TypedNames → (outer : ℕ) → tree.Stmt → Progress → Result Progress ElabError
+  stmt_run setting names outer tree.Empty progress = Ok progress
+  stmt_run setting names outer (tree.Block body) progress = inside (stmts_run setting names (length names) body) progress
+  stmt_run setting names outer (tree.Declare kind variables) progress = on_store (declaration_done setting.place names outer kind variables) progress
+  stmt_run setting names outer (tree.Evaluate value) progress = on_store (simple_done setting.place names outer (tree.Evaluate value)) progress
+  stmt_run setting names outer (tree.Assign name operator value) progress =
+      on_store (simple_done setting.place names outer (tree.Assign name operator value)) progress
+  stmt_run setting names outer (tree.AssignElement name index operator value) progress =
+      on_store (simple_done setting.place names outer (tree.AssignElement name index operator value)) progress
+  stmt_run setting names outer (tree.If condition chosen) progress =
+      then_do (condition_given setting names (Some condition) progress) (λ test.
+      if is_true test.0 then inside (stmt_run setting names (length names) chosen) test.1 else Ok test.1)
+  stmt_run setting names outer (tree.IfElse condition chosen other) progress =
+      then_do (condition_given setting names (Some condition) progress) (λ test.
+      if is_true test.0
+      then inside (stmt_run setting names (length names) chosen) test.1
+      else inside (stmt_run setting names (length names) other) test.1)
+  stmt_run setting names outer (tree.While condition body) progress =
+      looped (suc turn_limit) (condition_given setting names (Some condition)) (inside (stmt_run setting names (length names) body)) progress
+  stmt_run setting names outer (tree.For first condition step body) progress =
+      inside (λ outside.
+      then_do (stmt_run setting names (length names) first outside) (λ begun.
+      looped (suc turn_limit) (condition_given setting (names_after names first) condition)
+      (λ turn.
+      then_do (inside (stmt_run setting (names_after names first) (length (names_after names first)) body) turn)
+      (inside (stmt_run setting (names_after names first) (length (names_after names first)) step)))
+      begun)) progress
+  stmt_run setting names outer (tree.Push value) progress = on_store (simple_done setting.place names outer (tree.Push value)) progress
+  stmt_run setting names outer (tree.Print value) progress = on_store (simple_done setting.place names outer (tree.Print value)) progress
+  stmt_run setting names outer (tree.Println value) progress = on_store (simple_done setting.place names outer (tree.Println value)) progress
+  stmt_run setting names outer (tree.Compose statement) progress = composed setting names statement progress
+
+  -- statements one after another, each among the names that are declared before it
+  pub stmts_run : Setting → TypedNames → (outer : ℕ) → tree.Stmts → Progress → Result Progress ElabError
+  stmts_run setting names outer tree.Done progress = Ok progress
+  stmts_run setting names outer (tree.Then first rest) progress =
+      then_do (stmt_run setting names outer first progress) (stmts_run setting (names_after names first) outer rest)
+
+-- streams
+
+-- how many instances of filters a program may have
+unfoldable pub filter_limit : ℕ
+filter_limit = 4096
+
+-- how many levels streams may stand in one another, the main one being the first
+unfoldable pub level_limit : ℕ
+level_limit = 64
+
+-- one more filter, unless the limit is reached
+abbrev pub one_more : {A : Type 0} → Tally → (Tally → Result A ElabError) → Result A ElabError
+one_more tally go = where_kept (nat_lt tally.filters filter_limit) refused.NodeLimit (go (record tally { filters = tally.filters + 1 }))
+
+-- a filter whose start doesn't fault
+abbrev pub started_as : {A : Type 0} → Filter → Result A Cause → Result Filter ElabError
+started_as filter (Ok fields) = Ok filter
+started_as filter (Err cause) = Err (refused.ConstFault cause)
+
+-- an instance of a filter: its constants are put in, its text is checked, and then its initialisers and `init` run
+abbrev pub instance_of : Place → Filter → Result Filter ElabError
+instance_of place filter =
+    then_do (ruled place.holder (filter_resolved place.constants filter)) (λ resolved. started_as resolved (started resolved))
+
+-- what a filter takes and gives
+abbrev pub filter_types : Filter → StreamType
+filter_types filter = record { input = filter.input; output = filter.output }
+
+-- one type is the other, where one is written
+abbrev pub is_as_written : Option StreamType → StreamType → Bool
+is_as_written None found = true
+is_as_written (Some written) found = same_item written.input found.input && same_item written.output found.output
+
+-- a body before it runs
+abbrev pub begun : Tally → Progress
+begun tally = record {
+  store = record { variables = []; traffic = record no_traffic { turns = tally.turns } };
+  children = [];
+  types = None;
+  filters = tally.filters;
+}
+
+-- a pipeline whose body has run: it has a child, and its type is the written one
+abbrev pub pipeline_made : (holder : ℕ) → Option StreamType → Option StreamType → Progress → Result Made ElabError
+pipeline_made holder written None progress = Err (refused.TypeMismatch holder)
+pipeline_made holder written (Some found) progress =
+    where_kept (is_as_written written found) (refused.TypeMismatch holder)
+    (Ok (record {
+      stream = instance.Pipeline (in_a_row progress.children);
+      types = found;
+      tally = record { turns = progress.store.traffic.turns; filters = progress.filters };
+    }))
+
+-- a composite stream; split-joins and feedback loops aren't elaborated yet
+abbrev pub composite_made : Setting → Option StreamType → CompositeKind → tree.Stmts → Tally → Result Made ElabError
+composite_made setting written composite.Pipeline block tally =
+    then_do (stmts_run setting [] 0 block (begun tally)) (λ progress.
+    pipeline_made setting.place.holder written progress.types progress)
+composite_made setting written composite.Splitjoin block tally = Err refused.NotYet
+composite_made setting written composite.Feedbackloop block tally = Err refused.NotYet
+
+-- a stream of this text
+abbrev pub text_made : Setting → Text → Tally → Result Made ElabError
+text_made setting (FilterText name filter) tally =
+    one_more tally (λ tally'.
+    then_do (instance_of setting.place filter) (λ resolved.
+    Ok (record { stream = instance.Filter name resolved; types = filter_types resolved; tally = tally' })))
+text_made setting (CompositeText written kind block) tally = composite_made setting written kind block tally
+text_made setting IdentityText tally =
+    one_more tally (λ tally'.
+    Ok (record { stream = instance.Identity; types = record { input = item.Int; output = item.Int }; tally = tally' }))
+text_made setting ReaderText tally = Err refused.NotYet
+text_made setting WriterText tally = Err refused.NotYet
+
+-- a stream that may have so many levels, its own among them
+abbrev pub stream_made : List Declaration → (levels : ℕ) → Place → Text → Tally → Result Made ElabError
+stream_made program zero place text tally = Err refused.DepthLimit
+stream_made program (suc levels) place text tally =
+    text_made (record { program = program; place = place; elaborate = stream_made program levels }) text tally
+
+-- the main stream
+
+-- the number of the first declaration whose name an earlier one has
+abbrev pub doubled_from : (earlier : List (List ℕ)) → ℕ → List Declaration → Option ℕ
+doubled_from earlier number [] = None
+doubled_from earlier number (first ∷ others) =
+    if list_any (λ name. pointwise nat_eq first.name name) earlier then Some number else doubled_from (earlier ++ first.name ∷ []) (number + 1) others
+
+abbrev pub not_doubled : Option ℕ → Result (Unit {0}) ElabError
+not_doubled None = Ok tt
+not_doubled (Some number) = Err (refused.TypeMismatch number)
+
+-- what a declared stream takes and gives
+abbrev pub types_of : tree.Stream → StreamType
+types_of (tree.Filter input output members) = record { input = input; output = output }
+types_of (tree.Composite types kind block) = types
+
+-- whether a declaration can be the main stream: it takes and gives nothing, and has no parameters
+abbrev pub can_be_main : Declaration → Bool
+can_be_main declaration =
+    is_as_written (Some (record { input = item.Void; output = item.Void })) (types_of declaration.stream)
+    && nat_eq (length (parameters_of declaration)) 0
+
+-- the declarations that can be the main stream, with their numbers
+abbrev pub mains_from : ℕ → List Declaration → List (ℕ × Declaration)
+mains_from number [] = []
+mains_from number (first ∷ others) =
+    if can_be_main first then (number, first) ∷ mains_from (number + 1) others else mains_from (number + 1) others
+
+-- the only one
+abbrev pub only_main : List (ℕ × Declaration) → Result (ℕ × Declaration) ElabError
+only_main [] = Err refused.NoMain
+only_main (one ∷ []) = Ok one
+only_main (one ∷ other ∷ others) = Err refused.ManyMains
+
+-- the named one
+abbrev pub named_main : Option (ℕ × Declaration) → Result (ℕ × Declaration) ElabError
+named_main None = Err refused.NoMain
+named_main (Some found) = if can_be_main found.1 then Ok found else Err refused.NoMain
+
+abbrev pub main_of : List Declaration → Option (List ℕ) → Result (ℕ × Declaration) ElabError
+main_of program None = only_main (mains_from 0 program)
+main_of program (Some name) = named_main (declared_from 0 program name)
+
+-- the main stream's place and text
+abbrev pub main_made : List Declaration → ℕ × Declaration → Result Made ElabError
+main_made program found =
+    stream_made program level_limit (record { holder = found.0; constants = [] }) (text_of found.1.name found.1.stream) (record { turns = 0; filters = 0 })
+
+-- the stream that a program means, or the first rule that it breaks
+abbrev pub elaborated : List Declaration → Option (List ℕ) → Result Stream ElabError
+elaborated program main =
+    then_do (not_doubled (doubled_from [] 0 program)) (λ _.
+    then_do (main_of program main) (λ found.
+    then_do (main_made program found) (λ made. Ok made.stream)))

@@ -1,0 +1,18 @@
+-- What an anonymous stream sees, variable by variable, from the outermost one inwards.
+use Rattle.std.specs.Prelude.{ℕ, suc, ◌-◌, length, take, slice_get, Option, Some, None, List, if◌then◌else◌}
+use Rattle.strc_work.specs.Firing.{Variables}
+use Rattle.strc_work.specs.Names.{has_name}
+use Rattle.strc_work.specs.Typing.{TypedNames, plain_names}
+use Rattle.strc_work.specs.declared.types.ValueType.{ValueType}
+use Rattle.strc_elab.specs.Bindings.{cells_of}
+use Rattle.strc_elab.specs.Texts.{Constants, as_constant}
+
+-- constants behind a variable, outside which so many stand, where none of the inner names is its own
+abbrev pub offered_one : (inner : List (List ℕ)) → Variables → (number : ℕ) → Option (List ℕ × ValueType) → Constants → Constants
+offered_one inner variables number None outer = outer
+offered_one inner variables number (Some one) outer =
+    if has_name inner one.0 then outer else as_constant one.0 one.1 (cells_of variables number) outer
+
+abbrev pub offered : TypedNames → Variables → (number : ℕ) → Constants → Constants
+offered names variables number outer =
+    offered_one (take (length names - suc number) (plain_names names)) variables number (slice_get names (length names - suc number)) outer

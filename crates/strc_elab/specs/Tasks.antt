@@ -1,0 +1,72 @@
+-- What is to be elaborated, as contracts speak of it.
+use Rattle.std.specs.Prelude.{◌≡◌, ℕ, ◌-◌, List, nat_eq, map, Result}
+use Rattle.std.specs.Option.{option_map}
+use Rattle.std.specs.Cmp.Lexicographic.{pointwise}
+use Rattle.indexmap.specs.IndexMap.{get_by}
+use Rattle.strc_parse.specs.Tree.{Declaration}
+use Rattle.strc_parse.specs.View.{declaration_view, block_view}
+use Rattle.strc_work.specs.Filters.{filter_parts}
+use Rattle.strc_elab.specs.Texts as texts
+use Rattle.strc_elab.specs.Elaboration as spec
+use Rattle.strc_elab.specs.Answering.{IsVerdict}
+use Rattle.strc_elab.specs.Names.{place_from}
+use Rattle.strc_elab.specs.View.{stream_view}
+use Rattle.strc_elab.specs.declared.error.ElabError.{ElabError}
+use Rattle.strc_elab.specs.declared.task.Text.{Text}
+use Rattle.strc_elab.specs.declared.task.Text.TheVariants as text
+use Rattle.strc_elab.specs.declared.task.Task.{Task}
+use Rattle.strc_elab.specs.declared.task.Made.{Made}
+
+-- a text
+abbrev pub text_view : Text → texts.Text
+text_view (text.Filter name types members) = texts.FilterText (option_map (λ n. n.now) name) (filter_parts types.input types.output members.now)
+text_view (text.Composite written kind block) = texts.CompositeText written kind (block_view block.now)
+text_view text.Identity = texts.IdentityText
+text_view text.Reader = texts.ReaderText
+text_view text.Writer = texts.WriterText
+
+-- the program of a task
+abbrev pub program_of : Task → List Declaration
+program_of task = map declaration_view task.declarations.now
+
+-- where a task's text stands
+abbrev pub place_of : Task → texts.Place
+place_of task = record { holder = task.holder; constants = task.constants.now }
+
+-- the tally before a task
+abbrev pub tally_of : Task → spec.Tally
+tally_of task = record { turns = task.tally.turns; filters = task.tally.filters }
+
+-- the table has the number of each declaration by its name
+abbrev pub KnowsNames : Task → Type 0
+KnowsNames task =
+    (name : List ℕ) → get_by (λ k. pointwise nat_eq name k.now) task.numbers.now ≡ place_from 0 (map (λ d. d.name) task.declarations.now) name
+
+-- what is made
+abbrev pub made_view : Made → spec.Made
+made_view made = record {
+  stream = stream_view made.stream;
+  types = made.types;
+  tally = record { turns = made.tally.turns; filters = made.tally.filters };
+}
+
+-- an answer is what the definitions make of the task
+abbrev pub IsMade : Task → Result Made ElabError → Type 0
+IsMade task result = IsVerdict made_view (spec.stream_made (program_of task) task.levels (place_of task) (text_view task.text) (tally_of task)) result
+
+-- a function value that elaborates texts with so many levels
+pub record Elaborates (levels : ℕ) (pre : Task → Type 0) (post : Task → Result Made ElabError → Type 0) : Type 0 where
+  pub callable : (task : Task) → task.levels ≡ levels → KnowsNames task → pre task
+  pub elaborates : (task : Task) (result : Result Made ElabError) → task.levels ≡ levels → post task result → IsMade task result
+
+-- what the body of a task's text stands in
+abbrev pub setting_of : Task → spec.Setting
+setting_of task = record {
+  program = program_of task;
+  place = place_of task;
+  elaborate = spec.stream_made (program_of task) (task.levels - 1);
+}
+
+-- what a body's rules stand on: the table knows the names, and the function value elaborates the level below
+unfoldable pub IsReady : Task → (pre : Task → Type 0) (post : Task → Result Made ElabError → Type 0) → Type 0
+IsReady task pre post = KnowsNames task × Elaborates (task.levels - 1) pre post

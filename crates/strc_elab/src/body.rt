@@ -1,0 +1,259 @@
+// A composite stream's body, run statement by statement. The rules of a level are made of what elaborates the streams one
+// level below, which they take as a value, so that each is proved by itself.
+
+ghost use Rattle.std.specs.Prelude.{◌≡◌, ◌-◌, suc, OnOk, length};
+ghost use Rattle.std.specs.Option.{option_map};
+ghost use Rattle.strc_parse.specs.Tree as tree;
+ghost use Rattle.strc_parse.specs.View.{expr_view, stmt_view, block_view, composition_view};
+ghost use Rattle.strc_work.specs.Firing as firing;
+ghost use Rattle.strc_work.specs.Firing.{turn_limit};
+ghost use Rattle.strc_work.specs.Typing as typing;
+ghost use Rattle.strc_elab.specs.Elaboration as spec;
+ghost use Rattle.strc_elab.specs.Loops.{while_looped, for_looped, names_behind};
+ghost use Rattle.strc_elab.specs.Saying.{store_of};
+ghost use Rattle.strc_elab.specs.Answering.{progress_of, Tests, Runs, Done};
+ghost use Rattle.strc_elab.specs.Places.{place_of as spec_place};
+ghost use Rattle.strc_elab.specs.Tasks.{IsReady, setting_of, place_of as task_place};
+
+use crate::error::ElabError;
+use crate::progress::Progress;
+use crate::steps::Place;
+use crate::store::Store;
+use crate::task::{Made, Task};
+use strc_parse::tree::{Composition, Expr, Role, Stmt};
+use strc_work::evaluation::is_true;
+use strc_work::fault::Cause;
+use strc_work::types::ValueType;
+
+/// What a body's statements stand in: the task whose text it is, and what elaborates the streams one level below.
+#[derive(Clone, Copy)]
+pub(crate) struct Body<'a, F> {
+    pub(crate) task: Task<'a>,
+    pub(crate) elaborate: F,
+}
+
+/// One more turn of a loop, unless the limit of the program is reached.
+#[tactic(auto, using(crate::proofs::Turns::turned_under, crate::proofs::Turns::turned_over))]
+fn turn(store: &mut Store) -> Result<(), ElabError>
+    ensures done { Done (spec.computed (firing.turned (store_of store.old))) result (store_of store.new) }
+    ensures names { store.new.variables.names ≡ store.old.variables.names }
+{
+    if store.turns >= 1_000_000 {
+        return Err(ElabError::ConstFault {
+            cause: Cause::Turns,
+        });
+    }
+    store.turns += 1;
+    Ok(())
+}
+
+impl<F: Fn(Task) -> Result<Made, ElabError>> Body<'_, F> {
+    /// Where the statements stand.
+    pub(crate) fn place(&self) -> Place
+        ensures { spec_place result ≡ task_place self.now.task }
+    {
+        Place {
+            alloc: self.task.alloc,
+            holder: self.task.holder,
+            constants: self.task.constants,
+        }
+    }
+
+    /// The value of a condition, which holds where there is none.
+    fn tested(&self, condition: Option<&Expr>, progress: &mut Progress) -> Result<i32, ElabError>
+        ensures tests { Tests (spec.condition_given (setting_of self.now.task) progress.old.store.variables.names (option_map (λ e. expr_view e.now) condition.entry) (progress_of progress.old)) result (progress_of progress.new) }
+        ensures names { progress.new.store.variables.names ≡ progress.old.store.variables.names }
+    {
+        match condition {
+            None => Ok(1),
+            Some(condition) => {
+                self.place()
+                    .given(ValueType::Boolean, condition, &mut progress.store)
+            }
+        }
+    }
+
+    /// Runs a statement in a scope of its own.
+    #[cycle(body)]
+    #[tactic(auto, using(crate::proofs::Bodies::names_left))]
+    fn inside(&self, statement: &Stmt, progress: &mut Progress) -> Result<(), ElabError>
+        requires { IsReady self.now.task (F.pre self.now.elaborate) (F.post self.now.elaborate) }
+        ensures runs { Runs (spec.inside (spec.stmt_run (setting_of self.now.task) progress.old.store.variables.names (length progress.old.store.variables.names) (stmt_view statement.now)) (progress_of progress.old)) result (progress_of progress.new) }
+        ensures names { OnOk result (progress.new.store.variables.names ≡ progress.old.store.variables.names) }
+    {
+        let start = progress.store.variables.count();
+        self.statement(start, statement, progress)?;
+        progress.store.variables.leave(start);
+        Ok(())
+    }
+
+    /// Runs the statements of a block, each among the names that are declared before it; those of its own stand from `start` on.
+    #[cycle(body)]
+    pub(crate) fn statements(
+        &self,
+        start: u32,
+        block: &[Stmt],
+        progress: &mut Progress,
+    ) -> Result<(), ElabError>
+        requires { IsReady self.now.task (F.pre self.now.elaborate) (F.post self.now.elaborate) }
+        ensures runs { Runs (spec.stmts_run (setting_of self.now.task) progress.old.store.variables.names start (block_view block.now) (progress_of progress.old)) result (progress_of progress.new) }
+        ensures names { OnOk result (progress.new.store.variables.names ≡ names_behind progress.old.store.variables.names (block_view block.now)) }
+    {
+        for statement in block {
+            self.statement(start, statement, progress)?;
+        }
+        Ok(())
+    }
+
+    /// Runs a statement, among the names that can be seen; those of its own block stand from `start` on.
+    #[cycle(body)]
+    fn statement(
+        &self,
+        start: u32,
+        statement: &Stmt,
+        progress: &mut Progress,
+    ) -> Result<(), ElabError>
+        requires { IsReady self.now.task (F.pre self.now.elaborate) (F.post self.now.elaborate) }
+        ensures runs { Runs (spec.stmt_run (setting_of self.now.task) progress.old.store.variables.names start (stmt_view statement.now) (progress_of progress.old)) result (progress_of progress.new) }
+        ensures names { OnOk result (progress.new.store.variables.names ≡ typing.names_after progress.old.store.variables.names (stmt_view statement.now)) }
+    {
+        match statement {
+            Stmt::Empty => Ok(()),
+            Stmt::Block(body) => self.block(body, progress),
+            Stmt::Declare(declared) => self.place().declare(start, declared, &mut progress.store),
+            Stmt::Evaluate(expression) => self.place().evaluate(expression, &mut progress.store),
+            Stmt::Assign(name, operator, expression) => {
+                self.place()
+                    .assign(name, *operator, expression, &mut progress.store)
+            }
+            Stmt::AssignElement(name, index, operator, expression) => {
+                self.place()
+                    .assign_element(name, index, *operator, expression, &mut progress.store)
+            }
+            Stmt::If(condition, chosen) => {
+                if is_true(self.tested(Some(condition), progress)?) {
+                    self.inside(chosen, progress)
+                } else {
+                    Ok(())
+                }
+            }
+            Stmt::IfElse(condition, chosen, other) => {
+                if is_true(self.tested(Some(condition), progress)?) {
+                    self.inside(chosen, progress)
+                } else {
+                    self.inside(other, progress)
+                }
+            }
+            Stmt::While(condition, body) => self.while_turns(condition, body, progress),
+            Stmt::For(first, condition, step, body) => {
+                self.for_loop(first, condition.as_ref(), step, body, progress)
+            }
+            Stmt::Push(_) | Stmt::Print(_) | Stmt::Println(_) => Err(ElabError::TypeMismatch {
+                stream: self.task.holder,
+            }),
+            Stmt::Compose(composition) => self.compose(composition, progress),
+        }
+    }
+
+    /// Runs a block in a scope of its own.
+    #[cycle(body)]
+    fn block(&self, block: &[Stmt], progress: &mut Progress) -> Result<(), ElabError>
+        requires { IsReady self.now.task (F.pre self.now.elaborate) (F.post self.now.elaborate) }
+        ensures runs { Runs (spec.stmt_run (setting_of self.now.task) progress.old.store.variables.names 0 (tree.Block (block_view block.now)) (progress_of progress.old)) result (progress_of progress.new) }
+        ensures names { OnOk result (progress.new.store.variables.names ≡ progress.old.store.variables.names) }
+    {
+        let start = progress.store.variables.count();
+        self.statements(start, block, progress)?;
+        progress.store.variables.leave(start);
+        Ok(())
+    }
+
+    /// Runs a loop with a step, and what comes before its first turn, in a scope of its own.
+    #[cycle(body)]
+    fn for_loop(
+        &self,
+        first: &Stmt,
+        condition: Option<&Expr>,
+        step: &Stmt,
+        body: &Stmt,
+        progress: &mut Progress,
+    ) -> Result<(), ElabError>
+        requires { IsReady self.now.task (F.pre self.now.elaborate) (F.post self.now.elaborate) }
+        ensures runs { Runs (spec.stmt_run (setting_of self.now.task) progress.old.store.variables.names 0 (tree.For (stmt_view first.now) (option_map (λ e. expr_view e.now) condition.entry) (stmt_view step.now) (stmt_view body.now)) (progress_of progress.old)) result (progress_of progress.new) }
+        ensures names { OnOk result (progress.new.store.variables.names ≡ progress.old.store.variables.names) }
+    {
+        let start = progress.store.variables.count();
+        self.statement(start, first, progress)?;
+        self.for_turns(condition, step, body, progress)?;
+        progress.store.variables.leave(start);
+        Ok(())
+    }
+
+    /// Runs a loop without a step: as long as the condition holds, one more turn.
+    #[cycle(body)]
+    fn while_turns(
+        &self,
+        condition: &Expr,
+        body: &Stmt,
+        progress: &mut Progress,
+    ) -> Result<(), ElabError>
+        requires { IsReady self.now.task (F.pre self.now.elaborate) (F.post self.now.elaborate) }
+        ensures runs { Runs (while_looped (setting_of self.now.task) progress.old.store.variables.names (expr_view condition.now) (stmt_view body.now) (suc turn_limit) (progress_of progress.old)) result (progress_of progress.new) }
+        ensures names { OnOk result (progress.new.store.variables.names ≡ progress.old.store.variables.names) }
+    {
+        // The limit of turns comes first; the range is there to end the loop in any case.
+        for _round in 0..1_000_001u32 {
+            if !is_true(self.tested(Some(condition), progress)?) {
+                return Ok(());
+            }
+            turn(&mut progress.store)?;
+            self.inside(body, progress)?;
+        }
+        Err(ElabError::ConstFault {
+            cause: Cause::Turns,
+        })
+    }
+
+    /// Runs a loop with a step behind each turn.
+    #[cycle(body)]
+    fn for_turns(
+        &self,
+        condition: Option<&Expr>,
+        step: &Stmt,
+        body: &Stmt,
+        progress: &mut Progress,
+    ) -> Result<(), ElabError>
+        requires { IsReady self.now.task (F.pre self.now.elaborate) (F.post self.now.elaborate) }
+        ensures runs { Runs (for_looped (setting_of self.now.task) progress.old.store.variables.names (option_map (λ e. expr_view e.now) condition.entry) (stmt_view step.now) (stmt_view body.now) (suc turn_limit) (progress_of progress.old)) result (progress_of progress.new) }
+        ensures names { OnOk result (progress.new.store.variables.names ≡ progress.old.store.variables.names) }
+    {
+        for _round in 0..1_000_001u32 {
+            if !is_true(self.tested(condition, progress)?) {
+                return Ok(());
+            }
+            turn(&mut progress.store)?;
+            self.inside(body, progress)?;
+            self.inside(step, progress)?;
+        }
+        Err(ElabError::ConstFault {
+            cause: Cause::Turns,
+        })
+    }
+
+    /// Does a stream statement of a pipeline, which has no other than `add`.
+    fn compose(&self, composition: &Composition, progress: &mut Progress) -> Result<(), ElabError>
+        requires { IsReady self.now.task (F.pre self.now.elaborate) (F.post self.now.elaborate) }
+        ensures runs { Runs (spec.composed (setting_of self.now.task) progress.old.store.variables.names (composition_view composition.now) (progress_of progress.old)) result (progress_of progress.new) }
+        ensures names { OnOk result (progress.new.store.variables.names ≡ progress.old.store.variables.names) }
+    {
+        match composition {
+            Composition::Child(Role::Add, child) => self.child(child, progress),
+            Composition::Child(Role::Body | Role::Loop, _)
+            | Composition::Split(_)
+            | Composition::Join(_)
+            | Composition::Enqueue(_) => Err(ElabError::TypeMismatch {
+                stream: self.task.holder,
+            }),
+        }
+    }
+}

@@ -1,0 +1,210 @@
+// Children of a pipeline, elaborated at the moment that their statement runs.
+
+ghost use Rattle.std.specs.Prelude.{◌≡◌, [], map, length, IfOk, OnOk, Ok, Some};
+ghost use Rattle.strc_parse.specs.View.{child_view, declaration_view, expr_view};
+ghost use Rattle.strc_elab.specs.Elaboration as spec;
+ghost use Rattle.strc_elab.specs.Texts as texts;
+ghost use Rattle.strc_elab.specs.Saying.{store_of};
+ghost use Rattle.strc_elab.specs.Answering.{progress_of, Binds, Runs};
+ghost use Rattle.strc_elab.specs.Tasks.{IsReady, setting_of, program_of, made_view, text_view};
+
+use crate::body::Body;
+use crate::declared::{declared, text_of};
+use crate::error::ElabError;
+use crate::progress::Progress;
+use crate::seen::seen;
+use crate::store::Store;
+use crate::task::{Made, Tally, Task, Text};
+use crate::types::same_item;
+use std::alloc::Global;
+use strc_lex::token::Name;
+use strc_parse::tree::{Child, Decl, Expr, StreamType};
+use strc_work::constants::Constants;
+use strc_work::memory::NoMemory;
+use strc_work::typed_scope::TypedScope;
+use strc_work::types::ValueType;
+
+impl<F: Fn(Task) -> Result<Made, ElabError>> Body<'_, F> {
+    /// Elaborates a child of a pipeline.
+    pub(crate) fn child(&self, child: &Child, progress: &mut Progress) -> Result<(), ElabError>
+        requires { IsReady self.now.task (F.pre self.now.elaborate) (F.post self.now.elaborate) }
+        ensures runs { Runs (spec.child_run (setting_of self.now.task) progress.old.store.variables.names (child_view child.now) (progress_of progress.old)) result (progress_of progress.new) }
+        ensures names { OnOk result (progress.new.store.variables.names ≡ progress.old.store.variables.names) }
+    {
+        match child {
+            Child::Named(name, Some(arguments)) => self.named(name, arguments, progress),
+            Child::Named(name, None) => self.named(name, &[], progress),
+            Child::Identity(_) => self.unnamed(Text::Identity, progress),
+            Child::FileReader(_) => self.unnamed(Text::Reader, progress),
+            Child::FileWriter(_) => self.unnamed(Text::Writer, progress),
+            Child::Filter(types, members) => {
+                self.unnamed(Text::Filter(None, *types, members), progress)
+            }
+            Child::Composite(written, kind, block) => {
+                self.unnamed(Text::Composite(*written, *kind, block), progress)
+            }
+        }
+    }
+
+    /// Elaborates a child by the name of its declaration: the name is known, each parameter has an argument, and no two
+    /// parameters have one name.
+    #[tactic(auto, unfolding(crate::specs::Tasks::IsReady))]
+    fn named(
+        &self,
+        name: &Name,
+        arguments: &[Expr],
+        progress: &mut Progress,
+    ) -> Result<(), ElabError>
+        requires { IsReady self.now.task (F.pre self.now.elaborate) (F.post self.now.elaborate) }
+        ensures runs { Runs (spec.found_run (setting_of self.now.task) (spec.named_found (setting_of self.now.task) progress.old.store.variables.names name.now (texts.declared_from 0 (program_of self.now.task) name.now) (map expr_view arguments.now) (store_of progress.old.store)) (progress_of progress.old)) result (progress_of progress.new) }
+        ensures names { OnOk result (progress.new.store.variables.names ≡ progress.old.store.variables.names) }
+    {
+        match declared(self.task.declarations, self.task.numbers, name.as_bytes()) {
+            Some((number, declaration)) => self.call(number, declaration, arguments, progress),
+            None => Err(ElabError::UnknownName { name: name.copy()? }),
+        }
+    }
+
+    /// Elaborates a child that is a declared stream, with arguments.
+    fn call(
+        &self,
+        number: usize,
+        declaration: &Decl,
+        arguments: &[Expr],
+        progress: &mut Progress,
+    ) -> Result<(), ElabError>
+        requires { IsReady self.now.task (F.pre self.now.elaborate) (F.post self.now.elaborate) }
+        ensures runs { Runs (spec.found_run (setting_of self.now.task) (spec.named_found (setting_of self.now.task) progress.old.store.variables.names [] (Some (number, declaration_view declaration.now)) (map expr_view arguments.now) (store_of progress.old.store)) (progress_of progress.old)) result (progress_of progress.new) }
+        ensures names { OnOk result (progress.new.store.variables.names ≡ progress.old.store.variables.names) }
+    {
+        let parameters = parameters_of(declaration);
+        if arguments.len() != parameters.len() {
+            return Err(ElabError::BadArguments {
+                stream: self.task.holder,
+            });
+        }
+        let constants = self.arguments(parameters, arguments, &mut progress.store)?;
+        if is_doubled(self.task.alloc, parameters)? {
+            return Err(ElabError::TypeMismatch { stream: number });
+        }
+        self.elaborated(number, &constants, text_of(declaration), progress)
+    }
+
+    /// The arguments of a child, from left to right, bound to its parameters.
+    fn arguments(
+        &self,
+        parameters: &[Name],
+        arguments: &[Expr],
+        store: &mut Store,
+    ) -> Result<Constants, ElabError>
+        requires { length arguments.now ≡ length parameters.now }
+        ensures binds { Binds (spec.arguments_given (setting_of self.now.task) store.old.variables.names parameters.now (map expr_view arguments.now) [] (store_of store.old)) result (store_of store.new) }
+        ensures names { store.new.variables.names ≡ store.old.variables.names }
+    {
+        let mut bound = Constants::new(self.task.alloc);
+        for (number, parameter) in parameters.iter().enumerate() {
+            let value = self
+                .place()
+                .given(ValueType::Int, &arguments[number], store)?;
+            bound.push(parameter.copy()?, value)?;
+        }
+        Ok(bound)
+    }
+
+    /// Elaborates a child without a name: it stands in the same declaration, and sees the numbers of its surroundings.
+    fn unnamed(&self, text: Text, progress: &mut Progress) -> Result<(), ElabError>
+        requires { IsReady self.now.task (F.pre self.now.elaborate) (F.post self.now.elaborate) }
+        ensures runs { Runs (spec.found_run (setting_of self.now.task) (Ok (spec.unnamed_found (setting_of self.now.task) progress.old.store.variables.names (text_view text.entry) (store_of progress.old.store))) (progress_of progress.old)) result (progress_of progress.new) }
+        ensures names { OnOk result (progress.new.store.variables.names ≡ progress.old.store.variables.names) }
+    {
+        let constants = seen(
+            self.task.alloc,
+            &progress.store.variables,
+            self.task.constants,
+        )?;
+        self.elaborated(self.task.holder, &constants, text, progress)
+    }
+
+    /// Elaborates a text one level below, and adds what is made to the pipeline.
+    #[tactic(auto, unfolding(crate::specs::Tasks::IsReady))]
+    fn elaborated(
+        &self,
+        holder: usize,
+        constants: &Constants,
+        text: Text,
+        progress: &mut Progress,
+    ) -> Result<(), ElabError>
+        requires { IsReady self.now.task (F.pre self.now.elaborate) (F.post self.now.elaborate) }
+        ensures runs { Runs (spec.found_run (setting_of self.now.task) (Ok (record { place = record { holder = holder; constants = constants.now }; text = text_view text.entry; store = store_of progress.old.store })) (progress_of progress.old)) result (progress_of progress.new) }
+        ensures names { OnOk result (progress.new.store.variables.names ≡ progress.old.store.variables.names) }
+    {
+        let made = (self.elaborate)(Task {
+            alloc: self.task.alloc,
+            declarations: self.task.declarations,
+            numbers: self.task.numbers,
+            levels: self.task.levels.saturating_sub(1),
+            holder,
+            constants,
+            text,
+            tally: Tally {
+                turns: progress.store.turns,
+                filters: progress.filters,
+            },
+        })?;
+        self.add(made, progress)
+    }
+
+    /// A pipeline with one more child, which takes what the last one gives.
+    fn add(&self, made: Made, progress: &mut Progress) -> Result<(), ElabError>
+        ensures runs { Runs (spec.child_added (setting_of self.now.task) (progress_of progress.old) (store_of progress.old.store) (made_view made)) result (progress_of progress.new) }
+        ensures names { OnOk result (progress.new.store.variables.names ≡ progress.old.store.variables.names) }
+    {
+        let Made {
+            stream,
+            types,
+            tally,
+        } = made;
+        let input = match progress.types {
+            Some(before) if !same_item(before.output, types.input) => {
+                return Err(ElabError::TypeMismatch {
+                    stream: self.task.holder,
+                });
+            }
+            Some(before) => before.input,
+            None => types.input,
+        };
+        progress.children.push(stream)?;
+        progress.types = Some(StreamType {
+            input,
+            output: types.output,
+        });
+        progress.store.turns = tally.turns;
+        progress.filters = tally.filters;
+        Ok(())
+    }
+}
+
+/// The parameters of a declared stream.
+fn parameters_of(declaration: &Decl) -> &[Name]
+    ensures { result.now ≡ texts.parameters_of (declaration_view declaration.now) }
+{
+    match &declaration.parameters {
+        Some(parameters) => parameters.as_slice(),
+        None => &[],
+    }
+}
+
+/// Whether a name stands twice among these. It takes expected linear time.
+#[tactic(auto, using(crate::proofs::Doubles::doubled_at_first))]
+fn is_doubled(alloc: Global, names: &[Name]) -> Result<bool, NoMemory>
+    ensures { IfOk result (λ doubled. doubled ≡ texts.is_doubled names.now) }
+{
+    let mut earlier = TypedScope::new(alloc);
+    for name in names {
+        if earlier.has_since(0, name) {
+            return Ok(true);
+        }
+        earlier.declare(name, ValueType::Int)?;
+    }
+    Ok(false)
+}

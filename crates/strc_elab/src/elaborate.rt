@@ -1,0 +1,68 @@
+// From a program's tree to the stream that it means.
+
+ghost use Rattle.std.specs.Prelude.{◌≡◌, ℕ, List, map, nat_eq};
+ghost use Rattle.std.specs.Option.{option_map};
+ghost use Rattle.std.specs.Cmp.Lexicographic.{pointwise};
+ghost use Rattle.indexmap.specs.IndexMap.{get_by};
+ghost use Rattle.strc_parse.specs.View.{declaration_view, program_view};
+ghost use Rattle.strc_elab.specs.Elaboration as spec;
+ghost use Rattle.strc_elab.specs.Answering.{IsVerdict};
+ghost use Rattle.strc_elab.specs.Names.{place_from};
+ghost use Rattle.strc_elab.specs.Tasks.{made_view};
+ghost use Rattle.strc_elab.specs.View.{stream_view};
+
+use crate::declared::text_of;
+use crate::error::ElabError;
+use crate::index::index_of;
+use crate::level::elaborate_text;
+use crate::main_stream::main_of;
+use crate::stream::Stream;
+use crate::task::{Made, Tally, Task};
+use indexmap::IndexMap;
+use std::alloc::Global;
+use strc_parse::tree::{Decl, Program};
+use strc_work::constants::Constants;
+
+/// How many levels streams may stand in one another, the main one being the first.
+const LEVEL_LIMIT: u32 = 64;
+
+/// The stream that a program means: its composite streams' bodies run, up to the first rule that is broken.
+///
+/// The main stream is the one that is named, or else the only declaration that can be it. A refusal is that of the
+/// first rule that is broken, in order of execution, or `NoMemory` where memory runs out.
+pub fn elaborate(alloc: Global, program: &Program, main: Option<&str>) -> Result<Stream, ElabError>
+    ensures verdict { IsVerdict stream_view (spec.elaborated (program_view program.now) (option_map (λ n. n.now) main.entry)) result }
+{
+    let declarations = program.declarations.as_slice();
+    let numbers = index_of(alloc, declarations)?;
+    let (number, declaration) = main_of(declarations, &numbers, main)?;
+    let made = main_made(alloc, declarations, &numbers, number, declaration)?;
+    Ok(made.stream)
+}
+
+/// What the main stream's text means.
+fn main_made(
+    alloc: Global,
+    declarations: &[Decl],
+    numbers: &IndexMap<&[u8], usize>,
+    number: usize,
+    declaration: &Decl,
+) -> Result<Made, ElabError>
+    requires { (q : List ℕ) → get_by (λ k. pointwise nat_eq q k.now) numbers.now ≡ place_from 0 (map (λ d. d.name) declarations.now) q }
+    ensures { IsVerdict made_view (spec.main_made (map declaration_view declarations.now) (number, declaration_view declaration.now)) result }
+{
+    let constants = Constants::new(alloc);
+    elaborate_text(Task {
+        alloc,
+        declarations,
+        numbers,
+        levels: LEVEL_LIMIT,
+        holder: number,
+        constants: &constants,
+        text: text_of(declaration),
+        tally: Tally {
+            turns: 0,
+            filters: 0,
+        },
+    })
+}

@@ -1,0 +1,23 @@
+// Streams in one another, level by level. The rules of a level are made of what elaborates the level below, so that each
+// is proved by itself; here they are joined.
+
+ghost use Rattle.strc_elab.specs.Tasks.{KnowsNames, IsMade};
+
+use crate::body::Body;
+use crate::error::ElabError;
+use crate::task::{Made, Task};
+
+/// The instances that a text means, with so many levels as the task allows.
+pub(crate) fn elaborate_text(task: Task) -> Result<Made, ElabError>
+    requires { KnowsNames task }
+    ensures { IsMade task.entry result }
+{
+    if task.levels == 0 {
+        return Err(ElabError::DepthLimit);
+    }
+    let body = Body {
+        task,
+        elaborate: elaborate_text,
+    };
+    body.made()
+}

@@ -1,0 +1,245 @@
+// The work language's own steps in a composite stream's body: values, declarations, expressions and assignments.
+
+ghost use Rattle.std.specs.Prelude.{◌≡◌, ◌∷◌, OnOk, map};
+ghost use Rattle.std.specs.Option.{option_map};
+ghost use Rattle.strc_parse.specs.Tree as tree;
+ghost use Rattle.strc_parse.specs.View.{expr_view, variable_view, type_view};
+ghost use Rattle.strc_work.specs.Firing as firing;
+ghost use Rattle.strc_work.specs.Firing.{shut};
+ghost use Rattle.strc_work.specs.Scoping as scoping;
+ghost use Rattle.strc_work.specs.Typing as typing;
+ghost use Rattle.strc_elab.specs.Elaboration as spec;
+ghost use Rattle.strc_elab.specs.Saying.{store_of};
+ghost use Rattle.strc_elab.specs.Answering.{Gives, GivesCells, Done};
+ghost use Rattle.strc_elab.specs.Places.{place_of};
+
+use crate::assignment::do_simple;
+use crate::error::ElabError;
+use crate::evaluation;
+use crate::store::Store;
+use std::alloc::Global;
+use strc_lex::token::Name;
+use strc_parse::tree::{AssignOperator, Expr, Variable, VariableType, Variables};
+use strc_work::constants::Constants;
+use strc_work::expression_rules::{resolve_as, resolve_expr, resolve_initial};
+use strc_work::fault::Cause;
+use strc_work::lowering::LowerError;
+use strc_work::site::start_site;
+use strc_work::statement_rules::{resolve_assigned, resolve_element};
+use strc_work::type_rules::resolve_type;
+use strc_work::types::ValueType;
+
+/// Where a body's statements stand: the number of the declaration that holds them, and the constants that they see.
+#[derive(Clone, Copy)]
+pub(crate) struct Place<'a> {
+    pub(crate) alloc: Global,
+    pub(crate) holder: usize,
+    pub(crate) constants: &'a Constants,
+}
+
+/// A refusal of the rules on names and types, told of the declaration that holds the text.
+pub(crate) fn told_of(holder: usize, error: LowerError) -> ElabError
+    ensures { result ≡ spec.told_of holder error }
+{
+    match error {
+        LowerError::UnknownName { name } => ElabError::UnknownName { name },
+        LowerError::TypeMismatch => ElabError::TypeMismatch { stream: holder },
+        LowerError::ConstFault { cause } => ElabError::ConstFault { cause },
+        LowerError::NoMemory => ElabError::NoMemory,
+    }
+}
+
+impl Place<'_> {
+    /// The value of an expression of this type; its names and types are checked just before.
+    pub(crate) fn given(
+        &self,
+        kind: ValueType,
+        expression: &Expr,
+        store: &mut Store,
+    ) -> Result<i32, ElabError>
+        ensures gives { Gives (spec.given (place_of self.now) store.old.variables.names kind (expr_view expression.now) (store_of store.old)) result (store_of store.new) }
+        ensures names { store.new.variables.names ≡ store.old.variables.names }
+    {
+        let site = start_site(self.constants);
+        match resolve_as(self.alloc, &site, store.variables.names(), kind, expression) {
+            Ok(resolved) => match evaluation::value(&resolved, store) {
+                Ok(value) => Ok(value),
+                Err(cause) => Err(ElabError::ConstFault { cause }),
+            },
+            Err(error) => Err(told_of(self.holder, error)),
+        }
+    }
+}
+
+impl Place<'_> {
+    /// Does an assignment, or evaluates an expression.
+    pub(crate) fn evaluate(&self, expression: &Expr, store: &mut Store) -> Result<(), ElabError>
+        ensures done { Done (spec.simple_done (place_of self.now) store.old.variables.names 0 (tree.Evaluate (expr_view expression.now)) (store_of store.old)) result (store_of store.new) }
+        ensures names { store.new.variables.names ≡ store.old.variables.names }
+    {
+        let site = start_site(self.constants);
+        match resolve_expr(self.alloc, &site, store.variables.names(), expression) {
+            Ok(typed) => match evaluation::value(&typed.value, store) {
+                Ok(_) => Ok(()),
+                Err(cause) => Err(ElabError::ConstFault { cause }),
+            },
+            Err(error) => Err(told_of(self.holder, error)),
+        }
+    }
+
+    /// Does an assignment to a variable.
+    pub(crate) fn assign(
+        &self,
+        name: &Name,
+        operator: AssignOperator,
+        expression: &Expr,
+        store: &mut Store,
+    ) -> Result<(), ElabError>
+        ensures done { Done (spec.simple_done (place_of self.now) store.old.variables.names 0 (tree.Assign name.now operator (expr_view expression.now)) (store_of store.old)) result (store_of store.new) }
+        ensures names { store.new.variables.names ≡ store.old.variables.names }
+    {
+        let site = start_site(self.constants);
+        match resolve_assigned(
+            self.alloc,
+            &site,
+            store.variables.names(),
+            name,
+            operator,
+            expression,
+        ) {
+            Ok(resolved) => done(do_simple(&resolved, store)),
+            Err(error) => Err(told_of(self.holder, error)),
+        }
+    }
+
+    /// Does an assignment to an element of an array.
+    pub(crate) fn assign_element(
+        &self,
+        name: &Name,
+        index: &Expr,
+        operator: AssignOperator,
+        expression: &Expr,
+        store: &mut Store,
+    ) -> Result<(), ElabError>
+        ensures done { Done (spec.simple_done (place_of self.now) store.old.variables.names 0 (tree.AssignElement name.now (expr_view index.now) operator (expr_view expression.now)) (store_of store.old)) result (store_of store.new) }
+        ensures names { store.new.variables.names ≡ store.old.variables.names }
+    {
+        let site = start_site(self.constants);
+        match resolve_element(
+            self.alloc,
+            &site,
+            store.variables.names(),
+            name,
+            index,
+            operator,
+            expression,
+        ) {
+            Ok(resolved) => done(do_simple(&resolved, store)),
+            Err(error) => Err(told_of(self.holder, error)),
+        }
+    }
+
+    /// Declares variables, each checked and evaluated before the next one, which sees it. Those of the same block stand from
+    /// `start` on.
+    pub(crate) fn declare(
+        &self,
+        start: u32,
+        declared: &Variables,
+        store: &mut Store,
+    ) -> Result<(), ElabError>
+        ensures done { Done (spec.declaration_done (place_of self.now) store.old.variables.names start (type_view declared.now.kind) (map variable_view declared.now.variables.items) (store_of store.old)) result (store_of store.new) }
+        ensures names { OnOk result (store.new.variables.names ≡ typing.with_declared store.old.variables.names (typing.type_of (type_view declared.now.kind)) (map variable_view declared.now.variables.items)) }
+    {
+        match resolve_type(
+            self.alloc,
+            self.constants,
+            store.variables.names(),
+            &declared.kind,
+        ) {
+            Ok(resolved) => {
+                let cells = cells_of(&resolved.written);
+                for variable in &declared.variables {
+                    self.declare_one(start, resolved.kind, cells, variable, store)?;
+                }
+                Ok(())
+            }
+            Err(error) => Err(told_of(self.holder, error)),
+        }
+    }
+
+    /// Declares one variable.
+    fn declare_one(
+        &self,
+        start: u32,
+        kind: ValueType,
+        cells: usize,
+        variable: &Variable,
+        store: &mut Store,
+    ) -> Result<(), ElabError>
+        ensures done { Done (spec.variable_done (place_of self.now) store.old.variables.names start kind cells (variable_view variable.now) (store_of store.old)) result (store_of store.new) }
+        ensures names { OnOk result (store.new.variables.names ≡ record { 0 = variable.now.name; 1 = kind } ∷ store.old.variables.names) }
+    {
+        if store.variables.names().has_since(start, &variable.name) {
+            return Err(ElabError::TypeMismatch {
+                stream: self.holder,
+            });
+        }
+        let site = start_site(self.constants);
+        match resolve_initial(
+            self.alloc,
+            &site,
+            store.variables.names(),
+            kind,
+            &variable.initial,
+        ) {
+            Ok(initial) => {
+                let cells = self.initial_cells(cells, &initial, store)?;
+                store.variables.declare(&variable.name, kind, cells)?;
+                Ok(())
+            }
+            Err(error) => Err(told_of(self.holder, error)),
+        }
+    }
+
+    /// The cells of a new variable: its initialiser's value, or zeros.
+    fn initial_cells(
+        &self,
+        cells: usize,
+        initial: &Option<Expr>,
+        store: &mut Store,
+    ) -> Result<Vec<i32>, ElabError>
+        ensures gives { GivesCells (spec.computed (firing.initial_cells shut cells (option_map expr_view initial.now) (store_of store.old))) result (store_of store.new) }
+        ensures names { store.new.variables.names ≡ store.old.variables.names }
+    {
+        match initial {
+            None => Ok(Vec::from_elem(self.alloc, 0, cells)?),
+            Some(expression) => match evaluation::value(expression, store) {
+                Ok(value) => Ok(Vec::from_elem(self.alloc, value, 1)?),
+                Err(cause) => Err(ElabError::ConstFault { cause }),
+            },
+        }
+    }
+}
+
+/// What was done, or the fault.
+fn done(outcome: Result<(), Cause>) -> Result<(), ElabError>
+    ensures { result ≡ spec.computed outcome }
+{
+    match outcome {
+        Ok(()) => Ok(()),
+        Err(cause) => Err(ElabError::ConstFault { cause }),
+    }
+}
+
+/// How many cells a variable of a type has; the length of an array is a number.
+fn cells_of(kind: &VariableType) -> usize
+    ensures { result ≡ scoping.cells_of (type_view kind.now) }
+{
+    match kind {
+        VariableType::Boolean | VariableType::Int => 1,
+        VariableType::Array(Expr::Number(length)) => {
+            if *length < 0 { 0 } else { *length as usize }
+        }
+        VariableType::Array(_) => 0,
+    }
+}

@@ -1,0 +1,10 @@
+// What a body's statements work on.
+
+use crate::variables::Variables;
+
+/// The variables of a composite stream's body, and how many turns loops have made in the whole program so far.
+#[derive(Drop)]
+pub(crate) struct Store {
+    pub(crate) variables: Variables,
+    pub(crate) turns: u32,
+}

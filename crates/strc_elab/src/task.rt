@@ -1,0 +1,47 @@
+// What is to be elaborated, and what comes of it.
+
+use crate::stream::Stream;
+use indexmap::IndexMap;
+use std::alloc::Global;
+use strc_lex::token::Name;
+use strc_parse::tree::{CompositeKind, Decl, ItemType, Member, Stmt, StreamType};
+use strc_work::constants::Constants;
+
+/// The text of a stream.
+#[derive(Clone, Copy)]
+pub(crate) enum Text<'a> {
+    Filter(Option<&'a Name>, StreamType, &'a [Member]),
+    Composite(Option<StreamType>, CompositeKind, &'a [Stmt]),
+    Identity,
+    Reader,
+    Writer,
+}
+
+/// How many turns all loops have made, and how many filters there are, so far.
+#[derive(Clone, Copy, Debug, PartialEq, Eq)]
+pub(crate) struct Tally {
+    pub(crate) turns: u32,
+    pub(crate) filters: u32,
+}
+
+/// A text to be elaborated: the program that it stands in, how many levels it may have, the number of the declaration
+/// that holds it, the constants that it sees, and the tally before it.
+#[derive(Clone, Copy)]
+pub(crate) struct Task<'a> {
+    pub(crate) alloc: Global,
+    pub(crate) declarations: &'a [Decl],
+    pub(crate) numbers: &'a IndexMap<&'a [u8], usize>,
+    pub(crate) levels: u32,
+    pub(crate) holder: usize,
+    pub(crate) constants: &'a Constants,
+    pub(crate) text: Text<'a>,
+    pub(crate) tally: Tally,
+}
+
+/// What the elaboration of a stream gives: its instances, what it takes and gives, and the tally after it.
+#[derive(Drop)]
+pub(crate) struct Made {
+    pub(crate) stream: Stream,
+    pub(crate) types: StreamType,
+    pub(crate) tally: Tally,
+}

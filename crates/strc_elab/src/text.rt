@@ -1,0 +1,199 @@
+// What the text of a stream means: its instances.
+
+ghost use Rattle.std.specs.Prelude.{◌≡◌, [], IfOk, Ok};
+ghost use Rattle.std.specs.Option.{option_map};
+ghost use Rattle.strc_parse.specs.View.{block_view};
+ghost use Rattle.strc_parse.specs.declared.tree.CompositeKind.TheVariants as composite;
+ghost use Rattle.strc_work.specs.Filters.{filter_of, filter_parts};
+ghost use Rattle.strc_work.specs.Firing as firing;
+ghost use Rattle.strc_elab.specs.Elaboration as spec;
+ghost use Rattle.strc_elab.specs.Answering.{progress_of, IsVerdict};
+ghost use Rattle.strc_elab.specs.Tallies.{tally_view};
+ghost use Rattle.strc_elab.specs.Tasks.{IsReady, setting_of, place_of, tally_of, text_view, made_view};
+ghost use Rattle.strc_elab.specs.Texts as texts;
+
+use crate::body::Body;
+use crate::error::ElabError;
+use crate::progress::Progress;
+use crate::steps::told_of;
+use crate::store::Store;
+use crate::stream::{Instance, Stream};
+use crate::task::{Made, Tally, Task, Text};
+use crate::types::is_as_written;
+use crate::variables::Variables;
+use std::alloc::{AllocError, Global};
+use strc_lex::token::Name;
+use strc_parse::tree::{CompositeKind, ItemType, Member, Stmt, StreamType};
+use strc_work::code::{Code, StartError};
+use strc_work::lowering::lower_parts;
+
+/// How many filters a program may have.
+const FILTER_LIMIT: u32 = 4096;
+
+impl Tally {
+    /// One more filter, unless the limit is reached.
+    fn one_more(self) -> Result<Tally, ElabError>
+        ensures { IsVerdict tally_view (spec.one_more (tally_view self) (λ tally. Ok tally)) result }
+    {
+        if self.filters >= FILTER_LIMIT {
+            return Err(ElabError::NodeLimit);
+        }
+        Ok(Tally {
+            turns: self.turns,
+            filters: self.filters + 1,
+        })
+    }
+}
+
+/// A filter whose start doesn't fault.
+fn started(alloc: Global, code: Code) -> Result<Code, ElabError>
+    ensures { IsVerdict filter_of (spec.started_as (filter_of code) (firing.started (filter_of code))) result }
+{
+    match code.start(alloc) {
+        Ok(_) => Ok(code),
+        Err(StartError::ConstFault { cause }) => Err(ElabError::ConstFault { cause }),
+        Err(StartError::NoMemory) => Err(ElabError::NoMemory),
+    }
+}
+
+/// A copy of a name, where there is one.
+fn copied(name: Option<&Name>) -> Result<Option<Name>, AllocError>
+    ensures { IfOk result (λ copy. copy ≡ option_map (λ n. n.now) name.entry) }
+{
+    match name {
+        None => Ok(None),
+        Some(name) => Ok(Some(name.copy()?)),
+    }
+}
+
+impl Task<'_> {
+    /// An instance of a filter: its constants are put in, its text is checked, and then its initialisers and `init` run.
+    fn instance(&self, types: StreamType, members: &[Member]) -> Result<Code, ElabError>
+        ensures { IsVerdict filter_of (spec.instance_of (place_of self.now) (filter_parts types.input types.output members.now)) result }
+    {
+        match lower_parts(
+            self.alloc,
+            types.input,
+            types.output,
+            members,
+            self.constants,
+        ) {
+            Ok(code) => started(self.alloc, code),
+            Err(error) => Err(told_of(self.holder, error)),
+        }
+    }
+
+    /// A filter.
+    fn filter(
+        &self,
+        name: Option<&Name>,
+        types: StreamType,
+        members: &[Member],
+    ) -> Result<Made, ElabError>
+        ensures { IsVerdict made_view (spec.text_made (setting_of self.now) (texts.FilterText (option_map (λ n. n.now) name.entry) (filter_parts types.input types.output members.now)) (tally_of self.now)) result }
+    {
+        let tally = self.tally.one_more()?;
+        let code = self.instance(types, members)?;
+        let name = copied(name)?;
+        let types = StreamType {
+            input: code.tree().input,
+            output: code.tree().output,
+        };
+        Ok(Made {
+            stream: Stream::Filter(Instance { name, code }),
+            types,
+            tally,
+        })
+    }
+
+    /// What gives each item that it takes.
+    fn identity(&self) -> Result<Made, ElabError>
+        ensures { IsVerdict made_view (spec.text_made (setting_of self.now) texts.IdentityText (tally_of self.now)) result }
+    {
+        let tally = self.tally.one_more()?;
+        Ok(Made {
+            stream: Stream::Identity,
+            types: StreamType {
+                input: ItemType::Int,
+                output: ItemType::Int,
+            },
+            tally,
+        })
+    }
+
+    /// A body before it runs.
+    fn begun(&self) -> Progress
+        ensures progress { progress_of result ≡ spec.begun (tally_of self.now) }
+        ensures names { result.store.variables.names ≡ [] }
+    {
+        Progress {
+            store: Store {
+                variables: Variables::new(self.alloc),
+                turns: self.tally.turns,
+            },
+            children: Vec::new(self.alloc),
+            types: None,
+            filters: self.tally.filters,
+        }
+    }
+
+    /// A pipeline whose body has run: it has a child, and its type is the written one.
+    fn pipeline(&self, written: Option<StreamType>, progress: Progress) -> Result<Made, ElabError>
+        ensures { IsVerdict made_view (spec.pipeline_made self.now.holder written progress.types (progress_of progress)) result }
+    {
+        match progress.types {
+            Some(types) if is_as_written(written, types) => Ok(Made {
+                stream: Stream::Pipeline(progress.children),
+                types,
+                tally: Tally {
+                    turns: progress.store.turns,
+                    filters: progress.filters,
+                },
+            }),
+            _ => Err(ElabError::TypeMismatch {
+                stream: self.holder,
+            }),
+        }
+    }
+}
+
+impl<F: Fn(Task) -> Result<Made, ElabError>> Body<'_, F> {
+    /// The stream of the task's text.
+    pub(crate) fn made(&self) -> Result<Made, ElabError>
+        requires { IsReady self.now.task (F.pre self.now.elaborate) (F.post self.now.elaborate) }
+        ensures { IsVerdict made_view (spec.text_made (setting_of self.now.task) (text_view self.now.task.text) (tally_of self.now.task)) result }
+    {
+        match self.task.text {
+            Text::Filter(name, types, members) => self.task.filter(name, types, members),
+            Text::Composite(written, kind, block) => self.composite(written, kind, block),
+            Text::Identity => self.task.identity(),
+            Text::Reader | Text::Writer => Err(ElabError::NotYet),
+        }
+    }
+
+    /// Runs the body of the task's text from the beginning.
+    fn run(&self, block: &[Stmt]) -> Result<Progress, ElabError>
+        requires { IsReady self.now.task (F.pre self.now.elaborate) (F.post self.now.elaborate) }
+        ensures { IsVerdict progress_of (spec.stmts_run (setting_of self.now.task) [] 0 (block_view block.now) (spec.begun (tally_of self.now.task))) result }
+    {
+        let mut progress = self.task.begun();
+        self.statements(0, block, &mut progress)?;
+        Ok(progress)
+    }
+
+    /// A composite stream: its body runs.
+    fn composite(
+        &self,
+        written: Option<StreamType>,
+        kind: CompositeKind,
+        block: &[Stmt],
+    ) -> Result<Made, ElabError>
+        requires { IsReady self.now.task (F.pre self.now.elaborate) (F.post self.now.elaborate) }
+        ensures { IsVerdict made_view (spec.composite_made (setting_of self.now.task) written kind (block_view block.now) (tally_of self.now.task)) result }
+    {
+        match kind {
+            CompositeKind::Pipeline => self.task.pipeline(written, self.run(block)?),
+            CompositeKind::Splitjoin | CompositeKind::Feedbackloop => Err(ElabError::NotYet),
+        }
+    }
+}

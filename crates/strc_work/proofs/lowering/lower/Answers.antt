@@ -1,6 +1,0 @@
-use Rattle.strc_work.specs.Filters.{filter_of}
-use Rattle.strc_work.proofs.Resolving.{resolved_closed}
-use Rattle.strc_work.proofs.lowering.lower.Goals as goal
-
-pub emit_filter-requires : goal.emit_filter-requires
-emit_filter-requires c = resolved_closed c.args.constants.now (filter_of c.args.tree.now) (filter_of c.in_ok-tree.tree) c.in_ok-tree.ensures
