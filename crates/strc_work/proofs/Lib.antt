@@ -11,6 +11,7 @@ pub mod Spelled
 pub mod Nodes
 pub mod Turns
 pub mod Runs
+pub mod Flattening
 pub mod Built
 pub mod Resolved
 pub mod Variables

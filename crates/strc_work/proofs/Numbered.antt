@@ -1,12 +1,12 @@
 -- Names by how many stand outside them.
-use Rattle.std.proofs.Common.{◌≡◌, ℕ, zero, suc, ◌-◌, ◌<◌, List, [], ◌∷◌, length, reverse, get_or, Option, Some, refl, sym, ap, ◌∙◌, arith}
+use Rattle.std.proofs.Common.{◌≡◌, ℕ, zero, suc, ◌-◌, ◌<◌, List, [], ◌∷◌, length, reverse, get_or, Some, sym, ap, ◌∙◌, arith}
 use Rattle.std.specs.Prelude.{slice_get}
 use Rattle.std.proofs.lemmas.List.{get_or-reverse, length-reverse}
 use Rattle.std.proofs.lemmas.Option.{slice_get-get_or}
 use Rattle.strc_work.specs.declared.types.ValueType.{ValueType}
 use Rattle.strc_work.specs.declared.scope.Declared.{Declared}
 use Rattle.strc_work.specs.Scopes.{names_in}
-use Rattle.strc_work.specs.Typing.{TypedNames, with_types}
+use Rattle.strc_work.specs.Typing.{with_types}
 
 -- an item of a list, counted from its end
 pub numbered : {X : Type 0} (xs : List X) (i : ℕ) (x : X) → i < length xs → x ≡ get_or xs i x → slice_get (reverse xs) (length xs - suc i) ≡ Some x

@@ -3,10 +3,13 @@ pub mod Names
 pub mod Filters
 pub mod Scoping
 pub mod Firing
+pub mod Comparisons
+pub mod Pairs
 pub mod Machine
 pub mod Lowering
 pub mod Code
 pub mod Conditions
+pub mod Flat
 pub mod Written
 pub mod Typing
 pub mod Constants

@@ -5,6 +5,7 @@ ghost use Rattle.strc_parse.specs.View.{block_view};
 ghost use Rattle.strc_work.specs.Filters as filters;
 ghost use Rattle.strc_work.specs.Scoping.{total};
 ghost use Rattle.strc_work.specs.Code.{code_of};
+ghost use Rattle.strc_work.specs.Flat.{IsFlat};
 ghost use Rattle.strc_work.specs.Lowered.{limits_of, first_routine};
 ghost use Rattle.strc_work.specs.StartErrors.{start_error_of};
 ghost use Rattle.strc_work.specs.declared.code.Body.TheVariants as bodied;
@@ -16,7 +17,7 @@ use crate::node::Node;
 use crate::state::State;
 use crate::window::Window;
 use crate::word::Word;
-use crate::{bodies, copies, machine};
+use crate::{bodies, copies, flat, machine};
 use std::alloc::Global;
 use std::marker::Model;
 use strc_parse::tree::{FilterTree, RateKind, Stmt};
@@ -25,7 +26,7 @@ use strc_parse::tree::{FilterTree, RateKind, Stmt};
 #[derive(Debug, Drop)]
 pub struct Code {
     tree: FilterTree,
-    start: Node,
+    start: Routine,
     prework: Option<Routine>,
     work: Routine,
     fields: usize,
@@ -48,11 +49,24 @@ impl Model for Code {
     ghost invariant = { λ c. IsLowered c.tree c.start c.prework c.work c.fields c.slots };
 }
 
-/// A body's code, and what it may pop, look at and push.
+/// A body's code, its flat form, which is what is run, and what it may pop, look at and push.
 #[derive(Debug, Drop)]
 pub(crate) struct Routine {
     pub code: Node,
+    pub flat: Node,
     pub limits: Limits,
+}
+
+impl Routine {
+    /// The routine of this code.
+    pub(crate) fn new(alloc: Global, code: Node, limits: Limits) -> Result<Routine, NoMemory>
+        ensures code { IfOk result (λ routine. routine.code ≡ code) }
+        ensures flat { IfOk result (λ routine. IsFlat routine.flat (code_of routine.code)) }
+        ensures limits { IfOk result (λ routine. routine.limits ≡ limits) }
+    {
+        let flat = flat::flatten(alloc, &code)?;
+        Ok(Routine { code, flat, limits })
+    }
 }
 
 /// Which of a filter's bodies is fired.
@@ -92,14 +106,17 @@ impl Code {
     pub(crate) fn of_parts(
         tree: FilterTree,
         fields: usize,
-        start: Node,
+        start: Routine,
         prework: Option<Routine>,
         work: Routine,
     ) -> Code
         requires fields { fields ≡ total (filters.sized_fields (filters.filter_of tree).members) }
-        requires start { code_of start ≡ start_nodes (filters.filter_of tree) }
+        requires start { code_of start.code ≡ start_nodes (filters.filter_of tree) }
         requires prework { code_of (first_routine prework work).code ≡ body_nodes bodied.Prework (filters.filter_of tree) }
         requires work { code_of work.code ≡ body_nodes bodied.Work (filters.filter_of tree) }
+        requires start_flat { IsFlat start.flat (code_of start.code) }
+        requires prework_flat { IsFlat (first_routine prework work).flat (code_of (first_routine prework work).code) }
+        requires work_flat { IsFlat work.flat (code_of work.code) }
         requires prework_limits { (first_routine prework work).limits
             ≡ limits_of (filters.body_rates bodied.Prework (filters.filter_of tree).members) }
         requires work_limits { work.limits
@@ -108,7 +125,7 @@ impl Code {
         ensures { result ≡ tree }
     {
         let first = first_of(&prework, &work).code.room();
-        let slots = fields.max(start.room().max(first.max(work.code.room())));
+        let slots = fields.max(start.code.room().max(first.max(work.code.room())));
         Code {
             tree,
             start,
@@ -129,7 +146,7 @@ impl Code {
         };
         Ok(Code {
             tree: copies::copy_filter(alloc, &self.tree)?,
-            start: copies::copy_node(alloc, &self.start)?,
+            start: copy_routine(alloc, &self.start)?,
             prework,
             work: copy_routine(alloc, &self.work)?,
             fields: self.fields,
@@ -159,7 +176,7 @@ impl Code {
         let mut words = Vec::new(alloc);
         let nothing: &[i32] = &[];
         match machine::run(
-            &self.start,
+            &self.start.flat,
             &mut slots,
             &mut tape,
             &limits,
@@ -215,7 +232,7 @@ impl Code {
         frame.tape.pushed = 0;
         frame.tape.turns = 0;
         machine::run(
-            &routine.code,
+            &routine.flat,
             &mut state.slots,
             &mut frame.tape,
             &routine.limits,
@@ -282,6 +299,7 @@ impl Code {
     /// The routine of a body; without a prework each body is the work.
     fn routine(&self, body: Body) -> &Routine
         ensures code { code_of result.now.code ≡ body_nodes body (filters.filter_of self.now) }
+        ensures flat { IsFlat result.now.flat (code_of result.now.code) }
         ensures limits { result.now.limits
             ≡ limits_of (filters.body_rates body (filters.filter_of self.now).members) }
         ensures closed { IsClosedFilter (filters.filter_of self.now) }
@@ -306,12 +324,11 @@ fn first_of<'a>(prework: &'a Option<Routine>, work: &'a Routine) -> &'a Routine
 /// An equal routine.
 fn copy_routine(alloc: Global, routine: &Routine) -> Result<Routine, NoMemory>
     ensures code { IfOk result (λ copy. code_of copy.code ≡ code_of routine.now.code) }
+    ensures flat { IfOk result (λ copy. IsFlat copy.flat (code_of copy.code)) }
     ensures limits { IfOk result (λ copy. copy.limits ≡ routine.now.limits) }
 {
-    Ok(Routine {
-        code: copies::copy_node(alloc, &routine.code)?,
-        limits: routine.limits,
-    })
+    let code = copies::copy_node(alloc, &routine.code)?;
+    Routine::new(alloc, code, routine.limits)
 }
 
 /// What a halt means at the start.

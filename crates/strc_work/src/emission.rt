@@ -7,6 +7,7 @@ ghost use Rattle.strc_work.specs.Filters.{members_of, filter_of, sized_fields, b
 ghost use Rattle.strc_work.specs.Scoping.{with_declared};
 ghost use Rattle.strc_work.specs.Machine.{before};
 ghost use Rattle.strc_work.specs.Code.{code_of};
+ghost use Rattle.strc_work.specs.Flat.{IsFlat};
 ghost use Rattle.strc_work.specs.Lowering as spec;
 ghost use Rattle.strc_work.specs.Lowered as lowered;
 ghost use Rattle.strc_work.specs.Closed.{IsClosedFilter};
@@ -16,9 +17,9 @@ use crate::bodies;
 use crate::builder::Builder;
 use crate::code::{Body, Code, Routine};
 use crate::expression_code::emit_expr;
+use crate::frame::Limits;
 use crate::layout::Layout;
 use crate::memory::NoMemory;
-use crate::node::Node;
 use crate::operands::cells_of;
 use crate::statement_code::emit_block;
 use std::alloc::Global;
@@ -66,15 +67,21 @@ fn declare_all(names: &mut Layout, cells: u32, variables: &[Variable]) -> Result
 
 /// The code of a filter's start: its fields' initialisers, and then `init`.
 #[tactic(auto, using(crate::proofs::Nodes::before_assoc))]
-fn emit_start(alloc: Global, names: &mut Layout, members: &[Member]) -> Result<Node, NoMemory>
-    ensures code { IfOk result (λ node. code_of node
+fn emit_start(alloc: Global, names: &mut Layout, members: &[Member]) -> Result<Routine, NoMemory>
+    ensures code { IfOk result (λ start. code_of start.code
         ≡ before (spec.initials_nodes names.old (members_of members.now)) (spec.inits_nodes names.old (members_of members.now))) }
+    ensures flat { IfOk result (λ start. IsFlat start.flat (code_of start.code)) }
     ensures names { OnOk result (names.new ≡ names.old) }
 {
     let mut code = Builder::new(alloc);
     emit_initials(&mut code, names, members)?;
     emit_inits(&mut code, names, members)?;
-    code.finish()
+    let nothing = Limits {
+        pops: 0,
+        looks: 0,
+        pushes: 0,
+    };
+    Routine::new(alloc, code.finish()?, nothing)
 }
 
 /// The code of the fields' initialisers, in order.
@@ -160,14 +167,13 @@ fn emit_routine(
 ) -> Result<Routine, NoMemory>
     ensures code { IfOk result (λ routine. code_of routine.code
         ≡ spec.stmts_nodes names.old (body_block body (members_of members.now))) }
+    ensures flat { IfOk result (λ routine. IsFlat routine.flat (code_of routine.code)) }
     ensures limits { IfOk result (λ routine. routine.limits
         ≡ lowered.limits_of (body_rates body (members_of members.now))) }
     ensures names { OnOk result (names.new ≡ names.old) }
 {
     let mut code = Builder::new(alloc);
     emit_block(&mut code, names, bodies::block_of(members, body))?;
-    Ok(Routine {
-        code: code.finish()?,
-        limits: bodies::limits_of(bodies::rates_of(members, body)),
-    })
+    let limits = bodies::limits_of(bodies::rates_of(members, body));
+    Routine::new(alloc, code.finish()?, limits)
 }
