@@ -10,6 +10,7 @@ pub mod Lowering
 pub mod Code
 pub mod Conditions
 pub mod Flat
+pub mod Counting
 pub mod Written
 pub mod Typing
 pub mod Constants
