@@ -3,7 +3,7 @@
    the first REFUSE_ALL allocations only each REFUSE_STEP-th one is refused.
 
    REFUSE_OWN set: a run of the program. It must give its own answer (that file's bytes, with the status REFUSE_STATUS)
-   or want of memory: status 4, and nothing but its line on standard output.
+   or out of memory: status 4, and nothing but its line on standard output.
    Otherwise: a test. It must pass, or say that memory was wanted. */
 #define _GNU_SOURCE
 #include <dlfcn.h>

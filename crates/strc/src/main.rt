@@ -1,5 +1,5 @@
-// The program `strc`: the words of the command line, a file's text, and the two standard streams, handed to the
-// library that does the work.
+// The program `strc`: the words of the command line, a file's text, and the two standard streams,
+// handed to the library that does the work.
 #![tactic(auto)]
 
 use std::env;
@@ -10,7 +10,7 @@ use strc_cli::device::Told;
 use strc_cli::execute::{CliError, execute};
 use strc_cli::line::{Line, LineFault};
 use strc_cli::program_text::{TextFault, read_text};
-use strc_cli::words::{command, complaint};
+use strc_cli::words::{command, usage_error};
 
 // The exit statuses that no answer of `execute` has.
 const WORDS: u8 = 1;
@@ -45,7 +45,7 @@ fn run(rt: &HostRuntime) -> u8 {
         Ok(line) => run_line(rt, &line),
         Err(LineFault::Memory) => out_of_memory(rt),
         Err(LineFault::Words) => {
-            if let Ok(text) = complaint(rt.alloc(), &words) {
+            if let Ok(text) = usage_error(rt.alloc(), &words) {
                 let _ = eprintln!(rt; "{text}");
             }
             WORDS

@@ -1,32 +1,32 @@
 -- Nodes that take and give one item where items flow: they keep their rates, and each gives what the next one takes.
 use Rattle.std.proofs.Common.{◌≡◌, refl, sym, ◌∙◌, subst, ℕ, zero, suc, ◌+◌, ◌<◌, ◌≤◌, ℤ, Bool, true, false, List, [], ◌∷◌, length, get_or, Result, Ok, Err, arith, leb-true}
 use Rattle.std.specs.Prelude.{if◌then◌else◌, ◌&&◌, ◌||◌, not, nat_le, nat_eq, Option, IfOk}
-use Rattle.strc_parse.specs.declared.tree.ItemType.{ItemType}
-use Rattle.strc_parse.specs.declared.tree.ItemType.TheVariants as item
-use Rattle.strc_work.specs.declared.fault.Cause.{Cause}
-use Rattle.strc_work.specs.declared.word.Word.{Word}
-use Rattle.strc_work.specs.declared.code.Body.TheVariants as body
-use Rattle.strc_work.specs.Filters as filters
-use Rattle.strc_work.specs.Filters.{work_rates, prework_rates, prework_block, push_rate, pop_rate, peek_rate, item_count, filter_prints}
+use Rattle.strc_syntax.specs.declared.tree.ItemType.{ItemType}
+use Rattle.strc_syntax.specs.declared.tree.ItemType.TheVariants as item
+use Rattle.strc_semantics.specs.declared.fault.Cause.{Cause}
+use Rattle.strc_semantics.specs.declared.word.Word.{Word}
+use Rattle.strc_semantics.specs.declared.body.Body.TheVariants as body
+use Rattle.strc_semantics.specs.Filters as filters
+use Rattle.strc_semantics.specs.Filters.{work_rates, prework_rates, prework_block, push_rate, pop_rate, peek_rate, item_count, filter_prints}
 use Rattle.std.specs.Int.RustNames.{int_lt}
-use Rattle.strc_work.specs.Firing as firing
+use Rattle.strc_semantics.specs.Firing as firing
 use Rattle.strc_dataflow.specs.Node.{Fired, Fired.Fires, Fired.Faults, at_port_0}
 use Rattle.strc_dataflow.specs.Histories.{KeepsRates}
 use Rattle.strc_dataflow.specs.Pipelines.{IsMatched}
 use Rattle.strc_dataflow.proofs.Rates.{keeps_rates}
-use Rattle.strc_work.specs.Closed.{IsClosedFilter}
+use Rattle.strc_semantics.specs.Closed.{IsClosedFilter}
 use Rattle.strc_rate.specs.Rates as rates
 use Rattle.strc_rate.specs.Rates.{BodyRates, FilterRates, checked, work_checked, work_lacks, then_work}
 use Rattle.strc_rate.specs.Kept as kept
 use Rattle.strc_rate.specs.declared.rates.RateError.{RateError}
 use Rattle.strc_rate.specs.declared.rates.RateError.TheVariants.{RateLimit}
 use Rattle.strc_rate.proofs.KeptRates.{rates_kept}
-use Rattle.strc_elab.specs.Graphs as graphs
-use Rattle.strc_elab.specs.Graphs.{NodeCode, ports_of, input_ports, output_ports, gives_words}
+use Rattle.strc_graph.specs.Graphs as graphs
+use Rattle.strc_graph.specs.Graphs.{NodeCode, ports_of, input_ports, output_ports, gives_words}
 use Rattle.strc_cli.specs.declared.refusal.Refusal.{Refusal}
 use Rattle.strc_cli.specs.Rates.{has_prework, declared_pushes, declared_pops, filter_checked, node_checked, then_check, rates_checked}
 use Rattle.strc_cli.specs.Pipeline.{rate_at_0, as_fired, node_fired, node_pops, node_pushes, node_meaning}
-use Rattle.strc_cli.specs.Answers.{IsKnown, AreKnown, AreJoined, is_settled_filter, is_settled, are_settled, PrintsNothing, PrintsAtMostOnce}
+use Rattle.strc_cli.specs.Answers.{IsKnown, AreKnown, AreJoined, is_runnable_filter, is_runnable, are_runnable, PrintsNothing, PrintsAtMostOnce}
 use Rattle.strc_cli.proofs.QuietFirings.{then_ok, firing_quiet}
 
 -- a firing gives so many items, and prints only where the node's text does
@@ -84,13 +84,13 @@ lacks_none true lacks next here e = absurd (cc)
 lacks_none false true next here e = absurd (cc)
 lacks_none false false next here e = refl
 
--- what is settled
+-- what is runnable
 record Settled (filter : filters.Filter) : Type 0 where
   pub pops : declared_pops filter ≤ ports_of filter.input
   pub pushes : declared_pushes filter ≤ ports_of filter.output
 
-settled : (filter : filters.Filter) → is_settled_filter filter ≡ true → Settled filter
-settled filter e =
+runnable : (filter : filters.Filter) → is_runnable_filter filter ≡ true → Settled filter
+runnable filter e =
     let rest = both_second (not (has_prework filter)) (not (int_lt (pop_rate (work_rates filter.members)) (peek_rate (work_rates filter.members))) && (nat_le (declared_pops filter) (ports_of filter.input) && nat_le (declared_pushes filter) (ports_of filter.output))) e in
     let low = both_second (not (int_lt (pop_rate (work_rates filter.members)) (peek_rate (work_rates filter.members)))) (nat_le (declared_pops filter) (ports_of filter.input) && nat_le (declared_pushes filter) (ports_of filter.output)) rest in
     record {
@@ -124,9 +124,9 @@ filter_gives name filter keeps fields items =
     (keeps body.Work fields items) (λ store h. h.1))
     (quiet_if (firing.fired filter body.Work fields items) (filter_prints filter ≡ false) (firing_quiet filter fields items))
 
-exact_filter : (name : Option (List ℕ)) (filter : filters.Filter) (found : FilterRates) → IsClosedFilter filter → checked filter ≡ Ok found → is_settled_filter filter ≡ true → IsExact (graphs.Filter name filter)
+exact_filter : (name : Option (List ℕ)) (filter : filters.Filter) (found : FilterRates) → IsClosedFilter filter → checked filter ≡ Ok found → is_runnable_filter filter ≡ true → IsExact (graphs.Filter name filter)
 exact_filter name filter found known e fits =
-    let is = settled filter fits in
+    let is = runnable filter fits in
     let members = filter.members in
     let work = work_ok (rates.prework_checked (prework_rates members) (prework_block members)) (work_checked filter) found e in
     let lacking = lacks_none (not (rates.are_within_limit (work_rates members))) (work_lacks filter) _ work.0 work.1 in
@@ -137,8 +137,8 @@ exact_filter name filter found known e fits =
       gives = λ fields items all. filter_gives name filter (subst (λ (result : Result FilterRates RateError). IfOk result (λ _. kept.KeepsRates filter)) e (rates_kept filter known)) fields items;
     }
 
--- a node that is checked and settled
-exact : (node : ℕ) (code : NodeCode) → IsKnown code → node_checked node code ≡ Ok tt → is_settled code ≡ true → IsExact code
+-- a node that is checked and runnable
+exact : (node : ℕ) (code : NodeCode) → IsKnown code → node_checked node code ≡ Ok tt → is_runnable code ≡ true → IsExact code
 exact node (graphs.Filter name filter) known e fits =
     let found = filter_ok node (checked filter) e in
     exact_filter name filter found.0 known found.1 fits
@@ -152,15 +152,15 @@ exact node code known e fits = absurd (cc)
 takes_all : (first next : NodeCode) (others : List NodeCode) → IsExact first → input_ports next ≡ output_ports first → AreExact (next ∷ others) → TakesAll (node_pushes first) (next ∷ others)
 takes_all first next others e joined exacts = e.pushes ∙ sym joined ∙ sym exacts.0.pops
 
--- what the checks let through is exact, where it is settled
-pub are_exact : (node : ℕ) (first : NodeCode) (others : List NodeCode) → AreKnown (first ∷ others) → AreJoined first others → rates_checked node (first ∷ others) ≡ Ok tt → are_settled (first ∷ others) ≡ true → PrintsAtMostOnce (first ∷ others) → AreExact (first ∷ others)
+-- what the checks let through is exact, where it is runnable
+pub are_exact : (node : ℕ) (first : NodeCode) (others : List NodeCode) → AreKnown (first ∷ others) → AreJoined first others → rates_checked node (first ∷ others) ≡ Ok tt → are_runnable (first ∷ others) ≡ true → PrintsAtMostOnce (first ∷ others) → AreExact (first ∷ others)
 are_exact node first [] known joined e fits once =
     let here = node_ok (node_checked node first) (Ok tt) e in
     (exact node first known.0 here.0 (both_first _ _ fits), tt, once.0, tt)
 are_exact node first (next ∷ others) known joined e fits once =
     let tested = node_ok (node_checked node first) (rates_checked (node + 1) (next ∷ others)) e in
-    let rest = are_exact (node + 1) next others known.1 joined.1 tested.1 (both_second (is_settled first) (are_settled (next ∷ others)) fits) once.1 in
-    let here = exact node first known.0 tested.0 (both_first (is_settled first) (are_settled (next ∷ others)) fits) in
+    let rest = are_exact (node + 1) next others known.1 joined.1 tested.1 (both_second (is_runnable first) (are_runnable (next ∷ others)) fits) once.1 in
+    let here = exact node first known.0 tested.0 (both_first (is_runnable first) (are_runnable (next ∷ others)) fits) in
     (here, takes_all first next others here joined.0 rest, once.0, rest)
 
 -- the items that a firing gives, where it doesn't fault

@@ -2,9 +2,9 @@
 use Rattle.std.proofs.Common.{◌≡◌, ℕ, List, Option, Result, Ok, Err, ap, ◌∙◌, sym, subst, arith, inl, inr}
 use Rattle.strc_lex.specs.declared.token.Token.{Token}
 use Rattle.strc_lex.proofs.Lexing.{lexes_only, stuck_lexes}
-use Rattle.strc_parse.specs.Tree.{Declaration}
-use Rattle.strc_parse.specs.Grammar as grammar
-use Rattle.strc_parse.proofs.Exact.{unambiguous}
+use Rattle.strc_syntax.specs.Tree.{Declaration}
+use Rattle.strc_grammar.specs.Grammar as grammar
+use Rattle.strc_grammar.proofs.Exact.{unambiguous}
 use Rattle.strc_elab.specs.Elaboration.{elaborated}
 use Rattle.strc_elab.specs.Flattening.{nodes_of}
 use Rattle.strc_elab.specs.Instances.{Stream}

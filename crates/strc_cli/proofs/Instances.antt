@@ -1,15 +1,15 @@
 -- What is known of an instance of a filter: its names, and that it starts.
 use Rattle.std.proofs.Common.{◌≡◌, refl, sym, ap, ◌∙◌, ℕ, ℤ, List, [], ◌∷◌, Result, Ok, Err}
 use Rattle.std.specs.List.{AllByRecursion}
-use Rattle.strc_work.specs.Filters as filters
-use Rattle.strc_work.specs.Firing.{started}
-use Rattle.strc_work.specs.Resolution.{filter_resolved}
-use Rattle.strc_work.specs.declared.fault.Cause.{Cause}
-use Rattle.strc_work.specs.declared.lowering.LowerError.{LowerError}
-use Rattle.strc_work.proofs.Resolving.{resolved_closed}
+use Rattle.strc_semantics.specs.Filters as filters
+use Rattle.strc_semantics.specs.Firing.{started}
+use Rattle.strc_check.specs.Resolution.{filter_resolved}
+use Rattle.strc_semantics.specs.declared.fault.Cause.{Cause}
+use Rattle.strc_check.specs.declared.error.LowerError.{LowerError}
+use Rattle.strc_check.proofs.Resolving.{resolved_closed}
 use Rattle.strc_elab.specs.Elaboration.{then_do, ruled, started_as}
-use Rattle.strc_elab.specs.Graphs as graphs
-use Rattle.strc_elab.specs.Graphs.{NodeCode}
+use Rattle.strc_graph.specs.Graphs as graphs
+use Rattle.strc_graph.specs.Graphs.{NodeCode}
 use Rattle.strc_elab.specs.Sound.{IsInstance}
 use Rattle.strc_cli.specs.Answers.{IsKnown, AreKnown}
 use Rattle.strc_cli.specs.Loading.{CanStart}

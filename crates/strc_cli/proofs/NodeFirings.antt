@@ -4,15 +4,15 @@ use Rattle.std.specs.Prelude.{◌&&◌}
 use Rattle.std.proofs.lemmas.Bool.{lt-ltb, ne_eqb}
 use Rattle.std.proofs.Math.Seq.{take-length}
 use Rattle.std.proofs.lemmas.List.{drop_all}
-use Rattle.strc_work.specs.declared.fault.Cause.{Cause}
-use Rattle.strc_work.specs.declared.word.Word.{Word}
+use Rattle.strc_semantics.specs.declared.fault.Cause.{Cause}
+use Rattle.strc_semantics.specs.declared.word.Word.{Word}
 use Rattle.strc_dataflow.specs.Node.{ByPort, Fired.Fires, at_port_0}
 use Rattle.strc_dataflow.specs.Histories.{Run, all_below, after_firing}
 use Rattle.strc_dataflow.specs.Flat.{Source, Graph}
 use Rattle.strc_dataflow.specs.Machine.{put}
 use Rattle.strc_dataflow.specs.Queues.{Fifo, added, holds, fronts, moved, fifo_after, fifo_if, fifo_fire}
 use Rattle.strc_dataflow.specs.Pipelines.{IsChain}
-use Rattle.strc_elab.specs.Graphs.{NodeCode, input_ports}
+use Rattle.strc_graph.specs.Graphs.{NodeCode, input_ports}
 use Rattle.strc_cli.specs.Pipeline.{rate_at_0, as_fired, node_fired, node_pops, node_meaning}
 
 nil_of : (items : List ℤ) → length items ≡ 0 → ◌≡◌ {A = List ℤ} [] items

@@ -1,9 +1,9 @@
 -- The rounds of nodes in a chain are those of the machine over queues, whose run is the stream's answer.
 use Rattle.std.proofs.Common.{◌≡◌, refl, sym, ap, ◌∙◌, subst, ℕ, zero, suc, ◌+◌, ◌<◌, ◌≤◌, ℤ, Bool, true, false, List, [], ◌∷◌, ◌++◌, length, get_or, Result, Ok, Err, arith, append_assoc, append-nil, add-one, add-zero, zero-add}
 use Rattle.std.specs.Prelude.{IfOk}
-use Rattle.strc_work.specs.declared.fault.Cause.{Cause}
-use Rattle.strc_work.specs.declared.word.Word.{Word}
-use Rattle.strc_work.specs.Firing as firing
+use Rattle.strc_semantics.specs.declared.fault.Cause.{Cause}
+use Rattle.strc_semantics.specs.declared.word.Word.{Word}
+use Rattle.strc_semantics.specs.Firing as firing
 use Rattle.strc_dataflow.specs.Histories.{Run, KeepsRates, begun}
 use Rattle.strc_dataflow.specs.Flat.{Graph, items_of, arrived}
 use Rattle.strc_dataflow.specs.Streams.{flat}
@@ -12,8 +12,8 @@ use Rattle.strc_dataflow.specs.Queues.{Fifo, FifoProgress, FifoProgress.FifoWent
 use Rattle.strc_dataflow.specs.Pipelines.{nodes_from, once_each, IsChain}
 use Rattle.strc_dataflow.proofs.Chain.{chain_schedule}
 use Rattle.strc_dataflow.proofs.Theorem.{stream_queue_run}
-use Rattle.strc_elab.specs.Graphs.{NodeCode, input_ports, gives_words}
-use Rattle.strc_cli.specs.Pipeline.{node_fields, node_pops, node_pushes, node_fired, as_fired, node_meaning, Loaded, Lap, Blame, led_by, after_firing, lap_from, after_lap, laps, loaded}
+use Rattle.strc_graph.specs.Graphs.{NodeCode, input_ports, gives_words}
+use Rattle.strc_cli.specs.Pipeline.{node_fields, node_pops, node_pushes, node_fired, as_fired, node_meaning, Loaded, Lap, FaultSite, prepend, after_firing, lap_from, after_lap, laps, loaded}
 use Rattle.strc_cli.specs.Answers.{PrintsNothing, words_in_order, Tells, LapsAreAnswers}
 use Rattle.strc_cli.proofs.ExactRates.{TakesAll, AreExact, GivesItems, are_exact, keeps, all_keep, are_matched}
 use Rattle.strc_cli.proofs.NodeFirings.{fires, next_of, runs_other, state_here, fired_here, words_here, queue_other, queue_here, queue_next}
@@ -104,7 +104,7 @@ in_order false old new rest more h none =
     ∙ ap (λ (l : List Word). (l ++ rest) ++ (new ++ more)) (sym e.0)
 
 -- what the machine does with the nodes from one on in round q is what a lap does with their codes
-abbrev IsLap : Graph NodeCode → Fifo (List ℤ) Cause Word → (q node : ℕ) → List NodeCode → FifoProgress (List ℤ) Cause Word → Result Lap Blame → Type 0
+abbrev IsLap : Graph NodeCode → Fifo (List ℤ) Cause Word → (q node : ℕ) → List NodeCode → FifoProgress (List ℤ) Cause Word → Result Lap FaultSite → Type 0
 IsLap graph now q node codes (FifoWent next) (Ok lap) =
     AllStand graph next (suc q) node [] codes lap.nodes
     × ((other : ℕ) → other < node → (next.runs other ≡ now.runs other) × (next.queues other 0 ≡ now.queues other 0))
@@ -133,9 +133,9 @@ module _ (graph : Graph NodeCode) (first : NodeCode) (others : List NodeCode) (c
         let b : node_pops (graph.code node) ≡ node_pops code = ap node_pops stands.0.here in
         omega arith
 
-    led : (done : firing.Fired) → (gives_words code ≡ false → done.words ≡ []) → (progress : FifoProgress (List ℤ) Cause Word) (lap : Result Lap Blame)
+    led : (done : firing.Fired) → (gives_words code ≡ false → done.words ≡ []) → (progress : FifoProgress (List ℤ) Cause Word) (lap : Result Lap FaultSite)
         → IsLap graph (after done) q (suc node) codes progress lap
-        → IsLap graph now q node (code ∷ codes) progress (led_by (record member { fields = done.fields }) done.words lap)
+        → IsLap graph now q node (code ∷ codes) progress (prepend (record member { fields = done.fields }) done.words lap)
     unfolding nodes_from words_of
     led done quiet (FifoWent next) (Ok lap) h = (
       (
@@ -185,7 +185,7 @@ module _ (graph : Graph NodeCode) (first : NodeCode) (others : List NodeCode) (c
         → IfOk result (GivesItems code)
         → ((next : Fifo (List ℤ) Cause Word) (more : List ℤ) → AllStand graph next q (suc node) more codes members → TakesAll (length more) codes → IsLap graph next q (suc node) codes (fifo_go node_meaning graph (nodes_from (suc node) (length codes)) next) (lap_from (suc node) members more))
         → IsLap graph now q node (code ∷ codes) (fifo_then (fifo_go node_meaning graph (nodes_from (suc node) (length codes))) (fifo_after node_meaning graph now node (as_fired result)))
-        (after_firing node result (λ done. led_by (record member { fields = done.fields }) done.words (lap_from (node + 1) members done.pushes)))
+        (after_firing node result (λ done. prepend (record member { fields = done.fields }) done.words (lap_from (node + 1) members done.pushes)))
     unfolding fifo_then fifo_after next_of
     lap_by (Ok done) kept ih =
         led done kept.1 (fifo_go node_meaning graph (nodes_from (suc node) (length codes)) (after done)) (lap_from (node + 1) members done.pushes)
@@ -225,7 +225,7 @@ module _ (graph : Graph NodeCode) (first : NodeCode) (others : List NodeCode) (c
         (left q : ℕ) (now : Fifo (List ℤ) Cause Word) (words : List Word)
         → words ≡ words_in_order (nodes_from 0 (length codes)) (words_of now.runs)
         → ((next : Fifo (List ℤ) Cause Word) (members : List Loaded) (more : List Word) → AllStand graph next (suc q) 0 [] codes members → more ≡ words_in_order (nodes_from 0 (length codes)) (words_of next.runs) → Tells (length codes) (fifo_rounds node_meaning graph [] (nodes_from 0 (length codes)) left (suc q) next) (laps left (suc q) members more))
-        → (progress : FifoProgress (List ℤ) Cause Word) (lap : Result Lap Blame)
+        → (progress : FifoProgress (List ℤ) Cause Word) (lap : Result Lap FaultSite)
         → IsLap graph now q 0 codes progress lap
         → Tells (length codes) (fifo_round_outcome node_meaning graph [] (nodes_from 0 (length codes)) q (words_of now.runs) progress (fifo_rounds node_meaning graph [] (nodes_from 0 (length codes)) left (suc q)))
         (after_lap q words lap (λ lap. laps left (suc q) lap.nodes (words ++ lap.words)))

@@ -2,19 +2,19 @@
 use Rattle.std.proofs.Common.{◌≡◌, refl, ◌∙◌, ℕ, zero, suc, ◌+◌, ℤ, Bool, true, false, ◌||◌, List, [], ◌∷◌, ◌++◌, length, Option, Some, None, Result, Ok, Err}
 use Rattle.std.specs.Prelude.{nat_lt, slice_get, if◌then◌else◌}
 use Rattle.std.specs.Result.{IfOk}
-use Rattle.strc_parse.specs.Tree as tree
-use Rattle.strc_parse.specs.declared.tree.AssignOperator.{AssignOperator}
-use Rattle.strc_parse.specs.declared.tree.AssignOperator.TheVariants as assign
-use Rattle.strc_parse.specs.declared.tree.BinaryOperator.{BinaryOperator}
-use Rattle.strc_parse.specs.declared.tree.BinaryOperator.TheVariants as binary
-use Rattle.strc_work.specs.declared.fault.Cause.{Cause}
-use Rattle.strc_work.specs.declared.fault.Cause.TheVariants.{PeekRange, Turns}
-use Rattle.strc_work.specs.declared.word.Word.{Word}
-use Rattle.strc_work.specs.Arithmetic.{is_true, binary_value}
-use Rattle.strc_work.specs.declared.code.Body.TheVariants as body
-use Rattle.strc_work.specs.Filters.{Filter, work_block, stmt_prints, stmts_print, filter_prints}
-use Rattle.strc_work.specs.Scoping.{cells_of}
-use Rattle.strc_work.specs.Firing.{then_do, Port, Traffic, Store, item_popped, looked_at, item_ahead, pushed_to, joined, value_of, assigned_value, place_of, cell_in, cell_set, declared_in, element_joined, element_set, initial_cells, variables_declared, condition_value, turned, turn_limit, looped, inside, stmt_done, stmts_done, store_at, port_of, fired}
+use Rattle.strc_syntax.specs.Tree as tree
+use Rattle.strc_syntax.specs.declared.tree.AssignOperator.{AssignOperator}
+use Rattle.strc_syntax.specs.declared.tree.AssignOperator.TheVariants as assign
+use Rattle.strc_syntax.specs.declared.tree.BinaryOperator.{BinaryOperator}
+use Rattle.strc_syntax.specs.declared.tree.BinaryOperator.TheVariants as binary
+use Rattle.strc_semantics.specs.declared.fault.Cause.{Cause}
+use Rattle.strc_semantics.specs.declared.fault.Cause.TheVariants.{PeekRange, Turns}
+use Rattle.strc_semantics.specs.declared.word.Word.{Word}
+use Rattle.strc_semantics.specs.Arithmetic.{is_true, binary_value}
+use Rattle.strc_semantics.specs.declared.body.Body.TheVariants as body
+use Rattle.strc_semantics.specs.Filters.{Filter, work_block, stmt_prints, stmts_print, filter_prints}
+use Rattle.strc_semantics.specs.Scoping.{cells_of}
+use Rattle.strc_semantics.specs.Firing.{then_do, Port, Traffic, Store, item_popped, looked_at, item_ahead, pushed_to, joined, value_of, assigned_value, place_of, cell_in, cell_set, declared_in, element_joined, element_set, initial_cells, variables_declared, condition_value, turned, turn_limit, looped, inside, stmt_done, stmts_done, store_at, port_of, fired}
 
 or_first : (a b : Bool) → (a || b) ≡ false → a ≡ false
 or_first true b e = e

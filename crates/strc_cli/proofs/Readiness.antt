@@ -1,9 +1,9 @@
 -- Nodes made ready one by one.
 use Rattle.std.proofs.Common.{◌≡◌, refl, sym, ap, ◌∙◌, List, [], ◌∷◌, ◌++◌, map, append_assoc}
 use Rattle.std.proofs.lemmas.List.{map-append}
-use Rattle.strc_elab.specs.View.{node_view}
-use Rattle.strc_elab.specs.declared.graph.Node.{Node}
-use Rattle.strc_elab.specs.Graphs.{NodeCode}
+use Rattle.strc_graph.specs.NodeView.{node_view}
+use Rattle.strc_graph.specs.declared.graph.Node.{Node}
+use Rattle.strc_graph.specs.Graphs.{NodeCode}
 use Rattle.strc_cli.specs.declared.ready.ReadyNode.{ReadyNode}
 use Rattle.strc_cli.specs.Loading.{code_in, loaded_in, codes_in, all_loaded_in}
 use Rattle.strc_cli.specs.Pipeline.{Loaded, node_loaded, loaded}

@@ -1,7 +1,7 @@
 -- What is answered for a text holds by the definitions.
 use Rattle.std.proofs.Common.{◌≡◌, refl, sym, subst, List, ℕ, Option, Result, Ok, Err, inl, inr, Vec, Global}
 use Rattle.std.specs.Result.{IsErrAnd}
-use Rattle.strc_parse.specs.Tree.{Declaration}
+use Rattle.strc_syntax.specs.Tree.{Declaration}
 use Rattle.strc_elab.specs.Answering as elaboration
 use Rattle.strc_elab.specs.Elaboration.{elaborated}
 use Rattle.strc_elab.specs.Flattening.{nodes_of, codes_of, meaning_of, IsConnected, IsRefused}

@@ -4,9 +4,9 @@ use Rattle.std.specs.Prelude.{count_by}
 use Rattle.std.proofs.lemmas.List.Sums.{sum_by-cons}
 use Rattle.strc_dataflow.specs.Pipelines.{IsChain}
 use Rattle.strc_dataflow.specs.Streams.{flat, any_code, any_code_of}
-use Rattle.strc_parse.specs.declared.tree.ItemType.{ItemType}
+use Rattle.strc_syntax.specs.declared.tree.ItemType.{ItemType}
 use Rattle.strc_elab.specs.Flattening.{tree_of, trees_of, nodes_of, row_nodes}
-use Rattle.strc_elab.specs.Graphs.{NodeCode, ports_of, input_ports, output_ports, gives_words}
+use Rattle.strc_graph.specs.Graphs.{NodeCode, ports_of, input_ports, output_ports, gives_words}
 use Rattle.strc_elab.specs.Instances.{Stream, Streams, Filter, Identity, Pipeline, Done, More}
 use Rattle.strc_elab.specs.Types.{IsWellTyped, AreWellTyped, HasFirst, IsTaken, input_of, output_of, last_output}
 use Rattle.strc_elab.proofs.Chains.{stream_is_row}

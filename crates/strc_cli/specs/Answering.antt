@@ -10,7 +10,7 @@ use Rattle.strc_cli.specs.declared.line.Command.TheVariants as command
 use Rattle.strc_cli.specs.declared.outcome.Outcome.{Outcome}
 use Rattle.strc_cli.specs.declared.refusal.Refusal.{Refusal}
 use Rattle.strc_cli.specs.declared.refusal.Refusal.TheVariants as refusal
-use Rattle.strc_cli.specs.Answers.{are_settled}
+use Rattle.strc_cli.specs.Answers.{are_runnable}
 use Rattle.strc_cli.specs.Pipeline.{laps, loaded}
 use Rattle.strc_cli.specs.Programs.{Accepts, IsTrueOf}
 use Rattle.strc_cli.specs.Running.{IsEnding}
@@ -23,11 +23,11 @@ main_of (command.Run rounds main) = option_map string_bytes main
 abbrev pub rounds_of : Command → Option ℕ
 rounds_of (command.Run rounds main) = rounds
 
--- the text is accepted, the nodes of its stream are settled, and so many rounds of them end so
+-- the text is accepted, the nodes of its stream are runnable, and so many rounds of them end so
 pub record RunsTo (text : List ℕ) (main : Option (List ℕ)) (rounds : ℕ) (outcome : Outcome) : Type 0 where
   pub stream : Stream
   pub accepted : Accepts text main stream
-  pub settled : are_settled (nodes_of stream) ≡ true
+  pub runnable : are_runnable (nodes_of stream) ≡ true
   pub ends : IsEnding outcome (laps rounds 0 (loaded (nodes_of stream)) [])
 
 -- the text is accepted, and nobody said how many rounds
@@ -37,7 +37,7 @@ LacksRounds text main rounds refused = (refused ≡ refusal.RoundsNeeded) × (ro
 -- the text is accepted, and somebody said how many rounds, but not all nodes of its stream are run so far
 abbrev pub WaitsForMore : List ℕ → Option (List ℕ) → Option ℕ → Refusal → Type 0
 WaitsForMore text main rounds refused =
-    (refused ≡ refusal.NotYet) × ((count : ℕ) × (rounds ≡ Some count)) × ((stream : Stream) × Accepts text main stream × (are_settled (nodes_of stream) ≡ false))
+    (refused ≡ refusal.NotYet) × ((count : ℕ) × (rounds ≡ Some count)) × ((stream : Stream) × Accepts text main stream × (are_runnable (nodes_of stream) ≡ false))
 
 -- the outcome of the run, or the refusal that holds
 abbrev pub IsAnswered : List ℕ → Option (List ℕ) → Option ℕ → Result Outcome Stop → Type 0

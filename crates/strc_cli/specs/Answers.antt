@@ -1,17 +1,17 @@
 -- What a run of rounds means in the generic layer of streams: the answer of the stream.
 use Rattle.std.specs.Prelude.{◌≡◌, ℕ, Bool, true, false, not, ◌&&◌, nat_le, List, [], ◌∷◌, ◌++◌, length, Option, Ok}
 use Rattle.std.specs.Int.RustNames.{int_lt}
-use Rattle.strc_work.specs.declared.fault.Cause.{Cause}
-use Rattle.strc_work.specs.declared.word.Word.{Word}
-use Rattle.strc_work.specs.Closed.{IsClosedFilter}
-use Rattle.strc_work.specs.Filters as filters
-use Rattle.strc_work.specs.Filters.{work_rates, pop_rate, peek_rate}
+use Rattle.strc_semantics.specs.declared.fault.Cause.{Cause}
+use Rattle.strc_semantics.specs.declared.word.Word.{Word}
+use Rattle.strc_semantics.specs.Closed.{IsClosedFilter}
+use Rattle.strc_semantics.specs.Filters as filters
+use Rattle.strc_semantics.specs.Filters.{work_rates, pop_rate, peek_rate}
 use Rattle.strc_dataflow.specs.Streams as trees
 use Rattle.strc_dataflow.specs.Streams.{flat}
 use Rattle.strc_dataflow.specs.Pipelines.{IsChain, nodes_from, once_each}
 use Rattle.strc_dataflow.specs.Answer.{Outcome, Outcome.Done, Outcome.RoundFault, IsAnswer}
 use Rattle.strc_elab.specs.Flattening.{tree_of, nodes_of}
-use Rattle.strc_elab.specs.Graphs.{NodeCode, Filter, Identity, ports_of, input_ports, output_ports, gives_words}
+use Rattle.strc_graph.specs.Graphs.{NodeCode, Filter, Identity, ports_of, input_ports, output_ports, gives_words}
 use Rattle.strc_elab.specs.Instances.{Stream}
 use Rattle.strc_cli.specs.Rates.{declared_pushes, declared_pops, has_prework, rates_checked}
 use Rattle.strc_cli.specs.Programs.{Accepts}
@@ -24,22 +24,22 @@ AreJoined first (next ∷ others) = (input_ports next ≡ output_ports first) ×
 
 -- whether a filter is among those that are run so far: it has no prework, its work looks at no item beyond those that it takes, and no
 -- declared rate is above one item, or none on a void side
-abbrev pub is_settled_filter : filters.Filter → Bool
-is_settled_filter filter =
+abbrev pub is_runnable_filter : filters.Filter → Bool
+is_runnable_filter filter =
     not (has_prework filter)
     && (not (int_lt (pop_rate (work_rates filter.members)) (peek_rate (work_rates filter.members)))
     && (nat_le (declared_pops filter) (ports_of filter.input) && nat_le (declared_pushes filter) (ports_of filter.output)))
 
 -- whether a node is
-abbrev pub is_settled : NodeCode → Bool
-is_settled (Filter name filter) = is_settled_filter filter
-is_settled Identity = true
-is_settled _ = false
+abbrev pub is_runnable : NodeCode → Bool
+is_runnable (Filter name filter) = is_runnable_filter filter
+is_runnable Identity = true
+is_runnable _ = false
 
 -- whether all are
-abbrev pub are_settled : List NodeCode → Bool
-are_settled [] = true
-are_settled (code ∷ others) = is_settled code && are_settled others
+abbrev pub are_runnable : List NodeCode → Bool
+are_runnable [] = true
+are_runnable (code ∷ others) = is_runnable code && are_runnable others
 
 -- no node prints
 abbrev pub PrintsNothing : List NodeCode → Type 0
@@ -80,7 +80,7 @@ EndsAsAnswered stream nodes k =
     × IsAnswer node_meaning stream [] (λ node. 0) (once_each (length nodes)) [] (nodes_from 0 (length nodes)) k outcome
     × Tells (length nodes) outcome (laps k 0 (loaded nodes) [])
 
--- the rounds of a stream whose flat graph is a chain of settled nodes, a source first, whose rates are checked and of which at most one
+-- the rounds of a stream whose flat graph is a chain of runnable nodes, a source first, whose rates are checked and of which at most one
 -- prints, end as its answer says
 abbrev pub LapsAreAnswers : Type 0
 LapsAreAnswers =
@@ -90,12 +90,12 @@ LapsAreAnswers =
     → AreKnown (first ∷ others)
     → AreJoined first others
     → rates_checked 0 (first ∷ others) ≡ Ok tt
-    → are_settled (first ∷ others) ≡ true
+    → are_runnable (first ∷ others) ≡ true
     → PrintsAtMostOnce (first ∷ others)
     → EndsAsAnswered stream (first ∷ others) k
 
--- the rounds of an accepted text whose nodes are settled end as the answer of its stream says
+-- the rounds of an accepted text whose nodes are runnable end as the answer of its stream says
 abbrev pub AcceptedRunsAreAnswers : Type 0
 AcceptedRunsAreAnswers =
     (text : List ℕ) (main : Option (List ℕ)) (stream : Stream) (k : ℕ)
-    → Accepts text main stream → are_settled (nodes_of stream) ≡ true → EndsAsAnswered (tree_of stream) (nodes_of stream) k
+    → Accepts text main stream → are_runnable (nodes_of stream) ≡ true → EndsAsAnswered (tree_of stream) (nodes_of stream) k

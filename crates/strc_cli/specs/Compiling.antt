@@ -1,7 +1,7 @@
 -- Which stream a program runs, or the first rule that it breaks: in its elaboration, in its flat graph, in its nodes' rates.
 use Rattle.std.specs.Prelude.{◌≡◌, ℕ, List, Option, Result, Ok, Err, Vec}
 use Rattle.std.specs.declared.alloc.Global.{Global}
-use Rattle.strc_parse.specs.Tree.{Declaration}
+use Rattle.strc_syntax.specs.Tree.{Declaration}
 use Rattle.strc_elab.specs.Elaboration.{elaborated}
 use Rattle.strc_elab.specs.Flattening.{nodes_of, codes_of, meaning_of, IsConnected, IsAccepted, IsRefused}
 use Rattle.strc_elab.specs.Instances.{Stream}
@@ -60,7 +60,7 @@ pub record AreReady (program : List Declaration) (main : Option (List ℕ)) (nod
   pub compiles : Compiles program main stream
   pub loads : all_loaded_in nodes ≡ loaded (nodes_of stream)
 
--- the answer for a program: its nodes, ready to fire, or the first rule that it breaks; want of memory says nothing of it
+-- the answer for a program: its nodes, ready to fire, or the first rule that it breaks; out of memory says nothing of it
 abbrev pub IsCompiled : List Declaration → Option (List ℕ) → Result (Vec ReadyNode Global) Refusal → Type 0
 IsCompiled program main (Ok nodes) = AreReady program main nodes.items
 IsCompiled program main (Err refusal.NoMemory) = Unit {0}

@@ -17,8 +17,8 @@ use Rattle.strc_cli.specs.declared.line.Command.TheVariants as command
 use Rattle.strc_cli.specs.Answering.{main_of, rounds_of}
 
 -- without words the text comes from standard input, and five rounds are run
-abbrev pub bare_line : Line
-bare_line = record { file = None; command = command.Run (Some 5) None }
+abbrev pub default_line : Line
+default_line = record { file = None; command = command.Run (Some 5) None }
 
 -- FILE, which has to be given
 abbrev pub file_rule : Rule
@@ -77,7 +77,7 @@ pub record IsRun (met : Option (Text × List Row)) : Type 0 where
   pub number : Option ℕ
   pub reads : IsNumberOf (one_of (codes "rounds") rows) number
 
--- the kinds of error that the words may come to, other than want of memory; none where the words are taken
+-- the kinds of error that the words may come to, other than out of memory; none where the words are taken
 abbrev pub faults : List Text → Kinds
 faults words = fault_of strc_app words
 

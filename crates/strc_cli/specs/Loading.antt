@@ -1,8 +1,8 @@
 -- Nodes that are ready to fire, as the definitions see them.
 use Rattle.std.specs.Prelude.{◌≡◌, ℤ, List, [], map, Ok}
-use Rattle.strc_work.specs.Filters.{filter_of}
-use Rattle.strc_work.specs.Firing.{started}
-use Rattle.strc_elab.specs.Graphs.{NodeCode, Filter, Identity}
+use Rattle.strc_semantics.specs.Filters.{filter_of}
+use Rattle.strc_semantics.specs.Firing.{started}
+use Rattle.strc_graph.specs.Graphs.{NodeCode, Filter, Identity}
 use Rattle.strc_cli.specs.declared.ready.ReadyNode.{ReadyNode}
 use Rattle.strc_cli.specs.declared.ready.ReadyNode.TheVariants as ready
 use Rattle.strc_cli.specs.Pipeline.{Loaded}

@@ -1,9 +1,9 @@
 -- The text that is written: the words of a run and its fault line, or the line of a refusal.
 use Rattle.std.specs.Prelude.{ℕ, ◌-◌, Bool, false, not, Option, Some, None, length, slice_get, List, [], ◌∷◌, ◌++◌, codes, decimal, if◌then◌else◌}
 use Rattle.std.specs.Fmt.{signed_decimal}
-use Rattle.strc_work.specs.declared.word.Word.{Word}
-use Rattle.strc_work.specs.declared.fault.Cause.{Cause}
-use Rattle.strc_work.specs.declared.fault.Cause.TheVariants as cause
+use Rattle.strc_semantics.specs.declared.word.Word.{Word}
+use Rattle.strc_semantics.specs.declared.fault.Cause.{Cause}
+use Rattle.strc_semantics.specs.declared.fault.Cause.TheVariants as cause
 use Rattle.strc_cli.specs.declared.outcome.Outcome.{Outcome}
 use Rattle.strc_cli.specs.declared.outcome.Outcome.TheVariants as outcome
 use Rattle.strc_cli.specs.declared.outcome.Fault.{Fault}

@@ -1,11 +1,11 @@
 -- Nodes of a flat graph: what they mean in the generic layer of streams, and a run round by round.
 use Rattle.std.specs.Prelude.{ℕ, zero, suc, ◌+◌, ℤ, List, [], ◌∷◌, ◌++◌, map, Result, Ok, Err}
 use Rattle.strc_dataflow.specs.Node.{Meaning, Fired, Fired.Fires, Fired.Faults, at_port_0}
-use Rattle.strc_work.specs.Firing as firing
-use Rattle.strc_work.specs.declared.fault.Cause.{Cause}
-use Rattle.strc_work.specs.declared.word.Word.{Word}
-use Rattle.strc_work.specs.declared.code.Body.TheVariants as body
-use Rattle.strc_elab.specs.Graphs.{NodeCode, Filter, Identity, input_ports}
+use Rattle.strc_semantics.specs.Firing as firing
+use Rattle.strc_semantics.specs.declared.fault.Cause.{Cause}
+use Rattle.strc_semantics.specs.declared.word.Word.{Word}
+use Rattle.strc_semantics.specs.declared.body.Body.TheVariants as body
+use Rattle.strc_graph.specs.Graphs.{NodeCode, Filter, Identity, input_ports}
 use Rattle.strc_cli.specs.Rates.{declared_pushes, declared_pops}
 
 -- a rate at port 0 alone
@@ -70,34 +70,34 @@ pub record Lap : Type 0 where
   pub words : List Word
 
 -- which node faulted, and why
-pub record Blame : Type 0 where
+pub record FaultSite : Type 0 where
   pub node : ℕ
   pub cause : Cause
 
 -- a node before those of a lap
-abbrev pub led_by : Loaded → List Word → Result Lap Blame → Result Lap Blame
-led_by first words (Ok lap) = Ok (record { nodes = first ∷ lap.nodes; words = words ++ lap.words })
-led_by first words (Err blame) = Err blame
+abbrev pub prepend : Loaded → List Word → Result Lap FaultSite → Result Lap FaultSite
+prepend first words (Ok lap) = Ok (record { nodes = first ∷ lap.nodes; words = words ++ lap.words })
+prepend first words (Err blame) = Err blame
 
 -- what comes after a firing, where it doesn't fault
-abbrev pub after_firing : ℕ → Result firing.Fired Cause → (firing.Fired → Result Lap Blame) → Result Lap Blame
+abbrev pub after_firing : ℕ → Result firing.Fired Cause → (firing.Fired → Result Lap FaultSite) → Result Lap FaultSite
 after_firing node (Ok done) go = go done
 after_firing node (Err cause) go = Err (record { node = node; cause = cause })
 
 -- one round from a node on: each node fires once, at the items that the one before it pushed
-abbrev pub lap_from : ℕ → List Loaded → List ℤ → Result Lap Blame
+abbrev pub lap_from : ℕ → List Loaded → List ℤ → Result Lap FaultSite
 lap_from node [] items = Ok (record { nodes = []; words = [] })
 lap_from node (first ∷ others) items =
     after_firing node (node_fired first.code first.fields items) (λ done.
-    led_by (record first { fields = done.fields }) done.words (lap_from (node + 1) others done.pushes))
+    prepend (record first { fields = done.fields }) done.words (lap_from (node + 1) others done.pushes))
 
 -- how a run ends: all words, or a fault in a round with the words of the rounds before it
 pub data Ending : Type 0 where
   Ended : (words : List Word) → Ending
-  Faulted : (round : ℕ) (blame : Blame) (words : List Word) → Ending
+  Faulted : (round : ℕ) (blame : FaultSite) (words : List Word) → Ending
 
 -- what comes after a round, where no firing faults
-abbrev pub after_lap : ℕ → List Word → Result Lap Blame → (Lap → Ending) → Ending
+abbrev pub after_lap : ℕ → List Word → Result Lap FaultSite → (Lap → Ending) → Ending
 after_lap q words (Ok lap) go = go lap
 after_lap q words (Err blame) go = Faulted q blame words
 

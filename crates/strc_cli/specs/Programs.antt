@@ -2,10 +2,10 @@
 use Rattle.std.specs.Prelude.{ℕ, ◌<◌, ◌≤◌, ◌⊎◌, List, length, Option}
 use Rattle.strc_lex.specs.Text.{Lexes, StopsAt, text_limit}
 use Rattle.strc_lex.specs.declared.token.Token.{Token}
-use Rattle.strc_parse.specs.Tree.{Declaration}
-use Rattle.strc_parse.specs.Grammar as grammar
-use Rattle.strc_parse.specs.declared.error.ParseError.{ParseError}
-use Rattle.strc_parse.specs.declared.error.ParseError.TheVariants as parsing
+use Rattle.strc_syntax.specs.Tree.{Declaration}
+use Rattle.strc_grammar.specs.Grammar as grammar
+use Rattle.strc_grammar.specs.declared.error.ParseError.{ParseError}
+use Rattle.strc_grammar.specs.declared.error.ParseError.TheVariants as parsing
 use Rattle.strc_elab.specs.Instances.{Stream}
 use Rattle.strc_cli.specs.declared.refusal.Refusal.{Refusal}
 use Rattle.strc_cli.specs.declared.refusal.Refusal.TheVariants as refusal
@@ -48,7 +48,7 @@ IsUnreadable text refused = ⊥
 abbrev pub Refuses : List ℕ → Option (List ℕ) → Refusal → Type 0
 Refuses text main refused = IsUnreadable text refused ⊎ BreaksRule text main refused
 
--- a refusal that was answered is the text's; want of memory says nothing of it
+-- a refusal that was answered is the text's; out of memory says nothing of it
 abbrev pub IsTrueOf : List ℕ → Option (List ℕ) → Refusal → Type 0
 IsTrueOf text main refusal.NoMemory = Unit {0}
 IsTrueOf text main refused = Refuses text main refused

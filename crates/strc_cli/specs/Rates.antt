@@ -1,8 +1,8 @@
 -- The rates of filters, node by node (StreamIt specification 2.1, "Filters": the rates of `work`).
 use Rattle.std.specs.Prelude.{ℕ, ◌+◌, Bool, List, [], ◌∷◌, Result, Ok, Err, is_some}
-use Rattle.strc_work.specs.Filters as filters
-use Rattle.strc_work.specs.Filters.{work_rates, prework_block, push_rate, pop_rate, item_count}
-use Rattle.strc_elab.specs.Graphs.{NodeCode, Filter}
+use Rattle.strc_semantics.specs.Filters as filters
+use Rattle.strc_semantics.specs.Filters.{work_rates, prework_block, push_rate, pop_rate, item_count}
+use Rattle.strc_graph.specs.Graphs.{NodeCode, Filter}
 use Rattle.strc_rate.specs.Rates.{FilterRates, checked}
 use Rattle.strc_rate.specs.declared.rates.RateError.{RateError}
 use Rattle.strc_rate.specs.declared.rates.RateError.TheVariants as rate

@@ -2,7 +2,7 @@
 
 ghost use Rattle.std.specs.Prelude.{IfOk, IfErr};
 ghost use Rattle.std.specs.Option.{option_map};
-ghost use Rattle.strc_parse.specs.View.{program_view};
+ghost use Rattle.strc_syntax.specs.View.{program_view};
 ghost use Rattle.strc_cli.specs.Compiling.{IsCompiled};
 ghost use Rattle.strc_cli.specs.Programs.{IsText, IsReadRefusal};
 ghost use Rattle.strc_cli.specs.Readiness.{HasNodes};
@@ -16,11 +16,11 @@ use strc_elab::elaborate::elaborate;
 use strc_elab::flatten::flatten;
 use strc_lex::error::LexError;
 use strc_lex::lexer::lex;
-use strc_parse::tree::Program;
 use strc_parse::{ParseError, parse};
+use strc_syntax::tree::Program;
 
-/// The nodes of the program's main stream in preorder, ready to fire; the first rule that is broken refuses it:
-/// those of its tokens, its tree, its elaboration, its flat graph, and its rates.
+/// The nodes of the program's main stream in preorder, ready to fire; the first rule that is broken
+/// refuses it: those of its tokens, its tree, its elaboration, its flat graph, and its rates.
 pub(crate) fn compile(
     alloc: Global,
     text: &[u8],

@@ -1,6 +1,7 @@
 // Where input comes from and output goes to, with a memory of the first error.
 
-ghost use Rattle.std.specs.Prelude.{◌≡◌, ◌<◌, ◌≤◌, ◌+◌, ◌-◌, ℕ, List, Bool, true, false, Option, None, length, IfOk, OnOk, OnErr};
+ghost use Rattle.std.specs.Prelude.{◌≡◌, ◌<◌, ◌≤◌, ◌+◌, ◌-◌, ℕ, List, Bool, true, false, Option};
+ghost use Rattle.std.specs.Prelude.{None, length, IfOk, OnOk, OnErr};
 ghost use Rattle.std.specs.Io.{ReadsAtMost};
 ghost use Rattle.std.specs.Io.KnownBytes.{WriteAppends, ReadConsumes};
 
@@ -22,7 +23,8 @@ pub trait Source {
     fn read(&mut self, buffer: &mut [u8]) -> io::Result<usize>
         ensures bound { ReadsAtMost result buffer.new }
         ensures bytes { ReadConsumes (remaining self.old) (remaining self.new) result buffer.new }
-        ensures ok { OnOk result ((has_failed self.new ≡ has_failed self.old) × (reads_left self.new < reads_left self.old)) }
+        ensures ok { OnOk result ((has_failed self.new ≡ has_failed self.old)
+            × (reads_left self.new < reads_left self.old)) }
         ensures err { OnErr result (has_failed self.new ≡ true) };
 
     /// Whether a read has failed: true from the first error on.

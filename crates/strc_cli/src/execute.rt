@@ -13,8 +13,8 @@ use crate::line::Command;
 use crate::outcome::Outcome;
 use crate::output::{outcome_text, refusal_text};
 use crate::refusal::Refusal;
+use crate::runnable::are_runnable;
 use crate::runner::run;
-use crate::settled::are_settled;
 use std::alloc::{AllocError, Global};
 
 /// How a call of `execute` went: what the program's exit status tells.
@@ -79,7 +79,8 @@ fn tell<O: Sink>(
     answered: &Result<Outcome, Stop>,
     output: &mut O,
 ) -> Result<Status, CliError>
-    ensures { TellsAnswer answered.now result (device_of (O.contents output.old) (O.has_failed output.old))
+    ensures { TellsAnswer answered.now result (device_of (O.contents output.old)
+        (O.has_failed output.old))
         (device_of (O.contents output.new) (O.has_failed output.new)) }
 {
     if let Some(line) = memory_line(answered) {
@@ -93,7 +94,7 @@ fn tell<O: Sink>(
     Ok(told_status(answered))
 }
 
-// The line that tells want of memory, which takes none.
+// The line that tells out of memory, which takes none.
 fn memory_line(answered: &Result<Outcome, Stop>) -> Option<&'static [u8]>
     ensures { IfSome result (λ line. (line.now ≡ spec.told_text answered.now)
         × (spec.told_status answered.now ≡ Status.NoMemory)) }
@@ -129,7 +130,7 @@ fn told_status(answered: &Result<Outcome, Stop>) -> Status
     }
 }
 
-// Why there is no outcome: a refusal, or want of memory in the run.
+// Why there is no outcome: a refusal, or out of memory in the run.
 #[derive(Drop)]
 enum Stop {
     Refused(Refusal),
@@ -146,7 +147,7 @@ fn answer(alloc: Global, text: &[u8], command: &Command) -> Result<Outcome, Stop
     let Some(rounds) = round_count(command) else {
         return Err(Stop::Refused(Refusal::RoundsNeeded));
     };
-    if !are_settled(&nodes) {
+    if !are_runnable(&nodes) {
         return Err(Stop::Refused(Refusal::NotYet));
     }
     match run(alloc, &mut nodes, rounds) {

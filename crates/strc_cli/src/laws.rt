@@ -3,8 +3,8 @@
 ghost use Rattle.strc_cli.specs.Answers.{LapsAreAnswers, AcceptedRunsAreAnswers};
 ghost use Rattle.strc_cli.specs.Programs.{AcceptedOrRefused};
 
-/// The rounds of a stream whose nodes are settled and stand in a chain end as the answer of its equations says: the same words, or the
-/// same fault in the same round.
+/// The rounds of a stream whose nodes are runnable and stand in a chain end as the answer of its
+/// equations says: the same words, or the same fault in the same round.
 pub fn laps_are_answers()
     ensures { LapsAreAnswers }
 {}
@@ -14,7 +14,7 @@ pub fn accepted_or_refused()
     ensures { AcceptedOrRefused }
 {}
 
-/// The rounds of an accepted text whose nodes are settled end as the answer of its stream says.
+/// The rounds of an accepted text whose nodes are runnable end as the answer of its stream says.
 pub fn accepted_runs_are_answers()
     ensures { AcceptedRunsAreAnswers }
 {}

@@ -1,7 +1,10 @@
 // Takes the words of the command line, a program's text and its input.
-// Gives the printed numbers, or one named fault and the numbers before its round, or one named refusal.
-// The theorem to rely on: `execute` tells exactly the answer of a text: an outcome of its rounds, or a refusal that holds.
-// Stands on strc_lex, strc_parse, strc_elab, strc_work and strc_rate, and on clap for the command line.
+// Gives the printed numbers, or one named fault and the numbers before its round, or one named
+// refusal.
+// The theorem to rely on: `execute` reports exactly the answer of a text: an outcome of its rounds,
+// or a refusal that holds.
+// Stands on strc_lex, strc_parse, strc_elab, strc_graph, strc_rate and strc_work, on strc_dataflow,
+// whose equations the runs answer, and on clap for the command line.
 #![tactic(auto)]
 
 mod compile;
@@ -15,8 +18,8 @@ pub mod program_text;
 mod rates;
 mod ready;
 pub mod refusal;
+mod runnable;
 mod runner;
-mod settled;
 mod start;
 mod text;
 pub mod words;

@@ -1,10 +1,10 @@
 // How a run ends.
 
-use strc_work::fault::Cause;
-use strc_work::word::Word;
+use strc_semantics::fault::Cause;
+use strc_semantics::word::Word;
 
 /// The printed words; or a fault, with the words of the rounds before it.
-#[derive(Debug, Drop)]
+#[derive(Drop)]
 pub(crate) enum Outcome {
     Done(Vec<Word>),
     Fault { fault: Fault, words: Vec<Word> },

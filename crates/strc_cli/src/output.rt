@@ -7,8 +7,8 @@ use crate::outcome::{Fault, Outcome};
 use crate::refusal::Refusal;
 use crate::text::{push_bytes, push_integer, push_number};
 use std::alloc::{AllocError, Global};
-use strc_work::fault::Cause;
-use strc_work::word::Word;
+use strc_semantics::fault::Cause;
+use strc_semantics::word::Word;
 
 /// The text of a run's outcome.
 pub(crate) fn outcome_text(alloc: Global, outcome: &Outcome) -> Result<Vec<u8>, AllocError>
@@ -142,7 +142,8 @@ fn push_field(
     field: &[u8],
     value: u64,
 ) -> Result<(), AllocError>
-    ensures { OnOk result (text.new.items ≡ text.old.items ++ (refusal.now ++ field.now ++ decimal value)) }
+    ensures { OnOk result (text.new.items ≡ text.old.items
+        ++ (refusal.now ++ field.now ++ decimal value)) }
 {
     push_bytes(text, refusal)?;
     push_bytes(text, field)?;
@@ -156,7 +157,8 @@ fn push_named(
     field: &[u8],
     name: &[u8],
 ) -> Result<(), AllocError>
-    ensures { OnOk result (text.new.items ≡ text.old.items ++ (refusal.now ++ field.now ++ name.now)) }
+    ensures { OnOk result (text.new.items ≡ text.old.items
+        ++ (refusal.now ++ field.now ++ name.now)) }
 {
     push_bytes(text, refusal)?;
     push_bytes(text, field)?;
@@ -169,14 +171,17 @@ fn push_mismatch(
     declared: u32,
     counted: u32,
 ) -> Result<(), AllocError>
-    ensures { OnOk result (text.new.items ≡ text.old.items ++ (codes "E14 RateMismatch" ++ codes " node " ++ decimal node ++ (codes " declared " ++ decimal declared ++ codes " counted " ++ decimal counted))) }
+    ensures { OnOk result (text.new.items ≡ text.old.items
+        ++ (codes "E14 RateMismatch" ++ codes " node " ++ decimal node
+        ++ (codes " declared " ++ decimal declared ++ codes " counted " ++ decimal counted))) }
 {
     push_field(text, b"E14 RateMismatch", b" node ", node as u64)?;
     push_counts(text, declared, counted)
 }
 
 fn push_counts(text: &mut Vec<u8>, declared: u32, counted: u32) -> Result<(), AllocError>
-    ensures { OnOk result (text.new.items ≡ text.old.items ++ (codes " declared " ++ decimal declared ++ codes " counted " ++ decimal counted)) }
+    ensures { OnOk result (text.new.items ≡ text.old.items
+        ++ (codes " declared " ++ decimal declared ++ codes " counted " ++ decimal counted)) }
 {
     push_bytes(text, b" declared ")?;
     push_number(text, u64::from(declared))?;

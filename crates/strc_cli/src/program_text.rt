@@ -20,11 +20,13 @@ pub enum TextFault {
     NoMemory,
 }
 
-/// The bytes of a text, as many as the reader has but at most 1,048,577: one more than a text may have.
+/// The bytes of a text, as many as the reader has but at most 1,048,577: one more than a text may
+/// have.
 pub fn read_text<R: Read>(alloc: Global, reader: &mut R) -> Result<Vec<u8>, TextFault>
     ensures read { IfOk result (λ text. IfSome (R.remaining reader.old) (λ bytes.
         text.items ≡ take (text_limit + 1) bytes)) }
-    ensures failed { (error : _) → result ≡ Err (TextFault.Failed error) → error_kind error ≢ ErrorKind.OutOfMemory }
+    ensures failed { (error : _) → result ≡ Err (TextFault.Failed error)
+        → error_kind error ≢ ErrorKind.OutOfMemory }
 {
     let mut text = Vec::new(alloc);
     match reader.take(MOST_BYTES).read_to_end(&mut text) {

@@ -1,18 +1,18 @@
 // The rates of the nodes of a program, one by one.
 
 ghost use Rattle.std.specs.Prelude.{◌≡◌, map};
-ghost use Rattle.strc_work.specs.Filters as filters;
-ghost use Rattle.strc_elab.specs.View.{node_view};
+ghost use Rattle.strc_semantics.specs.Filters as filters;
+ghost use Rattle.strc_graph.specs.NodeView.{node_view};
 ghost use Rattle.strc_cli.specs.Rates as spec;
 ghost use Rattle.strc_cli.specs.Verdicts.{IsVerdict};
 
 use crate::refusal::Refusal;
 use std::alloc::Global;
-use strc_elab::graph::Node;
+use strc_graph::graph::Node;
 use strc_rate::rates::{RateError, check};
 
-/// Tests the rates of each node, in order, and tells the first refusal of its node: of a filter limits, counts, declared
-/// against counted, and peeks, of the prework before the work.
+/// Tests the rates of each node, in order, and tells the first refusal of its node: of a filter
+/// limits, counts, declared against counted, and peeks, of the prework before the work.
 pub(crate) fn check_rates(alloc: Global, nodes: &[Node]) -> Result<(), Refusal>
     ensures { IsVerdict (λ done. done) (spec.rates_checked 0 (map node_view nodes.now)) result }
 {

@@ -1,9 +1,9 @@
 // A node of the program, ready to fire.
 
-ghost use Rattle.strc_work.specs.Filters.{filter_of};
+ghost use Rattle.strc_semantics.specs.Filters.{filter_of};
 ghost use Rattle.strc_work.specs.States.{IsStateOf, IsFrameOf};
 
-use strc_elab::stream::Instance;
+use strc_graph::instance::Instance;
 use strc_work::frame::Frame;
 use strc_work::state::State;
 

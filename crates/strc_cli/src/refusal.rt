@@ -5,10 +5,10 @@ ghost use Rattle.strc_cli.specs.Compiling.{refusal_of};
 ghost use Rattle.strc_cli.specs.declared.refusal.Refusal.TheVariants.{NoMemory};
 
 use std::alloc::{AllocError, AllocFailed};
+use strc_base::memory;
 use strc_elab::error::ElabError;
 use strc_lex::token::Name;
-use strc_work::fault::Cause;
-use strc_work::memory;
+use strc_semantics::fault::Cause;
 
 /// Why a text is refused. Bytes, tokens, declarations and nodes are numbered from 0.
 #[derive(Debug, Drop)]
@@ -45,7 +45,8 @@ pub enum Refusal {
     BadArguments {
         stream: usize,
     },
-    /// A fault in the statements of a composite stream, in a rate, a length, an initialiser or `init`.
+    /// A fault in the statements of a composite stream, in a rate, a length, an initialiser or
+    /// `init`.
     ConstFault {
         cause: Cause,
     },

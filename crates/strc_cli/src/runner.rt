@@ -2,7 +2,7 @@
 
 ghost use Rattle.std.specs.Prelude.{◌≡◌, ◌++◌, [], List, ℤ, Ok, Err, IfOk, MatchResult};
 ghost use Rattle.strc_work.specs.Answers.{Fires};
-ghost use Rattle.strc_work.specs.Running.{MoreWords};
+ghost use Rattle.strc_machine.specs.Running.{MoreWords};
 ghost use Rattle.strc_cli.specs.Loading.{code_in, fields_in, all_loaded_in};
 ghost use Rattle.strc_cli.specs.Pipeline.{laps, lap_from, node_fired};
 ghost use Rattle.strc_cli.specs.Running.{Laps, IsEnding};
@@ -10,9 +10,9 @@ ghost use Rattle.strc_cli.specs.Running.{Laps, IsEnding};
 use crate::outcome::{Fault, Outcome};
 use crate::ready::{ReadyFilter, ReadyNode};
 use std::alloc::{AllocError, Global};
-use strc_work::code::Body;
-use strc_work::fault::{Cause, Halt};
-use strc_work::word::Word;
+use strc_semantics::body::Body;
+use strc_semantics::fault::{Cause, Halt};
+use strc_semantics::word::Word;
 
 // Why a round ends early.
 #[derive(Drop)]
@@ -21,13 +21,14 @@ enum Stop {
     NoMemory,
 }
 
-/// Fires each node once a round, in order. An error is want of memory.
+/// Fires each node once a round, in order. An error is out of memory.
 pub(crate) fn run(
     alloc: Global,
     nodes: &mut [ReadyNode],
     rounds: u32,
 ) -> Result<Outcome, AllocError>
-    ensures { IfOk result (λ outcome. IsEnding outcome (laps rounds 0 (all_loaded_in nodes.old) [])) }
+    ensures { IfOk result (λ outcome. IsEnding outcome
+        (laps rounds 0 (all_loaded_in nodes.old) [])) }
 {
     let mut words = Vec::new(alloc);
     let mut channel = Vec::with_capacity(alloc, 1)?;
@@ -73,7 +74,8 @@ fn run_round(
 
 // One firing, from the items on the channel before the node to those behind it.
 fn fire(node: &mut ReadyNode, channel: &mut Vec<i32>, words: &mut Vec<Word>) -> Result<(), Halt>
-    ensures fires { Fires (node_fired (code_in node.old) (fields_in node.old) channel.old.items) result
+    ensures fires { Fires (node_fired (code_in node.old)
+        (fields_in node.old) channel.old.items) result
         (fields_in node.new) channel.new.items words.old.items words.new.items }
     ensures words { MoreWords words.old.items words.new.items }
     ensures same { code_in node.new ≡ code_in node.old }
@@ -90,7 +92,8 @@ fn fire_filter(
     channel: &mut Vec<i32>,
     words: &mut Vec<Word>,
 ) -> Result<(), Halt>
-    ensures fires { Fires (node_fired (code_in (ReadyNode.Filter filter.old)) filter.old.state.fields channel.old.items)
+    ensures fires { Fires (node_fired (code_in
+        (ReadyNode.Filter filter.old)) filter.old.state.fields channel.old.items)
         result filter.new.state.fields channel.new.items words.old.items words.new.items }
     ensures words { MoreWords words.old.items words.new.items }
     ensures same { filter.new.instance ≡ filter.old.instance }

@@ -2,23 +2,24 @@
 
 ghost use Rattle.std.specs.Prelude.{◌≡◌, IfOk, map};
 ghost use Rattle.std.specs.List.{AllByRecursion};
-ghost use Rattle.strc_work.specs.Filters.{filter_of};
-ghost use Rattle.strc_elab.specs.View.{node_view};
-ghost use Rattle.strc_elab.specs.Graphs as graphs;
+ghost use Rattle.strc_semantics.specs.Filters.{filter_of};
+ghost use Rattle.strc_graph.specs.NodeView.{node_view};
+ghost use Rattle.strc_graph.specs.Graphs as graphs;
 ghost use Rattle.strc_cli.specs.Loading.{CanStart, loaded_in, all_loaded_in};
 ghost use Rattle.strc_cli.specs.Pipeline.{node_loaded, loaded};
 
 use crate::ready::{ReadyFilter, ReadyNode};
 use std::alloc::Global;
-use strc_elab::graph::Node;
-use strc_elab::stream::Instance;
+use strc_base::memory::NoMemory;
+use strc_graph::graph::Node;
+use strc_graph::instance::Instance;
 use strc_work::code::StartError;
-use strc_work::memory::NoMemory;
 
 /// The nodes, in the same order, ready to fire.
 pub(crate) fn ready_nodes(alloc: Global, nodes: Vec<Node>) -> Result<Vec<ReadyNode>, NoMemory>
     requires { AllByRecursion CanStart (map node_view nodes.items) }
-    ensures { IfOk result (λ ready. all_loaded_in ready.items ≡ loaded (map node_view nodes.items)) }
+    ensures { IfOk result (λ ready. all_loaded_in ready.items
+        ≡ loaded (map node_view nodes.items)) }
 {
     let mut ready = Vec::new(alloc);
     for node in nodes {

@@ -5,7 +5,7 @@ ghost use Rattle.std.specs.Prelude.{option_map, string_bytes};
 ghost use Rattle.clap.specs.Words.{app_of, kind_of, rule_of, subcommand_rows_of};
 ghost use Rattle.clap.specs.Walk.{texts};
 ghost use Rattle.clap.specs.declared.builder.command.Command.TheViews.{out-Command as fields_of};
-ghost use Rattle.strc_cli.specs.Lines.{AsksFor, IsLineIn, IsRun, bare_line, fault_by, faults};
+ghost use Rattle.strc_cli.specs.Lines.{AsksFor, IsLineIn, IsRun, default_line, fault_by, faults};
 ghost use Rattle.strc_cli.specs.Lines.{file_rule, main_rule, rounds_rule, run_app, strc_app};
 
 use crate::line::{Command, Line, LineFault};
@@ -21,7 +21,7 @@ const BARE_ROUNDS: u32 = 5;
 /// With no words after the name the text comes from standard input and runs for 5 rounds.
 /// Words that the program doesn't know, or a number past its bounds, are `Words`.
 pub fn command<'a>(alloc: Global, words: &'a [&'a str]) -> Result<Line, LineFault>
-    ensures bare { length words.now ≤ 1 → result ≡ Ok bare_line }
+    ensures bare { length words.now ≤ 1 → result ≡ Ok default_line }
     ensures told { 1 < length words.now → IfOk result (AsksFor (texts words.now)) }
     ensures refused { result ≡ Err LineFault.Words → faults (texts words.now) ≢ [] }
 {
@@ -44,7 +44,7 @@ pub fn command<'a>(alloc: Global, words: &'a [&'a str]) -> Result<Line, LineFaul
 }
 
 /// What is wrong with words that `command` doesn't understand, and how the program is called.
-pub fn complaint<'a>(alloc: Global, words: &'a [&'a str]) -> Result<String, AllocError> {
+pub fn usage_error<'a>(alloc: Global, words: &'a [&'a str]) -> Result<String, AllocError> {
     match parser(alloc)?.try_get_matches_from(words) {
         Ok(_) => Ok(String::new(alloc)),
         Err(error) => error.to_string(alloc),

@@ -1,40 +1,54 @@
-// Takes: what one firing of each kind of node means, a stream as a tree, counts of firings and orders of them.
-// Gives: definitions that other crates cite (nodes, runs, the stream equations, orders, the answer of a run), and laws about them.
-// A caller relies on `run_gives_answer`: the run of each order that is valid by counts gives the answer of the stream equations.
-// Each law is the contract of a public function with an empty body; `specs/Laws.antt` states them, `specs/Rows.antt` has worked rows.
+// Takes: what one firing of each kind of node means, a stream as a tree, counts of firings and
+// orders of them.
+// Gives: definitions that other crates cite (nodes, runs, the stream equations, orders, the answer
+// of a run), and laws about them. A caller relies on `run_gives_answer`: the run of each order that
+// is valid by counts gives the answer of the stream equations. Each law is the contract of a public
+// function with an empty body; `specs/Laws.antt` states them, `specs/Rows.antt` has worked rows.
 // Stands on std alone.
 #![tactic(auto)]
 
-ghost use Rattle.strc_dataflow.specs.Laws.{AnswerIsOne, AnySolution, ChainRunsInOrder, FillsAreByCounts, OnlyPortsMatter, OrderIsValidAgain, OrdersAgree, PipelineRunsInOrder, QueueRunGivesAnswer, QueuesHoldTheRest, RunGivesAnswer, SolutionSolves, SplittersAndJoiners, StateSolves};
-ghost use Rattle.strc_dataflow.specs.Rows.{BalanceRow, DivisionFaultRow, DownstreamFaultRow, ExampleSplitters, FaultInLoopRow, FibonacciRow, MatchedRow, MinimalRow, PlacesRow, StartupFaultRow, TwoFaultsRow, WeightsRow};
+ghost use Rattle.strc_dataflow.specs.Laws.{AnswerIsOne, AnySolution, ChainRunsInOrder};
+ghost use Rattle.strc_dataflow.specs.Laws.{FillsAreByCounts, OnlyPortsMatter, OrderIsValidAgain};
+ghost use Rattle.strc_dataflow.specs.Laws.{OrdersAgree, PipelineRunsInOrder, QueueRunGivesAnswer};
+ghost use Rattle.strc_dataflow.specs.Laws.{QueuesHoldTheRest, RunGivesAnswer, SolutionSolves};
+ghost use Rattle.strc_dataflow.specs.Laws.{SplittersAndJoiners, StateSolves};
+ghost use Rattle.strc_dataflow.specs.Rows.{BalanceRow, DivisionFaultRow, DownstreamFaultRow};
+ghost use Rattle.strc_dataflow.specs.Rows.{ExampleSplitters, FaultInLoopRow, FibonacciRow};
+ghost use Rattle.strc_dataflow.specs.Rows.{MatchedRow, MinimalRow, PlacesRow, StartupFaultRow};
+ghost use Rattle.strc_dataflow.specs.Rows.{TwoFaultsRow, WeightsRow};
 
 /// The solution that the recursion over a stream gives solves the equations of its flat graph.
 pub fn solution_solves<Code, State, Cause, Word>()
     ensures { SolutionSolves Code State Cause Word }
 {}
 
-/// The run of start-up and k rounds gives the answer of the stream equations: all words; or the first round in which the equations
-/// fault, the words before it, and the fault that stands first in the order.
+/// The run of start-up and k rounds gives the answer of the stream equations: all words; or the
+/// first round in which the equations fault, the words before it, and the fault that stands first
+/// in the order.
 pub fn run_gives_answer<Code, State, Cause, Word>()
     ensures { RunGivesAnswer Code State Cause Word }
 {}
 
-/// Two answers are equal, and exactly one of done, a fault in start-up and a fault in a round holds.
+/// Two answers are equal, and exactly one of done, a fault in start-up and a fault in a round
+/// holds.
 pub fn answer_is_one<Code, State, Cause, Word>()
     ensures { AnswerIsOne Code State Cause Word }
 {}
 
-/// Two schedules of the same counts give the same words, and a fault in the same round; they differ at most in the firing that they name.
+/// Two schedules of the same counts give the same words, and a fault in the same round; they differ
+/// at most in the firing that they name.
 pub fn orders_agree<Code, State, Cause, Word>()
     ensures { OrdersAgree Code State Cause Word }
 {}
 
-/// The run of a graph is the answer that any solutions of its flat equations give, and no other outcome is.
+/// The run of a graph is the answer that any solutions of its flat equations give, and no other
+/// outcome is.
 pub fn any_solution<Code, State, Cause, Word>()
     ensures { AnySolution Code State Cause Word }
 {}
 
-/// Each queue is what has come without what was taken, and a machine over queues does what the one over histories does.
+/// Each queue is what has come without what was taken, and a machine over queues does what the one
+/// over histories does.
 pub fn queues_hold_the_rest<Code, State, Cause, Word>()
     ensures { QueuesHoldTheRest Code State Cause Word }
 {}
@@ -54,7 +68,8 @@ pub fn fills_are_by_counts<Code, State, Cause, Word>()
     ensures { FillsAreByCounts Code State Cause Word }
 {}
 
-/// An order that is valid in the first round is valid in every later one, where the channels balance.
+/// An order that is valid in the first round is valid in every later one, where the channels
+/// balance.
 pub fn order_is_valid_again<Code, State, Cause, Word>()
     ensures { OrderIsValidAgain Code State Cause Word }
 {}
@@ -64,7 +79,8 @@ pub fn only_ports_matter<Code, State, Cause, Word>()
     ensures { OnlyPortsMatter Code State Cause Word }
 {}
 
-/// A stream whose nodes stand in a chain, each taking what the one before gives, runs in order, each node once a round.
+/// A stream whose nodes stand in a chain, each taking what the one before gives, runs in order,
+/// each node once a round.
 pub fn chain_runs_in_order<Code, State, Cause, Word>()
     ensures { ChainRunsInOrder Code State Cause Word }
 {}

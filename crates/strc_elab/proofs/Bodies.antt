@@ -1,15 +1,15 @@
 -- Statements of a body, one after another.
 use Rattle.std.proofs.Common.{◌≡◌, ℕ, ℤ, suc, ◌+◌, ◌-◌, ◌<◌, Bool, cond, List, length, drop, get_or, Option, Some, None, Result, Ok, Bor, Vec, Global, sym, ap, ◌∙◌}
 use Rattle.std.specs.Option.{option_map, option_copied}
-use Rattle.strc_parse.specs.Tree as tree
-use Rattle.strc_parse.specs.View.{expr_view, stmt_view, block_view}
-use Rattle.strc_parse.specs.declared.tree.Expr.{Expr}
-use Rattle.strc_parse.specs.declared.tree.Stmt.{Stmt, Block}
-use Rattle.strc_work.specs.Arithmetic.{is_true}
-use Rattle.strc_work.specs.Firing.{Variables, block_left, turn_limit}
-use Rattle.strc_work.specs.Typing.{TypedNames, names_after}
-use Rattle.strc_work.proofs.Blocks.{stmt_view-Block, block_view-drop}
-use Rattle.strc_work.proofs.TypedGrowth.{StandsOn, stands_on_itself, stands_on_after, drop_inner, drop_own}
+use Rattle.strc_syntax.specs.Tree as tree
+use Rattle.strc_syntax.specs.View.{expr_view, stmt_view, block_view}
+use Rattle.strc_syntax.specs.declared.tree.Expr.{Expr}
+use Rattle.strc_syntax.specs.declared.tree.Stmt.{Stmt, Block}
+use Rattle.strc_semantics.specs.Arithmetic.{is_true}
+use Rattle.strc_semantics.specs.Firing.{Variables, block_left, turn_limit}
+use Rattle.strc_check.specs.Typing.{TypedNames, names_after}
+use Rattle.strc_syntax.proofs.Blocks.{stmt_view-Block, block_view-drop}
+use Rattle.strc_check.proofs.TypedGrowth.{StandsOn, stands_on_itself, stands_on_after, drop_inner, drop_own}
 use Rattle.strc_elab.specs.Elaboration.{Setting, Progress, then_do, inside, stmt_run, stmts_run}
 use Rattle.strc_elab.specs.Answering.{IsRefusal}
 use Rattle.strc_elab.specs.Loops.{for_looped, names_behind}

@@ -6,8 +6,8 @@ use Rattle.strc_dataflow.specs.Flat.{Source}
 use Rattle.strc_dataflow.specs.Flat as flats
 use Rattle.strc_elab.specs.Instances.{Stream, Streams, Filter, Identity, Pipeline, Done, More}
 use Rattle.strc_elab.specs.Types.{IsWellTyped, AreWellTyped, HasFirst}
-use Rattle.strc_elab.specs.Graphs as graphs
-use Rattle.strc_elab.specs.Graphs.{NodeCode}
+use Rattle.strc_graph.specs.Graphs as graphs
+use Rattle.strc_graph.specs.Graphs.{NodeCode}
 use Rattle.strc_elab.specs.Flattening.{tree_of, trees_of, row_of, nodes_of, row_nodes}
 
 -- what a node pushes, port by port

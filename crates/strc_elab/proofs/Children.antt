@@ -1,18 +1,18 @@
 -- Anonymous children, as their texts.
 use Rattle.std.proofs.Common.{◌≡◌, List, [], ◌∷◌, map, Vec, Option, None, refl, sym, ap, ◌∙◌}
 use Rattle.std.specs.declared.alloc.Global.{Global}
-use Rattle.strc_parse.specs.Tree as tree
-use Rattle.strc_parse.specs.Streams.{chain}
-use Rattle.strc_parse.specs.View.{member_view, child_view, block_view}
-use Rattle.strc_parse.specs.declared.tree.StreamType.{StreamType}
-use Rattle.strc_parse.specs.declared.tree.CompositeKind.{CompositeKind}
-use Rattle.strc_parse.specs.declared.tree.Member.{Member}
-use Rattle.strc_parse.specs.declared.tree.Stmt.{Stmt}
-use Rattle.strc_parse.specs.declared.tree.Child.{Filter, Composite}
-use Rattle.strc_parse.proofs.Views.{child_view_filter, child_view_composite, row_of_views}
-use Rattle.strc_work.specs.Filters.{filter_parts}
+use Rattle.strc_syntax.specs.Tree as tree
+use Rattle.strc_syntax.specs.Tree.{chain}
+use Rattle.strc_syntax.specs.View.{member_view, child_view, block_view}
+use Rattle.strc_syntax.specs.declared.tree.StreamType.{StreamType}
+use Rattle.strc_syntax.specs.declared.tree.CompositeKind.{CompositeKind}
+use Rattle.strc_syntax.specs.declared.tree.Member.{Member}
+use Rattle.strc_syntax.specs.declared.tree.Stmt.{Stmt}
+use Rattle.strc_syntax.specs.declared.tree.Child.{Filter, Composite}
+use Rattle.strc_syntax.proofs.Views.{child_view_filter, child_view_composite, row_of_views}
+use Rattle.strc_semantics.specs.Filters.{filter_parts}
 use Rattle.strc_elab.specs.Elaboration.{Setting, Progress, child_run, found_run, unnamed_found}
-use Rattle.strc_work.specs.Typing.{TypedNames}
+use Rattle.strc_check.specs.Typing.{TypedNames}
 use Rattle.strc_elab.specs.Texts.{FilterText, CompositeText, listed}
 use Rattle.std.specs.Prelude.{Ok}
 

@@ -4,7 +4,7 @@ use mathlib.Core.Logic.{inl, inr}
 use Rattle.std.proofs.lemmas.Bool.{cases_lt}
 use Rattle.strc_dataflow.specs.Flat.{Source, Origin}
 use Rattle.strc_dataflow.specs.Flat as flats
-use Rattle.strc_elab.specs.Graphs.{NodeCode, input_ports, output_ports, inputs_at, outputs_at}
+use Rattle.strc_graph.specs.Graphs.{NodeCode, input_ports, output_ports, inputs_at, outputs_at}
 use Rattle.strc_elab.specs.Flattening.{Feeds, Path, IsConnected}
 use Rattle.strc_elab.specs.Rows.{AreLinked}
 use Rattle.strc_elab.proofs.Rows.{IsRowGraph}

@@ -1,12 +1,12 @@
 -- What the examples mean, by computing it.
 use Rattle.std.proofs.Common.{◌≡◌, ◌+◌, ℕ, zero, suc, Bool, true, false, cond, [], length, Some, Result, Ok, Err, nat_lt, refl, ap}
 use Rattle.std.specs.Int.{int_wrap}
-use Rattle.strc_parse.specs.Tree as tree
-use Rattle.strc_parse.specs.declared.tree.ItemType.TheVariants.{Void}
-use Rattle.strc_work.specs.Firing as firing
-use Rattle.strc_work.specs.Firing.{turn_limit}
-use Rattle.strc_work.specs.Typing.{TypedNames}
-use Rattle.strc_work.specs.declared.fault.Cause.TheVariants.{Turns}
+use Rattle.strc_syntax.specs.Tree as tree
+use Rattle.strc_syntax.specs.declared.tree.ItemType.TheVariants.{Void}
+use Rattle.strc_semantics.specs.Firing as firing
+use Rattle.strc_semantics.specs.Firing.{turn_limit}
+use Rattle.strc_check.specs.Typing.{TypedNames}
+use Rattle.strc_semantics.specs.declared.fault.Cause.TheVariants.{Turns}
 use Rattle.strc_elab.specs.Elaboration.{Setting, Progress, then_do, computed, condition_given, inside, looped, stmt_run, stmts_run, stream_made, begun, pipeline_made, level_limit, filter_limit}
 use Rattle.strc_elab.specs.Instances.{Stream}
 use Rattle.strc_elab.specs.Examples.{RecursionRow, EndlessRow, LoopRow, EndlessLoopRow, endless_loop, both_added, block}

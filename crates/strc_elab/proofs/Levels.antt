@@ -1,6 +1,6 @@
 -- Streams in one another, level by level.
 use Rattle.std.proofs.Common.{◌≡◌, ℕ, zero, suc, ◌-◌, List, [], refl, ap, ◌∙◌, arith}
-use Rattle.strc_parse.specs.Tree.{Declaration}
+use Rattle.strc_syntax.specs.Tree.{Declaration}
 use Rattle.strc_elab.specs.Elaboration.{Tally, text_made, stream_made, main_made, level_limit}
 use Rattle.strc_elab.specs.Texts.{Constants, Place, Text, text_of}
 

@@ -7,10 +7,10 @@ use Rattle.std.proofs.lemmas.List.Elements.{All-push}
 use Rattle.std.proofs.lemmas.List.Quantifiers.{all_pairs_push}
 use Rattle.strc_dataflow.specs.Flat.{Source}
 use Rattle.strc_dataflow.specs.Flat as flats
-use Rattle.strc_parse.specs.declared.tree.ItemType.{ItemType}
-use Rattle.strc_parse.specs.declared.tree.ItemType.TheVariants as item
+use Rattle.strc_syntax.specs.declared.tree.ItemType.{ItemType}
+use Rattle.strc_syntax.specs.declared.tree.ItemType.TheVariants as item
 use Rattle.strc_elab.specs.Instances.{Stream, Streams, Filter, Identity, Pipeline, Done, More}
-use Rattle.strc_elab.specs.Graphs.{NodeCode, Channel, JoinsPorts, ports_of, input_ports, inputs_at, ends_at, source_in, source_of}
+use Rattle.strc_graph.specs.Graphs.{NodeCode, Channel, JoinsPorts, ports_of, input_ports, inputs_at, ends_at, source_in, source_of}
 use Rattle.strc_elab.specs.Flattening.{nodes_of, row_nodes, IsBefore}
 use Rattle.strc_elab.specs.Rows.{AreLinked, link_at, links}
 use Rattle.strc_elab.proofs.Chains.{items_from}

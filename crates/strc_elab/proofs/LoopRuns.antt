@@ -1,9 +1,9 @@
 -- Loops of a body, turn by turn.
 use Rattle.std.proofs.Common.{◌≡◌, ℕ, ℤ, suc, ◌+◌, ◌-◌, ◌<◌, ◌≤◌, true, false, cond, Result, Ok, Err, sym, ap, ◌∙◌, arith}
-use Rattle.strc_work.specs.Arithmetic.{is_true}
-use Rattle.strc_work.specs.Firing as firing
-use Rattle.strc_work.specs.Firing.{turn_limit}
-use Rattle.strc_work.specs.declared.fault.Cause.TheVariants as causes
+use Rattle.strc_semantics.specs.Arithmetic.{is_true}
+use Rattle.strc_semantics.specs.Firing as firing
+use Rattle.strc_semantics.specs.Firing.{turn_limit}
+use Rattle.strc_semantics.specs.declared.fault.Cause.TheVariants as causes
 use Rattle.strc_elab.specs.Elaboration.{Progress, then_do, computed, turned, looped}
 use Rattle.strc_elab.specs.Answering.{IsRefusal}
 use Rattle.strc_elab.specs.declared.error.ElabError.{ElabError}

@@ -5,8 +5,8 @@ use Rattle.std.specs.List.{list_any}
 use Rattle.std.specs.Map.{lookup}
 use Rattle.std.specs.Cmp.Lexicographic.{pointwise}
 use Rattle.std.proofs.lemmas.List.{take_more, length-take-le}
-use Rattle.strc_parse.specs.declared.tree.Decl.{Decl}
-use Rattle.strc_parse.specs.View.{declaration_view}
+use Rattle.strc_syntax.specs.declared.tree.Decl.{Decl}
+use Rattle.strc_syntax.specs.View.{declaration_view}
 use Rattle.strc_elab.specs.Elaboration.{doubled_from}
 use Rattle.strc_elab.specs.Texts.{declared_from}
 use Rattle.strc_elab.specs.Names.{place_from}

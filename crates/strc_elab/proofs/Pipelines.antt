@@ -1,6 +1,6 @@
 -- Pipelines of the streams that a body adds.
 use Rattle.std.proofs.Common.{◌≡◌, ℕ, List, [], ◌∷◌, Vec, Global, map, Option, Some, Ok, true, refl, ap, ◌∙◌}
-use Rattle.strc_parse.specs.declared.tree.StreamType.{StreamType}
+use Rattle.strc_syntax.specs.declared.tree.StreamType.{StreamType}
 use Rattle.strc_elab.specs.declared.stream.Stream.{Stream, Pipeline}
 use Rattle.strc_elab.specs.Elaboration as spec
 use Rattle.strc_elab.specs.Instances as instances

@@ -4,9 +4,9 @@ use mathlib.Core.Logic.{inl, inr}
 use Rattle.std.specs.Option.{option_map_or}
 use Rattle.std.proofs.lemmas.Bool.{cases_lt}
 use Rattle.std.proofs.lemmas.List.{length-map}
-use Rattle.strc_elab.specs.declared.graph.Node.{Node}
-use Rattle.strc_elab.specs.Graphs.{NodeCode, input_ports, output_ports, inputs_at, outputs_at}
-use Rattle.strc_elab.specs.View.{node_view}
+use Rattle.strc_graph.specs.declared.graph.Node.{Node}
+use Rattle.strc_graph.specs.Graphs.{NodeCode, input_ports, output_ports, inputs_at, outputs_at}
+use Rattle.strc_graph.specs.NodeView.{node_view}
 use Rattle.strc_elab.specs.Rows.{AreLinked}
 
 -- no truth value is both

@@ -7,7 +7,7 @@ use Rattle.strc_dataflow.specs.Flat.{Source}
 use Rattle.strc_dataflow.specs.Flat as flats
 use Rattle.strc_elab.specs.Instances.{Stream}
 use Rattle.strc_elab.specs.Types.{IsWellTyped}
-use Rattle.strc_elab.specs.Graphs.{NodeCode, input_ports, output_ports, inputs_at, outputs_at}
+use Rattle.strc_graph.specs.Graphs.{NodeCode, input_ports, output_ports, inputs_at, outputs_at}
 use Rattle.strc_elab.specs.Flattening.{tree_of, nodes_of, codes_of, meaning_of}
 use Rattle.strc_elab.proofs.Chains.{items_from, row_sources, stream_is_row, row_sources-head, row_sources-at, length-row_sources}
 

@@ -1,29 +1,29 @@
 -- Each stream that a program means takes and gives nothing, its types fit, and its filters are instances of texts.
 use Rattle.std.proofs.Common.{◌≡◌, ℕ, zero, suc, ◌+◌, ℤ, Bool, true, false, ◌&&◌, List, [], ◌∷◌, ◌++◌, length, Option, Some, None, Result, Ok, Err, IfOk, cond, nat_lt, nat_eq, refl, sym, ap, ◌∙◌, subst}
 use Rattle.std.specs.List.{AllByRecursion}
-use Rattle.strc_parse.specs.Tree as tree
-use Rattle.strc_parse.specs.Tree.{Declaration}
-use Rattle.strc_parse.specs.declared.tree.ItemType.{ItemType}
-use Rattle.strc_parse.specs.declared.tree.ItemType.TheVariants as item
-use Rattle.strc_parse.specs.declared.tree.StreamType.{StreamType}
-use Rattle.strc_parse.specs.declared.tree.CompositeKind.{CompositeKind}
-use Rattle.strc_parse.specs.declared.tree.CompositeKind.TheVariants as composite
-use Rattle.strc_parse.specs.declared.tree.Role.TheVariants as role
-use Rattle.strc_work.specs.Filters.{Filter}
-use Rattle.strc_work.specs.Firing.{Store, started, turn_limit, block_left}
-use Rattle.strc_work.specs.Firing as firing
-use Rattle.strc_work.specs.Arithmetic.{is_true}
-use Rattle.strc_work.specs.Resolution.{filter_resolved}
-use Rattle.strc_work.specs.Typing.{TypedNames, names_after}
-use Rattle.strc_work.specs.declared.fault.Cause.{Cause}
-use Rattle.strc_work.specs.declared.lowering.LowerError.{LowerError}
-use Rattle.strc_work.specs.declared.types.ValueType.TheVariants as kind
-use Rattle.strc_work.proofs.Resolving.{resolved_types}
+use Rattle.strc_syntax.specs.Tree as tree
+use Rattle.strc_syntax.specs.Tree.{Declaration}
+use Rattle.strc_syntax.specs.declared.tree.ItemType.{ItemType}
+use Rattle.strc_syntax.specs.declared.tree.ItemType.TheVariants as item
+use Rattle.strc_syntax.specs.declared.tree.StreamType.{StreamType}
+use Rattle.strc_syntax.specs.declared.tree.CompositeKind.{CompositeKind}
+use Rattle.strc_syntax.specs.declared.tree.CompositeKind.TheVariants as composite
+use Rattle.strc_syntax.specs.declared.tree.Role.TheVariants as role
+use Rattle.strc_semantics.specs.Filters.{Filter}
+use Rattle.strc_semantics.specs.Firing.{Store, started, turn_limit, block_left}
+use Rattle.strc_semantics.specs.Firing as firing
+use Rattle.strc_semantics.specs.Arithmetic.{is_true}
+use Rattle.strc_check.specs.Resolution.{filter_resolved}
+use Rattle.strc_check.specs.Typing.{TypedNames, names_after}
+use Rattle.strc_semantics.specs.declared.fault.Cause.{Cause}
+use Rattle.strc_check.specs.declared.error.LowerError.{LowerError}
+use Rattle.strc_check.specs.declared.types.ValueType.TheVariants as kind
+use Rattle.strc_check.proofs.Resolving.{resolved_types}
 use Rattle.strc_elab.specs.declared.error.ElabError.{ElabError}
 use Rattle.strc_elab.specs.declared.error.ElabError.TheVariants as refused
 use Rattle.strc_elab.specs.Elaboration.{then_do, where_kept, ruled, computed, given, simple_done, declaration_done, filter_limit, Tally, Made, Setting, Progress, on_store, condition_given, inside, turned, looped, child_found, child_run, child_added, same_item, composed, stmt_run, stmts_run, started_as, instance_of, is_as_written, begun, pipeline_made, composite_made, text_made, stream_made, level_limit, types_of, can_be_main, mains_from, only_main, named_main, main_of, main_made, not_doubled, doubled_from, elaborated}
 use Rattle.strc_elab.specs.Flattening.{nodes_of, row_nodes}
-use Rattle.strc_elab.specs.Graphs as graphs
+use Rattle.strc_graph.specs.Graphs as graphs
 use Rattle.strc_elab.specs.Instances.{Stream, in_a_row}
 use Rattle.strc_elab.specs.Sound.{IsInstance, IsElaborated}
 use Rattle.strc_elab.specs.Texts.{Place, Text, FilterText, CompositeText, IdentityText, ReaderText, WriterText, text_of, parameters_of, declared_from}

@@ -4,12 +4,12 @@ use Rattle.std.specs.Prelude.{bytes_eq, slice_get}
 use Rattle.std.specs.declared.alloc.Global.{Global}
 use Rattle.std.proofs.lemmas.Bool.Decides.{eqb_tells}
 use Rattle.std.proofs.lemmas.Slice.Eq.{bytes_eq-Decides}
-use Rattle.strc_work.specs.Firing.{Variables}
-use Rattle.strc_work.specs.Names.{has_name}
-use Rattle.strc_work.specs.Typing.{TypedNames, plain_names}
-use Rattle.strc_work.specs.declared.types.ValueType.{ValueType}
+use Rattle.strc_semantics.specs.Firing.{Variables}
+use Rattle.strc_base.specs.Names.{has_name}
+use Rattle.strc_check.specs.Typing.{TypedNames, plain_names}
+use Rattle.strc_check.specs.declared.types.ValueType.{ValueType}
 use Rattle.strc_elab.specs.Bindings.{row_at, with_cells, cells_of}
-use Rattle.strc_elab.specs.Texts.{Constants, unhidden, as_constant, seen_behind}
+use Rattle.strc_elab.specs.Texts.{Constants, unshadowed, as_constant, seen_behind}
 use Rattle.strc_elab.specs.Seeing.{offered_one, offered}
 use Rattle.strc_elab.proofs.Slots.{length_with_cells}
 
@@ -32,15 +32,15 @@ cells_of_row (first ∷ rest) cells number below = ⊎_elim (λ h. here h.0 h.1)
 
 -- what is hidden is all that counts of the hidden names
 
-pub unhidden_alike : (h g : List (List ℕ)) → ((n : List ℕ) → has_name h n ≡ has_name g n) → (constants : Constants) → unhidden h constants ≡ unhidden g constants
-unhidden_alike h g alike [] = refl
-unhidden_alike h g alike (first ∷ rest) =
-    ap (λ b. cond b (unhidden h rest) (first ∷ unhidden h rest)) (alike first.0)
-    ∙ ap (λ (l : Constants). cond (has_name g first.0) l (first ∷ l)) (unhidden_alike h g alike rest)
+pub unshadowed_alike : (h g : List (List ℕ)) → ((n : List ℕ) → has_name h n ≡ has_name g n) → (constants : Constants) → unshadowed h constants ≡ unshadowed g constants
+unshadowed_alike h g alike [] = refl
+unshadowed_alike h g alike (first ∷ rest) =
+    ap (λ b. cond b (unshadowed h rest) (first ∷ unshadowed h rest)) (alike first.0)
+    ∙ ap (λ (l : Constants). cond (has_name g first.0) l (first ∷ l)) (unshadowed_alike h g alike rest)
 
 pub seen_alike : (h g : List (List ℕ)) → ((n : List ℕ) → has_name h n ≡ has_name g n) → (names : TypedNames) (variables : Variables) (constants : Constants) → seen_behind h names variables constants ≡ seen_behind g names variables constants
-seen_alike h g alike [] variables constants = unhidden_alike h g alike constants
-seen_alike h g alike (name ∷ names) [] constants = unhidden_alike h g alike constants
+seen_alike h g alike [] variables constants = unshadowed_alike h g alike constants
+seen_alike h g alike (name ∷ names) [] constants = unshadowed_alike h g alike constants
 seen_alike h g alike (name ∷ names) (variable ∷ variables) constants =
     ap (λ b. cond b (seen_behind h names variables constants) (as_constant name.0 name.1 variable.1 (seen_behind (name.0 ∷ h) names variables constants))) (alike name.0)
     ∙ ap (λ (l : Constants). cond (has_name g name.0) l (as_constant name.0 name.1 variable.1 (seen_behind (name.0 ∷ h) names variables constants))) (seen_alike h g alike names variables constants)
@@ -160,12 +160,12 @@ seen_more names variables number x constants counts below at =
 
 -- before the first variable, and behind the last one
 
-pub seen_first : (names : TypedNames) (variables : Variables) (constants : Constants) → length names ≡ length variables → seen_at names variables 0 constants ≡ unhidden (plain_names names) constants
+pub seen_first : (names : TypedNames) (variables : Variables) (constants : Constants) → length names ≡ length variables → seen_at names variables 0 constants ≡ unshadowed (plain_names names) constants
 seen_first names variables constants counts =
     let all : length names - 0 ≡ length names = omega arith in
     ap (λ n. seen_behind (take n (plain_names names)) (drop n names) (drop n variables) constants) all
     ∙ ap (λ l. seen_behind (take (length names) (plain_names names)) l (drop (length names) variables) constants) (drop_all names)
-    ∙ ap (λ l. unhidden l constants) (ap (λ n. take n (plain_names names)) (sym (length_names names)) ∙ take_whole (plain_names names))
+    ∙ ap (λ l. unshadowed l constants) (ap (λ n. take n (plain_names names)) (sym (length_names names)) ∙ take_whole (plain_names names))
   where
     length_names : (l : TypedNames) → length (plain_names l) ≡ length l
     length_names [] = refl
@@ -185,11 +185,11 @@ seen_last names variables constants =
     ap (λ n. seen_behind (take n (plain_names names)) (drop n names) (drop n variables) constants) none
 
 -- one more constant that isn't hidden
-pub unhidden_kept : (hidden : List (List ℕ)) (one : List ℕ × ℤ) (constants : Constants) → has_name hidden one.0 ≡ false → unhidden hidden (one ∷ constants) ≡ one ∷ unhidden hidden constants
-unhidden_kept hidden one constants e = ap (λ b. cond b (unhidden hidden constants) (one ∷ unhidden hidden constants)) e
+pub unshadowed_kept : (hidden : List (List ℕ)) (one : List ℕ × ℤ) (constants : Constants) → has_name hidden one.0 ≡ false → unshadowed hidden (one ∷ constants) ≡ one ∷ unshadowed hidden constants
+unshadowed_kept hidden one constants e = ap (λ b. cond b (unshadowed hidden constants) (one ∷ unshadowed hidden constants)) e
 
-pub unhidden_lost : (hidden : List (List ℕ)) (one : List ℕ × ℤ) (constants : Constants) → has_name hidden one.0 ≡ true → unhidden hidden (one ∷ constants) ≡ unhidden hidden constants
-unhidden_lost hidden one constants e = ap (λ b. cond b (unhidden hidden constants) (one ∷ unhidden hidden constants)) e
+pub unshadowed_lost : (hidden : List (List ℕ)) (one : List ℕ × ℤ) (constants : Constants) → has_name hidden one.0 ≡ true → unshadowed hidden (one ∷ constants) ≡ unshadowed hidden constants
+unshadowed_lost hidden one constants e = ap (λ b. cond b (unshadowed hidden constants) (one ∷ unshadowed hidden constants)) e
 
 item_at : (names : TypedNames) (i : ℕ) → i < length names → (x : List ℕ × ValueType) × (slice_get names i ≡ Some x)
 item_at [] i below = absurd (omega arith)

@@ -1,8 +1,8 @@
 -- The turns of loops.
 use Rattle.std.proofs.Common.{◌≡◌, ◌<◌, ◌≤◌, ◌+◌, true, false, Ok, Err, refl, arith, nat_lt}
 use Rattle.std.proofs.lemmas.Bool.{lt-ltb, le-ltb}
-use Rattle.strc_work.specs.declared.fault.Cause.TheVariants.{Turns}
-use Rattle.strc_work.specs.Firing.{Store, turned, turn_limit}
+use Rattle.strc_semantics.specs.declared.fault.Cause.TheVariants.{Turns}
+use Rattle.strc_semantics.specs.Firing.{Store, turned, turn_limit}
 
 pub turn_limit_is : turn_limit ≡ 1000000
 unfolding turn_limit

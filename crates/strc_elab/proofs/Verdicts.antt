@@ -5,7 +5,7 @@ use Rattle.strc_elab.specs.declared.error.ElabError.{ElabError}
 use Rattle.strc_elab.specs.declared.error.ElabError.TheVariants as refusal
 use Rattle.strc_elab.specs.Instances.{Stream}
 use Rattle.strc_elab.specs.Types.{IsWellTyped}
-use Rattle.strc_elab.specs.Graphs.{NodeCode, Graph, JoinsPorts, inputs_at, source_of, source_in}
+use Rattle.strc_graph.specs.Graphs.{NodeCode, Graph, JoinsPorts, inputs_at, source_of, source_in}
 use Rattle.strc_elab.specs.Flattening.{nodes_of, meaning_of, IsVerdict, IsFlattened, IsConnected, IsFlat, IsBefore}
 use Rattle.strc_elab.specs.Rows.{AreLinked, links}
 use Rattle.strc_elab.proofs.Rows.{IsRowGraph, codes_of-is, meaning_is_row}

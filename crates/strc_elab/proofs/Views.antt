@@ -2,10 +2,11 @@
 use Rattle.std.proofs.Common.{◌≡◌, List, [], ◌∷◌, ◌++◌, length, map, Vec, Global, refl, ap, ◌∙◌}
 use mathlib.Core.Former.{Count}
 use Rattle.strc_elab.specs.declared.stream.Stream.{Stream, Row_of-Stream, end_of-Stream, more_of-Stream, items-the_row-Stream, items_hidden-the_row-Stream-0, Pipeline', Pipeline}
-use Rattle.strc_elab.specs.declared.graph.Node.{Node}
+use Rattle.strc_graph.specs.declared.graph.Node.{Node}
 use Rattle.strc_elab.specs.Instances as instances
-use Rattle.strc_elab.specs.Graphs.{NodeCode, node_name}
-use Rattle.strc_elab.specs.View.{stream_view, row_view, streams_view, node_view}
+use Rattle.strc_graph.specs.Graphs.{NodeCode, node_name}
+use Rattle.strc_elab.specs.View.{stream_view, row_view, streams_view}
+use Rattle.strc_graph.specs.NodeView.{node_view}
 use Rattle.strc_elab.specs.Flattening.{nodes_of, row_nodes, names_of, row_names}
 
 abbrev row_of : Stream → (n : Count) × Row_of-Stream n

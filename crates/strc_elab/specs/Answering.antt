@@ -1,7 +1,7 @@
 -- How code that elaborates answers.
 use Rattle.std.specs.Prelude.{◌≡◌, ℤ, List, map, Result, Ok, Err, Vec}
 use Rattle.std.specs.declared.alloc.Global.{Global}
-use Rattle.strc_work.specs.Firing as firing
+use Rattle.strc_semantics.specs.Firing as firing
 use Rattle.strc_elab.specs.Elaboration as spec
 use Rattle.strc_elab.specs.Saying.{store_of}
 use Rattle.strc_elab.specs.Texts.{Constants}
@@ -10,7 +10,7 @@ use Rattle.strc_elab.specs.declared.error.ElabError.{ElabError}
 use Rattle.strc_elab.specs.declared.error.ElabError.TheVariants.{NoMemory}
 use Rattle.strc_elab.specs.declared.progress.Progress.{Progress}
 
--- the judgement's refusal, if it isn't want of memory
+-- the judgement's refusal, if it isn't out of memory
 abbrev pub IsRefusal : {A : Type 0} → Result A ElabError → ElabError → Type 0
 IsRefusal expected NoMemory = Unit {0}
 IsRefusal expected refusal = expected ≡ Err refusal

@@ -3,27 +3,29 @@
 use Rattle.std.specs.Prelude.{ℕ, zero, suc, ◌+◌, ℤ, pos, Bool, true, false, ◌&&◌, not, nat_lt, nat_eq, List, [], ◌∷◌, ◌++◌, length, Option, Some, None, unwrap_or, Result, Ok, Err, if◌then◌else◌}
 use Rattle.std.specs.List.{list_any}
 use Rattle.std.specs.Cmp.Lexicographic.{pointwise}
-use Rattle.strc_parse.specs.Tree as tree
-use Rattle.strc_parse.specs.Tree.{Declaration}
-use Rattle.strc_parse.specs.declared.tree.ItemType.{ItemType}
-use Rattle.strc_parse.specs.declared.tree.ItemType.TheVariants as item
-use Rattle.strc_parse.specs.declared.tree.StreamType.{StreamType}
-use Rattle.strc_parse.specs.declared.tree.CompositeKind.{CompositeKind}
-use Rattle.strc_parse.specs.declared.tree.CompositeKind.TheVariants as composite
-use Rattle.strc_parse.specs.declared.tree.Role.TheVariants as role
-use Rattle.strc_work.specs.Filters.{Filter}
-use Rattle.strc_work.specs.Arithmetic.{is_true}
-use Rattle.strc_work.specs.Firing as firing
-use Rattle.strc_work.specs.Firing.{Store, value_of, stmt_done, initial_cells, declared_in, block_left, no_traffic, shut, started, turn_limit}
-use Rattle.strc_work.specs.Resolution.{expr_as, type_resolved, variable_resolved, stmt_resolved, filter_resolved, start_site}
-use Rattle.strc_work.specs.Scoping.{cells_of}
-use Rattle.strc_work.specs.Typing.{TypedNames, names_after}
-use Rattle.strc_work.specs.declared.fault.Cause.{Cause}
-use Rattle.strc_work.specs.declared.fault.Cause.TheVariants as causes
-use Rattle.strc_work.specs.declared.lowering.LowerError.{LowerError}
-use Rattle.strc_work.specs.declared.lowering.LowerError.TheVariants as lowering
-use Rattle.strc_work.specs.declared.types.ValueType.{ValueType}
-use Rattle.strc_work.specs.declared.types.ValueType.TheVariants as kind
+use Rattle.strc_syntax.specs.Tree as tree
+use Rattle.strc_syntax.specs.Tree.{Declaration}
+use Rattle.strc_syntax.specs.declared.tree.ItemType.{ItemType}
+use Rattle.strc_syntax.specs.declared.tree.ItemType.TheVariants as item
+use Rattle.strc_syntax.specs.declared.tree.StreamType.{StreamType}
+use Rattle.strc_syntax.specs.declared.tree.CompositeKind.{CompositeKind}
+use Rattle.strc_syntax.specs.declared.tree.CompositeKind.TheVariants as composite
+use Rattle.strc_syntax.specs.declared.tree.Role.TheVariants as role
+use Rattle.strc_elab.specs.declared.text.TheConstants.{FILTER_LIMIT}
+use Rattle.strc_elab.specs.declared.elaborate.TheConstants.{LEVEL_LIMIT}
+use Rattle.strc_semantics.specs.Filters.{Filter}
+use Rattle.strc_semantics.specs.Arithmetic.{is_true}
+use Rattle.strc_semantics.specs.Firing as firing
+use Rattle.strc_semantics.specs.Firing.{Store, value_of, stmt_done, initial_cells, declared_in, block_left, no_traffic, shut, started, turn_limit}
+use Rattle.strc_check.specs.Resolution.{expr_as, type_resolved, variable_resolved, stmt_resolved, filter_resolved, start_site}
+use Rattle.strc_semantics.specs.Scoping.{cells_of}
+use Rattle.strc_check.specs.Typing.{TypedNames, names_after}
+use Rattle.strc_semantics.specs.declared.fault.Cause.{Cause}
+use Rattle.strc_semantics.specs.declared.fault.Cause.TheVariants as causes
+use Rattle.strc_check.specs.declared.error.LowerError.{LowerError}
+use Rattle.strc_check.specs.declared.error.LowerError.TheVariants as lowering
+use Rattle.strc_check.specs.declared.types.ValueType.{ValueType}
+use Rattle.strc_check.specs.declared.types.ValueType.TheVariants as kind
 use Rattle.strc_elab.specs.Instances.{Stream, in_a_row}
 use Rattle.strc_elab.specs.Instances as instance
 use Rattle.strc_elab.specs.Texts.{Constants, Place, Text, FilterText, CompositeText, IdentityText, ReaderText, WriterText, anonymous, text_of, parameters_of, is_doubled, declared_from, seen}
@@ -41,15 +43,15 @@ where_kept true refusal next = next
 where_kept false refusal next = Err refusal
 
 -- a refusal of the rules on names and types, told of the declaration that holds the text
-abbrev pub told_of : ℕ → LowerError → ElabError
-told_of holder (lowering.UnknownName name) = refused.UnknownName name
-told_of holder lowering.TypeMismatch = refused.TypeMismatch holder
-told_of holder (lowering.ConstFault cause) = refused.ConstFault cause
-told_of holder lowering.NoMemory = refused.NoMemory
+abbrev pub at_declaration : ℕ → LowerError → ElabError
+at_declaration holder (lowering.UnknownName name) = refused.UnknownName name
+at_declaration holder lowering.TypeMismatch = refused.TypeMismatch holder
+at_declaration holder (lowering.ConstFault cause) = refused.ConstFault cause
+at_declaration holder lowering.NoMemory = refused.NoMemory
 
 abbrev pub ruled : {A : Type 0} → (holder : ℕ) → Result A LowerError → Result A ElabError
 ruled holder (Ok value) = Ok value
-ruled holder (Err broken) = Err (told_of holder broken)
+ruled holder (Err broken) = Err (at_declaration holder broken)
 
 -- what is computed, or its fault
 abbrev pub computed : {A : Type 0} → Result A Cause → Result A ElabError
@@ -270,11 +272,11 @@ abbrev mutual
 
 -- how many instances of filters a program may have
 unfoldable pub filter_limit : ℕ
-filter_limit = 4096
+filter_limit = FILTER_LIMIT
 
 -- how many levels streams may stand in one another, the main one being the first
 unfoldable pub level_limit : ℕ
-level_limit = 64
+level_limit = LEVEL_LIMIT
 
 -- one more filter, unless the limit is reached
 abbrev pub one_more : {A : Type 0} → Tally → (Tally → Result A ElabError) → Result A ElabError

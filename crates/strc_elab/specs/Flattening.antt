@@ -3,11 +3,12 @@
 use Rattle.std.specs.Prelude.{◌≡◌, ℕ, ◌<◌, ◌≤◌, List, [], ◌∷◌, ◌++◌, length, All, AllPairs, count_by, codes, ◌⊎◌, Result, Ok, Err}
 use Rattle.strc_dataflow.specs.Streams as trees
 use Rattle.strc_dataflow.specs.Flat as flat
+use Rattle.strc_elab.specs.declared.connection.TheConstants.{NODE_LIMIT}
 use Rattle.strc_elab.specs.declared.error.ElabError.{ElabError}
 use Rattle.strc_elab.specs.declared.error.ElabError.TheVariants as refusal
 use Rattle.strc_elab.specs.Instances.{Stream, Streams, Filter, Identity, Pipeline, Done, More}
-use Rattle.strc_elab.specs.Graphs as graphs
-use Rattle.strc_elab.specs.Graphs.{NodeCode, Graph, Channel, JoinsPorts, input_ports, output_ports, inputs_at, reads_input, gives_words, source_of, source_in, filter_name}
+use Rattle.strc_graph.specs.Graphs as graphs
+use Rattle.strc_graph.specs.Graphs.{NodeCode, Graph, Channel, JoinsPorts, input_ports, output_ports, inputs_at, reads_input, gives_words, source_of, source_in, filter_name}
 
 -- the tree of a stream
 
@@ -101,7 +102,7 @@ IsConnected graph = (node other : ℕ) → node < graph.size → other < graph.s
 
 -- how many nodes a program may have
 abbrev pub node_limit : ℕ
-node_limit = 4096
+node_limit = NODE_LIMIT
 
 -- so many nodes that not too many of them take the input, nor write words, and that are connected
 pub record IsAccepted (nodes : List NodeCode) (Connected : Type 0) : Type 0 where

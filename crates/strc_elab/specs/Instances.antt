@@ -1,6 +1,6 @@
 -- A stream of instances: what a program's text becomes when its composite streams have run (StreamIt specification 2.1, "Streams").
 use Rattle.std.specs.Prelude.{ℕ, List, [], ◌∷◌, Option}
-use Rattle.strc_work.specs.Filters as filters
+use Rattle.strc_semantics.specs.Filters as filters
 
 -- a stream, and streams in a row
 mutual

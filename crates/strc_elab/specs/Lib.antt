@@ -13,7 +13,6 @@ pub mod Places
 pub mod Simple
 pub mod Saying
 pub mod Answering
-pub mod Graphs
 pub mod View
 pub mod Flattening
 pub mod Rows

@@ -1,7 +1,7 @@
 -- Loops of a body, and the names that its statements leave.
 use Rattle.std.specs.Prelude.{ℕ, Option, Some, Result, length}
-use Rattle.strc_parse.specs.Tree as tree
-use Rattle.strc_work.specs.Typing.{TypedNames, names_after}
+use Rattle.strc_syntax.specs.Tree as tree
+use Rattle.strc_check.specs.Typing.{TypedNames, names_after}
 use Rattle.strc_elab.specs.Elaboration.{Setting, Progress, condition_given, inside, looped, stmt_run, then_do}
 use Rattle.strc_elab.specs.declared.error.ElabError.{ElabError}
 

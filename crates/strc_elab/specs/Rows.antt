@@ -1,6 +1,6 @@
 -- Nodes in a row, and the channels between them.
 use Rattle.std.specs.Prelude.{ℕ, zero, suc, ◌+◌, ◌<◌, List, [], ◌∷◌, ◌++◌, length}
-use Rattle.strc_elab.specs.Graphs.{NodeCode, Channel, inputs_at, outputs_at}
+use Rattle.strc_graph.specs.Graphs.{NodeCode, Channel, inputs_at, outputs_at}
 
 -- each of the nodes gives items to the next one
 abbrev pub AreLinked : List NodeCode → Type 0

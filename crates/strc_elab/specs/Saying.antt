@@ -1,8 +1,8 @@
 -- How code that evaluates and runs answers.
 use Rattle.std.specs.Prelude.{◌≡◌, ℤ, Result, Ok, Err}
-use Rattle.strc_work.specs.Firing as firing
-use Rattle.strc_work.specs.Firing.{no_traffic}
-use Rattle.strc_work.specs.declared.fault.Cause.{Cause}
+use Rattle.strc_semantics.specs.Firing as firing
+use Rattle.strc_semantics.specs.Firing.{no_traffic}
+use Rattle.strc_semantics.specs.declared.fault.Cause.{Cause}
 use Rattle.strc_elab.specs.declared.store.Store.{Store}
 
 -- the variables' values, and how many turns there were

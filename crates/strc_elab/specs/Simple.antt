@@ -1,7 +1,7 @@
 -- Statements that a body does as they stand, once they are checked: expressions and assignments.
-use Rattle.strc_parse.specs.Tree as tree
-use Rattle.strc_parse.specs.declared.tree.BinaryOperator.{BinaryOperator}
-use Rattle.strc_parse.specs.declared.tree.BinaryOperator.TheVariants as binary
+use Rattle.strc_syntax.specs.Tree as tree
+use Rattle.strc_syntax.specs.declared.tree.BinaryOperator.{BinaryOperator}
+use Rattle.strc_syntax.specs.declared.tree.BinaryOperator.TheVariants as binary
 
 abbrev pub IsSimple : tree.Stmt → Type 0
 IsSimple tree.Empty = Unit {0}

@@ -1,12 +1,12 @@
 -- What holds of each stream that a program is elaborated to.
 use Rattle.std.specs.Prelude.{◌≡◌, List, Option, ℕ, Ok}
 use Rattle.std.specs.List.{AllByRecursion}
-use Rattle.strc_parse.specs.Tree.{Declaration}
-use Rattle.strc_parse.specs.declared.tree.ItemType.TheVariants as item
-use Rattle.strc_work.specs.Filters as filters
+use Rattle.strc_syntax.specs.Tree.{Declaration}
+use Rattle.strc_syntax.specs.declared.tree.ItemType.TheVariants as item
+use Rattle.strc_semantics.specs.Filters as filters
 use Rattle.strc_elab.specs.Elaboration.{instance_of, elaborated}
 use Rattle.strc_elab.specs.Flattening.{nodes_of}
-use Rattle.strc_elab.specs.Graphs.{NodeCode, Filter, Identity}
+use Rattle.strc_graph.specs.Graphs.{NodeCode, Filter, Identity}
 use Rattle.strc_elab.specs.Instances.{Stream}
 use Rattle.strc_elab.specs.Texts.{Place}
 use Rattle.strc_elab.specs.Types.{IsWellTyped, input_of, output_of}

@@ -3,9 +3,9 @@ use Rattle.std.specs.Prelude.{◌≡◌, ℕ, ◌-◌, List, nat_eq, map, Result
 use Rattle.std.specs.Option.{option_map}
 use Rattle.std.specs.Cmp.Lexicographic.{pointwise}
 use Rattle.indexmap.specs.IndexMap.{get_by}
-use Rattle.strc_parse.specs.Tree.{Declaration}
-use Rattle.strc_parse.specs.View.{declaration_view, block_view}
-use Rattle.strc_work.specs.Filters.{filter_parts}
+use Rattle.strc_syntax.specs.Tree.{Declaration}
+use Rattle.strc_syntax.specs.View.{declaration_view, block_view}
+use Rattle.strc_semantics.specs.Filters.{filter_parts}
 use Rattle.strc_elab.specs.Texts as texts
 use Rattle.strc_elab.specs.Elaboration as spec
 use Rattle.strc_elab.specs.Answering.{IsVerdict}

@@ -1,16 +1,16 @@
 -- What is to be elaborated: the texts of streams, and the places where they stand.
 use Rattle.std.specs.Prelude.{ℕ, ◌+◌, ℤ, pos, Bool, false, ◌||◌, List, [], ◌∷◌, Option, Some, None, unwrap_or, if◌then◌else◌, nat_eq, slice_index_or}
 use Rattle.std.specs.Cmp.Lexicographic.{pointwise}
-use Rattle.strc_parse.specs.Tree as tree
-use Rattle.strc_parse.specs.Tree.{Declaration}
-use Rattle.strc_parse.specs.declared.tree.StreamType.{StreamType}
-use Rattle.strc_parse.specs.declared.tree.CompositeKind.{CompositeKind}
-use Rattle.strc_work.specs.Filters.{Filter}
-use Rattle.strc_work.specs.Firing.{Variables}
-use Rattle.strc_work.specs.Names.{has_name}
-use Rattle.strc_work.specs.Typing.{TypedNames}
-use Rattle.strc_work.specs.declared.types.ValueType.{ValueType}
-use Rattle.strc_work.specs.declared.types.ValueType.TheVariants as kind
+use Rattle.strc_syntax.specs.Tree as tree
+use Rattle.strc_syntax.specs.Tree.{Declaration}
+use Rattle.strc_syntax.specs.declared.tree.StreamType.{StreamType}
+use Rattle.strc_syntax.specs.declared.tree.CompositeKind.{CompositeKind}
+use Rattle.strc_semantics.specs.Filters.{Filter}
+use Rattle.strc_semantics.specs.Firing.{Variables}
+use Rattle.strc_base.specs.Names.{has_name}
+use Rattle.strc_check.specs.Typing.{TypedNames}
+use Rattle.strc_check.specs.declared.types.ValueType.{ValueType}
+use Rattle.strc_check.specs.declared.types.ValueType.TheVariants as kind
 
 -- names with their values; the first of a name counts
 abbrev pub Constants : Type 0
@@ -59,9 +59,9 @@ declared_from number (first ∷ others) name =
     if pointwise nat_eq name first.name then Some (number, first) else declared_from (number + 1) others name
 
 -- the constants whose names aren't hidden
-abbrev pub unhidden : (hidden : List (List ℕ)) → Constants → Constants
-unhidden hidden [] = []
-unhidden hidden (first ∷ rest) = if has_name hidden first.0 then unhidden hidden rest else first ∷ unhidden hidden rest
+abbrev pub unshadowed : (hidden : List (List ℕ)) → Constants → Constants
+unshadowed hidden [] = []
+unshadowed hidden (first ∷ rest) = if has_name hidden first.0 then unshadowed hidden rest else first ∷ unshadowed hidden rest
 
 -- a variable as a constant, where it is a number
 abbrev pub as_constant : List ℕ → ValueType → List ℤ → Constants → Constants
@@ -72,8 +72,8 @@ as_constant name kind.Array cells outer = outer
 -- what an anonymous stream sees of its surroundings, from the innermost variable outwards: the numbers, with their values at that
 -- moment; a variable hides the outer ones of its name, and the constants, even where it can't be seen itself
 abbrev pub seen_behind : (hidden : List (List ℕ)) → TypedNames → Variables → Constants → Constants
-seen_behind hidden [] variables constants = unhidden hidden constants
-seen_behind hidden (name ∷ names) [] constants = unhidden hidden constants
+seen_behind hidden [] variables constants = unshadowed hidden constants
+seen_behind hidden (name ∷ names) [] constants = unshadowed hidden constants
 seen_behind hidden (name ∷ names) (variable ∷ variables) constants =
     if has_name hidden name.0
     then seen_behind hidden names variables constants

@@ -1,7 +1,7 @@
 -- What streams take and give (StreamIt specification 2.1, "Streams"): items or nothing, on each side.
 use Rattle.std.specs.Prelude.{◌≡◌}
-use Rattle.strc_parse.specs.declared.tree.ItemType.{ItemType}
-use Rattle.strc_parse.specs.declared.tree.ItemType.TheVariants as item
+use Rattle.strc_syntax.specs.declared.tree.ItemType.{ItemType}
+use Rattle.strc_syntax.specs.declared.tree.ItemType.TheVariants as item
 use Rattle.strc_elab.specs.Instances.{Stream, Streams, Filter, Identity, Pipeline, Done, More}
 
 abbrev mutual

@@ -1,15 +1,9 @@
--- Declared streams, nodes and channels as contracts speak of them.
-use Rattle.std.specs.Prelude.{ℕ, List, [], ◌∷◌, map, Option}
-use Rattle.strc_work.specs.Filters.{filter_of}
+-- Declared streams as contracts speak of them.
+use Rattle.std.specs.Prelude.{List, [], ◌∷◌}
+use Rattle.strc_semantics.specs.Filters.{filter_of}
 use Rattle.strc_elab.specs.Instances as instances
-use Rattle.strc_elab.specs.Graphs as graphs
 use Rattle.strc_elab.specs.declared.stream.Stream.{Stream, Row_of-Stream, end_of-Stream, more_of-Stream}
 use Rattle.strc_elab.specs.declared.stream.Stream.TheVariants as stream
-use Rattle.strc_elab.specs.declared.graph.Splitter.{Splitter}
-use Rattle.strc_elab.specs.declared.graph.Splitter.TheVariants as splitter
-use Rattle.strc_elab.specs.declared.graph.Node.{Node}
-use Rattle.strc_elab.specs.declared.graph.Node.TheVariants as node
-use Rattle.strc_elab.specs.declared.graph.Channel.{Channel}
 
 abbrev mutual
   -- a stream
@@ -26,41 +20,3 @@ abbrev mutual
 abbrev pub streams_view : List Stream → instances.Streams
 streams_view [] = instances.Done
 streams_view (first ∷ rest) = instances.More (stream_view first) (streams_view rest)
-
--- how a splitter deals its items
-abbrev pub splitter_view : Splitter → graphs.SplitterCode
-splitter_view (splitter.Duplicate carried) = graphs.Duplicate carried.items
-splitter_view (splitter.Roundrobin weights) = graphs.Roundrobin weights.items
-
--- a node
-abbrev pub node_view : Node → graphs.NodeCode
-node_view (node.Filter instance) = graphs.Filter instance.name (filter_of instance.code)
-node_view node.Identity = graphs.Identity
-node_view node.FileReader = graphs.FileReader
-node_view node.FileWriter = graphs.FileWriter
-node_view (node.Splitter splitter) = graphs.Splitter (splitter_view splitter)
-node_view (node.Joiner weights) = graphs.Joiner weights.items
-node_view (node.Scatter fission) = graphs.Scatter fission
-node_view (node.Copy instance fission) = graphs.Copy instance.name (filter_of instance.code) fission
-node_view (node.Gather fission) = graphs.Gather fission
-
--- a channel
-abbrev pub channel_view : Channel → graphs.Channel
-channel_view channel = record { source = channel.source; target = channel.target; enqueued = channel.enqueued.items }
-
--- a declared graph: its nodes and channels, and for each node the joiner of the outermost feedback loop that it stands in
-pub record GraphParts : Type 0 where
-  pub nodes : List Node
-  pub channels : List Channel
-  pub outer_loops : List (Option ℕ)
-
-abbrev pub parts_of : List Node → List Channel → List (Option ℕ) → GraphParts
-parts_of nodes channels outer_loops = record { nodes = nodes; channels = channels; outer_loops = outer_loops }
-
-abbrev pub graph_view : GraphParts → graphs.Graph
-graph_view graph =
-    record { nodes = map node_view graph.nodes; channels = map channel_view graph.channels; outer_loops = graph.outer_loops }
-
--- the names of a graph's nodes
-abbrev pub node_names : GraphParts → List (List ℕ)
-node_names graph = map (λ node. graphs.node_name (node_view node)) graph.nodes

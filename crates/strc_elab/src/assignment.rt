@@ -1,24 +1,26 @@
 // What expressions and assignments do as statements of a composite stream's body.
 
 ghost use Rattle.std.specs.Prelude.{◌≡◌};
-ghost use Rattle.strc_parse.specs.Tree as tree;
-ghost use Rattle.strc_parse.specs.View.{expr_view, stmt_view};
-ghost use Rattle.strc_work.specs.Firing as firing;
-ghost use Rattle.strc_work.specs.Firing.{stmt_done, shut};
+ghost use Rattle.strc_syntax.specs.Tree as tree;
+ghost use Rattle.strc_syntax.specs.View.{expr_view, stmt_view};
+ghost use Rattle.strc_semantics.specs.Firing as firing;
+ghost use Rattle.strc_semantics.specs.Firing.{stmt_done, shut};
 ghost use Rattle.strc_elab.specs.Saying.{store_of, Does};
 ghost use Rattle.strc_elab.specs.Simple.{IsSimple, IsPlain};
 
 use crate::evaluation::{place_of, value};
 use crate::store::Store;
 use strc_lex::token::Name;
-use strc_parse::tree::{AssignOperator, BinaryOperator, Expr, Stmt};
-use strc_work::evaluation::both_value;
-use strc_work::fault::Cause;
+use strc_semantics::evaluation::both_value;
+use strc_semantics::fault::Cause;
+use strc_syntax::tree::{AssignOperator, BinaryOperator, Expr, Stmt};
 
-/// Does an expression or an assignment whose names and types are checked and whose constants are put in.
+/// Does an expression or an assignment whose names and types are checked and whose constants are
+/// put in.
 pub(crate) fn do_simple(statement: &Stmt, store: &mut Store) -> Result<(), Cause>
     requires { IsSimple (stmt_view statement.now) }
-    ensures does { Does (stmt_done shut (stmt_view statement.now) (store_of store.old)) result (store_of store.new) }
+    ensures does { Does (stmt_done shut (stmt_view statement.now) (store_of store.old)) result
+        (store_of store.new) }
     ensures names { store.new.variables.names ≡ store.old.variables.names }
 {
     match statement {
@@ -42,7 +44,8 @@ fn assign(
     expression: &Expr,
     store: &mut Store,
 ) -> Result<(), Cause>
-    ensures does { Does (stmt_done shut (tree.Assign name.now operator (expr_view expression.now)) (store_of store.old)) result (store_of store.new) }
+    ensures does { Does (stmt_done shut (tree.Assign name.now operator (expr_view expression.now))
+        (store_of store.old)) result (store_of store.new) }
     ensures names { store.new.variables.names ≡ store.old.variables.names }
 {
     let old = store.variables.cell(name, 0);
@@ -59,7 +62,8 @@ fn assign(
     Ok(())
 }
 
-/// An assignment to the element at an index; a compound one tests the index and reads the element first.
+/// An assignment to the element at an index; a compound one tests the index and reads the element
+/// first.
 fn assign_element(
     name: &Name,
     index: i32,
@@ -67,7 +71,8 @@ fn assign_element(
     expression: &Expr,
     store: &mut Store,
 ) -> Result<(), Cause>
-    ensures does { Does (firing.element_set shut name.now operator (expr_view expression.now) (index, store_of store.old)) result (store_of store.new) }
+    ensures does { Does (firing.element_set shut name.now operator (expr_view expression.now)
+        (index, store_of store.old)) result (store_of store.new) }
     ensures names { store.new.variables.names ≡ store.old.variables.names }
 {
     match operator {
@@ -102,7 +107,8 @@ fn join_element(
     store: &mut Store,
 ) -> Result<(), Cause>
     requires { IsPlain operator }
-    ensures does { Does (firing.element_joined shut name.now operator (expr_view expression.now) (index, store_of store.old)) result (store_of store.new) }
+    ensures does { Does (firing.element_joined shut name.now operator (expr_view expression.now)
+        (index, store_of store.old)) result (store_of store.new) }
     ensures names { store.new.variables.names ≡ store.old.variables.names }
 {
     let place = place_of(name, index, store)?;

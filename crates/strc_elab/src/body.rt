@@ -1,13 +1,14 @@
-// A composite stream's body, run statement by statement. The rules of a level are made of what elaborates the streams one
-// level below, which they take as a value, so that each is proved by itself.
+// A composite stream's body, run statement by statement. The rules of a level are made of what
+// elaborates the streams one level below, which they take as a value, so that each is proved by
+// itself.
 
 ghost use Rattle.std.specs.Prelude.{◌≡◌, ◌-◌, suc, OnOk, length};
 ghost use Rattle.std.specs.Option.{option_map};
-ghost use Rattle.strc_parse.specs.Tree as tree;
-ghost use Rattle.strc_parse.specs.View.{expr_view, stmt_view, block_view, composition_view};
-ghost use Rattle.strc_work.specs.Firing as firing;
-ghost use Rattle.strc_work.specs.Firing.{turn_limit};
-ghost use Rattle.strc_work.specs.Typing as typing;
+ghost use Rattle.strc_syntax.specs.Tree as tree;
+ghost use Rattle.strc_syntax.specs.View.{expr_view, stmt_view, block_view, composition_view};
+ghost use Rattle.strc_semantics.specs.Firing as firing;
+ghost use Rattle.strc_semantics.specs.Firing.{turn_limit};
+ghost use Rattle.strc_check.specs.Typing as typing;
 ghost use Rattle.strc_elab.specs.Elaboration as spec;
 ghost use Rattle.strc_elab.specs.Loops.{while_looped, for_looped, names_behind};
 ghost use Rattle.strc_elab.specs.Saying.{store_of};
@@ -20,12 +21,13 @@ use crate::progress::Progress;
 use crate::steps::Place;
 use crate::store::Store;
 use crate::task::{Made, Task};
-use strc_parse::tree::{Composition, Expr, Role, Stmt};
-use strc_work::evaluation::is_true;
-use strc_work::fault::Cause;
-use strc_work::types::ValueType;
+use strc_check::types::ValueType;
+use strc_semantics::evaluation::is_true;
+use strc_semantics::fault::Cause;
+use strc_syntax::tree::{Composition, Expr, Role, Stmt};
 
-/// What a body's statements stand in: the task whose text it is, and what elaborates the streams one level below.
+/// What a body's statements stand in: the task whose text it is, and what elaborates the streams
+/// one level below.
 #[derive(Clone, Copy)]
 pub(crate) struct Body<'a, F> {
     pub(crate) task: Task<'a>,
@@ -35,7 +37,8 @@ pub(crate) struct Body<'a, F> {
 /// One more turn of a loop, unless the limit of the program is reached.
 #[tactic(auto, using(crate::proofs::Turns::turned_under, crate::proofs::Turns::turned_over))]
 fn turn(store: &mut Store) -> Result<(), ElabError>
-    ensures done { Done (spec.computed (firing.turned (store_of store.old))) result (store_of store.new) }
+    ensures done { Done (spec.computed (firing.turned (store_of store.old))) result
+        (store_of store.new) }
     ensures names { store.new.variables.names ≡ store.old.variables.names }
 {
     if store.turns >= 1_000_000 {
@@ -61,7 +64,10 @@ impl<F: Fn(Task) -> Result<Made, ElabError>> Body<'_, F> {
 
     /// The value of a condition, which holds where there is none.
     fn tested(&self, condition: Option<&Expr>, progress: &mut Progress) -> Result<i32, ElabError>
-        ensures tests { Tests (spec.condition_given (setting_of self.now.task) progress.old.store.variables.names (option_map (λ e. expr_view e.now) condition.entry) (progress_of progress.old)) result (progress_of progress.new) }
+        ensures tests { Tests (spec.condition_given
+            (setting_of self.now.task) progress.old.store.variables.names
+            (option_map (λ e. expr_view e.now) condition.entry) (progress_of progress.old)) result
+            (progress_of progress.new) }
         ensures names { progress.new.store.variables.names ≡ progress.old.store.variables.names }
     {
         match condition {
@@ -78,8 +84,12 @@ impl<F: Fn(Task) -> Result<Made, ElabError>> Body<'_, F> {
     #[tactic(auto, using(crate::proofs::Bodies::names_left))]
     fn inside(&self, statement: &Stmt, progress: &mut Progress) -> Result<(), ElabError>
         requires { IsReady self.now.task (F.pre self.now.elaborate) (F.post self.now.elaborate) }
-        ensures runs { Runs (spec.inside (spec.stmt_run (setting_of self.now.task) progress.old.store.variables.names (length progress.old.store.variables.names) (stmt_view statement.now)) (progress_of progress.old)) result (progress_of progress.new) }
-        ensures names { OnOk result (progress.new.store.variables.names ≡ progress.old.store.variables.names) }
+        ensures runs { Runs (spec.inside (spec.stmt_run
+            (setting_of self.now.task) progress.old.store.variables.names
+            (length progress.old.store.variables.names) (stmt_view statement.now))
+            (progress_of progress.old)) result (progress_of progress.new) }
+        ensures names { OnOk result (progress.new.store.variables.names
+            ≡ progress.old.store.variables.names) }
     {
         let start = progress.store.variables.count();
         self.statement(start, statement, progress)?;
@@ -87,7 +97,8 @@ impl<F: Fn(Task) -> Result<Made, ElabError>> Body<'_, F> {
         Ok(())
     }
 
-    /// Runs the statements of a block, each among the names that are declared before it; those of its own stand from `start` on.
+    /// Runs the statements of a block, each among the names that are declared before it; those of
+    /// its own stand from `start` on.
     #[cycle(body)]
     pub(crate) fn statements(
         &self,
@@ -96,8 +107,11 @@ impl<F: Fn(Task) -> Result<Made, ElabError>> Body<'_, F> {
         progress: &mut Progress,
     ) -> Result<(), ElabError>
         requires { IsReady self.now.task (F.pre self.now.elaborate) (F.post self.now.elaborate) }
-        ensures runs { Runs (spec.stmts_run (setting_of self.now.task) progress.old.store.variables.names start (block_view block.now) (progress_of progress.old)) result (progress_of progress.new) }
-        ensures names { OnOk result (progress.new.store.variables.names ≡ names_behind progress.old.store.variables.names (block_view block.now)) }
+        ensures runs { Runs (spec.stmts_run (setting_of self.now.task)
+            progress.old.store.variables.names start (block_view block.now)
+            (progress_of progress.old)) result (progress_of progress.new) }
+        ensures names { OnOk result (progress.new.store.variables.names
+            ≡ names_behind progress.old.store.variables.names (block_view block.now)) }
     {
         for statement in block {
             self.statement(start, statement, progress)?;
@@ -105,7 +119,8 @@ impl<F: Fn(Task) -> Result<Made, ElabError>> Body<'_, F> {
         Ok(())
     }
 
-    /// Runs a statement, among the names that can be seen; those of its own block stand from `start` on.
+    /// Runs a statement, among the names that can be seen; those of its own block stand from
+    /// `start` on.
     #[cycle(body)]
     fn statement(
         &self,
@@ -114,8 +129,11 @@ impl<F: Fn(Task) -> Result<Made, ElabError>> Body<'_, F> {
         progress: &mut Progress,
     ) -> Result<(), ElabError>
         requires { IsReady self.now.task (F.pre self.now.elaborate) (F.post self.now.elaborate) }
-        ensures runs { Runs (spec.stmt_run (setting_of self.now.task) progress.old.store.variables.names start (stmt_view statement.now) (progress_of progress.old)) result (progress_of progress.new) }
-        ensures names { OnOk result (progress.new.store.variables.names ≡ typing.names_after progress.old.store.variables.names (stmt_view statement.now)) }
+        ensures runs { Runs (spec.stmt_run (setting_of self.now.task)
+            progress.old.store.variables.names start (stmt_view statement.now)
+            (progress_of progress.old)) result (progress_of progress.new) }
+        ensures names { OnOk result (progress.new.store.variables.names
+            ≡ typing.names_after progress.old.store.variables.names (stmt_view statement.now)) }
     {
         match statement {
             Stmt::Empty => Ok(()),
@@ -159,8 +177,11 @@ impl<F: Fn(Task) -> Result<Made, ElabError>> Body<'_, F> {
     #[cycle(body)]
     fn block(&self, block: &[Stmt], progress: &mut Progress) -> Result<(), ElabError>
         requires { IsReady self.now.task (F.pre self.now.elaborate) (F.post self.now.elaborate) }
-        ensures runs { Runs (spec.stmt_run (setting_of self.now.task) progress.old.store.variables.names 0 (tree.Block (block_view block.now)) (progress_of progress.old)) result (progress_of progress.new) }
-        ensures names { OnOk result (progress.new.store.variables.names ≡ progress.old.store.variables.names) }
+        ensures runs { Runs (spec.stmt_run (setting_of self.now.task)
+            progress.old.store.variables.names 0 (tree.Block (block_view block.now))
+            (progress_of progress.old)) result (progress_of progress.new) }
+        ensures names { OnOk result (progress.new.store.variables.names
+            ≡ progress.old.store.variables.names) }
     {
         let start = progress.store.variables.count();
         self.statements(start, block, progress)?;
@@ -179,8 +200,13 @@ impl<F: Fn(Task) -> Result<Made, ElabError>> Body<'_, F> {
         progress: &mut Progress,
     ) -> Result<(), ElabError>
         requires { IsReady self.now.task (F.pre self.now.elaborate) (F.post self.now.elaborate) }
-        ensures runs { Runs (spec.stmt_run (setting_of self.now.task) progress.old.store.variables.names 0 (tree.For (stmt_view first.now) (option_map (λ e. expr_view e.now) condition.entry) (stmt_view step.now) (stmt_view body.now)) (progress_of progress.old)) result (progress_of progress.new) }
-        ensures names { OnOk result (progress.new.store.variables.names ≡ progress.old.store.variables.names) }
+        ensures runs { Runs (spec.stmt_run (setting_of self.now.task)
+            progress.old.store.variables.names 0
+            (tree.For (stmt_view first.now) (option_map (λ e. expr_view e.now) condition.entry)
+            (stmt_view step.now) (stmt_view body.now)) (progress_of progress.old)) result
+            (progress_of progress.new) }
+        ensures names { OnOk result (progress.new.store.variables.names
+            ≡ progress.old.store.variables.names) }
     {
         let start = progress.store.variables.count();
         self.statement(start, first, progress)?;
@@ -198,8 +224,11 @@ impl<F: Fn(Task) -> Result<Made, ElabError>> Body<'_, F> {
         progress: &mut Progress,
     ) -> Result<(), ElabError>
         requires { IsReady self.now.task (F.pre self.now.elaborate) (F.post self.now.elaborate) }
-        ensures runs { Runs (while_looped (setting_of self.now.task) progress.old.store.variables.names (expr_view condition.now) (stmt_view body.now) (suc turn_limit) (progress_of progress.old)) result (progress_of progress.new) }
-        ensures names { OnOk result (progress.new.store.variables.names ≡ progress.old.store.variables.names) }
+        ensures runs { Runs (while_looped (setting_of self.now.task)
+            progress.old.store.variables.names (expr_view condition.now) (stmt_view body.now)
+            (suc turn_limit) (progress_of progress.old)) result (progress_of progress.new) }
+        ensures names { OnOk result (progress.new.store.variables.names
+            ≡ progress.old.store.variables.names) }
     {
         // The limit of turns comes first; the range is there to end the loop in any case.
         for _round in 0..1_000_001u32 {
@@ -224,8 +253,12 @@ impl<F: Fn(Task) -> Result<Made, ElabError>> Body<'_, F> {
         progress: &mut Progress,
     ) -> Result<(), ElabError>
         requires { IsReady self.now.task (F.pre self.now.elaborate) (F.post self.now.elaborate) }
-        ensures runs { Runs (for_looped (setting_of self.now.task) progress.old.store.variables.names (option_map (λ e. expr_view e.now) condition.entry) (stmt_view step.now) (stmt_view body.now) (suc turn_limit) (progress_of progress.old)) result (progress_of progress.new) }
-        ensures names { OnOk result (progress.new.store.variables.names ≡ progress.old.store.variables.names) }
+        ensures runs { Runs (for_looped (setting_of self.now.task)
+            progress.old.store.variables.names (option_map (λ e. expr_view e.now) condition.entry)
+            (stmt_view step.now) (stmt_view body.now) (suc turn_limit)
+            (progress_of progress.old)) result (progress_of progress.new) }
+        ensures names { OnOk result (progress.new.store.variables.names
+            ≡ progress.old.store.variables.names) }
     {
         for _round in 0..1_000_001u32 {
             if !is_true(self.tested(condition, progress)?) {
@@ -243,8 +276,11 @@ impl<F: Fn(Task) -> Result<Made, ElabError>> Body<'_, F> {
     /// Does a stream statement of a pipeline, which has no other than `add`.
     fn compose(&self, composition: &Composition, progress: &mut Progress) -> Result<(), ElabError>
         requires { IsReady self.now.task (F.pre self.now.elaborate) (F.post self.now.elaborate) }
-        ensures runs { Runs (spec.composed (setting_of self.now.task) progress.old.store.variables.names (composition_view composition.now) (progress_of progress.old)) result (progress_of progress.new) }
-        ensures names { OnOk result (progress.new.store.variables.names ≡ progress.old.store.variables.names) }
+        ensures runs { Runs (spec.composed (setting_of self.now.task)
+            progress.old.store.variables.names (composition_view composition.now)
+            (progress_of progress.old)) result (progress_of progress.new) }
+        ensures names { OnOk result (progress.new.store.variables.names
+            ≡ progress.old.store.variables.names) }
     {
         match composition {
             Composition::Child(Role::Add, child) => self.child(child, progress),

@@ -1,7 +1,7 @@
 // Children of a pipeline, elaborated at the moment that their statement runs.
 
 ghost use Rattle.std.specs.Prelude.{◌≡◌, [], map, length, IfOk, OnOk, Ok, Some};
-ghost use Rattle.strc_parse.specs.View.{child_view, declaration_view, expr_view};
+ghost use Rattle.strc_syntax.specs.View.{child_view, declaration_view, expr_view};
 ghost use Rattle.strc_elab.specs.Elaboration as spec;
 ghost use Rattle.strc_elab.specs.Texts as texts;
 ghost use Rattle.strc_elab.specs.Saying.{store_of};
@@ -17,19 +17,22 @@ use crate::store::Store;
 use crate::task::{Made, Tally, Task, Text};
 use crate::types::same_item;
 use std::alloc::Global;
+use strc_base::memory::NoMemory;
+use strc_check::constants::Constants;
+use strc_check::typed_scope::TypedScope;
+use strc_check::types::ValueType;
 use strc_lex::token::Name;
-use strc_parse::tree::{Child, Decl, Expr, StreamType};
-use strc_work::constants::Constants;
-use strc_work::memory::NoMemory;
-use strc_work::typed_scope::TypedScope;
-use strc_work::types::ValueType;
+use strc_syntax::tree::{Child, Decl, Expr, StreamType};
 
 impl<F: Fn(Task) -> Result<Made, ElabError>> Body<'_, F> {
     /// Elaborates a child of a pipeline.
     pub(crate) fn child(&self, child: &Child, progress: &mut Progress) -> Result<(), ElabError>
         requires { IsReady self.now.task (F.pre self.now.elaborate) (F.post self.now.elaborate) }
-        ensures runs { Runs (spec.child_run (setting_of self.now.task) progress.old.store.variables.names (child_view child.now) (progress_of progress.old)) result (progress_of progress.new) }
-        ensures names { OnOk result (progress.new.store.variables.names ≡ progress.old.store.variables.names) }
+        ensures runs { Runs (spec.child_run (setting_of self.now.task)
+            progress.old.store.variables.names (child_view child.now)
+            (progress_of progress.old)) result (progress_of progress.new) }
+        ensures names { OnOk result (progress.new.store.variables.names
+            ≡ progress.old.store.variables.names) }
     {
         match child {
             Child::Named(name, Some(arguments)) => self.named(name, arguments, progress),
@@ -46,8 +49,8 @@ impl<F: Fn(Task) -> Result<Made, ElabError>> Body<'_, F> {
         }
     }
 
-    /// Elaborates a child by the name of its declaration: the name is known, each parameter has an argument, and no two
-    /// parameters have one name.
+    /// Elaborates a child by the name of its declaration: the name is known, each parameter has an
+    /// argument, and no two parameters have one name.
     #[tactic(auto, unfolding(crate::specs::Tasks::IsReady))]
     fn named(
         &self,
@@ -56,8 +59,13 @@ impl<F: Fn(Task) -> Result<Made, ElabError>> Body<'_, F> {
         progress: &mut Progress,
     ) -> Result<(), ElabError>
         requires { IsReady self.now.task (F.pre self.now.elaborate) (F.post self.now.elaborate) }
-        ensures runs { Runs (spec.found_run (setting_of self.now.task) (spec.named_found (setting_of self.now.task) progress.old.store.variables.names name.now (texts.declared_from 0 (program_of self.now.task) name.now) (map expr_view arguments.now) (store_of progress.old.store)) (progress_of progress.old)) result (progress_of progress.new) }
-        ensures names { OnOk result (progress.new.store.variables.names ≡ progress.old.store.variables.names) }
+        ensures runs { Runs (spec.found_run (setting_of self.now.task)
+            (spec.named_found (setting_of self.now.task) progress.old.store.variables.names name.now
+            (texts.declared_from 0 (program_of self.now.task) name.now)
+            (map expr_view arguments.now) (store_of progress.old.store))
+            (progress_of progress.old)) result (progress_of progress.new) }
+        ensures names { OnOk result (progress.new.store.variables.names
+            ≡ progress.old.store.variables.names) }
     {
         match declared(self.task.declarations, self.task.numbers, name.as_bytes()) {
             Some((number, declaration)) => self.call(number, declaration, arguments, progress),
@@ -74,8 +82,13 @@ impl<F: Fn(Task) -> Result<Made, ElabError>> Body<'_, F> {
         progress: &mut Progress,
     ) -> Result<(), ElabError>
         requires { IsReady self.now.task (F.pre self.now.elaborate) (F.post self.now.elaborate) }
-        ensures runs { Runs (spec.found_run (setting_of self.now.task) (spec.named_found (setting_of self.now.task) progress.old.store.variables.names [] (Some (number, declaration_view declaration.now)) (map expr_view arguments.now) (store_of progress.old.store)) (progress_of progress.old)) result (progress_of progress.new) }
-        ensures names { OnOk result (progress.new.store.variables.names ≡ progress.old.store.variables.names) }
+        ensures runs { Runs (spec.found_run (setting_of self.now.task)
+            (spec.named_found (setting_of self.now.task) progress.old.store.variables.names []
+            (Some (number, declaration_view declaration.now)) (map expr_view arguments.now)
+            (store_of progress.old.store)) (progress_of progress.old)) result
+            (progress_of progress.new) }
+        ensures names { OnOk result (progress.new.store.variables.names
+            ≡ progress.old.store.variables.names) }
     {
         let parameters = parameters_of(declaration);
         if arguments.len() != parameters.len() {
@@ -98,7 +111,9 @@ impl<F: Fn(Task) -> Result<Made, ElabError>> Body<'_, F> {
         store: &mut Store,
     ) -> Result<Constants, ElabError>
         requires { length arguments.now ≡ length parameters.now }
-        ensures binds { Binds (spec.arguments_given (setting_of self.now.task) store.old.variables.names parameters.now (map expr_view arguments.now) [] (store_of store.old)) result (store_of store.new) }
+        ensures binds { Binds (spec.arguments_given
+            (setting_of self.now.task) store.old.variables.names parameters.now
+            (map expr_view arguments.now) [] (store_of store.old)) result (store_of store.new) }
         ensures names { store.new.variables.names ≡ store.old.variables.names }
     {
         let mut bound = Constants::new(self.task.alloc);
@@ -111,11 +126,16 @@ impl<F: Fn(Task) -> Result<Made, ElabError>> Body<'_, F> {
         Ok(bound)
     }
 
-    /// Elaborates a child without a name: it stands in the same declaration, and sees the numbers of its surroundings.
+    /// Elaborates a child without a name: it stands in the same declaration, and sees the numbers
+    /// of its surroundings.
     fn unnamed(&self, text: Text, progress: &mut Progress) -> Result<(), ElabError>
         requires { IsReady self.now.task (F.pre self.now.elaborate) (F.post self.now.elaborate) }
-        ensures runs { Runs (spec.found_run (setting_of self.now.task) (Ok (spec.unnamed_found (setting_of self.now.task) progress.old.store.variables.names (text_view text.entry) (store_of progress.old.store))) (progress_of progress.old)) result (progress_of progress.new) }
-        ensures names { OnOk result (progress.new.store.variables.names ≡ progress.old.store.variables.names) }
+        ensures runs { Runs (spec.found_run (setting_of self.now.task)
+            (Ok (spec.unnamed_found (setting_of self.now.task) progress.old.store.variables.names
+            (text_view text.entry) (store_of progress.old.store)))
+            (progress_of progress.old)) result (progress_of progress.new) }
+        ensures names { OnOk result (progress.new.store.variables.names
+            ≡ progress.old.store.variables.names) }
     {
         let constants = seen(
             self.task.alloc,
@@ -135,8 +155,16 @@ impl<F: Fn(Task) -> Result<Made, ElabError>> Body<'_, F> {
         progress: &mut Progress,
     ) -> Result<(), ElabError>
         requires { IsReady self.now.task (F.pre self.now.elaborate) (F.post self.now.elaborate) }
-        ensures runs { Runs (spec.found_run (setting_of self.now.task) (Ok (record { place = record { holder = holder; constants = constants.now }; text = text_view text.entry; store = store_of progress.old.store })) (progress_of progress.old)) result (progress_of progress.new) }
-        ensures names { OnOk result (progress.new.store.variables.names ≡ progress.old.store.variables.names) }
+        ensures runs { Runs (spec.found_run (setting_of self.now.task)
+            (Ok (record {
+              place = record { holder = holder; constants = constants.now };
+              text =
+                  text_view text.entry;
+              store = store_of progress.old.store;
+            }))
+            (progress_of progress.old)) result (progress_of progress.new) }
+        ensures names { OnOk result (progress.new.store.variables.names
+            ≡ progress.old.store.variables.names) }
     {
         let made = (self.elaborate)(Task {
             alloc: self.task.alloc,
@@ -156,8 +184,10 @@ impl<F: Fn(Task) -> Result<Made, ElabError>> Body<'_, F> {
 
     /// A pipeline with one more child, which takes what the last one gives.
     fn add(&self, made: Made, progress: &mut Progress) -> Result<(), ElabError>
-        ensures runs { Runs (spec.child_added (setting_of self.now.task) (progress_of progress.old) (store_of progress.old.store) (made_view made)) result (progress_of progress.new) }
-        ensures names { OnOk result (progress.new.store.variables.names ≡ progress.old.store.variables.names) }
+        ensures runs { Runs (spec.child_added (setting_of self.now.task) (progress_of progress.old)
+            (store_of progress.old.store) (made_view made)) result (progress_of progress.new) }
+        ensures names { OnOk result (progress.new.store.variables.names
+            ≡ progress.old.store.variables.names) }
     {
         let Made {
             stream,

@@ -1,15 +1,16 @@
-// Which nodes in a row can be run: how many there are, which take the input or write words, and whether each feeds the next.
+// Which nodes in a row can be run: how many there are, which take the input or write words, and
+// whether each feeds the next.
 
 ghost use Rattle.std.specs.Prelude.{◌≡◌, ◌↔◌, IsTrue, map, count_by};
-ghost use Rattle.strc_elab.specs.Graphs as graphs;
-ghost use Rattle.strc_elab.specs.View.{node_view};
+ghost use Rattle.strc_graph.specs.Graphs as graphs;
+ghost use Rattle.strc_graph.specs.NodeView.{node_view};
 ghost use Rattle.strc_elab.specs.Flattening.{IsVerdict};
 ghost use Rattle.strc_elab.specs.Rows.{AreLinked};
 
 use crate::error::ElabError;
-use crate::graph::{Node, input_ports, output_ports};
+use strc_graph::graph::{Node, input_ports, output_ports};
 
-// How many nodes a program may have.
+/// How many nodes a program may have.
 const NODE_LIMIT: usize = 4096;
 
 /// Whether nodes in a row can be run, by the first test that fails.

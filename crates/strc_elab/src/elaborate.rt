@@ -4,7 +4,7 @@ ghost use Rattle.std.specs.Prelude.{◌≡◌, ℕ, List, map, nat_eq};
 ghost use Rattle.std.specs.Option.{option_map};
 ghost use Rattle.std.specs.Cmp.Lexicographic.{pointwise};
 ghost use Rattle.indexmap.specs.IndexMap.{get_by};
-ghost use Rattle.strc_parse.specs.View.{declaration_view, program_view};
+ghost use Rattle.strc_syntax.specs.View.{declaration_view, program_view};
 ghost use Rattle.strc_elab.specs.Elaboration as spec;
 ghost use Rattle.strc_elab.specs.Answering.{IsVerdict};
 ghost use Rattle.strc_elab.specs.Names.{place_from};
@@ -20,18 +20,21 @@ use crate::stream::Stream;
 use crate::task::{Made, Tally, Task};
 use indexmap::IndexMap;
 use std::alloc::Global;
-use strc_parse::tree::{Decl, Program};
-use strc_work::constants::Constants;
+use strc_check::constants::Constants;
+use strc_syntax::tree::{Decl, Program};
 
 /// How many levels streams may stand in one another, the main one being the first.
 const LEVEL_LIMIT: u32 = 64;
 
-/// The stream that a program means: its composite streams' bodies run, up to the first rule that is broken.
+/// The stream that a program means: its composite streams' bodies run, up to the first rule that is
+/// broken.
 ///
-/// The main stream is the one that is named, or else the only declaration that can be it. A refusal is that of the
-/// first rule that is broken, in order of execution, or `NoMemory` where memory runs out.
+/// The main stream is the one that is named, or else the only declaration that can be it. A refusal
+/// is that of the first rule that is broken, in order of execution, or `NoMemory` where memory runs
+/// out.
 pub fn elaborate(alloc: Global, program: &Program, main: Option<&str>) -> Result<Stream, ElabError>
-    ensures verdict { IsVerdict stream_view (spec.elaborated (program_view program.now) (option_map (λ n. n.now) main.entry)) result }
+    ensures verdict { IsVerdict stream_view (spec.elaborated (program_view program.now)
+        (option_map (λ n. n.now) main.entry)) result }
 {
     let declarations = program.declarations.as_slice();
     let numbers = index_of(alloc, declarations)?;
@@ -48,8 +51,10 @@ fn main_made(
     number: usize,
     declaration: &Decl,
 ) -> Result<Made, ElabError>
-    requires { (q : List ℕ) → get_by (λ k. pointwise nat_eq q k.now) numbers.now ≡ place_from 0 (map (λ d. d.name) declarations.now) q }
-    ensures { IsVerdict made_view (spec.main_made (map declaration_view declarations.now) (number, declaration_view declaration.now)) result }
+    requires { (q : List ℕ) → get_by (λ k. pointwise nat_eq q k.now) numbers.now
+        ≡ place_from 0 (map (λ d. d.name) declarations.now) q }
+    ensures { IsVerdict made_view (spec.main_made (map declaration_view declarations.now)
+        (number, declaration_view declaration.now)) result }
 {
     let constants = Constants::new(alloc);
     elaborate_text(Task {

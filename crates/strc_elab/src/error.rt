@@ -4,14 +4,15 @@ ghost use Rattle.std.specs.Prelude.{◌≡◌};
 ghost use Rattle.strc_elab.specs.declared.error.ElabError.TheVariants as refused;
 
 use std::alloc::{AllocError, AllocFailed};
+use strc_base::memory::NoMemory;
 use strc_lex::token::Name;
-use strc_work::fault::Cause;
-use strc_work::memory::NoMemory;
+use strc_semantics::fault::Cause;
 
 /// Why a program has no stream, or a stream no graph. Declarations are numbered from 0.
 #[derive(Debug, Drop)]
 pub enum ElabError {
-    /// A split-join, a feedback loop, a `FileReader` or a `FileWriter` would be elaborated, which isn't done yet.
+    /// A split-join, a feedback loop, a `FileReader` or a `FileWriter` would be elaborated, which
+    /// isn't done yet.
     NotYet,
     /// A variable or a stream that isn't declared.
     UnknownName { name: Name },
@@ -27,7 +28,8 @@ pub enum ElabError {
     NodeLimit,
     /// The wrong number of arguments; the declaration that holds the statement.
     BadArguments { stream: usize },
-    /// A fault in the statements of a composite stream, in a rate, a length, an initialiser or `init`.
+    /// A fault in the statements of a composite stream, in a rate, a length, an initialiser or
+    /// `init`.
     ConstFault { cause: Cause },
     /// More than one node takes the input.
     TwoInputs,

@@ -1,22 +1,23 @@
 // The values of expressions in a composite stream's body.
 
 ghost use Rattle.std.specs.Prelude.{◌≡◌, length, IfOk};
-ghost use Rattle.strc_parse.specs.View.{expr_view};
-ghost use Rattle.strc_work.specs.Firing as firing;
-ghost use Rattle.strc_work.specs.Firing.{value_of, shut, place_in, cells_named};
+ghost use Rattle.strc_syntax.specs.View.{expr_view};
+ghost use Rattle.strc_semantics.specs.Firing as firing;
+ghost use Rattle.strc_semantics.specs.Firing.{value_of, shut, place_in, cells_named};
 ghost use Rattle.strc_elab.specs.Saying.{store_of, Evaluates};
 
 use crate::store::Store;
 use strc_lex::token::Name;
-use strc_parse::tree::{Expr, StepOperator};
-use strc_work::arithmetic;
-use strc_work::evaluation::{both_value, decides, is_true, unary_value};
-use strc_work::fault::Cause;
+use strc_semantics::arithmetic;
+use strc_semantics::evaluation::{both_value, decides, is_true, unary_value};
+use strc_semantics::fault::Cause;
+use strc_syntax::tree::{Expr, StepOperator};
 
-/// The value of an expression whose names and types are checked and whose constants are put in. A fault is that of the first part
-/// that has one, from left to right.
+/// The value of an expression whose names and types are checked and whose constants are put in. A
+/// fault is that of the first part that has one, from left to right.
 pub(crate) fn value(expression: &Expr, store: &mut Store) -> Result<i32, Cause>
-    ensures says { Evaluates (value_of shut (expr_view expression.now) (store_of store.old)) result (store_of store.new) }
+    ensures says { Evaluates (value_of shut (expr_view expression.now) (store_of store.old)) result
+        (store_of store.new) }
     ensures names { store.new.variables.names ≡ store.old.variables.names }
 {
     match expression {
@@ -79,7 +80,8 @@ pub(crate) fn place_of(name: &Name, index: i32, store: &Store) -> Result<usize, 
 
 /// A step of a cell by one, and its value.
 fn stepped(operator: StepOperator, name: &Name, place: usize, store: &mut Store) -> i32
-    ensures value { result ≡ firing.step_value operator (firing.cell_in (store_of store.old) name.now place)
+    ensures value { result ≡ firing.step_value operator
+        (firing.cell_in (store_of store.old) name.now place)
         (firing.value_stepped operator (firing.cell_in (store_of store.old) name.now place)) }
     ensures store { store_of store.new ≡ firing.cell_set (store_of store.old) name.now place
         (firing.value_stepped operator (firing.cell_in (store_of store.old) name.now place)) }

@@ -1,22 +1,27 @@
 // From a stream to its flat graph.
 
-ghost use Rattle.std.specs.Prelude.{◌≡◌, ◌+◌, ◌-◌, ◌^◌, ◌<◌, ◌≤◌, ◌++◌, length, map, replicate, None, IfOk, OnOk};
+ghost use Rattle.std.specs.Prelude.{◌≡◌, ◌+◌, ◌-◌, ◌^◌, ◌<◌, ◌≤◌, ◌++◌, length, map, replicate};
+ghost use Rattle.std.specs.Prelude.{None, IfOk, OnOk};
 ghost use Rattle.strc_elab.specs.Types.{IsWellTyped};
-ghost use Rattle.strc_elab.specs.View.{stream_view, node_view, channel_view, graph_view, node_names};
+ghost use Rattle.strc_elab.specs.View.{stream_view};
+ghost use Rattle.strc_graph.specs.NodeView.{node_view, channel_view, graph_view, node_names};
 ghost use Rattle.strc_elab.specs.Flattening.{nodes_of, names_of, node_limit, IsFlat, IsFlattened};
 ghost use Rattle.strc_elab.specs.Rows.{AreLinked, link_at, links};
 
 use crate::connection::check;
 use crate::error::ElabError;
-use crate::graph::{Channel, Graph, Node, Port};
 use crate::stream::Stream;
 use std::alloc::{AllocError, Global};
+use strc_graph::graph::{Channel, Graph, Node, Port};
 
-/// The flat graph of a stream: its nodes in preorder, and a channel from each port to where its items go.
+/// The flat graph of a stream: its nodes in preorder, and a channel from each port to where its
+/// items go.
 pub fn flatten(alloc: Global, stream: Stream) -> Result<Graph, ElabError>
     ensures verdict { IsWellTyped (stream_view stream) → IsFlattened (stream_view stream) result }
-    ensures graph { IsWellTyped (stream_view stream) → IfOk result (λ graph. IsFlat (stream_view stream) (graph_view graph)) }
-    ensures nodes { IfOk result (λ graph. map node_view graph.nodes ≡ nodes_of (stream_view stream)) }
+    ensures graph { IsWellTyped (stream_view stream)
+        → IfOk result (λ graph. IsFlat (stream_view stream) (graph_view graph)) }
+    ensures nodes { IfOk result (λ graph. map node_view graph.nodes
+        ≡ nodes_of (stream_view stream)) }
     ensures names { IfOk result (λ graph. node_names graph ≡ names_of (stream_view stream)) }
     ensures loops { IfOk result (λ graph. graph.outer_loops ≡ replicate (length graph.nodes) None) }
 {
@@ -30,7 +35,8 @@ pub fn flatten(alloc: Global, stream: Stream) -> Result<Graph, ElabError>
 
 /// Adds a stream's nodes in preorder.
 fn collect(stream: Stream, nodes: &mut Vec<Node>) -> Result<(), AllocError>
-    ensures { OnOk result (map node_view nodes.new.items ≡ map node_view nodes.old.items ++ nodes_of (stream_view stream)) }
+    ensures { OnOk result (map node_view nodes.new.items ≡ map node_view nodes.old.items
+        ++ nodes_of (stream_view stream)) }
 {
     match stream {
         Stream::Filter(instance) => {
@@ -55,7 +61,8 @@ fn row(alloc: Global, nodes: Vec<Node>) -> Result<Graph, AllocError>
     requires few { length nodes.items ≤ node_limit }
     requires linked { AreLinked (map node_view nodes.items) }
     ensures nodes { IfOk result (λ graph. graph.nodes ≡ nodes.items) }
-    ensures channels { IfOk result (λ graph. map channel_view graph.channels ≡ links (length nodes.items - 1)) }
+    ensures channels { IfOk result (λ graph. map channel_view graph.channels
+        ≡ links (length nodes.items - 1)) }
     ensures loops { IfOk result (λ graph. graph.outer_loops ≡ replicate (length nodes.items) None) }
 {
     let count = nodes.len();

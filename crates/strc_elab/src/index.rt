@@ -6,20 +6,23 @@ ghost use Rattle.indexmap.specs.IndexMap.{get_by};
 ghost use Rattle.strc_elab.specs.Names.{place_from};
 ghost use Rattle.strc_elab.specs.Elaboration.{doubled_from, not_doubled};
 ghost use Rattle.strc_elab.specs.Answering.{IsVerdict};
-ghost use Rattle.strc_parse.specs.View.{declaration_view};
+ghost use Rattle.strc_syntax.specs.View.{declaration_view};
 
 use crate::error::ElabError;
 use indexmap::IndexMap;
 use std::alloc::Global;
-use strc_parse::tree::Decl;
+use strc_syntax::tree::Decl;
 
 /// The number of each declaration by its name. A second one of a name is a mismatch.
 pub(crate) fn index_of<'a>(
     alloc: Global,
     declarations: &'a [Decl],
 ) -> Result<IndexMap<&'a [u8], usize>, ElabError>
-    ensures distinct { IsVerdict (λ _. tt) (not_doubled (doubled_from [] 0 (map declaration_view declarations.now))) result }
-    ensures places { IfOk result (λ numbers. (name : List ℕ) → get_by (λ k. pointwise nat_eq name k.now) numbers ≡ place_from 0 (map (λ d. d.name) declarations.now) name) }
+    ensures distinct { IsVerdict (λ _. tt) (not_doubled
+        (doubled_from [] 0 (map declaration_view declarations.now))) result }
+    ensures places { IfOk result (λ numbers. (name : List ℕ)
+        → get_by (λ k. pointwise nat_eq name k.now) numbers
+        ≡ place_from 0 (map (λ d. d.name) declarations.now) name) }
 {
     let mut numbers = IndexMap::new(alloc);
     for (number, declaration) in declarations.iter().enumerate() {
@@ -39,7 +42,8 @@ pub(crate) fn number_of(
     numbers: &IndexMap<&[u8], usize>,
     name: &[u8],
 ) -> Option<usize>
-    requires { (q : List ℕ) → get_by (λ k. pointwise nat_eq q k.now) numbers.now ≡ place_from 0 (map (λ d. d.name) declarations.now) q }
+    requires { (q : List ℕ) → get_by (λ k. pointwise nat_eq q k.now) numbers.now
+        ≡ place_from 0 (map (λ d. d.name) declarations.now) q }
     ensures place { result ≡ place_from 0 (map (λ d. d.name) declarations.now) name.now }
     ensures within { IfSome result (λ number. number < length declarations.now) }
 {

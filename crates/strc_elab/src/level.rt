@@ -1,5 +1,5 @@
-// Streams in one another, level by level. The rules of a level are made of what elaborates the level below, so that each
-// is proved by itself; here they are joined.
+// Streams in one another, level by level. The rules of a level are made of what elaborates the
+// level below, so that each is proved by itself; here they are joined.
 
 ghost use Rattle.strc_elab.specs.Tasks.{KnowsNames, IsMade};
 

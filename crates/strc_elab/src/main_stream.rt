@@ -4,7 +4,7 @@ ghost use Rattle.std.specs.Prelude.{◌≡◌, ℕ, List, length, map, nat_eq};
 ghost use Rattle.std.specs.Option.{option_map};
 ghost use Rattle.std.specs.Cmp.Lexicographic.{pointwise};
 ghost use Rattle.indexmap.specs.IndexMap.{get_by};
-ghost use Rattle.strc_parse.specs.View.{declaration_view, stream_view};
+ghost use Rattle.strc_syntax.specs.View.{declaration_view, stream_view};
 ghost use Rattle.strc_elab.specs.Elaboration as spec;
 ghost use Rattle.strc_elab.specs.Answering.{IsVerdict};
 ghost use Rattle.strc_elab.specs.Names.{place_from};
@@ -14,16 +14,20 @@ use crate::declared::declared;
 use crate::error::ElabError;
 use crate::types::is_as_written;
 use indexmap::IndexMap;
-use strc_parse::tree::{Decl, ItemType, StreamTree, StreamType};
+use strc_syntax::tree::{Decl, ItemType, StreamTree, StreamType};
 
-/// The main stream with its number: the one that is named, or else the only declaration that can be it.
+/// The main stream with its number: the one that is named, or else the only declaration that can be
+/// it.
 pub(crate) fn main_of<'a>(
     declarations: &'a [Decl],
     numbers: &IndexMap<&[u8], usize>,
     main: Option<&str>,
 ) -> Result<(usize, &'a Decl), ElabError>
-    requires { (q : List ℕ) → get_by (λ k. pointwise nat_eq q k.now) numbers.now ≡ place_from 0 (map (λ d. d.name) declarations.now) q }
-    ensures { IsVerdict (λ m. (m.0, declaration_view m.1.now)) (spec.main_of (map declaration_view declarations.now) (option_map (λ n. n.now) main.entry)) result }
+    requires { (q : List ℕ) → get_by (λ k. pointwise nat_eq q k.now) numbers.now
+        ≡ place_from 0 (map (λ d. d.name) declarations.now) q }
+    ensures { IsVerdict (λ m. (m.0, declaration_view m.1.now))
+        (spec.main_of (map declaration_view declarations.now)
+        (option_map (λ n. n.now) main.entry)) result }
 {
     match main {
         Some(name) => named_main(declared(declarations, numbers, name.as_bytes())),
@@ -67,7 +71,8 @@ fn can_be_main(declaration: &Decl) -> bool
 
 /// The declaration of the main stream's name, where it can be it.
 fn named_main(found: Option<(usize, &Decl)>) -> Result<(usize, &Decl), ElabError>
-    ensures { IsVerdict (λ m. (m.0, declaration_view m.1.now)) (spec.named_main (option_map (λ f. (f.0, declaration_view f.1.now)) found.entry)) result }
+    ensures { IsVerdict (λ m. (m.0, declaration_view m.1.now))
+        (spec.named_main (option_map (λ f. (f.0, declaration_view f.1.now)) found.entry)) result }
 {
     match found {
         Some((number, declaration)) => {
@@ -83,7 +88,8 @@ fn named_main(found: Option<(usize, &Decl)>) -> Result<(usize, &Decl), ElabError
 
 /// The only declaration that can be the main stream.
 fn only_main(declarations: &[Decl]) -> Result<(usize, &Decl), ElabError>
-    ensures { IsVerdict (λ m. (m.0, declaration_view m.1.now)) (spec.only_main (spec.mains_from 0 (map declaration_view declarations.now))) result }
+    ensures { IsVerdict (λ m. (m.0, declaration_view m.1.now))
+        (spec.only_main (spec.mains_from 0 (map declaration_view declarations.now))) result }
 {
     let mut found = None;
     for (number, declaration) in declarations.iter().enumerate() {

@@ -2,9 +2,10 @@
 
 use crate::store::Store;
 use crate::stream::Stream;
-use strc_parse::tree::StreamType;
+use strc_syntax::tree::StreamType;
 
-/// The variables and the turns so far, the children with their type in a row, and how many filters there are.
+/// The variables and the turns so far, the children with their type in a row, and how many filters
+/// there are.
 #[derive(Drop)]
 pub(crate) struct Progress {
     pub(crate) store: Store,

@@ -1,27 +1,28 @@
 // What an anonymous stream sees of its surroundings.
 
 ghost use Rattle.std.specs.Prelude.{◌≡◌, ◌<◌, ◌+◌, ◌^◌, IfOk, OnOk, length};
-ghost use Rattle.strc_work.specs.Typing.{plain_names};
+ghost use Rattle.strc_check.specs.Typing.{plain_names};
 ghost use Rattle.strc_elab.specs.Texts as texts;
 ghost use Rattle.strc_elab.specs.Seeing.{offered};
 
 use crate::variables::Variables;
 use std::alloc::Global;
+use strc_base::memory::NoMemory;
+use strc_check::constants::Constants;
+use strc_check::types::ValueType;
 use strc_lex::token::Name;
-use strc_work::constants::Constants;
-use strc_work::memory::NoMemory;
-use strc_work::types::ValueType;
 
-/// The numbers that can be seen at a place of a body, as constants: the variables' values at this moment, and the body's own
-/// constants, but for those that a variable hides.
+/// The numbers that can be seen at a place of a body, as constants: the variables' values at this
+/// moment, and the body's own constants, but for those that a variable hides.
 pub(crate) fn seen(
     alloc: Global,
     variables: &Variables,
     constants: &Constants,
 ) -> Result<Constants, NoMemory>
-    ensures { IfOk result (λ seen. seen ≡ texts.seen variables.now.names variables.now.variables constants.now) }
+    ensures { IfOk result (λ seen. seen ≡ texts.seen variables.now.names variables.now.variables
+        constants.now) }
 {
-    let mut seen = unhidden(alloc, variables, constants)?;
+    let mut seen = unshadowed(alloc, variables, constants)?;
     for number in 0..variables.count() {
         offer(alloc, variables, number, &mut seen)?;
     }
@@ -29,12 +30,13 @@ pub(crate) fn seen(
 }
 
 /// The constants whose names no variable has.
-fn unhidden(
+fn unshadowed(
     alloc: Global,
     variables: &Variables,
     constants: &Constants,
 ) -> Result<Constants, NoMemory>
-    ensures { IfOk result (λ left. left ≡ texts.unhidden (plain_names variables.now.names) constants.now) }
+    ensures { IfOk result (λ left. left ≡ texts.unshadowed
+        (plain_names variables.now.names) constants.now) }
 {
     let mut left = Constants::new(alloc);
     for (name, value) in constants.pairs() {
@@ -54,7 +56,8 @@ fn offer(
 ) -> Result<(), NoMemory>
     requires within { number < length variables.now.names }
     requires few { number + 1 < 2 ^ 32 }
-    ensures { OnOk result (seen.new ≡ offered variables.now.names variables.now.variables number seen.old) }
+    ensures { OnOk result (seen.new ≡ offered variables.now.names variables.now.variables number
+        seen.old) }
 {
     let (name, kind) = variables.names().at(number);
     if kind == ValueType::Int {

@@ -1,13 +1,14 @@
-// The work language's own steps in a composite stream's body: values, declarations, expressions and assignments.
+// The work language's own steps in a composite stream's body: values, declarations, expressions and
+// assignments.
 
 ghost use Rattle.std.specs.Prelude.{◌≡◌, ◌∷◌, OnOk, map};
 ghost use Rattle.std.specs.Option.{option_map};
-ghost use Rattle.strc_parse.specs.Tree as tree;
-ghost use Rattle.strc_parse.specs.View.{expr_view, variable_view, type_view};
-ghost use Rattle.strc_work.specs.Firing as firing;
-ghost use Rattle.strc_work.specs.Firing.{shut};
-ghost use Rattle.strc_work.specs.Scoping as scoping;
-ghost use Rattle.strc_work.specs.Typing as typing;
+ghost use Rattle.strc_syntax.specs.Tree as tree;
+ghost use Rattle.strc_syntax.specs.View.{expr_view, variable_view, type_view};
+ghost use Rattle.strc_semantics.specs.Firing as firing;
+ghost use Rattle.strc_semantics.specs.Firing.{shut};
+ghost use Rattle.strc_semantics.specs.Scoping as scoping;
+ghost use Rattle.strc_check.specs.Typing as typing;
 ghost use Rattle.strc_elab.specs.Elaboration as spec;
 ghost use Rattle.strc_elab.specs.Saying.{store_of};
 ghost use Rattle.strc_elab.specs.Answering.{Gives, GivesCells, Done};
@@ -18,18 +19,19 @@ use crate::error::ElabError;
 use crate::evaluation;
 use crate::store::Store;
 use std::alloc::Global;
+use strc_check::constants::Constants;
+use strc_check::error::LowerError;
+use strc_check::expression_rules::{resolve_as, resolve_expr, resolve_initial};
+use strc_check::site::start_site;
+use strc_check::statement_rules::{resolve_assigned, resolve_element};
+use strc_check::type_rules::resolve_type;
+use strc_check::types::ValueType;
 use strc_lex::token::Name;
-use strc_parse::tree::{AssignOperator, Expr, Variable, VariableType, Variables};
-use strc_work::constants::Constants;
-use strc_work::expression_rules::{resolve_as, resolve_expr, resolve_initial};
-use strc_work::fault::Cause;
-use strc_work::lowering::LowerError;
-use strc_work::site::start_site;
-use strc_work::statement_rules::{resolve_assigned, resolve_element};
-use strc_work::type_rules::resolve_type;
-use strc_work::types::ValueType;
+use strc_semantics::fault::Cause;
+use strc_syntax::tree::{AssignOperator, Expr, Variable, VariableType, Variables};
 
-/// Where a body's statements stand: the number of the declaration that holds them, and the constants that they see.
+/// Where a body's statements stand: the number of the declaration that holds them, and the
+/// constants that they see.
 #[derive(Clone, Copy)]
 pub(crate) struct Place<'a> {
     pub(crate) alloc: Global,
@@ -38,8 +40,8 @@ pub(crate) struct Place<'a> {
 }
 
 /// A refusal of the rules on names and types, told of the declaration that holds the text.
-pub(crate) fn told_of(holder: usize, error: LowerError) -> ElabError
-    ensures { result ≡ spec.told_of holder error }
+pub(crate) fn at_declaration(holder: usize, error: LowerError) -> ElabError
+    ensures { result ≡ spec.at_declaration holder error }
 {
     match error {
         LowerError::UnknownName { name } => ElabError::UnknownName { name },
@@ -57,7 +59,8 @@ impl Place<'_> {
         expression: &Expr,
         store: &mut Store,
     ) -> Result<i32, ElabError>
-        ensures gives { Gives (spec.given (place_of self.now) store.old.variables.names kind (expr_view expression.now) (store_of store.old)) result (store_of store.new) }
+        ensures gives { Gives (spec.given (place_of self.now) store.old.variables.names kind
+            (expr_view expression.now) (store_of store.old)) result (store_of store.new) }
         ensures names { store.new.variables.names ≡ store.old.variables.names }
     {
         let site = start_site(self.constants);
@@ -66,7 +69,7 @@ impl Place<'_> {
                 Ok(value) => Ok(value),
                 Err(cause) => Err(ElabError::ConstFault { cause }),
             },
-            Err(error) => Err(told_of(self.holder, error)),
+            Err(error) => Err(at_declaration(self.holder, error)),
         }
     }
 }
@@ -74,7 +77,9 @@ impl Place<'_> {
 impl Place<'_> {
     /// Does an assignment, or evaluates an expression.
     pub(crate) fn evaluate(&self, expression: &Expr, store: &mut Store) -> Result<(), ElabError>
-        ensures done { Done (spec.simple_done (place_of self.now) store.old.variables.names 0 (tree.Evaluate (expr_view expression.now)) (store_of store.old)) result (store_of store.new) }
+        ensures done { Done (spec.simple_done (place_of self.now) store.old.variables.names 0
+            (tree.Evaluate (expr_view expression.now)) (store_of store.old)) result
+            (store_of store.new) }
         ensures names { store.new.variables.names ≡ store.old.variables.names }
     {
         let site = start_site(self.constants);
@@ -83,7 +88,7 @@ impl Place<'_> {
                 Ok(_) => Ok(()),
                 Err(cause) => Err(ElabError::ConstFault { cause }),
             },
-            Err(error) => Err(told_of(self.holder, error)),
+            Err(error) => Err(at_declaration(self.holder, error)),
         }
     }
 
@@ -95,7 +100,9 @@ impl Place<'_> {
         expression: &Expr,
         store: &mut Store,
     ) -> Result<(), ElabError>
-        ensures done { Done (spec.simple_done (place_of self.now) store.old.variables.names 0 (tree.Assign name.now operator (expr_view expression.now)) (store_of store.old)) result (store_of store.new) }
+        ensures done { Done (spec.simple_done (place_of self.now) store.old.variables.names 0
+            (tree.Assign name.now operator (expr_view expression.now)) (store_of store.old)) result
+            (store_of store.new) }
         ensures names { store.new.variables.names ≡ store.old.variables.names }
     {
         let site = start_site(self.constants);
@@ -107,8 +114,12 @@ impl Place<'_> {
             operator,
             expression,
         ) {
-            Ok(resolved) => done(do_simple(&resolved, store)),
-            Err(error) => Err(told_of(self.holder, error)),
+            Ok(resolved) => {
+                let outcome = done(do_simple(&resolved, store));
+                drop(resolved);
+                outcome
+            }
+            Err(error) => Err(at_declaration(self.holder, error)),
         }
     }
 
@@ -121,7 +132,9 @@ impl Place<'_> {
         expression: &Expr,
         store: &mut Store,
     ) -> Result<(), ElabError>
-        ensures done { Done (spec.simple_done (place_of self.now) store.old.variables.names 0 (tree.AssignElement name.now (expr_view index.now) operator (expr_view expression.now)) (store_of store.old)) result (store_of store.new) }
+        ensures done { Done (spec.simple_done (place_of self.now) store.old.variables.names 0
+            (tree.AssignElement name.now (expr_view index.now) operator (expr_view expression.now))
+            (store_of store.old)) result (store_of store.new) }
         ensures names { store.new.variables.names ≡ store.old.variables.names }
     {
         let site = start_site(self.constants);
@@ -134,21 +147,31 @@ impl Place<'_> {
             operator,
             expression,
         ) {
-            Ok(resolved) => done(do_simple(&resolved, store)),
-            Err(error) => Err(told_of(self.holder, error)),
+            Ok(resolved) => {
+                let outcome = done(do_simple(&resolved, store));
+                drop(resolved);
+                outcome
+            }
+            Err(error) => Err(at_declaration(self.holder, error)),
         }
     }
 
-    /// Declares variables, each checked and evaluated before the next one, which sees it. Those of the same block stand from
-    /// `start` on.
+    /// Declares variables, each checked and evaluated before the next one, which sees it. Those of
+    /// the same block stand from `start` on.
     pub(crate) fn declare(
         &self,
         start: u32,
         declared: &Variables,
         store: &mut Store,
     ) -> Result<(), ElabError>
-        ensures done { Done (spec.declaration_done (place_of self.now) store.old.variables.names start (type_view declared.now.kind) (map variable_view declared.now.variables.items) (store_of store.old)) result (store_of store.new) }
-        ensures names { OnOk result (store.new.variables.names ≡ typing.with_declared store.old.variables.names (typing.type_of (type_view declared.now.kind)) (map variable_view declared.now.variables.items)) }
+        ensures done { Done (spec.declaration_done
+            (place_of self.now) store.old.variables.names start (type_view declared.now.kind)
+            (map variable_view declared.now.variables.items) (store_of store.old)) result
+            (store_of store.new) }
+        ensures names { OnOk result (store.new.variables.names
+            ≡ typing.with_declared store.old.variables.names
+            (typing.type_of (type_view declared.now.kind))
+            (map variable_view declared.now.variables.items)) }
     {
         match resolve_type(
             self.alloc,
@@ -163,7 +186,7 @@ impl Place<'_> {
                 }
                 Ok(())
             }
-            Err(error) => Err(told_of(self.holder, error)),
+            Err(error) => Err(at_declaration(self.holder, error)),
         }
     }
 
@@ -176,8 +199,11 @@ impl Place<'_> {
         variable: &Variable,
         store: &mut Store,
     ) -> Result<(), ElabError>
-        ensures done { Done (spec.variable_done (place_of self.now) store.old.variables.names start kind cells (variable_view variable.now) (store_of store.old)) result (store_of store.new) }
-        ensures names { OnOk result (store.new.variables.names ≡ record { 0 = variable.now.name; 1 = kind } ∷ store.old.variables.names) }
+        ensures done { Done (spec.variable_done
+            (place_of self.now) store.old.variables.names start kind cells
+            (variable_view variable.now) (store_of store.old)) result (store_of store.new) }
+        ensures names { OnOk result (store.new.variables.names
+            ≡ record { 0 = variable.now.name; 1 = kind } ∷ store.old.variables.names) }
     {
         if store.variables.names().has_since(start, &variable.name) {
             return Err(ElabError::TypeMismatch {
@@ -197,7 +223,7 @@ impl Place<'_> {
                 store.variables.declare(&variable.name, kind, cells)?;
                 Ok(())
             }
-            Err(error) => Err(told_of(self.holder, error)),
+            Err(error) => Err(at_declaration(self.holder, error)),
         }
     }
 
@@ -208,7 +234,9 @@ impl Place<'_> {
         initial: &Option<Expr>,
         store: &mut Store,
     ) -> Result<Vec<i32>, ElabError>
-        ensures gives { GivesCells (spec.computed (firing.initial_cells shut cells (option_map expr_view initial.now) (store_of store.old))) result (store_of store.new) }
+        ensures gives { GivesCells (spec.computed
+            (firing.initial_cells shut cells (option_map expr_view initial.now)
+            (store_of store.old))) result (store_of store.new) }
         ensures names { store.new.variables.names ≡ store.old.variables.names }
     {
         match initial {

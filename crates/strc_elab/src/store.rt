@@ -2,7 +2,8 @@
 
 use crate::variables::Variables;
 
-/// The variables of a composite stream's body, and how many turns loops have made in the whole program so far.
+/// The variables of a composite stream's body, and how many turns loops have made in the whole
+/// program so far.
 #[derive(Drop)]
 pub(crate) struct Store {
     pub(crate) variables: Variables,

@@ -1,10 +1,9 @@
 // A stream of instances: what a program's text becomes when its composite streams have run.
 
-use strc_lex::token::Name;
-use strc_work::code::Code;
+use strc_graph::instance::Instance;
 
 /// A stream, with its constants put in.
-#[derive(Debug, Drop)]
+#[derive(Drop)]
 pub enum Stream {
     /// A filter.
     Filter(Instance),
@@ -12,12 +11,4 @@ pub enum Stream {
     Identity,
     /// Streams in a row: what one gives is what the next one takes.
     Pipeline(Vec<Stream>),
-}
-
-/// A filter with its constants put in.
-#[derive(Debug, Drop)]
-pub struct Instance {
-    /// The name that it is declared by; an anonymous one has none.
-    pub name: Option<Name>,
-    pub code: Code,
 }

@@ -3,9 +3,9 @@
 use crate::stream::Stream;
 use indexmap::IndexMap;
 use std::alloc::Global;
+use strc_check::constants::Constants;
 use strc_lex::token::Name;
-use strc_parse::tree::{CompositeKind, Decl, ItemType, Member, Stmt, StreamType};
-use strc_work::constants::Constants;
+use strc_syntax::tree::{CompositeKind, Decl, ItemType, Member, Stmt, StreamType};
 
 /// The text of a stream.
 #[derive(Clone, Copy)]
@@ -18,14 +18,14 @@ pub(crate) enum Text<'a> {
 }
 
 /// How many turns all loops have made, and how many filters there are, so far.
-#[derive(Clone, Copy, Debug, PartialEq, Eq)]
+#[derive(Clone, Copy, PartialEq, Eq)]
 pub(crate) struct Tally {
     pub(crate) turns: u32,
     pub(crate) filters: u32,
 }
 
-/// A text to be elaborated: the program that it stands in, how many levels it may have, the number of the declaration
-/// that holds it, the constants that it sees, and the tally before it.
+/// A text to be elaborated: the program that it stands in, how many levels it may have, the number
+/// of the declaration that holds it, the constants that it sees, and the tally before it.
 #[derive(Clone, Copy)]
 pub(crate) struct Task<'a> {
     pub(crate) alloc: Global,
@@ -38,7 +38,8 @@ pub(crate) struct Task<'a> {
     pub(crate) tally: Tally,
 }
 
-/// What the elaboration of a stream gives: its instances, what it takes and gives, and the tally after it.
+/// What the elaboration of a stream gives: its instances, what it takes and gives, and the tally
+/// after it.
 #[derive(Drop)]
 pub(crate) struct Made {
     pub(crate) stream: Stream,

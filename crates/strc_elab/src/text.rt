@@ -2,28 +2,30 @@
 
 ghost use Rattle.std.specs.Prelude.{◌≡◌, [], IfOk, Ok};
 ghost use Rattle.std.specs.Option.{option_map};
-ghost use Rattle.strc_parse.specs.View.{block_view};
-ghost use Rattle.strc_parse.specs.declared.tree.CompositeKind.TheVariants as composite;
-ghost use Rattle.strc_work.specs.Filters.{filter_of, filter_parts};
-ghost use Rattle.strc_work.specs.Firing as firing;
+ghost use Rattle.strc_syntax.specs.View.{block_view};
+ghost use Rattle.strc_syntax.specs.declared.tree.CompositeKind.TheVariants as composite;
+ghost use Rattle.strc_semantics.specs.Filters.{filter_of, filter_parts};
+ghost use Rattle.strc_semantics.specs.Firing as firing;
 ghost use Rattle.strc_elab.specs.Elaboration as spec;
 ghost use Rattle.strc_elab.specs.Answering.{progress_of, IsVerdict};
 ghost use Rattle.strc_elab.specs.Tallies.{tally_view};
-ghost use Rattle.strc_elab.specs.Tasks.{IsReady, setting_of, place_of, tally_of, text_view, made_view};
+ghost use Rattle.strc_elab.specs.Tasks.{IsReady, setting_of, place_of, tally_of, text_view};
+ghost use Rattle.strc_elab.specs.Tasks.{made_view};
 ghost use Rattle.strc_elab.specs.Texts as texts;
 
 use crate::body::Body;
 use crate::error::ElabError;
 use crate::progress::Progress;
-use crate::steps::told_of;
+use crate::steps::at_declaration;
 use crate::store::Store;
-use crate::stream::{Instance, Stream};
+use crate::stream::Stream;
 use crate::task::{Made, Tally, Task, Text};
 use crate::types::is_as_written;
 use crate::variables::Variables;
 use std::alloc::{AllocError, Global};
+use strc_graph::instance::Instance;
 use strc_lex::token::Name;
-use strc_parse::tree::{CompositeKind, ItemType, Member, Stmt, StreamType};
+use strc_syntax::tree::{CompositeKind, ItemType, Member, Stmt, StreamType};
 use strc_work::code::{Code, StartError};
 use strc_work::lowering::lower_parts;
 
@@ -33,7 +35,8 @@ const FILTER_LIMIT: u32 = 4096;
 impl Tally {
     /// One more filter, unless the limit is reached.
     fn one_more(self) -> Result<Tally, ElabError>
-        ensures { IsVerdict tally_view (spec.one_more (tally_view self) (λ tally. Ok tally)) result }
+        ensures { IsVerdict tally_view (spec.one_more (tally_view self)
+            (λ tally. Ok tally)) result }
     {
         if self.filters >= FILTER_LIMIT {
             return Err(ElabError::NodeLimit);
@@ -47,13 +50,16 @@ impl Tally {
 
 /// A filter whose start doesn't fault.
 fn started(alloc: Global, code: Code) -> Result<Code, ElabError>
-    ensures { IsVerdict filter_of (spec.started_as (filter_of code) (firing.started (filter_of code))) result }
+    ensures { IsVerdict filter_of (spec.started_as (filter_of code)
+        (firing.started (filter_of code))) result }
 {
-    match code.start(alloc) {
-        Ok(_) => Ok(code),
-        Err(StartError::ConstFault { cause }) => Err(ElabError::ConstFault { cause }),
-        Err(StartError::NoMemory) => Err(ElabError::NoMemory),
-    }
+    let refused = match code.start(alloc) {
+        Ok(_) => return Ok(code),
+        Err(StartError::ConstFault { cause }) => ElabError::ConstFault { cause },
+        Err(StartError::NoMemory) => ElabError::NoMemory,
+    };
+    drop(code);
+    Err(refused)
 }
 
 /// A copy of a name, where there is one.
@@ -67,9 +73,11 @@ fn copied(name: Option<&Name>) -> Result<Option<Name>, AllocError>
 }
 
 impl Task<'_> {
-    /// An instance of a filter: its constants are put in, its text is checked, and then its initialisers and `init` run.
+    /// An instance of a filter: its constants are put in, its text is checked, and then its
+    /// initialisers and `init` run.
     fn instance(&self, types: StreamType, members: &[Member]) -> Result<Code, ElabError>
-        ensures { IsVerdict filter_of (spec.instance_of (place_of self.now) (filter_parts types.input types.output members.now)) result }
+        ensures { IsVerdict filter_of (spec.instance_of (place_of self.now)
+            (filter_parts types.input types.output members.now)) result }
     {
         match lower_parts(
             self.alloc,
@@ -79,7 +87,7 @@ impl Task<'_> {
             self.constants,
         ) {
             Ok(code) => started(self.alloc, code),
-            Err(error) => Err(told_of(self.holder, error)),
+            Err(error) => Err(at_declaration(self.holder, error)),
         }
     }
 
@@ -90,11 +98,13 @@ impl Task<'_> {
         types: StreamType,
         members: &[Member],
     ) -> Result<Made, ElabError>
-        ensures { IsVerdict made_view (spec.text_made (setting_of self.now) (texts.FilterText (option_map (λ n. n.now) name.entry) (filter_parts types.input types.output members.now)) (tally_of self.now)) result }
+        ensures { IsVerdict made_view (spec.text_made (setting_of self.now)
+            (texts.FilterText (option_map (λ n. n.now) name.entry)
+            (filter_parts types.input types.output members.now)) (tally_of self.now)) result }
     {
         let tally = self.tally.one_more()?;
-        let code = self.instance(types, members)?;
         let name = copied(name)?;
+        let code = self.instance(types, members)?;
         let types = StreamType {
             input: code.tree().input,
             output: code.tree().output,
@@ -108,7 +118,8 @@ impl Task<'_> {
 
     /// What gives each item that it takes.
     fn identity(&self) -> Result<Made, ElabError>
-        ensures { IsVerdict made_view (spec.text_made (setting_of self.now) texts.IdentityText (tally_of self.now)) result }
+        ensures { IsVerdict made_view (spec.text_made (setting_of self.now) texts.IdentityText
+            (tally_of self.now)) result }
     {
         let tally = self.tally.one_more()?;
         Ok(Made {
@@ -139,7 +150,8 @@ impl Task<'_> {
 
     /// A pipeline whose body has run: it has a child, and its type is the written one.
     fn pipeline(&self, written: Option<StreamType>, progress: Progress) -> Result<Made, ElabError>
-        ensures { IsVerdict made_view (spec.pipeline_made self.now.holder written progress.types (progress_of progress)) result }
+        ensures { IsVerdict made_view (spec.pipeline_made self.now.holder written progress.types
+            (progress_of progress)) result }
     {
         match progress.types {
             Some(types) if is_as_written(written, types) => Ok(Made {
@@ -161,7 +173,8 @@ impl<F: Fn(Task) -> Result<Made, ElabError>> Body<'_, F> {
     /// The stream of the task's text.
     pub(crate) fn made(&self) -> Result<Made, ElabError>
         requires { IsReady self.now.task (F.pre self.now.elaborate) (F.post self.now.elaborate) }
-        ensures { IsVerdict made_view (spec.text_made (setting_of self.now.task) (text_view self.now.task.text) (tally_of self.now.task)) result }
+        ensures { IsVerdict made_view (spec.text_made (setting_of self.now.task)
+            (text_view self.now.task.text) (tally_of self.now.task)) result }
     {
         match self.task.text {
             Text::Filter(name, types, members) => self.task.filter(name, types, members),
@@ -174,7 +187,8 @@ impl<F: Fn(Task) -> Result<Made, ElabError>> Body<'_, F> {
     /// Runs the body of the task's text from the beginning.
     fn run(&self, block: &[Stmt]) -> Result<Progress, ElabError>
         requires { IsReady self.now.task (F.pre self.now.elaborate) (F.post self.now.elaborate) }
-        ensures { IsVerdict progress_of (spec.stmts_run (setting_of self.now.task) [] 0 (block_view block.now) (spec.begun (tally_of self.now.task))) result }
+        ensures { IsVerdict progress_of (spec.stmts_run (setting_of self.now.task) [] 0
+            (block_view block.now) (spec.begun (tally_of self.now.task))) result }
     {
         let mut progress = self.task.begun();
         self.statements(0, block, &mut progress)?;
@@ -189,7 +203,8 @@ impl<F: Fn(Task) -> Result<Made, ElabError>> Body<'_, F> {
         block: &[Stmt],
     ) -> Result<Made, ElabError>
         requires { IsReady self.now.task (F.pre self.now.elaborate) (F.post self.now.elaborate) }
-        ensures { IsVerdict made_view (spec.composite_made (setting_of self.now.task) written kind (block_view block.now) (tally_of self.now.task)) result }
+        ensures { IsVerdict made_view (spec.composite_made (setting_of self.now.task) written kind
+            (block_view block.now) (tally_of self.now.task)) result }
     {
         match kind {
             CompositeKind::Pipeline => self.task.pipeline(written, self.run(block)?),

@@ -3,7 +3,7 @@
 ghost use Rattle.std.specs.Prelude.{◌≡◌};
 ghost use Rattle.strc_elab.specs.Elaboration as spec;
 
-use strc_parse::tree::{ItemType, StreamType};
+use strc_syntax::tree::{ItemType, StreamType};
 
 /// One type is the other.
 pub(crate) fn same_item(side: ItemType, other: ItemType) -> bool

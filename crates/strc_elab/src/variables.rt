@@ -4,14 +4,15 @@ ghost use Rattle.std.specs.Prelude.{◌≡◌, pos, slice_index_or, slice_set};
 
 use std::alloc::Global;
 use std::marker::Model;
+use strc_base::memory::NoMemory;
+use strc_check::typed_scope::TypedScope;
+use strc_check::types::ValueType;
 use strc_lex::token::Name;
-use strc_work::memory::NoMemory;
-use strc_work::typed_scope::TypedScope;
-use strc_work::types::ValueType;
 
-/// The variables that can be seen at a place of a body, with their types and the values of their cells: one cell for a
-/// number or a truth value, and one for each element of an array. Contracts see the names with their types and the
-/// variables with their values, the innermost first. A look-up takes expected constant time.
+/// The variables that can be seen at a place of a body, with their types and the values of their
+/// cells: one cell for a number or a truth value, and one for each element of an array. Contracts
+/// see the names with their types and the variables with their values, the innermost first. A
+/// look-up takes expected constant time.
 #[derive(Drop)]
 pub(crate) struct Variables {
     names: TypedScope,
@@ -31,9 +32,10 @@ impl Model for Variables {
 }
 
 impl Variables {
-    ghost use Rattle.std.specs.Prelude.{◌≡◌, ◌-◌, ◌<◌, [], ◌∷◌, OnOk, length, drop, pos, slice_index_or};
+    ghost use Rattle.std.specs.Prelude.{◌≡◌, ◌-◌, ◌<◌, [], ◌∷◌, OnOk, length, drop, pos};
+    ghost use Rattle.std.specs.Prelude.{slice_index_or};
     ghost use Rattle.strc_elab.specs.Bindings.{cells_of};
-    ghost use Rattle.strc_work.specs.Firing.{cells_named, with_cell};
+    ghost use Rattle.strc_semantics.specs.Firing.{cells_named, with_cell};
 
     /// No variables. It takes no memory.
     pub(crate) fn new(alloc: Global) -> Variables
@@ -90,7 +92,10 @@ impl Variables {
 
     /// A cell of the innermost variable of a name gets a value.
     pub(crate) fn set(&mut self, name: &Name, place: usize, value: i32)
-        ensures { self.new ≡ record self.old { variables = with_cell self.old.variables name.now place value } }
+        ensures { self.new ≡ record self.old {
+          variables = with_cell self.old.variables name.now
+              place value;
+        } }
     {
         match self.names.number_of(name) {
             Some(slot) => put_in(&mut self.cells[slot as usize], place, value),

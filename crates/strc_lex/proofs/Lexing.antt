@@ -2,14 +2,14 @@
 use Rattle.std.proofs.Common.{◌≡◌, ℕ, ◌+◌, ◌-◌, ◌<◌, ◌≤◌, List, [], ◌∷◌, ◌++◌, length, take, drop, refl, ap, arith, ◌∙◌, sym, subst, Option, Some, None, inl, inr, IfSome, IfNone, length-drop}
 use Rattle.std.proofs.lemmas.Bool.{both_ways}
 use Rattle.strc_lex.specs.Characters.{is_white}
-use Rattle.strc_lex.specs.Gaps.{IsComment, IsBlank, IsPiece, IsGap}
+use Rattle.strc_lex.specs.Trivia.{IsComment, IsBlank, IsTrivia, IsTriviaRun}
 use Rattle.strc_lex.specs.Text.{IsToken, StandsAt, LexesBetween, IsStuck}
 use Rattle.strc_lex.specs.Scanning.{token_at}
 use Rattle.strc_lex.specs.declared.token.TokenKind.{TokenKind}
 use Rattle.strc_lex.specs.declared.token.Token.{Token}
 use Rattle.strc_lex.proofs.Finding.{some_same, none_is_not_some}
 use Rattle.strc_lex.proofs.Lexemes.{lexeme_begins, begins_black}
-use Rattle.strc_lex.proofs.Gaps.{gap_end, bare_end}
+use Rattle.strc_lex.proofs.TriviaRuns.{trivia_end, bare_end}
 use Rattle.strc_lex.proofs.Only.{token_only}
 use Rattle.strc_lex.proofs.Tokens.{token_meets}
 
@@ -33,17 +33,17 @@ token_at_comment : (text : List ℕ) (len : ℕ) → IsComment text len → toke
 token_at_comment text len (inl line) = subst (λ bytes. token_at bytes ≡ None) (sym (opened 47 47 text line.opens)) refl
 token_at_comment text len (inr block) = subst (λ bytes. token_at bytes ≡ None) (sym (opened 47 42 text block.opens)) refl
 
-token_bare : (text : List ℕ) (kind : TokenKind) (len size : ℕ) → IsToken text kind len → IsPiece text size → ⊥
+token_bare : (text : List ℕ) (kind : TokenKind) (len size : ℕ) → IsToken text kind len → IsTrivia text size → ⊥
 token_bare text kind len size token (inl blank) = token_not_blank text kind len size token blank
 token_bare text kind len size token (inr comment) = none_is_not_some (kind, len) (sym (token_at_comment text size comment) ∙ token_only text kind len token)
 
-pub stands_bare : (text : List ℕ) (item : Token) → StandsAt text item → (size : ℕ) → IsPiece (drop item.span.start text) size → ⊥
-stands_bare text item stands size piece = token_bare (drop item.span.start text) item.kind (item.span.end - item.span.start) size stands.token piece
+pub stands_bare : (text : List ℕ) (item : Token) → StandsAt text item → (size : ℕ) → IsTrivia (drop item.span.start text) size → ⊥
+stands_bare text item stands size trivia = token_bare (drop item.span.start text) item.kind (item.span.end - item.span.start) size stands.token trivia
 
--- one more token, and the gap behind it
-pub lexes_push : (text : List ℕ) (from : ℕ) (tokens : List Token) (item : Token) (to : ℕ) → LexesBetween text from tokens item.span.start → StandsAt text item → IsGap text item.span.end to → LexesBetween text from (tokens ++ item ∷ []) to
-lexes_push text from [] item to front stands gap = (front, stands, gap)
-lexes_push text from (first ∷ tokens) item to front stands gap = (front.0, front.1, lexes_push text first.span.end tokens item to front.2 stands gap)
+-- one more token, and the trivia_run behind it
+pub lexes_push : (text : List ℕ) (from : ℕ) (tokens : List Token) (item : Token) (to : ℕ) → LexesBetween text from tokens item.span.start → StandsAt text item → IsTriviaRun text item.span.end to → LexesBetween text from (tokens ++ item ∷ []) to
+lexes_push text from [] item to front stands trivia_run = (front, stands, trivia_run)
+lexes_push text from (first ∷ tokens) item to front stands trivia_run = (front.0, front.1, lexes_push text first.span.end tokens item to front.2 stands trivia_run)
 
 abbrev made : TokenKind → ℕ → ℕ → Token
 made kind start end = record { kind = kind; span = record { start = start; end = end } }
@@ -52,9 +52,9 @@ token_same : (t u : Token) → t.kind ≡ u.kind → t.span.start ≡ u.span.sta
 token_same t u kind start end = ap (λ k. made k t.span.start t.span.end) kind ∙ ap (λ s. made u.kind s t.span.end) start ∙ ap (λ e. made u.kind u.span.start e) end
 
 -- two tokens behind one place are one
-same_token : (text : List ℕ) (from : ℕ) (t u : Token) → IsGap text from t.span.start → StandsAt text t → IsGap text from u.span.start → StandsAt text u → t ≡ u
-same_token text from t u gap_t stands_t gap_u stands_u =
-    let start = gap_end text from t.span.start u.span.start gap_t gap_u (stands_bare text t stands_t) (stands_bare text u stands_u) in
+same_token : (text : List ℕ) (from : ℕ) (t u : Token) → IsTriviaRun text from t.span.start → StandsAt text t → IsTriviaRun text from u.span.start → StandsAt text u → t ≡ u
+same_token text from t u trivia_run_t stands_t trivia_run_u stands_u =
+    let start = trivia_end text from t.span.start u.span.start trivia_run_t trivia_run_u (stands_bare text t stands_t) (stands_bare text u stands_u) in
     let here = token_only (drop t.span.start text) t.kind (t.span.end - t.span.start) stands_t.token in
     let there = token_only (drop u.span.start text) u.kind (u.span.end - u.span.start) stands_u.token in
     let pair : ◌≡◌ {A = TokenKind × ℕ} (t.kind, t.span.end - t.span.start) (u.kind, u.span.end - u.span.start) = some_same (sym here ∙ ap (λ s. token_at (drop s text)) start ∙ there) in
@@ -63,19 +63,19 @@ same_token text from t u gap_t stands_t gap_u stands_u =
     let order_u = stands_u.ordered in
     token_same t u (ap (λ (p : TokenKind × ℕ). p.0) pair) start (omega arith)
 
--- a gap to the end leaves no room for a token
-no_token_in_gap : (text : List ℕ) (from : ℕ) (u : Token) → IsGap text from (length text) → IsGap text from u.span.start → StandsAt text u → ⊥
-no_token_in_gap text from u gap gap_u stands =
+-- a trivia_run to the end leaves no room for a token
+no_token_in_trivia_run : (text : List ℕ) (from : ℕ) (u : Token) → IsTriviaRun text from (length text) → IsTriviaRun text from u.span.start → StandsAt text u → ⊥
+no_token_in_trivia_run text from u trivia_run trivia_run_u stands =
     let ends = stands_within text u stands in
     let ordered = stands.ordered in
-    let start = gap_end text from (length text) u.span.start gap gap_u (λ len piece. bare_end text (length text) len (omega arith) piece) (stands_bare text u stands) in
+    let start = trivia_end text from (length text) u.span.start trivia_run trivia_run_u (λ len trivia. bare_end text (length text) len (omega arith) trivia) (stands_bare text u stands) in
     omega arith
 
 -- one text has one token list
 pub lexes_only : (text : List ℕ) (from : ℕ) (ts us : List Token) → LexesBetween text from ts (length text) → LexesBetween text from us (length text) → ts ≡ us
 lexes_only text from [] [] h g = refl
-lexes_only text from [] (u ∷ us) h g = absurd (no_token_in_gap text from u h g.0 g.1)
-lexes_only text from (t ∷ ts) [] h g = absurd (no_token_in_gap text from t g h.0 h.1)
+lexes_only text from [] (u ∷ us) h g = absurd (no_token_in_trivia_run text from u h g.0 g.1)
+lexes_only text from (t ∷ ts) [] h g = absurd (no_token_in_trivia_run text from t g h.0 h.1)
 lexes_only text from (t ∷ ts) (u ∷ us) h g =
     let same = same_token text from t u h.0 h.1 g.0 g.1 in
     let rest = lexes_only text t.span.end ts us h.2 (subst (λ v. LexesBetween text v.span.end us (length text)) (sym same) g.2) in
@@ -85,12 +85,12 @@ lexes_only text from (t ∷ ts) (u ∷ us) h g =
 pub stuck_lexes : (text : List ℕ) (from at : ℕ) (ts us : List Token) → LexesBetween text from ts at → IsStuck text at → LexesBetween text from us (length text) → ⊥
 stuck_lexes text from at [] [] h stuck g =
     let within = stuck.within in
-    let end = gap_end text from at (length text) h g stuck.bare (λ len piece. bare_end text (length text) len (omega arith) piece) in
+    let end = trivia_end text from at (length text) h g stuck.bare (λ len trivia. bare_end text (length text) len (omega arith) trivia) in
     absurd (omega arith)
 stuck_lexes text from at [] (u ∷ us) h stuck g =
-    let start = gap_end text from at u.span.start h g.0 stuck.bare (stands_bare text u g.1) in
+    let start = trivia_end text from at u.span.start h g.0 stuck.bare (stands_bare text u g.1) in
     stuck.none u.kind (u.span.end - u.span.start) (subst (λ s. IsToken (drop s text) u.kind (u.span.end - u.span.start)) (sym start) g.1.token)
-stuck_lexes text from at (t ∷ ts) [] h stuck g = no_token_in_gap text from t g h.0 h.1
+stuck_lexes text from at (t ∷ ts) [] h stuck g = no_token_in_trivia_run text from t g h.0 h.1
 stuck_lexes text from at (t ∷ ts) (u ∷ us) h stuck g =
     let same = same_token text from t u h.0 h.1 g.0 g.1 in
     stuck_lexes text t.span.end at ts us h.2 stuck (subst (λ v. LexesBetween text v.span.end us (length text)) (sym same) g.2)

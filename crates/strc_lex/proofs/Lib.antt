@@ -1,5 +1,5 @@
 pub mod Finding
-pub mod Gaps
+pub mod TriviaRuns
 pub mod Lexemes
 pub mod Lexing
 pub mod Only

@@ -7,50 +7,50 @@ use Rattle.std.proofs.lemmas.List.Sums.{prefix_len-le-length, prefix_len_passes}
 use Rattle.std.proofs.lemmas.Bool.{both_ways, le-leb}
 use Rattle.std.proofs.Math.Seq.{drop-cons, take-nil}
 use Rattle.strc_lex.specs.Characters.{is_digit, is_letter, is_name_byte, is_quote}
-use Rattle.strc_lex.specs.Marks.{mark_text}
+use Rattle.strc_lex.specs.PunctuationTexts.{punctuation_text}
 use Rattle.strc_lex.specs.Text.{IsNumeral, IsLexeme, IsApart, IsToken, number_from}
-use Rattle.strc_lex.specs.Scanning.{word_of, name_at, number_at, number_with_length, bounded, is_plain, ends_number, mark_at, mark_of, opens_comment, mark_with_length, token_at}
+use Rattle.strc_lex.specs.Scanning.{keyword_of, name_at, number_at, number_with_length, bounded, is_plain, ends_number, punctuation_at, punctuation_of, opens_comment, punctuation_with_length, token_at}
 use Rattle.strc_lex.specs.declared.token.TokenKind.{TokenKind}
-use Rattle.strc_lex.specs.declared.token.TokenKind.TheVariants.{Name, Number, Word, Mark, Text}
-use Rattle.strc_lex.specs.declared.token.Mark as marks
-use Rattle.strc_lex.specs.declared.token.Mark.TheVariants as mark
+use Rattle.strc_lex.specs.declared.token.TokenKind.TheVariants.{Name, Number, Keyword, Punctuation, StringLiteral}
+use Rattle.strc_lex.specs.declared.token.Punctuation as punctuation
+use Rattle.strc_lex.specs.declared.token.Punctuation.TheVariants as symbol
 use Rattle.strc_lex.proofs.Finding.{either, pick_true, pick_false, or_false, some_is_not_none, some_same, same-pointwise}
 use Rattle.strc_lex.proofs.Lexemes.{Begins, lexeme_begins, no_empty_lexeme, digit_is_name_byte, digit_no_letter, quote_no_letter, quote_no_digit}
 use Rattle.strc_lex.proofs.Runs.{take-run}
-use Rattle.strc_lex.proofs.Tokens.{word_again, number_longest, zero_plain, apart_ends, mark_again, mark_not_missed, size_of_mark, at_letter, at_digit, at_quote, at_other, token_meets}
+use Rattle.strc_lex.proofs.Tokens.{keyword_again, number_longest, zero_plain, apart_ends, punctuation_again, punctuation_not_missed, size_of_punctuation, at_letter, at_digit, at_quote, at_other, token_meets}
 use Rattle.strc_lex.proofs.Strings.{string_only, missed_string}
 
-mark_of_text : (m : marks.Mark) → mark_of (mark_text m) ≡ Some m
-mark_of_text mark.Arrow = refl
-mark_of_text m = refl
+punctuation_of_text : (m : punctuation.Punctuation) → punctuation_of (punctuation_text m) ≡ Some m
+punctuation_of_text symbol.Arrow = refl
+punctuation_of_text m = refl
 
 -- kinds that can begin alike
 abbrev family : TokenKind → ℕ
 family (Name name) = 0
-family (Word w) = 0
+family (Keyword w) = 0
 family (Number value) = 1
-family (Mark m) = 2
-family (Text inner) = 3
+family (Punctuation m) = 2
+family (StringLiteral inner) = 3
 
 abbrev family_at : ℕ → ℕ
 family_at b = cond (is_letter b) 0 (cond (is_digit b) 1 (cond (is_quote b) 3 2))
 
 begins_family : (kind : TokenKind) (b : ℕ) → Begins kind b → family_at b ≡ family kind
 begins_family (Name name) b letter = rw letter refl
-begins_family (Word w) b letter = rw letter refl
+begins_family (Keyword w) b letter = rw letter refl
 begins_family (Number value) b digit = rw (digit_no_letter b digit, digit) refl
-begins_family (Mark m) b none = rw (none.0, none.1, none.3) refl
-begins_family (Text inner) b quote = rw (quote_no_letter b quote, quote_no_digit b quote, quote) refl
+begins_family (Punctuation m) b none = rw (none.0, none.1, none.3) refl
+begins_family (StringLiteral inner) b quote = rw (quote_no_letter b quote, quote_no_digit b quote, quote) refl
 
 -- the same bytes are of one kind
 kind_only : (b : ℕ) (rest : List ℕ) (n : ℕ) (k l : TokenKind) → IsLexeme k (take n (b ∷ rest)) → IsLexeme l (take n (b ∷ rest)) → k ≡ l
 kind_only b rest n (Name x) (Name y) h g = ap Name (h.0 ∙ sym g.0)
-kind_only b rest n (Name x) (Word w) h g = absurd (h.2 w g)
-kind_only b rest n (Word w) (Name x) h g = absurd (g.2 w h)
-kind_only b rest n (Word w) (Word v) h g = ap Word (some_same (sym (word_again w) ∙ ap word_of (h ∙ sym g) ∙ word_again v))
+kind_only b rest n (Name x) (Keyword w) h g = absurd (h.2 w g)
+kind_only b rest n (Keyword w) (Name x) h g = absurd (g.2 w h)
+kind_only b rest n (Keyword w) (Keyword v) h g = ap Keyword (some_same (sym (keyword_again w) ∙ ap keyword_of (h ∙ sym g) ∙ keyword_again v))
 kind_only b rest n (Number u) (Number v) h g = ap Number (h.2 ∙ sym g.2)
-kind_only b rest n (Mark m) (Mark l) h g = ap Mark (some_same (sym (mark_of_text m) ∙ ap mark_of (h ∙ sym g) ∙ mark_of_text l))
-kind_only b rest n (Text x) (Text y) h g = ap Text (string_only b rest n x y h g)
+kind_only b rest n (Punctuation m) (Punctuation l) h g = ap Punctuation (some_same (sym (punctuation_of_text m) ∙ ap punctuation_of (h ∙ sym g) ∙ punctuation_of_text l))
+kind_only b rest n (StringLiteral x) (StringLiteral y) h g = ap StringLiteral (string_only b rest n x y h g)
 kind_only b rest n k l h g = let same : family k ≡ family l = sym (begins_family k b (lexeme_begins k b rest n h).1) ∙ begins_family l b (lexeme_begins l b rest n g).1 in absurd (cc)
 
 -- where a letter stands, the scanner finds something
@@ -106,14 +106,14 @@ opening b (c ∷ rest) e = elim (either (starts_with nat_eq (b ∷ c ∷ rest) (
   | inr block ↦ let same : 47 ∷ 42 ∷ [] ≡ b ∷ c ∷ [] = same-pointwise (codes "/*") (take 2 (b ∷ c ∷ rest)) (or_false _ _ e block) in record { next = c; more = rest; is_rest = refl; slash = cc; opening = inr (cc) }
 ]
 
--- a mark that begins with `/` and is not `/=`
+-- a punctuation mark that begins with `/` and is not `/=`
 abbrev is_bare_slash : List ℕ → Bool
 is_bare_slash [] = false
 is_bare_slash (b ∷ []) = nat_eq b 47
 is_bare_slash (b ∷ c ∷ rest) = cond (nat_eq b 47) (cond (nat_eq c 61) false true) false
 
-slash_alone : (m : marks.Mark) → (m ≡ mark.Slash) ⊎ (is_bare_slash (mark_text m) ≡ false)
-slash_alone mark.Slash = inl refl
+slash_alone : (m : punctuation.Punctuation) → (m ≡ symbol.Slash) ⊎ (is_bare_slash (punctuation_text m) ≡ false)
+slash_alone symbol.Slash = inl refl
 slash_alone m = inr refl
 
 bare_slash_at_comment : (n c : ℕ) (rest : List ℕ) → (n ≡ 2) ⊎ (n ≡ 1) → (c ≡ 47) ⊎ (c ≡ 42) → is_bare_slash (take n (47 ∷ c ∷ rest)) ≡ true
@@ -121,48 +121,48 @@ bare_slash_at_comment n c rest (inl two) (inl line) = rw (two, line) refl
 bare_slash_at_comment n c rest (inl two) (inr block) = rw (two, block) refl
 bare_slash_at_comment n c rest (inr one) o = rw one refl
 
-mark_size : (m : marks.Mark) → (length (mark_text m) ≡ 2) ⊎ (length (mark_text m) ≡ 1)
-mark_size m = elim (mark_again m) [ inl two ↦ inl two.1 | inr one ↦ inr one.1 ]
+punctuation_size : (m : punctuation.Punctuation) → (length (punctuation_text m) ≡ 2) ⊎ (length (punctuation_text m) ≡ 1)
+punctuation_size m = elim (punctuation_again m) [ inl two ↦ inl two.1 | inr one ↦ inr one.1 ]
 
--- no mark is a token there
-no_mark_at_comment : (m : marks.Mark) (c : ℕ) (rest : List ℕ) → (c ≡ 47) ⊎ (c ≡ 42) → mark_text m ≡ take (length (mark_text m)) (47 ∷ c ∷ rest) → IsApart (Mark m) (drop (length (mark_text m)) (47 ∷ c ∷ rest)) → ⊥
-no_mark_at_comment m c rest o e apart = elim (slash_alone m) [
+-- no punctuation mark is a token there
+no_punctuation_at_comment : (m : punctuation.Punctuation) (c : ℕ) (rest : List ℕ) → (c ≡ 47) ⊎ (c ≡ 42) → punctuation_text m ≡ take (length (punctuation_text m)) (47 ∷ c ∷ rest) → IsApart (Punctuation m) (drop (length (punctuation_text m)) (47 ∷ c ∷ rest)) → ⊥
+no_punctuation_at_comment m c rest o e apart = elim (slash_alone m) [
   | inl slash ↦
-      let here : IsApart (Mark mark.Slash) (c ∷ rest) = subst (λ v. IsApart (Mark v) (drop (length (mark_text v)) (47 ∷ c ∷ rest))) slash apart in
+      let here : IsApart (Punctuation symbol.Slash) (c ∷ rest) = subst (λ v. IsApart (Punctuation v) (drop (length (punctuation_text v)) (47 ∷ c ∷ rest))) slash apart in
       elim o [ inl line ↦ here.0 line | inr block ↦ here.1 block ]
-  | inr other ↦ both_ways (is_bare_slash (mark_text m)) other (subst (λ bytes. is_bare_slash bytes ≡ true) (sym e) (bare_slash_at_comment (length (mark_text m)) c rest (mark_size m) o))
+  | inr other ↦ both_ways (is_bare_slash (punctuation_text m)) other (subst (λ bytes. is_bare_slash bytes ≡ true) (sym e) (bare_slash_at_comment (length (punctuation_text m)) c rest (punctuation_size m) o))
 ]
 
--- where a mark stands, the scanner finds something
-missed_mark : (b : ℕ) (rest : List ℕ) (m : marks.Mark) (n : ℕ) → IsToken (b ∷ rest) (Mark m) n → mark_at (b ∷ rest) ≡ None → ⊥
-missed_mark b rest m n t e =
-    let size = size_of_mark (b ∷ rest) m n t.within t.lexeme in
+-- where a punctuation mark stands, the scanner finds something
+missed_punctuation : (b : ℕ) (rest : List ℕ) (m : punctuation.Punctuation) (n : ℕ) → IsToken (b ∷ rest) (Punctuation m) n → punctuation_at (b ∷ rest) ≡ None → ⊥
+missed_punctuation b rest m n t e =
+    let size = size_of_punctuation (b ∷ rest) m n t.within t.lexeme in
     elim (either (opens_comment (b ∷ rest))) [
       | inl opens ↦
           let o = opening b rest opens in
           let text : b ∷ rest ≡ 47 ∷ o.next ∷ o.more = ap (λ x. x ∷ rest) o.slash ∙ ap (λ xs. 47 ∷ xs) o.is_rest in
-          no_mark_at_comment m o.next o.more o.opening
-          (subst (λ xs. mark_text m ≡ take (length (mark_text m)) xs) text (subst (λ k. mark_text m ≡ take k (b ∷ rest)) (sym size) t.lexeme))
-          (subst (λ xs. IsApart (Mark m) (drop (length (mark_text m)) xs)) text (subst (λ k. IsApart (Mark m) (drop k (b ∷ rest))) (sym size) t.apart))
-      | inr plain ↦ by (mark_of (b ∷ rest)) refl (pick_false (opens_comment (b ∷ rest)) None (mark_with_length (mark_of (b ∷ rest))) None e plain)
+          no_punctuation_at_comment m o.next o.more o.opening
+          (subst (λ xs. punctuation_text m ≡ take (length (punctuation_text m)) xs) text (subst (λ k. punctuation_text m ≡ take k (b ∷ rest)) (sym size) t.lexeme))
+          (subst (λ xs. IsApart (Punctuation m) (drop (length (punctuation_text m)) xs)) text (subst (λ k. IsApart (Punctuation m) (drop k (b ∷ rest))) (sym size) t.apart))
+      | inr plain ↦ by (punctuation_of (b ∷ rest)) refl (pick_false (opens_comment (b ∷ rest)) None (punctuation_with_length (punctuation_of (b ∷ rest))) None e plain)
     ] where
-      by : (o : Option marks.Mark) → mark_of (b ∷ rest) ≡ o → mark_with_length o ≡ None → ⊥
-      by None none bad = mark_not_missed (b ∷ rest) m n t.within t.lexeme none
-      by (Some v) found bad = some_is_not_none (Mark v, length (mark_text v)) bad
+      by : (o : Option punctuation.Punctuation) → punctuation_of (b ∷ rest) ≡ o → punctuation_with_length o ≡ None → ⊥
+      by None none bad = punctuation_not_missed (b ∷ rest) m n t.within t.lexeme none
+      by (Some v) found bad = some_is_not_none (Punctuation v, length (punctuation_text v)) bad
 
 -- where a token stands, the scanner finds something
 missed : (text : List ℕ) (k : TokenKind) (n : ℕ) → IsToken text k n → token_at text ≡ None → ⊥
 missed [] k n t e = no_empty_lexeme k (subst (IsLexeme k) (take-nil n) t.lexeme)
 missed (b ∷ rest) (Name name) n t e = missed_letter b rest (lexeme_begins (Name name) b rest n t.lexeme).1 e
-missed (b ∷ rest) (Word w) n t e = missed_letter b rest (lexeme_begins (Word w) b rest n t.lexeme).1 e
+missed (b ∷ rest) (Keyword w) n t e = missed_letter b rest (lexeme_begins (Keyword w) b rest n t.lexeme).1 e
 missed (b ∷ rest) (Number v) n t e =
     let digit = (lexeme_begins (Number v) b rest n t.lexeme).1 in
     missed_number b rest v n digit t (sym (at_digit b rest (digit_no_letter b digit) digit) ∙ e)
-missed (b ∷ rest) (Mark m) n t e =
-    let begins = (lexeme_begins (Mark m) b rest n t.lexeme).1 in
-    missed_mark b rest m n t (sym (at_other b rest begins.0 begins.1 begins.3) ∙ e)
-missed (b ∷ rest) (Text inner) n t e =
-    let quote = (lexeme_begins (Text inner) b rest n t.lexeme).1 in
+missed (b ∷ rest) (Punctuation m) n t e =
+    let begins = (lexeme_begins (Punctuation m) b rest n t.lexeme).1 in
+    missed_punctuation b rest m n t (sym (at_other b rest begins.0 begins.1 begins.3) ∙ e)
+missed (b ∷ rest) (StringLiteral inner) n t e =
+    let quote = (lexeme_begins (StringLiteral inner) b rest n t.lexeme).1 in
     missed_string b rest inner n t.within t.lexeme (sym (at_quote b rest (quote_no_letter b quote) (quote_no_digit b quote) quote) ∙ e)
 
 -- a token at the front is what the scanner finds

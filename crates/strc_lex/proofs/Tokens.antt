@@ -9,51 +9,51 @@ use Rattle.std.proofs.lemmas.List.{length-take, length-take-le}
 use Rattle.std.proofs.lemmas.Option.{cond_some}
 use Rattle.std.specs.Cmp.Lexicographic.{pointwise}
 use Rattle.strc_lex.specs.Characters.{is_digit, is_letter, is_name_byte, is_quote}
-use Rattle.strc_lex.specs.Words.{word_text, all_words}
-use Rattle.strc_lex.specs.Marks.{mark_text, paired_marks, single_marks}
+use Rattle.strc_lex.specs.KeywordTexts.{keyword_text, all_keywords}
+use Rattle.strc_lex.specs.PunctuationTexts.{punctuation_text, paired_punctuation, single_punctuation}
 use Rattle.strc_lex.specs.Text.{IsNameText, IsNumeral, IsLexeme, IsApart, IsToken, number_from}
-use Rattle.strc_lex.specs.Scanning.{word_of, word_or_name, name_at, number_at, number_with_length, bounded, is_plain, ends_number, mark_at, mark_of, or_single, pair_of, single_of, opens_comment, mark_with_length, string_at, token_at}
+use Rattle.strc_lex.specs.Scanning.{keyword_of, keyword_or_name, name_at, number_at, number_with_length, bounded, is_plain, ends_number, punctuation_at, punctuation_of, or_single, pair_of, single_of, opens_comment, punctuation_with_length, string_at, token_at}
 use Rattle.strc_lex.specs.declared.token.TokenKind.{TokenKind}
-use Rattle.strc_lex.specs.declared.token.TokenKind.TheVariants.{Name, Number, Word, Mark, Text}
-use Rattle.strc_lex.specs.declared.token.Word as words
-use Rattle.strc_lex.specs.declared.token.Word.TheVariants as word
-use Rattle.strc_lex.specs.declared.token.Mark as marks
-use Rattle.strc_lex.specs.declared.token.Mark.TheVariants as mark
+use Rattle.strc_lex.specs.declared.token.TokenKind.TheVariants.{Name, Number, Keyword, Punctuation, StringLiteral}
+use Rattle.strc_lex.specs.declared.token.Keyword as keywords
+use Rattle.strc_lex.specs.declared.token.Keyword.TheVariants as keyword
+use Rattle.strc_lex.specs.declared.token.Punctuation as punctuation
+use Rattle.strc_lex.specs.declared.token.Punctuation.TheVariants as symbol
 use Rattle.strc_lex.proofs.Finding.{either, both_parts, find_passes, find_all, find_none, pick_true, pick_false, none_is_not_some, some_same, same-pointwise, pointwise-same}
 use Rattle.strc_lex.proofs.Runs.{run_head, run_positive, take-run, list_all-take_while}
-use Rattle.strc_lex.proofs.Lexemes.{Meets, lexeme_begins, run_bound, word_runs, name_runs, letter_is_name_byte, letter_no_digit, quote_no_letter, quote_no_digit}
+use Rattle.strc_lex.proofs.Lexemes.{Meets, lexeme_begins, run_bound, keyword_runs, name_runs, letter_is_name_byte, letter_no_digit, quote_no_letter, quote_no_digit}
 use Rattle.strc_lex.proofs.Strings.{string_meets}
 
--- a word's text finds the word
-pub word_again : (w : words.Word) → word_of (word_text w) ≡ Some w
-word_again word.Filter = refl
-word_again w = refl
+-- a keyword's text finds the keyword
+pub keyword_again : (w : keywords.Keyword) → keyword_of (keyword_text w) ≡ Some w
+keyword_again keyword.Filter = refl
+keyword_again w = refl
 
--- where no word is found, the bytes are none
-no_word : (bytes : List ℕ) → word_of bytes ≡ None → (w : words.Word) → word_text w ≢ bytes
-no_word bytes none w e =
-    let fails : pointwise nat_eq (word_text w) bytes ≡ false = find_none (λ v. pointwise nat_eq (word_text v) (word_text w)) (λ v. pointwise nat_eq (word_text v) bytes) all_words w (word_again w) none in
-    both_ways (pointwise nat_eq (word_text w) bytes) fails (pointwise-same (word_text w) bytes e)
+-- where no keyword is found, the bytes are none
+no_keyword : (bytes : List ℕ) → keyword_of bytes ≡ None → (w : keywords.Keyword) → keyword_text w ≢ bytes
+no_keyword bytes none w e =
+    let fails : pointwise nat_eq (keyword_text w) bytes ≡ false = find_none (λ v. pointwise nat_eq (keyword_text v) (keyword_text w)) (λ v. pointwise nat_eq (keyword_text v) bytes) all_keywords w (keyword_again w) none in
+    both_ways (pointwise nat_eq (keyword_text w) bytes) fails (pointwise-same (keyword_text w) bytes e)
 
 -- at a letter nothing is longer than the run of name bytes
 name_longest : (b : ℕ) (rest : List ℕ) → is_letter b ≡ true → (other : TokenKind) (size : ℕ) → size ≤ length (b ∷ rest) → IsLexeme other (take size (b ∷ rest)) → size ≤ prefix_len is_name_byte (b ∷ rest)
 name_longest b rest letter (Name name) size within h = run_bound is_name_byte (b ∷ rest) size within (name_runs (take size (b ∷ rest)) h.1)
-name_longest b rest letter (Word w) size within h = run_bound is_name_byte (b ∷ rest) size within (subst (λ bytes. list_all is_name_byte bytes ≡ true) h (word_runs w))
+name_longest b rest letter (Keyword w) size within h = run_bound is_name_byte (b ∷ rest) size within (subst (λ bytes. list_all is_name_byte bytes ≡ true) h (keyword_runs w))
 name_longest b rest letter (Number value) size within h = absurd (letter_no_digit b letter (lexeme_begins (Number value) b rest size h).1)
-name_longest b rest letter (Mark m) size within h = absurd (both_ways (is_letter b) (lexeme_begins (Mark m) b rest size h).1.0 letter)
-name_longest b rest letter (Text inner) size within h = absurd (both_ways (is_letter b) (quote_no_letter b (lexeme_begins (Text inner) b rest size h).1) letter)
+name_longest b rest letter (Punctuation m) size within h = absurd (both_ways (is_letter b) (lexeme_begins (Punctuation m) b rest size h).1.0 letter)
+name_longest b rest letter (StringLiteral inner) size within h = absurd (both_ways (is_letter b) (quote_no_letter b (lexeme_begins (StringLiteral inner) b rest size h).1) letter)
 
 -- a run that begins with a letter is a name, and isn't empty
 name_text : (b : ℕ) (rest : List ℕ) → is_letter b ≡ true → IsNameText (take_while is_name_byte (b ∷ rest))
 name_text b rest letter = subst IsNameText (sym (run_head is_name_byte b rest (letter_is_name_byte b letter))) (letter, list_all-take_while is_name_byte rest)
 
--- at a letter, whichever word the run is
-name_meets_by : (b : ℕ) (rest : List ℕ) → is_letter b ≡ true → (found : Option words.Word) → word_of (take_while is_name_byte (b ∷ rest)) ≡ found → IsToken (b ∷ rest) (word_or_name (take_while is_name_byte (b ∷ rest)) found) (length (take_while is_name_byte (b ∷ rest)))
+-- at a letter, whichever keyword the run is
+name_meets_by : (b : ℕ) (rest : List ℕ) → is_letter b ≡ true → (found : Option keywords.Keyword) → keyword_of (take_while is_name_byte (b ∷ rest)) ≡ found → IsToken (b ∷ rest) (keyword_or_name (take_while is_name_byte (b ∷ rest)) found) (length (take_while is_name_byte (b ∷ rest)))
 name_meets_by b rest letter None none =
     let run = take-run is_name_byte (b ∷ rest) _ refl in
     record {
       within = rw (length-prefix_len is_name_byte (b ∷ rest)) (prefix_len-le-length is_name_byte (b ∷ rest));
-      lexeme = (sym run, subst IsNameText (sym run) (name_text b rest letter), λ w e. no_word _ none w (e ∙ run));
+      lexeme = (sym run, subst IsNameText (sym run) (name_text b rest letter), λ w e. no_keyword _ none w (e ∙ run));
       apart = tt;
       longest = λ other size within h. rw (length-prefix_len is_name_byte (b ∷ rest)) (name_longest b rest letter other size within h);
     }
@@ -61,14 +61,14 @@ name_meets_by b rest letter (Some w) found =
     let run = take-run is_name_byte (b ∷ rest) _ refl in
     record {
       within = rw (length-prefix_len is_name_byte (b ∷ rest)) (prefix_len-le-length is_name_byte (b ∷ rest));
-      lexeme = same-pointwise (word_text w) _ (find_passes (λ v. pointwise nat_eq (word_text v) (take_while is_name_byte (b ∷ rest))) all_words w found) ∙ sym run;
+      lexeme = same-pointwise (keyword_text w) _ (find_passes (λ v. pointwise nat_eq (keyword_text v) (take_while is_name_byte (b ∷ rest))) all_keywords w found) ∙ sym run;
       apart = tt;
       longest = λ other size within h. rw (length-prefix_len is_name_byte (b ∷ rest)) (name_longest b rest letter other size within h);
     }
 
 name_meets : (b : ℕ) (rest : List ℕ) → is_letter b ≡ true → Meets (b ∷ rest) (name_at (b ∷ rest))
 name_meets b rest letter =
-    (name_meets_by b rest letter (word_of (take_while is_name_byte (b ∷ rest))) refl, run_positive is_name_byte b rest (letter_is_name_byte b letter))
+    (name_meets_by b rest letter (keyword_of (take_while is_name_byte (b ∷ rest))) refl, run_positive is_name_byte b rest (letter_is_name_byte b letter))
 
 -- numbers
 
@@ -106,10 +106,10 @@ digit_runs (b ∷ bytes) h = rw h.0 h.1
 
 pub number_longest : (b : ℕ) (rest : List ℕ) → is_digit b ≡ true → (other : TokenKind) (size : ℕ) → size ≤ length (b ∷ rest) → IsLexeme other (take size (b ∷ rest)) → size ≤ prefix_len is_digit (b ∷ rest)
 number_longest b rest digit (Name name) size within h = absurd (letter_no_digit b (lexeme_begins (Name name) b rest size h).1 digit)
-number_longest b rest digit (Word w) size within h = absurd (letter_no_digit b (lexeme_begins (Word w) b rest size h).1 digit)
+number_longest b rest digit (Keyword w) size within h = absurd (letter_no_digit b (lexeme_begins (Keyword w) b rest size h).1 digit)
 number_longest b rest digit (Number value) size within h = run_bound is_digit (b ∷ rest) size within (digit_runs (take size (b ∷ rest)) h.0)
-number_longest b rest digit (Mark m) size within h = absurd (both_ways (is_digit b) (lexeme_begins (Mark m) b rest size h).1.1 digit)
-number_longest b rest digit (Text inner) size within h = absurd (both_ways (is_digit b) (quote_no_digit b (lexeme_begins (Text inner) b rest size h).1) digit)
+number_longest b rest digit (Punctuation m) size within h = absurd (both_ways (is_digit b) (lexeme_begins (Punctuation m) b rest size h).1.1 digit)
+number_longest b rest digit (StringLiteral inner) size within h = absurd (both_ways (is_digit b) (quote_no_digit b (lexeme_begins (StringLiteral inner) b rest size h).1) digit)
 
 numeral_text : (b : ℕ) (rest : List ℕ) → is_digit b ≡ true → is_plain (take_while is_digit (b ∷ rest)) ≡ true → IsNumeral (take_while is_digit (b ∷ rest))
 numeral_text b rest digit plain =
@@ -144,112 +144,112 @@ number_meets b rest k n digit e =
       | inr bad ↦ absurd (none_is_not_some (k, n) (rw bad at e))
     ]
 
--- marks
+-- punctuation
 
--- what a mark's text finds
-pub mark_again : (m : marks.Mark) → ((pair_of (mark_text m) ≡ Some m) × (length (mark_text m) ≡ 2)) ⊎ ((single_of (mark_text m) ≡ Some m) × (length (mark_text m) ≡ 1))
-mark_again mark.Arrow = inl (refl, refl)
-mark_again mark.PlusPlus = inl (refl, refl)
-mark_again mark.MinusMinus = inl (refl, refl)
-mark_again mark.PlusAssign = inl (refl, refl)
-mark_again mark.MinusAssign = inl (refl, refl)
-mark_again mark.StarAssign = inl (refl, refl)
-mark_again mark.SlashAssign = inl (refl, refl)
-mark_again mark.PercentAssign = inl (refl, refl)
-mark_again mark.ShiftLeft = inl (refl, refl)
-mark_again mark.ShiftRight = inl (refl, refl)
-mark_again mark.LessEqual = inl (refl, refl)
-mark_again mark.GreaterEqual = inl (refl, refl)
-mark_again mark.Equal = inl (refl, refl)
-mark_again mark.NotEqual = inl (refl, refl)
-mark_again mark.AndAnd = inl (refl, refl)
-mark_again mark.OrOr = inl (refl, refl)
-mark_again m = inr (refl, refl)
+-- what a punctuation mark's text finds
+pub punctuation_again : (m : punctuation.Punctuation) → ((pair_of (punctuation_text m) ≡ Some m) × (length (punctuation_text m) ≡ 2)) ⊎ ((single_of (punctuation_text m) ≡ Some m) × (length (punctuation_text m) ≡ 1))
+punctuation_again symbol.Arrow = inl (refl, refl)
+punctuation_again symbol.PlusPlus = inl (refl, refl)
+punctuation_again symbol.MinusMinus = inl (refl, refl)
+punctuation_again symbol.PlusAssign = inl (refl, refl)
+punctuation_again symbol.MinusAssign = inl (refl, refl)
+punctuation_again symbol.StarAssign = inl (refl, refl)
+punctuation_again symbol.SlashAssign = inl (refl, refl)
+punctuation_again symbol.PercentAssign = inl (refl, refl)
+punctuation_again symbol.ShiftLeft = inl (refl, refl)
+punctuation_again symbol.ShiftRight = inl (refl, refl)
+punctuation_again symbol.LessEqual = inl (refl, refl)
+punctuation_again symbol.GreaterEqual = inl (refl, refl)
+punctuation_again symbol.Equal = inl (refl, refl)
+punctuation_again symbol.NotEqual = inl (refl, refl)
+punctuation_again symbol.AndAnd = inl (refl, refl)
+punctuation_again symbol.OrOr = inl (refl, refl)
+punctuation_again m = inr (refl, refl)
 
-mark_short : (m : marks.Mark) → (0 < length (mark_text m)) × (length (mark_text m) ≤ 2)
-mark_short m = elim (mark_again m) [ inl two ↦ (omega arith, omega arith) | inr one ↦ (omega arith, omega arith) ]
+punctuation_short : (m : punctuation.Punctuation) → (0 < length (punctuation_text m)) × (length (punctuation_text m) ≤ 2)
+punctuation_short m = elim (punctuation_again m) [ inl two ↦ (omega arith, omega arith) | inr one ↦ (omega arith, omega arith) ]
 
--- the text of a mark stands at the front
-mark_stands : (text : List ℕ) (m : marks.Mark) → mark_of text ≡ Some m → mark_text m ≡ take (length (mark_text m)) text
-mark_stands text m e = same-pointwise (mark_text m) (take (length (mark_text m)) text) (by (pair_of text) refl e) where
-  by : (o : Option marks.Mark) → pair_of text ≡ o → or_single text o ≡ Some m → starts_with nat_eq text (mark_text m) ≡ true
-  by None none single = find_passes (λ v. starts_with nat_eq text (mark_text v)) single_marks m single
-  by (Some v) pair same = let one : v ≡ m = cc in find_passes (λ v. starts_with nat_eq text (mark_text v)) paired_marks m (pair ∙ same)
+-- the text of a punctuation mark stands at the front
+punctuation_stands : (text : List ℕ) (m : punctuation.Punctuation) → punctuation_of text ≡ Some m → punctuation_text m ≡ take (length (punctuation_text m)) text
+punctuation_stands text m e = same-pointwise (punctuation_text m) (take (length (punctuation_text m)) text) (by (pair_of text) refl e) where
+  by : (o : Option punctuation.Punctuation) → pair_of text ≡ o → or_single text o ≡ Some m → starts_with nat_eq text (punctuation_text m) ≡ true
+  by None none single = find_passes (λ v. starts_with nat_eq text (punctuation_text v)) single_punctuation m single
+  by (Some v) pair same = let one : v ≡ m = cc in find_passes (λ v. starts_with nat_eq text (punctuation_text v)) paired_punctuation m (pair ∙ same)
 
--- a mark of this size stands there
-pub size_of_mark : (text : List ℕ) (m : marks.Mark) (size : ℕ) → size ≤ length text → mark_text m ≡ take size text → length (mark_text m) ≡ size
-size_of_mark text m size within e = ap length e ∙ length-take-le size text within
+-- a punctuation mark of this size stands there
+pub size_of_punctuation : (text : List ℕ) (m : punctuation.Punctuation) (size : ℕ) → size ≤ length text → punctuation_text m ≡ take size text → length (punctuation_text m) ≡ size
+size_of_punctuation text m size within e = ap length e ∙ length-take-le size text within
 
-begins_true : (text : List ℕ) (m : marks.Mark) (size : ℕ) → size ≤ length text → mark_text m ≡ take size text → starts_with nat_eq text (mark_text m) ≡ true
-begins_true text m size within e = pointwise-same (mark_text m) (take (length (mark_text m)) text) (e ∙ ap (λ k. take k text) (sym (size_of_mark text m size within e)))
+begins_true : (text : List ℕ) (m : punctuation.Punctuation) (size : ℕ) → size ≤ length text → punctuation_text m ≡ take size text → starts_with nat_eq text (punctuation_text m) ≡ true
+begins_true text m size within e = pointwise-same (punctuation_text m) (take (length (punctuation_text m)) text) (e ∙ ap (λ k. take k text) (sym (size_of_punctuation text m size within e)))
 
--- a mark that stands at the front is found, or a longer one
-pub mark_not_missed : (text : List ℕ) (m : marks.Mark) (size : ℕ) → size ≤ length text → mark_text m ≡ take size text → mark_of text ≡ None → ⊥
-mark_not_missed text m size within e none = by (pair_of text) refl none where
-  by : (o : Option marks.Mark) → pair_of text ≡ o → or_single text o ≡ None → ⊥
+-- a punctuation mark that stands at the front is found, or a longer one
+pub punctuation_not_missed : (text : List ℕ) (m : punctuation.Punctuation) (size : ℕ) → size ≤ length text → punctuation_text m ≡ take size text → punctuation_of text ≡ None → ⊥
+punctuation_not_missed text m size within e none = by (pair_of text) refl none where
+  by : (o : Option punctuation.Punctuation) → pair_of text ≡ o → or_single text o ≡ None → ⊥
   by (Some v) pair bad = absurd (cc)
-  by None pair single = elim (mark_again m) [
-    | inl two ↦ both_ways (starts_with nat_eq text (mark_text m)) (find_none (λ v. starts_with nat_eq (mark_text m) (mark_text v)) (λ v. starts_with nat_eq text (mark_text v)) paired_marks m two.0 pair) (begins_true text m size within e)
-    | inr one ↦ both_ways (starts_with nat_eq text (mark_text m)) (find_none (λ v. starts_with nat_eq (mark_text m) (mark_text v)) (λ v. starts_with nat_eq text (mark_text v)) single_marks m one.0 single) (begins_true text m size within e)
+  by None pair single = elim (punctuation_again m) [
+    | inl two ↦ both_ways (starts_with nat_eq text (punctuation_text m)) (find_none (λ v. starts_with nat_eq (punctuation_text m) (punctuation_text v)) (λ v. starts_with nat_eq text (punctuation_text v)) paired_punctuation m two.0 pair) (begins_true text m size within e)
+    | inr one ↦ both_ways (starts_with nat_eq text (punctuation_text m)) (find_none (λ v. starts_with nat_eq (punctuation_text m) (punctuation_text v)) (λ v. starts_with nat_eq text (punctuation_text v)) single_punctuation m one.0 single) (begins_true text m size within e)
   ]
 
--- no mark at the front is longer than the one that is found
-mark_longest : (text : List ℕ) (m : marks.Mark) → mark_of text ≡ Some m → (other : marks.Mark) (size : ℕ) → size ≤ length text → mark_text other ≡ take size text → size ≤ length (mark_text m)
-mark_longest text m found other size within e = by (pair_of text) refl found where
-  by : (o : Option marks.Mark) → pair_of text ≡ o → or_single text o ≡ Some m → size ≤ length (mark_text m)
+-- no punctuation mark at the front is longer than the one that is found
+punctuation_longest : (text : List ℕ) (m : punctuation.Punctuation) → punctuation_of text ≡ Some m → (other : punctuation.Punctuation) (size : ℕ) → size ≤ length text → punctuation_text other ≡ take size text → size ≤ length (punctuation_text m)
+punctuation_longest text m found other size within e = by (pair_of text) refl found where
+  by : (o : Option punctuation.Punctuation) → pair_of text ≡ o → or_single text o ≡ Some m → size ≤ length (punctuation_text m)
   by (Some v) pair same =
       let one : v ≡ m = cc in
-      let two : nat_eq (length (mark_text m)) 2 ≡ true = find_all (λ v. starts_with nat_eq text (mark_text v)) (λ v. nat_eq (length (mark_text v)) 2) paired_marks m refl (pair ∙ same) in
-      let long = eqb-true (length (mark_text m)) 2 two in
-      let short = mark_short other in
-      let fits = size_of_mark text other size within e in
+      let two : nat_eq (length (punctuation_text m)) 2 ≡ true = find_all (λ v. starts_with nat_eq text (punctuation_text v)) (λ v. nat_eq (length (punctuation_text v)) 2) paired_punctuation m refl (pair ∙ same) in
+      let long = eqb-true (length (punctuation_text m)) 2 two in
+      let short = punctuation_short other in
+      let fits = size_of_punctuation text other size within e in
       omega arith
-  by None pair single = elim (mark_again other) [
-    | inl two ↦ absurd (both_ways (starts_with nat_eq text (mark_text other)) (find_none (λ v. starts_with nat_eq (mark_text other) (mark_text v)) (λ v. starts_with nat_eq text (mark_text v)) paired_marks other two.0 pair) (begins_true text other size within e))
-    | inr one ↦ let short = mark_short m in let fits = size_of_mark text other size within e in omega arith
+  by None pair single = elim (punctuation_again other) [
+    | inl two ↦ absurd (both_ways (starts_with nat_eq text (punctuation_text other)) (find_none (λ v. starts_with nat_eq (punctuation_text other) (punctuation_text v)) (λ v. starts_with nat_eq text (punctuation_text v)) paired_punctuation other two.0 pair) (begins_true text other size within e))
+    | inr one ↦ let short = punctuation_short m in let fits = size_of_punctuation text other size within e in omega arith
   ]
 
 -- behind a `/` that opens no comment stands no `/` and no `*`
-slash_apart : (b : ℕ) (rest : List ℕ) → b ≡ 47 → opens_comment (b ∷ rest) ≡ false → IsApart (Mark mark.Slash) rest
+slash_apart : (b : ℕ) (rest : List ℕ) → b ≡ 47 → opens_comment (b ∷ rest) ≡ false → IsApart (Punctuation symbol.Slash) rest
 slash_apart b [] e plain = tt
 slash_apart b (c ∷ rest) e plain = (
   λ slash. let bad : opens_comment (47 ∷ 47 ∷ rest) ≡ false = subst (λ x. opens_comment (47 ∷ x ∷ rest) ≡ false) slash (subst (λ x. opens_comment (x ∷ c ∷ rest) ≡ false) e plain) in absurd (cc),
   λ star. let bad : opens_comment (47 ∷ 42 ∷ rest) ≡ false = subst (λ x. opens_comment (47 ∷ x ∷ rest) ≡ false) star (subst (λ x. opens_comment (x ∷ c ∷ rest) ≡ false) e plain) in absurd (cc),
 )
 
-mark_apart : (m : marks.Mark) (b : ℕ) (rest : List ℕ) → mark_text m ≡ take (length (mark_text m)) (b ∷ rest) → opens_comment (b ∷ rest) ≡ false → IsApart (Mark m) (drop (length (mark_text m)) (b ∷ rest))
-mark_apart mark.Slash b rest e plain = let head : 47 ≡ b = cc in slash_apart b rest (sym head) plain
-mark_apart m b rest e plain = tt
+punctuation_apart : (m : punctuation.Punctuation) (b : ℕ) (rest : List ℕ) → punctuation_text m ≡ take (length (punctuation_text m)) (b ∷ rest) → opens_comment (b ∷ rest) ≡ false → IsApart (Punctuation m) (drop (length (punctuation_text m)) (b ∷ rest))
+punctuation_apart symbol.Slash b rest e plain = let head : 47 ≡ b = cc in slash_apart b rest (sym head) plain
+punctuation_apart m b rest e plain = tt
 
-lexeme_longest : (b : ℕ) (rest : List ℕ) (m : marks.Mark) → is_letter b ≡ false → is_digit b ≡ false → is_quote b ≡ false → mark_of (b ∷ rest) ≡ Some m → (other : TokenKind) (size : ℕ) → size ≤ length (b ∷ rest) → IsLexeme other (take size (b ∷ rest)) → size ≤ length (mark_text m)
+lexeme_longest : (b : ℕ) (rest : List ℕ) (m : punctuation.Punctuation) → is_letter b ≡ false → is_digit b ≡ false → is_quote b ≡ false → punctuation_of (b ∷ rest) ≡ Some m → (other : TokenKind) (size : ℕ) → size ≤ length (b ∷ rest) → IsLexeme other (take size (b ∷ rest)) → size ≤ length (punctuation_text m)
 lexeme_longest b rest m letter digit quote found (Name name) size within h = absurd (both_ways (is_letter b) letter (lexeme_begins (Name name) b rest size h).1)
-lexeme_longest b rest m letter digit quote found (Word w) size within h = absurd (both_ways (is_letter b) letter (lexeme_begins (Word w) b rest size h).1)
+lexeme_longest b rest m letter digit quote found (Keyword w) size within h = absurd (both_ways (is_letter b) letter (lexeme_begins (Keyword w) b rest size h).1)
 lexeme_longest b rest m letter digit quote found (Number value) size within h = absurd (both_ways (is_digit b) digit (lexeme_begins (Number value) b rest size h).1)
-lexeme_longest b rest m letter digit quote found (Mark other) size within h = mark_longest (b ∷ rest) m found other size within h
-lexeme_longest b rest m letter digit quote found (Text inner) size within h = absurd (both_ways (is_quote b) quote (lexeme_begins (Text inner) b rest size h).1)
+lexeme_longest b rest m letter digit quote found (Punctuation other) size within h = punctuation_longest (b ∷ rest) m found other size within h
+lexeme_longest b rest m letter digit quote found (StringLiteral inner) size within h = absurd (both_ways (is_quote b) quote (lexeme_begins (StringLiteral inner) b rest size h).1)
 
-mark_meets_by : (b : ℕ) (rest : List ℕ) (k : TokenKind) (n : ℕ) → is_letter b ≡ false → is_digit b ≡ false → is_quote b ≡ false → opens_comment (b ∷ rest) ≡ false → (o : Option marks.Mark) → mark_of (b ∷ rest) ≡ o → mark_with_length o ≡ Some (k, n) → Meets (b ∷ rest) (k, n)
-mark_meets_by b rest k n letter digit quote plain None found e = absurd (cc)
-mark_meets_by b rest k n letter digit quote plain (Some m) found e =
-    let stands = mark_stands (b ∷ rest) m found in
-    let short = mark_short m in
-    let cut : length (mark_text m) ≡ length (take (length (mark_text m)) (b ∷ rest)) = ap length stands in
-    let least = length-take (length (mark_text m)) (b ∷ rest) in
-    let pair : (Mark m, length (mark_text m)) ≡ (k, n) = cc in
+punctuation_meets_by : (b : ℕ) (rest : List ℕ) (k : TokenKind) (n : ℕ) → is_letter b ≡ false → is_digit b ≡ false → is_quote b ≡ false → opens_comment (b ∷ rest) ≡ false → (o : Option punctuation.Punctuation) → punctuation_of (b ∷ rest) ≡ o → punctuation_with_length o ≡ Some (k, n) → Meets (b ∷ rest) (k, n)
+punctuation_meets_by b rest k n letter digit quote plain None found e = absurd (cc)
+punctuation_meets_by b rest k n letter digit quote plain (Some m) found e =
+    let stands = punctuation_stands (b ∷ rest) m found in
+    let short = punctuation_short m in
+    let cut : length (punctuation_text m) ≡ length (take (length (punctuation_text m)) (b ∷ rest)) = ap length stands in
+    let least = length-take (length (punctuation_text m)) (b ∷ rest) in
+    let pair : (Punctuation m, length (punctuation_text m)) ≡ (k, n) = cc in
     subst (Meets (b ∷ rest)) pair (
       record {
         within = omega arith;
         lexeme = stands;
-        apart = mark_apart m b rest stands plain;
+        apart = punctuation_apart m b rest stands plain;
         longest = lexeme_longest b rest m letter digit quote found;
       },
       short.0,
     )
 
-mark_meets : (b : ℕ) (rest : List ℕ) (k : TokenKind) (n : ℕ) → is_letter b ≡ false → is_digit b ≡ false → is_quote b ≡ false → mark_at (b ∷ rest) ≡ Some (k, n) → Meets (b ∷ rest) (k, n)
-mark_meets b rest k n letter digit quote e = elim (either (opens_comment (b ∷ rest))) [
-  | inl opens ↦ absurd (none_is_not_some (k, n) (pick_true (opens_comment (b ∷ rest)) None (mark_with_length (mark_of (b ∷ rest))) (Some (k, n)) e opens))
-  | inr plain ↦ mark_meets_by b rest k n letter digit quote plain (mark_of (b ∷ rest)) refl (pick_false (opens_comment (b ∷ rest)) None (mark_with_length (mark_of (b ∷ rest))) (Some (k, n)) e plain)
+punctuation_meets : (b : ℕ) (rest : List ℕ) (k : TokenKind) (n : ℕ) → is_letter b ≡ false → is_digit b ≡ false → is_quote b ≡ false → punctuation_at (b ∷ rest) ≡ Some (k, n) → Meets (b ∷ rest) (k, n)
+punctuation_meets b rest k n letter digit quote e = elim (either (opens_comment (b ∷ rest))) [
+  | inl opens ↦ absurd (none_is_not_some (k, n) (pick_true (opens_comment (b ∷ rest)) None (punctuation_with_length (punctuation_of (b ∷ rest))) (Some (k, n)) e opens))
+  | inr plain ↦ punctuation_meets_by b rest k n letter digit quote plain (punctuation_of (b ∷ rest)) refl (pick_false (opens_comment (b ∷ rest)) None (punctuation_with_length (punctuation_of (b ∷ rest))) (Some (k, n)) e plain)
 ]
 
 -- what the scanner reads at a letter, a digit, a quote and any other byte
@@ -262,7 +262,7 @@ at_digit b rest letter digit = rw (letter, digit) refl
 pub at_quote : (b : ℕ) (rest : List ℕ) → is_letter b ≡ false → is_digit b ≡ false → is_quote b ≡ true → token_at (b ∷ rest) ≡ string_at (b ∷ rest)
 at_quote b rest letter digit quote = rw (letter, digit, quote) refl
 
-pub at_other : (b : ℕ) (rest : List ℕ) → is_letter b ≡ false → is_digit b ≡ false → is_quote b ≡ false → token_at (b ∷ rest) ≡ mark_at (b ∷ rest)
+pub at_other : (b : ℕ) (rest : List ℕ) → is_letter b ≡ false → is_digit b ≡ false → is_quote b ≡ false → token_at (b ∷ rest) ≡ punctuation_at (b ∷ rest)
 at_other b rest letter digit quote = rw (letter, digit, quote) refl
 
 -- what the scanner finds is the token at the front
@@ -274,7 +274,7 @@ token_meets (b ∷ rest) k n e = elim (either (is_letter b)) [
     | inl digit ↦ number_meets b rest k n digit (sym (at_digit b rest no_letter digit) ∙ e)
     | inr no_digit ↦ elim (either (is_quote b)) [
       | inl quote ↦ string_meets b rest k n quote (sym (at_quote b rest no_letter no_digit quote) ∙ e)
-      | inr no_quote ↦ mark_meets b rest k n no_letter no_digit no_quote (sym (at_other b rest no_letter no_digit no_quote) ∙ e)
+      | inr no_quote ↦ punctuation_meets b rest k n no_letter no_digit no_quote (sym (at_other b rest no_letter no_digit no_quote) ∙ e)
     ]
   ]
 ]

@@ -1,7 +1,7 @@
 pub mod Characters
-pub mod Gaps
-pub mod Marks
+pub mod Trivia
+pub mod PunctuationTexts
 pub mod Scanning
 pub mod Text
-pub mod Words
+pub mod KeywordTexts
 pub mod Sentences

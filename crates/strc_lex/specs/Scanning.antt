@@ -1,28 +1,28 @@
--- Reading the token at the front of a text: what the scanner computes. `Text` says what a token is.
+-- Reading the token at the front of a text: what the scanner computes. `StringLiteral` says what a token is.
 use Rattle.std.specs.Prelude.{ℕ, Bool, true, false, List, [], ◌∷◌, ◌+◌, length, drop, take_while, find, nat_le, nat_eq, codes, ◌||◌, Option, Some, None, if◌then◌else◌, ◌==◌, ◌&&◌}
 use Rattle.std.specs.List.{starts_with}
 use Rattle.std.specs.Cmp.Lexicographic.{pointwise}
 use Rattle.std.specs.Int.{w32, cast_signed}
 use Rattle.strc_lex.specs.Characters.{is_digit, is_letter, is_name_byte, is_quote, is_string_byte}
-use Rattle.strc_lex.specs.Words.{word_text, all_words}
-use Rattle.strc_lex.specs.Marks.{mark_text, paired_marks, single_marks}
+use Rattle.strc_lex.specs.KeywordTexts.{keyword_text, all_keywords}
+use Rattle.strc_lex.specs.PunctuationTexts.{punctuation_text, paired_punctuation, single_punctuation}
 use Rattle.strc_lex.specs.Text.{number_from}
 use Rattle.strc_lex.specs.declared.token.TokenKind.{TokenKind}
-use Rattle.strc_lex.specs.declared.token.TokenKind.TheVariants.{Name, Number, Word, Mark, Text}
-use Rattle.strc_lex.specs.declared.token.Word as words
-use Rattle.strc_lex.specs.declared.token.Mark as marks
+use Rattle.strc_lex.specs.declared.token.TokenKind.TheVariants.{Name, Number, Keyword, Punctuation, StringLiteral}
+use Rattle.strc_lex.specs.declared.token.Keyword as keywords
+use Rattle.strc_lex.specs.declared.token.Punctuation as punctuation
 
--- the reserved word that the bytes are
-abbrev pub word_of : List ℕ → Option words.Word
-word_of bytes = find (λ w. pointwise nat_eq (word_text w) bytes) all_words
+-- the keyword that the bytes are
+abbrev pub keyword_of : List ℕ → Option keywords.Keyword
+keyword_of bytes = find (λ w. pointwise nat_eq (keyword_text w) bytes) all_keywords
 
-abbrev pub word_or_name : List ℕ → Option words.Word → TokenKind
-word_or_name bytes None = Name bytes
-word_or_name bytes (Some w) = Word w
+abbrev pub keyword_or_name : List ℕ → Option keywords.Keyword → TokenKind
+keyword_or_name bytes None = Name bytes
+keyword_or_name bytes (Some w) = Keyword w
 
--- a name or a reserved word, and its length
+-- a name or a keyword, and its length
 abbrev pub name_at : List ℕ → TokenKind × ℕ
-name_at text = let bytes = take_while is_name_byte text in (word_or_name bytes (word_of bytes), length bytes)
+name_at text = let bytes = take_while is_name_byte text in (keyword_or_name bytes (keyword_of bytes), length bytes)
 
 -- whether what stands behind a number parts it from the next token
 abbrev pub ends_number : List ℕ → Bool
@@ -49,32 +49,32 @@ number_at text =
     then number_with_length (length digits) (bounded (number_from 0 digits))
     else None
 
--- the mark at the front, the longer ones first
-abbrev pub pair_of : List ℕ → Option marks.Mark
-pair_of text = find (λ m. starts_with nat_eq text (mark_text m)) paired_marks
+-- the punctuation at the front, the longer ones first
+abbrev pub pair_of : List ℕ → Option punctuation.Punctuation
+pair_of text = find (λ m. starts_with nat_eq text (punctuation_text m)) paired_punctuation
 
-abbrev pub single_of : List ℕ → Option marks.Mark
-single_of text = find (λ m. starts_with nat_eq text (mark_text m)) single_marks
+abbrev pub single_of : List ℕ → Option punctuation.Punctuation
+single_of text = find (λ m. starts_with nat_eq text (punctuation_text m)) single_punctuation
 
-abbrev pub or_single : List ℕ → Option marks.Mark → Option marks.Mark
+abbrev pub or_single : List ℕ → Option punctuation.Punctuation → Option punctuation.Punctuation
 or_single text None = single_of text
 or_single text (Some m) = Some m
 
-abbrev pub mark_of : List ℕ → Option marks.Mark
-mark_of text = or_single text (pair_of text)
+abbrev pub punctuation_of : List ℕ → Option punctuation.Punctuation
+punctuation_of text = or_single text (pair_of text)
 
--- `/` is no mark where a comment begins
+-- `/` is no punctuation mark where a comment begins
 abbrev pub opens_comment : List ℕ → Bool
 opens_comment text = starts_with nat_eq text (codes "//") || starts_with nat_eq text (codes "/*")
 
-abbrev pub mark_with_length : Option marks.Mark → Option (TokenKind × ℕ)
-mark_with_length None = None
-mark_with_length (Some m) = Some (Mark m, length (mark_text m))
+abbrev pub punctuation_with_length : Option punctuation.Punctuation → Option (TokenKind × ℕ)
+punctuation_with_length None = None
+punctuation_with_length (Some m) = Some (Punctuation m, length (punctuation_text m))
 
-abbrev pub mark_at : List ℕ → Option (TokenKind × ℕ)
-mark_at text =
+abbrev pub punctuation_at : List ℕ → Option (TokenKind × ℕ)
+punctuation_at text =
     if opens_comment text then None
-    else mark_with_length (mark_of text)
+    else punctuation_with_length (punctuation_of text)
 
 -- whether a quote stands first
 abbrev pub is_closed : List ℕ → Bool
@@ -86,7 +86,7 @@ abbrev pub string_at : List ℕ → Option (TokenKind × ℕ)
 string_at [] = None
 string_at (b ∷ rest) =
     let inner = take_while is_string_byte rest in
-    if is_closed (drop (length inner) rest) then Some (Text inner, length inner + 2) else None
+    if is_closed (drop (length inner) rest) then Some (StringLiteral inner, length inner + 2) else None
 
 -- the token at the front of the text, and its length
 abbrev pub token_at : List ℕ → Option (TokenKind × ℕ)
@@ -95,4 +95,4 @@ token_at (b ∷ rest) =
     if is_letter b then Some (name_at (b ∷ rest))
     else if is_digit b then number_at (b ∷ rest)
     else if is_quote b then string_at (b ∷ rest)
-    else mark_at (b ∷ rest)
+    else punctuation_at (b ∷ rest)

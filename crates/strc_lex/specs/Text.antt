@@ -1,16 +1,16 @@
--- The tokens of a text: gaps and tokens in turn, each token the longest that can stand there.
+-- The tokens of a text: trivia_runs and tokens in turn, each token the longest that can stand there.
 use Rattle.std.specs.Prelude.{◌≡◌, ◌≢◌, ℕ, ◌+◌, ◌-◌, ◌*◌, ◌<◌, ◌≤◌, true, false, List, [], ◌∷◌, ◌++◌, length, take, drop}
 use Rattle.std.specs.List.{list_all}
 use Rattle.std.specs.Int.{w32, cast_signed}
 use Rattle.strc_lex.specs.Characters.{is_digit, is_letter, is_name_byte, is_string_byte}
-use Rattle.strc_lex.specs.Words.{word_text}
-use Rattle.strc_lex.specs.Marks.{mark_text}
-use Rattle.strc_lex.specs.Gaps.{IsPiece, IsGap}
+use Rattle.strc_lex.specs.KeywordTexts.{keyword_text}
+use Rattle.strc_lex.specs.PunctuationTexts.{punctuation_text}
+use Rattle.strc_lex.specs.Trivia.{IsTrivia, IsTriviaRun}
 use Rattle.strc_lex.specs.declared.token.Token.{Token}
 use Rattle.strc_lex.specs.declared.token.TokenKind.{TokenKind}
-use Rattle.strc_lex.specs.declared.token.TokenKind.TheVariants.{Name, Number, Word, Mark, Text}
-use Rattle.strc_lex.specs.declared.token.Word as words
-use Rattle.strc_lex.specs.declared.token.Mark.TheVariants as mark
+use Rattle.strc_lex.specs.declared.token.TokenKind.TheVariants.{Name, Number, Keyword, Punctuation, StringLiteral}
+use Rattle.strc_lex.specs.declared.token.Keyword as keywords
+use Rattle.strc_lex.specs.declared.token.Punctuation.TheVariants as punctuation
 
 -- how long a text may be, in bytes
 abbrev pub text_limit : ℕ
@@ -33,16 +33,16 @@ number_from high (b ∷ bytes) = number_from (10 * high + (b - 48)) bytes
 
 -- the bytes are a token of this kind, wherever they stand
 abbrev pub IsLexeme : TokenKind → List ℕ → Type 0
-IsLexeme (Name name) bytes = (name ≡ bytes) × IsNameText bytes × ((w : words.Word) → word_text w ≢ bytes)
+IsLexeme (Name name) bytes = (name ≡ bytes) × IsNameText bytes × ((w : keywords.Keyword) → keyword_text w ≢ bytes)
 IsLexeme (Number value) bytes = IsNumeral bytes × (number_from 0 bytes ≤ 2147483648) × (value ≡ cast_signed w32 (number_from 0 bytes))
-IsLexeme (Word w) bytes = word_text w ≡ bytes
-IsLexeme (Mark m) bytes = mark_text m ≡ bytes
-IsLexeme (Text inner) bytes = (bytes ≡ 34 ∷ inner ++ 34 ∷ []) × (list_all is_string_byte inner ≡ true)
+IsLexeme (Keyword w) bytes = keyword_text w ≡ bytes
+IsLexeme (Punctuation m) bytes = punctuation_text m ≡ bytes
+IsLexeme (StringLiteral inner) bytes = (bytes ≡ 34 ∷ inner ++ 34 ∷ []) × (list_all is_string_byte inner ≡ true)
 
 -- No digit, letter or `_` stands right behind a number. No `/` or `*` stands right behind `/`: a comment begins there.
 abbrev pub IsApart : TokenKind → List ℕ → Type 0
 IsApart (Number value) (b ∷ rest) = is_name_byte b ≡ false
-IsApart (Mark mark.Slash) (b ∷ rest) = (b ≢ 47) × (b ≢ 42)
+IsApart (Punctuation punctuation.Slash) (b ∷ rest) = (b ≢ 47) × (b ≢ 42)
 IsApart kind rest = Unit {0}
 
 -- the text begins with a token of this kind and length, and no longer lexeme
@@ -57,23 +57,23 @@ pub record StandsAt (text : List ℕ) (item : Token) : Type 0 where
   pub ordered : item.span.start < item.span.end
   pub token : IsToken (drop item.span.start text) item.kind (item.span.end - item.span.start)
 
--- from one place up to another the text is gaps and these tokens in turn
+-- from one place up to another the text is trivia_runs and these tokens in turn
 abbrev pub LexesBetween : List ℕ → ℕ → List Token → ℕ → Type 0
-LexesBetween text from [] to = IsGap text from to
+LexesBetween text from [] to = IsTriviaRun text from to
 LexesBetween text from (token ∷ tokens) to =
-    IsGap text from token.span.start × StandsAt text token × LexesBetween text token.span.end tokens to
+    IsTriviaRun text from token.span.start × StandsAt text token × LexesBetween text token.span.end tokens to
 
--- the text is gaps and these tokens in turn
+-- the text is trivia_runs and these tokens in turn
 abbrev pub Lexes : List ℕ → List Token → Type 0
 Lexes text tokens = LexesBetween text 0 tokens (length text)
 
 -- at this place stands no white space, no comment begins that is closed, and no token begins
 pub record IsStuck (text : List ℕ) (at : ℕ) : Type 0 where
   pub within : at < length text
-  pub bare : (len : ℕ) → IsPiece (drop at text) len → ⊥
+  pub bare : (len : ℕ) → IsTrivia (drop at text) len → ⊥
   pub none : (kind : TokenKind) (len : ℕ) → IsToken (drop at text) kind len → ⊥
 
--- what stands before the place is gaps and tokens, and no token goes on there
+-- what stands before the place is trivia_runs and tokens, and no token goes on there
 pub record StopsAt (text : List ℕ) (at : ℕ) : Type 0 where
   pub tokens : List Token
   pub front : LexesBetween text 0 tokens at

@@ -1,14 +1,15 @@
 // Takes the bytes of a program's text.
-// Gives its tokens, each with its place, or the refusal of a text that is too long or has no token list.
+// Gives its tokens, each with its place, or the refusal of a text that is too long or has no token
+// list.
 // The theorem to rely on: `lex` answers Ok exactly with the tokens of the text.
 // Stands on no other crate of ours.
 #![tactic(auto)]
 
 mod characters;
 pub mod error;
-mod gap;
+pub mod keyword;
 pub mod lexer;
-pub mod mark;
+pub mod punctuation;
 mod scan;
 pub mod token;
-pub mod word;
+mod trivia;

@@ -7,7 +7,7 @@ ghost use Rattle.strc_lex.specs.Scanning as spec;
 ghost use Rattle.strc_lex.specs.Text.{number_from};
 
 use crate::characters::{is_digit, is_letter, is_name_byte, is_quote, is_string_byte};
-use crate::token::{Mark, Name, Text, TokenKind, Word};
+use crate::token::{Keyword, Name, Punctuation, StringLiteral, TokenKind};
 use std::alloc::{AllocError, Global};
 
 // The greatest number that a text can write.
@@ -27,17 +27,17 @@ pub(crate) fn token_at(alloc: Global, text: &[u8]) -> Result<Option<(TokenKind, 
     } else if is_quote(first) {
         string_at(alloc, text)
     } else {
-        Ok(mark_at(text))
+        Ok(punctuation_at(text))
     }
 }
 
-// A name or a reserved word.
+// A name or a keyword.
 fn name_at(alloc: Global, text: &[u8]) -> Result<(TokenKind, usize), AllocError>
     ensures { IfOk result (λ found. found ≡ spec.name_at text.now) }
 {
     let bytes = name_bytes(text);
-    match word_of(bytes) {
-        Some(word) => Ok((TokenKind::Word(word), bytes.len())),
+    match keyword_of(bytes) {
+        Some(keyword) => Ok((TokenKind::Keyword(keyword), bytes.len())),
         None => Ok((
             TokenKind::Name(Name::new(bytes.to_vec(alloc)?)),
             bytes.len(),
@@ -73,10 +73,13 @@ fn digits_length(text: &[u8]) -> usize
     text.iter().take_while(|byte| is_digit(**byte)).count()
 }
 
-fn word_of(bytes: &[u8]) -> Option<Word>
-    ensures { result ≡ spec.word_of bytes.now }
+fn keyword_of(bytes: &[u8]) -> Option<Keyword>
+    ensures { result ≡ spec.keyword_of bytes.now }
 {
-    Word::ALL.iter().copied().find(|word| word.text() == bytes)
+    Keyword::ALL
+        .iter()
+        .copied()
+        .find(|keyword| keyword.text() == bytes)
 }
 
 fn number_at(text: &[u8]) -> Option<(TokenKind, usize)>
@@ -130,42 +133,45 @@ fn number_of(digits: &[u8]) -> Option<u32>
     }
 }
 
-fn mark_at(text: &[u8]) -> Option<(TokenKind, usize)>
-    ensures { result ≡ spec.mark_at text.now }
+fn punctuation_at(text: &[u8]) -> Option<(TokenKind, usize)>
+    ensures { result ≡ spec.punctuation_at text.now }
 {
     if text.starts_with(b"//") || text.starts_with(b"/*") {
         return None;
     }
-    let mark = mark_of(text)?;
-    Some((TokenKind::Mark(mark), mark.text().len()))
+    let punctuation = punctuation_of(text)?;
+    Some((
+        TokenKind::Punctuation(punctuation),
+        punctuation.text().len(),
+    ))
 }
 
-// The mark at the front, the longer ones first.
-fn mark_of(text: &[u8]) -> Option<Mark>
-    ensures { result ≡ spec.mark_of text.now }
+// The punctuation at the front, the longer ones first.
+fn punctuation_of(text: &[u8]) -> Option<Punctuation>
+    ensures { result ≡ spec.punctuation_of text.now }
 {
     match pair_of(text) {
-        Some(mark) => Some(mark),
+        Some(punctuation) => Some(punctuation),
         None => single_of(text),
     }
 }
 
-fn pair_of(text: &[u8]) -> Option<Mark>
+fn pair_of(text: &[u8]) -> Option<Punctuation>
     ensures { result ≡ spec.pair_of text.now }
 {
-    Mark::PAIRS
+    Punctuation::PAIRS
         .iter()
         .copied()
-        .find(|mark| text.starts_with(mark.text()))
+        .find(|punctuation| text.starts_with(punctuation.text()))
 }
 
-fn single_of(text: &[u8]) -> Option<Mark>
+fn single_of(text: &[u8]) -> Option<Punctuation>
     ensures { result ≡ spec.single_of text.now }
 {
-    Mark::SINGLES
+    Punctuation::SINGLES
         .iter()
         .copied()
-        .find(|mark| text.starts_with(mark.text()))
+        .find(|punctuation| text.starts_with(punctuation.text()))
 }
 
 // A string, whose opening quote is known to be there.
@@ -177,8 +183,8 @@ fn string_at(alloc: Global, text: &[u8]) -> Result<Option<(TokenKind, usize)>, A
     };
     let inner = string_bytes(rest);
     if is_closed(&rest[inner.len()..]) {
-        let text = Text::new(inner.to_vec(alloc)?);
-        Ok(Some((TokenKind::Text(text), inner.len() + 2)))
+        let text = StringLiteral::new(inner.to_vec(alloc)?);
+        Ok(Some((TokenKind::StringLiteral(text), inner.len() + 2)))
     } else {
         Ok(None)
     }

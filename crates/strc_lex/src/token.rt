@@ -1,4 +1,5 @@
-// What a token is: a name, a number, a reserved word, a mark or a string, and its place in the text.
+// What a token is: a name, a number, a keyword, a punctuation mark or a string, and its place in
+// the text.
 
 use std::alloc::AllocError;
 use std::marker::Model;
@@ -23,13 +24,14 @@ pub enum TokenKind {
     Name(Name),
     /// 0 to 2147483647, or the minimum, for which 2147483648 stands.
     Number(i32),
-    Word(Word),
-    Mark(Mark),
+    Keyword(Keyword),
+    Punctuation(Punctuation),
     /// A string.
-    Text(Text),
+    StringLiteral(StringLiteral),
 }
 
-/// A name: a letter or `_`, then letters, digits and `_`. Contracts see it as the list of its bytes.
+/// A name: a letter or `_`, then letters, digits and `_`. Contracts see it as the list of its
+/// bytes.
 #[derive(Debug, Drop)]
 pub struct Name {
     bytes: Vec<u8>,
@@ -77,11 +79,11 @@ impl Name {
 
 /// What a string has between its quotes. Contracts see it as the list of its bytes.
 #[derive(Debug, Drop)]
-pub struct Text {
+pub struct StringLiteral {
     bytes: Vec<u8>,
 }
 
-impl Model for Text {
+impl Model for StringLiteral {
     ghost use Rattle.std.specs.Prelude.{List, ℕ};
 
     ghost Value = { List ℕ };
@@ -89,14 +91,14 @@ impl Model for Text {
     ghost view = { λ t. t.bytes.items };
 }
 
-impl Text {
+impl StringLiteral {
     ghost use Rattle.std.specs.Prelude.{◌≡◌, IfOk};
 
     /// The text that these bytes are. It takes no memory.
-    pub fn new(bytes: Vec<u8>) -> Text
+    pub fn new(bytes: Vec<u8>) -> StringLiteral
         ensures { result ≡ bytes.items }
     {
-        Text { bytes }
+        StringLiteral { bytes }
     }
 
     /// The bytes of the text.
@@ -107,16 +109,16 @@ impl Text {
     }
 
     /// An equal text.
-    pub fn copy(&self) -> Result<Text, AllocError>
+    pub fn copy(&self) -> Result<StringLiteral, AllocError>
         ensures { IfOk result (λ text. text ≡ self.now) }
     {
-        Ok(Text::new(self.bytes.clone()?))
+        Ok(StringLiteral::new(self.bytes.clone()?))
     }
 }
 
-/// A reserved word, named as it is written.
+/// A keyword, named as it is written.
 #[derive(Clone, Copy, Debug, PartialEq, Eq)]
-pub enum Word {
+pub enum Keyword {
     Filter,
     Pipeline,
     Splitjoin,
@@ -160,9 +162,9 @@ pub enum Word {
     Portal,
 }
 
-/// A mark of one or two characters.
+/// A punctuation mark of one or two characters.
 #[derive(Clone, Copy, Debug, PartialEq, Eq)]
-pub enum Mark {
+pub enum Punctuation {
     /// `->`
     Arrow,
     /// `++`
@@ -230,15 +232,15 @@ pub enum Mark {
     /// `,`
     Comma,
     /// `(`
-    OpenBracket,
+    OpenParen,
     /// `)`
-    CloseBracket,
+    CloseParen,
     /// `{`
     OpenBrace,
     /// `}`
     CloseBrace,
     /// `[`
-    OpenSquare,
+    OpenBracket,
     /// `]`
-    CloseSquare,
+    CloseBracket,
 }

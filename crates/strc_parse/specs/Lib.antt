@@ -1,8 +1,3 @@
-pub mod Tree
-pub mod View
-pub mod Grammar
-pub mod Reading
-pub mod Streams
 pub mod Seen
 pub mod Readers
-pub mod Sentences
+pub mod Parts

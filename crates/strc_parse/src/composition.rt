@@ -1,72 +1,93 @@
-// Statements of composite streams, and the streams without names in them. A child is a node below its statement.
+// Statements of composite streams, and the streams without names in them. A child is a node below
+// its statement.
 
 ghost use Rattle.std.specs.Prelude.{◌≡◌, ◌-◌, ◌<◌};
-ghost use Rattle.strc_parse.specs.Grammar.{kinds};
-ghost use Rattle.strc_parse.specs.Seen.{seen_stmt, seen_arguments, seen_child, seen_splitter, seen_composition};
-ghost use Rattle.strc_parse.specs.Streams as spec;
-ghost use Rattle.strc_parse.specs.Reading.{Gives};
+ghost use Rattle.strc_grammar.specs.Grammar.{kinds};
+ghost use Rattle.strc_syntax.specs.View.{weights_view, stmt_view, child_view};
+ghost use Rattle.strc_syntax.specs.View.{splitter_view, composition_view};
+ghost use Rattle.strc_rules.specs.Seen.{parsed};
+ghost use Rattle.strc_grammar.specs.Streams as spec;
+ghost use Rattle.strc_grammar.specs.Reading.{Gives};
 ghost use Rattle.strc_parse.specs.Readers.{ReadsStatements};
+ghost use Rattle.strc_parse.specs.Parts as parts;
 
-use crate::argument::{arguments, empty_brackets};
 use crate::control::StatementRules;
-use crate::error::ReadError;
-use crate::expression::closed;
-use crate::lookahead::{expect, expect_word, is_word, peek, raised, tail, unexpected};
-use crate::node::{composite_of, filter_of};
-use crate::stream_type::{composite_kind, file, int_items, stream_type};
-use crate::tree::{Child, Composition, Expr, Role, Splitter, Stmt, StreamType};
 use std::alloc::Global;
-use strc_lex::token::{Mark, Name, Token, TokenKind, Word};
+use strc_grammar::ReadError;
+use strc_lex::token::{Keyword, Name, Punctuation, Token, TokenKind};
+use strc_rules::argument::{arguments, empty_brackets};
+use strc_rules::expression::closed;
+use strc_rules::held::{before, raise};
+use strc_rules::lookahead::{expect, expect_keyword, is_keyword, peek, tail, unexpected};
+use strc_rules::stream_type::{composite_kind, file, int_items, stream_type};
+use strc_syntax::node::{composite_of, filter_of};
+use strc_syntax::tree::{Child, Composition, Expr, Role, Splitter, Stmt, StreamType};
 
-/// `A(1, 2);`: behind the name. The height is the highest argument's, or 0.
-#[tactic(auto, unfolding(crate::specs::Streams::named_child))]
+/// `A(1, 2);`: after the name. The height is the highest argument's, or 0.
+#[tactic(auto, unfolding(strc_grammar::specs::Streams::named_child))]
 fn named_child<'t>(
     alloc: Global,
     limit: usize,
     name: Name,
     tokens: &'t [Token],
 ) -> Result<(Child, usize, &'t [Token]), ReadError>
-    ensures { Gives seen_child result (spec.named_child limit name (kinds tokens.now)) }
+    ensures { Gives (parsed child_view) result (spec.named_child limit name (kinds tokens.now)) }
 {
     let (given, height, rest) = arguments(alloc, limit, tokens)?;
-    let rest = expect(Mark::Semicolon, rest)?;
+    let (given, rest) = before(Punctuation::Semicolon, given, rest)?;
     Ok((Child::Named(name, given), height, rest))
 }
 
-/// `<int>();`: behind the word.
-#[tactic(auto, unfolding(crate::specs::Streams::identity))]
+/// `<int>();`: after the keyword.
+#[tactic(auto, unfolding(strc_grammar::specs::Streams::identity))]
 fn identity(tokens: &[Token]) -> Result<(Child, usize, &[Token]), ReadError>
-    ensures { Gives seen_child result (spec.identity (kinds tokens.now)) }
+    ensures { Gives (parsed child_view) result (spec.identity (kinds tokens.now)) }
 {
     let opened = int_items(tokens)?;
     let (brackets, rest) = empty_brackets(opened)?;
-    let rest = expect(Mark::Semicolon, rest)?;
+    let rest = expect(Punctuation::Semicolon, rest)?;
     Ok((Child::Identity(brackets), 0, rest))
 }
 
+/// `FileReader`: after the keyword.
+fn file_reader(tokens: &[Token]) -> Result<(Child, usize, &[Token]), ReadError>
+    ensures { Gives (parsed child_view) result (parts.file_reader (kinds tokens.now)) }
+{
+    let (text, rest) = file(tokens)?;
+    Ok((Child::FileReader(text), 0, rest))
+}
+
+/// `FileWriter`: after the keyword.
+fn file_writer(tokens: &[Token]) -> Result<(Child, usize, &[Token]), ReadError>
+    ensures { Gives (parsed child_view) result (parts.file_writer (kinds tokens.now)) }
+{
+    let (text, rest) = file(tokens)?;
+    Ok((Child::FileWriter(text), 0, rest))
+}
+
 /// `roundrobin(1, 2)`, and the height of the highest weight or 0.
-#[tactic(auto, unfolding(crate::specs::Streams::weights))]
+#[tactic(auto, unfolding(strc_grammar::specs::Streams::weights))]
 fn weights(
     alloc: Global,
     limit: usize,
     tokens: &[Token],
 ) -> Result<(Option<Vec<Expr>>, usize, &[Token]), ReadError>
-    ensures { Gives seen_arguments result (spec.weights limit (kinds tokens.now)) }
+    ensures { Gives (parsed weights_view) result (spec.weights limit (kinds tokens.now)) }
 {
-    let rest = expect_word(Word::Roundrobin, tokens)?;
+    let rest = expect_keyword(Keyword::Roundrobin, tokens)?;
     arguments(alloc, limit, rest)
 }
 
 /// How items are split, and the height of the highest weight or 0.
-#[tactic(auto, unfolding(crate::specs::Streams::splitter))]
+#[tactic(auto, unfolding(strc_grammar::specs::Streams::splitter))]
 fn splitter(
     alloc: Global,
     limit: usize,
     tokens: &[Token],
 ) -> Result<(Splitter, usize, &[Token]), ReadError>
-    ensures { Gives seen_splitter result (spec.splitter limit (kinds tokens.now)) }
+    ensures { Gives (parsed splitter_view) result (spec.splitter limit (kinds tokens.now)) }
 {
-    if is_word(Word::Duplicate, tokens) {
+    if is_keyword(Keyword::Duplicate, tokens) {
         let (brackets, rest) = empty_brackets(tail(tokens))?;
         return Ok((Splitter::Duplicate(brackets), 0, rest));
     }
@@ -74,49 +95,49 @@ fn splitter(
     Ok((Splitter::Roundrobin(weights), height, rest))
 }
 
-/// `split`: behind the word.
-#[tactic(auto, unfolding(crate::specs::Streams::split))]
+/// `split`: after the keyword.
+#[tactic(auto, unfolding(strc_grammar::specs::Streams::split))]
 fn split(
     alloc: Global,
     depth: usize,
     tokens: &[Token],
 ) -> Result<(Composition, usize, &[Token]), ReadError>
     requires { 0 < depth }
-    ensures { Gives seen_composition result (spec.split depth (kinds tokens.now)) }
+    ensures { Gives (parsed composition_view) result (spec.split depth (kinds tokens.now)) }
 {
     let (splitter, height, rest) = splitter(alloc, depth - 1, tokens)?;
-    let rest = expect(Mark::Semicolon, rest)?;
-    let height = raised(depth, height)?;
+    let (splitter, rest) = before(Punctuation::Semicolon, splitter, rest)?;
+    let (splitter, height) = raise(depth, splitter, height)?;
     Ok((Composition::Split(splitter), height, rest))
 }
 
-/// `join`: behind the word.
-#[tactic(auto, unfolding(crate::specs::Streams::join))]
+/// `join`: after the keyword.
+#[tactic(auto, unfolding(strc_grammar::specs::Streams::join))]
 fn join(
     alloc: Global,
     depth: usize,
     tokens: &[Token],
 ) -> Result<(Composition, usize, &[Token]), ReadError>
     requires { 0 < depth }
-    ensures { Gives seen_composition result (spec.join depth (kinds tokens.now)) }
+    ensures { Gives (parsed composition_view) result (spec.join depth (kinds tokens.now)) }
 {
     let (weights, height, rest) = weights(alloc, depth - 1, tokens)?;
-    let rest = expect(Mark::Semicolon, rest)?;
-    let height = raised(depth, height)?;
+    let (weights, rest) = before(Punctuation::Semicolon, weights, rest)?;
+    let (weights, height) = raise(depth, weights, height)?;
     Ok((Composition::Join(weights), height, rest))
 }
 
-/// `enqueue`: behind the word.
-#[tactic(auto, unfolding(crate::specs::Streams::enqueue))]
+/// `enqueue`: after the keyword.
+#[tactic(auto, unfolding(strc_grammar::specs::Streams::enqueue))]
 fn enqueue(
     alloc: Global,
     depth: usize,
     tokens: &[Token],
 ) -> Result<(Composition, usize, &[Token]), ReadError>
     requires { 0 < depth }
-    ensures { Gives seen_composition result (spec.enqueue depth (kinds tokens.now)) }
+    ensures { Gives (parsed composition_view) result (spec.enqueue depth (kinds tokens.now)) }
 {
-    let (value, height, rest) = closed(alloc, depth - 1, Mark::Semicolon, tokens)?;
+    let (value, height, rest) = closed(alloc, depth - 1, Punctuation::Semicolon, tokens)?;
     Ok((Composition::Enqueue(value), height, rest))
 }
 
@@ -124,34 +145,37 @@ fn enqueue(
 impl<F: Fn(Global, usize, &[Token]) -> Result<(Stmt, usize, &[Token]), ReadError>> StatementRules<
     F,
 > {
-    /// A filter without a name: behind its word.
-    #[tactic(auto, unfolding(crate::specs::Streams::anonymous_filter))]
+    /// A filter without a name: after its keyword.
+    #[tactic(auto, unfolding(strc_grammar::specs::Streams::anonymous_filter))]
     fn anonymous_filter<'t>(
         &self,
         types: StreamType,
         tokens: &'t [Token],
     ) -> Result<(Child, usize, &'t [Token]), ReadError>
         requires deep { 0 < self.now.depth }
-        requires reads { ReadsStatements (self.now.depth - 1) (F.pre self.now.reader) (F.post self.now.reader) }
-        ensures { Gives seen_child result (spec.anonymous_filter (self.now.depth - 1)
+        requires reads { ReadsStatements (self.now.depth - 1)
+            (F.pre self.now.reader) (F.post self.now.reader) }
+        ensures { Gives (parsed child_view) result (spec.anonymous_filter (self.now.depth - 1)
             (spec.statement (self.now.depth - 1)) types (kinds tokens.now)) }
     {
-        let opened = expect(Mark::OpenBrace, tokens)?;
+        let opened = expect(Punctuation::OpenBrace, tokens)?;
         let (members, height, rest) = self.members(opened)?;
         Ok((filter_of(types, members), height, rest))
     }
 
     /// A composite stream without a name: at its kind.
-    #[tactic(auto, unfolding(crate::specs::Streams::anonymous_composite))]
+    #[tactic(auto, unfolding(strc_grammar::specs::Streams::anonymous_composite))]
     fn anonymous_composite<'t>(
         &self,
         types: Option<StreamType>,
         tokens: &'t [Token],
     ) -> Result<(Child, usize, &'t [Token]), ReadError>
         requires deep { 0 < self.now.depth }
-        requires reads { ReadsStatements (self.now.depth - 1) (F.pre self.now.reader) (F.post self.now.reader) }
-        ensures { Gives seen_child result
-            (spec.anonymous_composite (spec.statement (self.now.depth - 1)) types (kinds tokens.now)) }
+        requires reads { ReadsStatements (self.now.depth - 1)
+            (F.pre self.now.reader) (F.post self.now.reader) }
+        ensures { Gives (parsed child_view) result
+            (spec.anonymous_composite (spec.statement (self.now.depth - 1)) types
+            (kinds tokens.now)) }
     {
         match composite_kind(tokens) {
             None => Err(unexpected(tokens)),
@@ -162,19 +186,20 @@ impl<F: Fn(Global, usize, &[Token]) -> Result<(Stmt, usize, &[Token]), ReadError
         }
     }
 
-    /// A stream without a name: behind its type.
-    #[tactic(auto, unfolding(crate::specs::Streams::behind_type))]
+    /// A stream without a name: after its type.
+    #[tactic(auto, unfolding(strc_grammar::specs::Streams::behind_type))]
     fn behind_type<'t>(
         &self,
         types: StreamType,
         tokens: &'t [Token],
     ) -> Result<(Child, usize, &'t [Token]), ReadError>
         requires deep { 0 < self.now.depth }
-        requires reads { ReadsStatements (self.now.depth - 1) (F.pre self.now.reader) (F.post self.now.reader) }
-        ensures { Gives seen_child result (spec.behind_type (self.now.depth - 1)
+        requires reads { ReadsStatements (self.now.depth - 1)
+            (F.pre self.now.reader) (F.post self.now.reader) }
+        ensures { Gives (parsed child_view) result (spec.behind_type (self.now.depth - 1)
             (spec.statement (self.now.depth - 1)) types (kinds tokens.now)) }
     {
-        if is_word(Word::Filter, tokens) {
+        if is_keyword(Keyword::Filter, tokens) {
             self.anonymous_filter(types, tail(tokens))
         } else {
             self.anonymous_composite(Some(types), tokens)
@@ -182,116 +207,116 @@ impl<F: Fn(Global, usize, &[Token]) -> Result<(Stmt, usize, &[Token]), ReadError
     }
 
     /// The same with its type.
-    #[tactic(auto, unfolding(crate::specs::Streams::typed_child))]
+    #[tactic(auto, unfolding(strc_grammar::specs::Streams::typed_child))]
     fn typed_child<'t>(&self, tokens: &'t [Token]) -> Result<(Child, usize, &'t [Token]), ReadError>
         requires deep { 0 < self.now.depth }
-        requires reads { ReadsStatements (self.now.depth - 1) (F.pre self.now.reader) (F.post self.now.reader) }
-        ensures { Gives seen_child result (spec.typed_child (self.now.depth - 1)
+        requires reads { ReadsStatements (self.now.depth - 1)
+            (F.pre self.now.reader) (F.post self.now.reader) }
+        ensures { Gives (parsed child_view) result (spec.typed_child (self.now.depth - 1)
             (spec.statement (self.now.depth - 1)) (kinds tokens.now)) }
     {
         let (types, rest) = stream_type(tokens)?;
         self.behind_type(types, rest)
     }
 
-    /// A child that begins with this word.
-    #[tactic(auto, unfolding(crate::specs::Streams::worded_child))]
+    /// A child that begins with this keyword.
+    #[tactic(auto, unfolding(strc_grammar::specs::Streams::worded_child))]
     fn worded_child<'t>(
         &self,
-        word: Word,
+        keyword: Keyword,
         tokens: &'t [Token],
     ) -> Result<(Child, usize, &'t [Token]), ReadError>
         requires deep { 0 < self.now.depth }
-        requires reads { ReadsStatements (self.now.depth - 1) (F.pre self.now.reader) (F.post self.now.reader) }
-        ensures { Gives seen_child result (spec.worded_child (self.now.depth - 1)
-            (spec.statement (self.now.depth - 1)) word (kinds tokens.now)) }
+        requires reads { ReadsStatements (self.now.depth - 1)
+            (F.pre self.now.reader) (F.post self.now.reader) }
+        ensures { Gives (parsed child_view) result (spec.worded_child (self.now.depth - 1)
+            (spec.statement (self.now.depth - 1)) keyword (kinds tokens.now)) }
     {
-        match word {
-            Word::Identity => identity(tail(tokens)),
-            Word::FileReader => {
-                let (text, rest) = file(tail(tokens))?;
-                Ok((Child::FileReader(text), 0, rest))
-            }
-            Word::FileWriter => {
-                let (text, rest) = file(tail(tokens))?;
-                Ok((Child::FileWriter(text), 0, rest))
-            }
-            Word::Int => self.typed_child(tokens),
-            Word::Void => self.typed_child(tokens),
+        match keyword {
+            Keyword::Identity => identity(tail(tokens)),
+            Keyword::FileReader => file_reader(tail(tokens)),
+            Keyword::FileWriter => file_writer(tail(tokens)),
+            Keyword::Int => self.typed_child(tokens),
+            Keyword::Void => self.typed_child(tokens),
             _ => self.anonymous_composite(None, tokens),
         }
     }
 
     /// A child, with its semicolon where it has one.
-    #[tactic(auto, unfolding(crate::specs::Streams::child))]
+    #[tactic(auto, unfolding(strc_grammar::specs::Streams::child))]
     fn child<'t>(&self, tokens: &'t [Token]) -> Result<(Child, usize, &'t [Token]), ReadError>
         requires deep { 0 < self.now.depth }
-        requires reads { ReadsStatements (self.now.depth - 1) (F.pre self.now.reader) (F.post self.now.reader) }
-        ensures { Gives seen_child result (spec.child (self.now.depth - 1)
+        requires reads { ReadsStatements (self.now.depth - 1)
+            (F.pre self.now.reader) (F.post self.now.reader) }
+        ensures { Gives (parsed child_view) result (spec.child (self.now.depth - 1)
             (spec.statement (self.now.depth - 1)) (kinds tokens.now)) }
     {
         match peek(tokens) {
             Some(TokenKind::Name(name)) => {
                 named_child(self.alloc, self.depth - 1, name.copy()?, tail(tokens))
             }
-            Some(TokenKind::Word(word)) => self.worded_child(*word, tokens),
+            Some(TokenKind::Keyword(keyword)) => self.worded_child(*keyword, tokens),
             _ => Err(unexpected(tokens)),
         }
     }
 
-    /// A child for this, and its height: behind the word.
-    #[tactic(auto, unfolding(crate::specs::Streams::child_for))]
+    /// A child for this, and its height: after the keyword.
+    #[tactic(auto, unfolding(strc_grammar::specs::Streams::child_for))]
     fn child_for<'t>(
         &self,
         role: Role,
         tokens: &'t [Token],
     ) -> Result<(Composition, usize, &'t [Token]), ReadError>
         requires deep { 0 < self.now.depth }
-        requires reads { ReadsStatements (self.now.depth - 1) (F.pre self.now.reader) (F.post self.now.reader) }
-        ensures { Gives seen_composition result (spec.child_for self.now.depth
+        requires reads { ReadsStatements (self.now.depth - 1)
+            (F.pre self.now.reader) (F.post self.now.reader) }
+        ensures { Gives (parsed composition_view) result (spec.child_for self.now.depth
             (spec.statement (self.now.depth - 1)) role (kinds tokens.now)) }
     {
         let (child, height, rest) = self.child(tokens)?;
-        let height = raised(self.depth, height)?;
+        let (child, height) = raise(self.depth, child, height)?;
         Ok((Composition::Child(role, child), height, rest))
     }
 
-    /// A statement of a composite stream that begins with this word, and the height of its part.
-    #[tactic(auto, unfolding(crate::specs::Streams::composition))]
+    /// A statement of a composite stream that begins with this keyword, and the height of its part.
+    #[tactic(auto, unfolding(strc_grammar::specs::Streams::composition))]
     fn composition<'t>(
         &self,
-        word: Word,
+        keyword: Keyword,
         tokens: &'t [Token],
     ) -> Result<(Composition, usize, &'t [Token]), ReadError>
         requires deep { 0 < self.now.depth }
-        requires reads { ReadsStatements (self.now.depth - 1) (F.pre self.now.reader) (F.post self.now.reader) }
-        ensures { Gives seen_composition result (spec.composition self.now.depth
-            (spec.statement (self.now.depth - 1)) word (kinds tokens.now)) }
+        requires reads { ReadsStatements (self.now.depth - 1)
+            (F.pre self.now.reader) (F.post self.now.reader) }
+        ensures { Gives (parsed composition_view) result (spec.composition self.now.depth
+            (spec.statement (self.now.depth - 1)) keyword (kinds tokens.now)) }
     {
-        match word {
-            Word::Add => self.child_for(Role::Add, tail(tokens)),
-            Word::Body => self.child_for(Role::Body, tail(tokens)),
-            Word::Loop => self.child_for(Role::Loop, tail(tokens)),
-            Word::Split => split(self.alloc, self.depth, tail(tokens)),
-            Word::Join => join(self.alloc, self.depth, tail(tokens)),
-            Word::Enqueue => enqueue(self.alloc, self.depth, tail(tokens)),
+        match keyword {
+            Keyword::Add => self.child_for(Role::Add, tail(tokens)),
+            Keyword::Body => self.child_for(Role::Body, tail(tokens)),
+            Keyword::Loop => self.child_for(Role::Loop, tail(tokens)),
+            Keyword::Split => split(self.alloc, self.depth, tail(tokens)),
+            Keyword::Join => join(self.alloc, self.depth, tail(tokens)),
+            Keyword::Enqueue => enqueue(self.alloc, self.depth, tail(tokens)),
             _ => Err(unexpected(tokens)),
         }
     }
 
     /// The same as a statement, and its height.
-    #[tactic(auto, unfolding(crate::specs::Streams::compose))]
+    #[tactic(auto, unfolding(strc_grammar::specs::Streams::compose))]
     pub(crate) fn compose<'t>(
         &self,
-        word: Word,
+        keyword: Keyword,
         tokens: &'t [Token],
     ) -> Result<(Stmt, usize, &'t [Token]), ReadError>
         requires deep { 0 < self.now.depth }
-        requires reads { ReadsStatements (self.now.depth - 1) (F.pre self.now.reader) (F.post self.now.reader) }
-        ensures { Gives seen_stmt result (spec.compose self.now.depth
-            (spec.statement (self.now.depth - 1)) word (kinds tokens.now)) }
+        requires reads { ReadsStatements (self.now.depth - 1)
+            (F.pre self.now.reader) (F.post self.now.reader) }
+        ensures { Gives (parsed stmt_view) result (spec.compose self.now.depth
+            (spec.statement (self.now.depth - 1)) keyword (kinds tokens.now)) }
     {
-        let (composition, height, rest) = self.composition(word, tokens)?;
-        let height = raised(self.depth, height)?;
+        let (composition, height, rest) = self.composition(keyword, tokens)?;
+        let (composition, height) = raise(self.depth, composition, height)?;
         Ok((Stmt::Compose(composition), height, rest))
     }
 }

@@ -1,21 +1,23 @@
-// Statements with others in them. The rules of a depth are made of the reader of the depth below, which they take as a
-// value, so that each is proved by itself.
+// Statements with others in them. The rules of a depth are made of the reader of the depth below,
+// which they take as a value, so that each is proved by itself.
 
 ghost use Rattle.std.specs.Prelude.{◌≡◌, ◌-◌, ◌<◌, map};
-ghost use Rattle.strc_parse.specs.View.{expr_view, stmt_view};
-ghost use Rattle.strc_parse.specs.Grammar.{kinds};
-ghost use Rattle.strc_parse.specs.Seen.{seen_stmt, seen_body, seen_members};
-ghost use Rattle.strc_parse.specs.Streams as spec;
-ghost use Rattle.strc_parse.specs.Reading.{Gives};
+ghost use Rattle.strc_syntax.specs.View.{expr_view, stmt_view, member_view};
+ghost use Rattle.strc_grammar.specs.Grammar.{kinds};
+ghost use Rattle.strc_rules.specs.Seen.{parsed, parsed_all};
+ghost use Rattle.strc_grammar.specs.Streams as spec;
+ghost use Rattle.strc_grammar.specs.Reading.{Gives};
 ghost use Rattle.strc_parse.specs.Readers.{ReadsStatements};
+ghost use Rattle.strc_parse.specs.Parts as parts;
 
-use crate::error::{Fault, ReadError};
-use crate::lookahead::{is_mark, is_word, peek, raised, tail, unexpected};
-use crate::node::{block_of, for_of, if_else_of, if_of, while_of};
 use crate::simple::{ForHeading, argument, bracketed, ended, for_heading};
-use crate::tree::{Expr, Member, Stmt};
 use std::alloc::Global;
-use strc_lex::token::{Mark, Token, TokenKind, Word};
+use strc_grammar::{Fault, ReadError};
+use strc_lex::token::{Keyword, Punctuation, Token, TokenKind};
+use strc_rules::held::{beside, raise};
+use strc_rules::lookahead::{is_keyword, is_punctuation, peek, tail, unexpected};
+use strc_syntax::node::{block_of, for_of, if_else_of, if_of, while_of};
+use strc_syntax::tree::{Expr, Member, Stmt};
 
 /// The rules of statements of at most this height, by a reader of those of one less.
 #[derive(Clone, Copy)]
@@ -26,13 +28,13 @@ pub(crate) struct StatementRules<F> {
 }
 
 /// A statement of at most this height, its height and what follows it.
-#[tactic(auto, unfolding(crate::specs::Streams::statement))]
+#[tactic(auto, unfolding(strc_grammar::specs::Streams::statement))]
 fn statement(
     alloc: Global,
     depth: usize,
     tokens: &[Token],
 ) -> Result<(Stmt, usize, &[Token]), ReadError>
-    ensures { Gives seen_stmt result (spec.statement depth (kinds tokens.now)) }
+    ensures { Gives (parsed stmt_view) result (spec.statement depth (kinds tokens.now)) }
 {
     if depth == 0 {
         return Err(ReadError::Fault(Fault::Nesting));
@@ -45,15 +47,17 @@ fn statement(
     rules.shallow(tokens)
 }
 
-/// Statements up to the brace that closes them, each of at most this height, and the height of the highest or 0.
-#[tactic(auto, unfolding(crate::specs::Streams::statements))]
+/// Statements up to the brace that closes them, each of at most this height, and the height of the
+/// highest or 0.
+#[tactic(auto, unfolding(strc_grammar::specs::Streams::statements))]
 pub(crate) fn statements(
     alloc: Global,
     depth: usize,
     tokens: &[Token],
 ) -> Result<(Vec<Stmt>, usize, &[Token]), ReadError>
     requires bound { depth < 1000 }
-    ensures { Gives seen_body result (spec.statements (spec.statement depth) (kinds tokens.now)) }
+    ensures { Gives (parsed_all stmt_view) result
+        (spec.statements (spec.statement depth) (kinds tokens.now)) }
 {
     let rules = StatementRules {
         alloc,
@@ -63,15 +67,16 @@ pub(crate) fn statements(
     rules.statements(tokens)
 }
 
-/// The members of a filter up to the brace that closes it, their statements and expressions each of at most this height,
-/// and the height of the highest or 0.
+/// The members of a filter up to the brace that closes it, their statements and expressions each of
+/// at most this height, and the height of the highest or 0.
 pub(crate) fn members(
     alloc: Global,
     depth: usize,
     tokens: &[Token],
 ) -> Result<(Vec<Member>, usize, &[Token]), ReadError>
     requires bound { depth < 1000 }
-    ensures { Gives seen_members result (spec.members depth (spec.statement depth) (kinds tokens.now)) }
+    ensures { Gives (parsed_all member_view) result
+        (spec.members depth (spec.statement depth) (kinds tokens.now)) }
 {
     let rules = StatementRules {
         alloc,
@@ -81,85 +86,118 @@ pub(crate) fn members(
     rules.members(tokens)
 }
 
+/// `push(e);`: after the keyword.
+fn push(alloc: Global, depth: usize, tokens: &[Token]) -> Result<(Stmt, usize, &[Token]), ReadError>
+    requires { 0 < depth }
+    ensures { Gives (parsed stmt_view) result (parts.push depth (kinds tokens.now)) }
+{
+    let (value, height, rest) = argument(alloc, depth, tokens)?;
+    Ok((Stmt::Push(value), height, rest))
+}
+
+/// `print(e);`: after the keyword.
+fn print(
+    alloc: Global,
+    depth: usize,
+    tokens: &[Token],
+) -> Result<(Stmt, usize, &[Token]), ReadError>
+    requires { 0 < depth }
+    ensures { Gives (parsed stmt_view) result (parts.print depth (kinds tokens.now)) }
+{
+    let (value, height, rest) = argument(alloc, depth, tokens)?;
+    Ok((Stmt::Print(value), height, rest))
+}
+
+/// `println(e);`: after the keyword.
+fn println(
+    alloc: Global,
+    depth: usize,
+    tokens: &[Token],
+) -> Result<(Stmt, usize, &[Token]), ReadError>
+    requires { 0 < depth }
+    ensures { Gives (parsed stmt_view) result (parts.println depth (kinds tokens.now)) }
+{
+    let (value, height, rest) = argument(alloc, depth, tokens)?;
+    Ok((Stmt::Println(value), height, rest))
+}
+
 impl<F: Fn(Global, usize, &[Token]) -> Result<(Stmt, usize, &[Token]), ReadError>> StatementRules<
     F,
 > {
     /// A statement one depth below.
     fn below<'t>(&self, tokens: &'t [Token]) -> Result<(Stmt, usize, &'t [Token]), ReadError>
         requires deep { 0 < self.now.depth }
-        requires reads { ReadsStatements (self.now.depth - 1) (F.pre self.now.reader) (F.post self.now.reader) }
-        ensures { Gives seen_stmt result (spec.statement (self.now.depth - 1) (kinds tokens.now)) }
+        requires reads { ReadsStatements (self.now.depth - 1)
+            (F.pre self.now.reader) (F.post self.now.reader) }
+        ensures { Gives (parsed stmt_view) result
+            (spec.statement (self.now.depth - 1) (kinds tokens.now)) }
     {
         (self.reader)(self.alloc, self.depth - 1, tokens)
     }
 
-    #[tactic(auto, unfolding(crate::specs::Streams::shallow))]
+    #[tactic(auto, unfolding(strc_grammar::specs::Streams::shallow))]
     fn shallow<'t>(&self, tokens: &'t [Token]) -> Result<(Stmt, usize, &'t [Token]), ReadError>
         requires deep { 0 < self.now.depth }
-        requires reads { ReadsStatements (self.now.depth - 1) (F.pre self.now.reader) (F.post self.now.reader) }
-        ensures { Gives seen_stmt result
+        requires reads { ReadsStatements (self.now.depth - 1)
+            (F.pre self.now.reader) (F.post self.now.reader) }
+        ensures { Gives (parsed stmt_view) result
             (spec.shallow self.now.depth (spec.statement (self.now.depth - 1)) (kinds tokens.now)) }
     {
         match peek(tokens) {
-            Some(TokenKind::Mark(Mark::OpenBrace)) => self.block(tail(tokens)),
-            Some(TokenKind::Word(word)) => self.keyword(*word, tokens),
+            Some(TokenKind::Punctuation(Punctuation::OpenBrace)) => self.block(tail(tokens)),
+            Some(TokenKind::Keyword(keyword)) => self.worded_statement(*keyword, tokens),
             _ => ended(self.alloc, self.depth, tokens),
         }
     }
 
-    /// A statement that begins with this word.
-    #[tactic(auto, unfolding(crate::specs::Streams::keyword))]
-    fn keyword<'t>(
+    /// A statement that begins with this keyword.
+    #[tactic(auto, unfolding(strc_grammar::specs::Streams::worded_statement))]
+    fn worded_statement<'t>(
         &self,
-        word: Word,
+        keyword: Keyword,
         tokens: &'t [Token],
     ) -> Result<(Stmt, usize, &'t [Token]), ReadError>
         requires deep { 0 < self.now.depth }
-        requires reads { ReadsStatements (self.now.depth - 1) (F.pre self.now.reader) (F.post self.now.reader) }
-        ensures { Gives seen_stmt result
-            (spec.keyword self.now.depth (spec.statement (self.now.depth - 1)) word (kinds tokens.now)) }
+        requires reads { ReadsStatements (self.now.depth - 1)
+            (F.pre self.now.reader) (F.post self.now.reader) }
+        ensures { Gives (parsed stmt_view) result
+            (spec.worded_statement self.now.depth (spec.statement (self.now.depth - 1)) keyword
+            (kinds tokens.now)) }
     {
-        match word {
-            Word::If => self.branch(tail(tokens)),
-            Word::While => self.while_loop(tail(tokens)),
-            Word::For => self.for_loop(tail(tokens)),
-            Word::Push => {
-                let (value, height, rest) = argument(self.alloc, self.depth, tail(tokens))?;
-                Ok((Stmt::Push(value), height, rest))
-            }
-            Word::Print => {
-                let (value, height, rest) = argument(self.alloc, self.depth, tail(tokens))?;
-                Ok((Stmt::Print(value), height, rest))
-            }
-            Word::Println => {
-                let (value, height, rest) = argument(self.alloc, self.depth, tail(tokens))?;
-                Ok((Stmt::Println(value), height, rest))
-            }
-            Word::Add => self.compose(word, tokens),
-            Word::Body => self.compose(word, tokens),
-            Word::Loop => self.compose(word, tokens),
-            Word::Split => self.compose(word, tokens),
-            Word::Join => self.compose(word, tokens),
-            Word::Enqueue => self.compose(word, tokens),
+        match keyword {
+            Keyword::If => self.branch(tail(tokens)),
+            Keyword::While => self.while_loop(tail(tokens)),
+            Keyword::For => self.for_loop(tail(tokens)),
+            Keyword::Push => push(self.alloc, self.depth, tail(tokens)),
+            Keyword::Print => print(self.alloc, self.depth, tail(tokens)),
+            Keyword::Println => println(self.alloc, self.depth, tail(tokens)),
+            Keyword::Add => self.compose(keyword, tokens),
+            Keyword::Body => self.compose(keyword, tokens),
+            Keyword::Loop => self.compose(keyword, tokens),
+            Keyword::Split => self.compose(keyword, tokens),
+            Keyword::Join => self.compose(keyword, tokens),
+            Keyword::Enqueue => self.compose(keyword, tokens),
             _ => ended(self.alloc, self.depth, tokens),
         }
     }
 
-    /// `if`: behind the word.
-    #[tactic(auto, unfolding(crate::specs::Streams::branch))]
+    /// `if`: after the keyword.
+    #[tactic(auto, unfolding(strc_grammar::specs::Streams::branch))]
     fn branch<'t>(&self, tokens: &'t [Token]) -> Result<(Stmt, usize, &'t [Token]), ReadError>
         requires deep { 0 < self.now.depth }
-        requires reads { ReadsStatements (self.now.depth - 1) (F.pre self.now.reader) (F.post self.now.reader) }
-        ensures { Gives seen_stmt result
+        requires reads { ReadsStatements (self.now.depth - 1)
+            (F.pre self.now.reader) (F.post self.now.reader) }
+        ensures { Gives (parsed stmt_view) result
             (spec.branch self.now.depth (spec.statement (self.now.depth - 1)) (kinds tokens.now)) }
     {
         let (condition, height, rest) = bracketed(self.alloc, self.depth, tokens)?;
-        let (chosen, chosen_height, rest) = self.below(rest)?;
+        let (condition, chosen) = beside(condition, self.below(rest))?;
+        let (chosen, chosen_height, rest) = chosen;
         self.after_branch(condition, chosen, height.max(chosen_height), rest)
     }
 
-    /// What follows a branch, to which an `else` belongs that stands there.
-    #[tactic(auto, unfolding(crate::specs::Streams::after_branch))]
+    /// What follows a branch, to which an `else` belongs that comes next.
+    #[tactic(auto, unfolding(strc_grammar::specs::Streams::after_branch))]
     fn after_branch<'t>(
         &self,
         condition: Expr,
@@ -168,20 +206,22 @@ impl<F: Fn(Global, usize, &[Token]) -> Result<(Stmt, usize, &[Token]), ReadError
         tokens: &'t [Token],
     ) -> Result<(Stmt, usize, &'t [Token]), ReadError>
         requires deep { 0 < self.now.depth }
-        requires reads { ReadsStatements (self.now.depth - 1) (F.pre self.now.reader) (F.post self.now.reader) }
-        ensures { Gives seen_stmt result
+        requires reads { ReadsStatements (self.now.depth - 1)
+            (F.pre self.now.reader) (F.post self.now.reader) }
+        ensures { Gives (parsed stmt_view) result
             (spec.after_branch self.now.depth (spec.statement (self.now.depth - 1))
             (expr_view condition) (stmt_view chosen) height (kinds tokens.now)) }
     {
-        if is_word(Word::Else, tokens) {
+        if is_keyword(Keyword::Else, tokens) {
             return self.other_branch(condition, chosen, height, tail(tokens));
         }
-        let height = raised(self.depth, height)?;
+        let (parts, height) = raise(self.depth, (condition, chosen), height)?;
+        let (condition, chosen) = parts;
         Ok((if_of(self.alloc, condition, chosen)?, height, tokens))
     }
 
-    /// The branch behind `else`, with the height of what stands before it.
-    #[tactic(auto, unfolding(crate::specs::Streams::other_branch))]
+    /// The branch after `else`, with the height of what stands before it.
+    #[tactic(auto, unfolding(strc_grammar::specs::Streams::other_branch))]
     fn other_branch<'t>(
         &self,
         condition: Expr,
@@ -190,45 +230,53 @@ impl<F: Fn(Global, usize, &[Token]) -> Result<(Stmt, usize, &[Token]), ReadError
         tokens: &'t [Token],
     ) -> Result<(Stmt, usize, &'t [Token]), ReadError>
         requires deep { 0 < self.now.depth }
-        requires reads { ReadsStatements (self.now.depth - 1) (F.pre self.now.reader) (F.post self.now.reader) }
-        ensures { Gives seen_stmt result
+        requires reads { ReadsStatements (self.now.depth - 1)
+            (F.pre self.now.reader) (F.post self.now.reader) }
+        ensures { Gives (parsed stmt_view) result
             (spec.other_branch self.now.depth (spec.statement (self.now.depth - 1))
             (expr_view condition) (stmt_view chosen) height (kinds tokens.now)) }
     {
-        let (other, other_height, rest) = self.below(tokens)?;
-        let height = raised(self.depth, height.max(other_height))?;
-        Ok((
-            if_else_of(self.alloc, condition, chosen, other)?,
-            height,
-            rest,
-        ))
+        let (before, other) = beside((condition, chosen), self.below(tokens))?;
+        let (other, other_height, rest) = other;
+        let (parts, height) = raise(self.depth, (before, other), height.max(other_height))?;
+        let ((condition, chosen), other) = parts;
+        let made = if_else_of(self.alloc, condition, chosen, other)?;
+        Ok((made, height, rest))
     }
 
-    /// `while`: behind the word.
-    #[tactic(auto, unfolding(crate::specs::Streams::while_loop))]
+    /// `while`: after the keyword.
+    #[tactic(auto, unfolding(strc_grammar::specs::Streams::while_loop))]
     fn while_loop<'t>(&self, tokens: &'t [Token]) -> Result<(Stmt, usize, &'t [Token]), ReadError>
         requires deep { 0 < self.now.depth }
-        requires reads { ReadsStatements (self.now.depth - 1) (F.pre self.now.reader) (F.post self.now.reader) }
-        ensures { Gives seen_stmt result
-            (spec.while_loop self.now.depth (spec.statement (self.now.depth - 1)) (kinds tokens.now)) }
+        requires reads { ReadsStatements (self.now.depth - 1)
+            (F.pre self.now.reader) (F.post self.now.reader) }
+        ensures { Gives (parsed stmt_view) result
+            (spec.while_loop self.now.depth (spec.statement (self.now.depth - 1))
+            (kinds tokens.now)) }
     {
         let (condition, height, rest) = bracketed(self.alloc, self.depth, tokens)?;
-        let (body, body_height, rest) = self.below(rest)?;
-        let height = raised(self.depth, height.max(body_height))?;
+        let (condition, body) = beside(condition, self.below(rest))?;
+        let (body, body_height, rest) = body;
+        let (parts, height) = raise(self.depth, (condition, body), height.max(body_height))?;
+        let (condition, body) = parts;
         Ok((while_of(self.alloc, condition, body)?, height, rest))
     }
 
-    /// `for`: behind the word.
-    #[tactic(auto, unfolding(crate::specs::Streams::for_loop))]
+    /// `for`: after the keyword.
+    #[tactic(auto, unfolding(strc_grammar::specs::Streams::for_loop))]
     fn for_loop<'t>(&self, tokens: &'t [Token]) -> Result<(Stmt, usize, &'t [Token]), ReadError>
         requires deep { 0 < self.now.depth }
-        requires reads { ReadsStatements (self.now.depth - 1) (F.pre self.now.reader) (F.post self.now.reader) }
-        ensures { Gives seen_stmt result
-            (spec.for_loop self.now.depth (spec.statement (self.now.depth - 1)) (kinds tokens.now)) }
+        requires reads { ReadsStatements (self.now.depth - 1)
+            (F.pre self.now.reader) (F.post self.now.reader) }
+        ensures { Gives (parsed stmt_view) result
+            (spec.for_loop self.now.depth (spec.statement (self.now.depth - 1))
+            (kinds tokens.now)) }
     {
         let (heading, height, rest) = for_heading(self.alloc, self.depth, tokens)?;
-        let (body, body_height, rest) = self.below(rest)?;
-        let height = raised(self.depth, height.max(body_height))?;
+        let (heading, body) = beside(heading, self.below(rest))?;
+        let (body, body_height, rest) = body;
+        let (parts, height) = raise(self.depth, (heading, body), height.max(body_height))?;
+        let (heading, body) = parts;
         let ForHeading {
             first,
             condition,
@@ -238,35 +286,38 @@ impl<F: Fn(Global, usize, &[Token]) -> Result<(Stmt, usize, &[Token]), ReadError
         Ok((made, height, rest))
     }
 
-    /// A block as a statement: behind its brace.
-    #[tactic(auto, unfolding(crate::specs::Streams::block))]
+    /// A block as a statement: after its brace.
+    #[tactic(auto, unfolding(strc_grammar::specs::Streams::block))]
     fn block<'t>(&self, tokens: &'t [Token]) -> Result<(Stmt, usize, &'t [Token]), ReadError>
         requires deep { 0 < self.now.depth }
-        requires reads { ReadsStatements (self.now.depth - 1) (F.pre self.now.reader) (F.post self.now.reader) }
-        ensures { Gives seen_stmt result
+        requires reads { ReadsStatements (self.now.depth - 1)
+            (F.pre self.now.reader) (F.post self.now.reader) }
+        ensures { Gives (parsed stmt_view) result
             (spec.block self.now.depth (spec.statement (self.now.depth - 1)) (kinds tokens.now)) }
     {
         let (body, highest, rest) = self.statements(tokens)?;
-        let height = raised(self.depth, highest)?;
+        let (body, height) = raise(self.depth, body, highest)?;
         Ok((block_of(body), height, rest))
     }
 
-    /// Statements one depth below, up to the brace that closes them, and the height of the highest or 0.
-    #[tactic(auto, unfolding(crate::specs::Streams::statements))]
+    /// Statements one depth below, up to the brace that closes them, and the height of the highest
+    /// or 0.
+    #[tactic(auto, unfolding(strc_grammar::specs::Streams::statements))]
     pub(crate) fn statements<'t>(
         &self,
         tokens: &'t [Token],
     ) -> Result<(Vec<Stmt>, usize, &'t [Token]), ReadError>
         requires deep { 0 < self.now.depth }
-        requires reads { ReadsStatements (self.now.depth - 1) (F.pre self.now.reader) (F.post self.now.reader) }
-        ensures { Gives seen_body result
+        requires reads { ReadsStatements (self.now.depth - 1)
+            (F.pre self.now.reader) (F.post self.now.reader) }
+        ensures { Gives (parsed_all stmt_view) result
             (spec.statements (spec.statement (self.now.depth - 1)) (kinds tokens.entry.now)) }
     {
         let mut found = Vec::new(self.alloc);
         let mut highest = 0;
         let mut rest = tokens;
         for _turn in 0..tokens.len() {
-            if is_mark(Mark::CloseBrace, rest) {
+            if is_punctuation(Punctuation::CloseBrace, rest) {
                 return Ok((found, highest, tail(rest)));
             }
             let (next, height, after) = self.below(rest)?;

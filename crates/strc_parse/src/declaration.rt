@@ -1,26 +1,26 @@
 // Named streams and programs.
 
 ghost use Rattle.std.specs.Prelude.{◌≡◌, map, []};
-ghost use Rattle.strc_parse.specs.View.{declaration_view};
-ghost use Rattle.strc_parse.specs.Grammar.{kinds, height_limit};
+ghost use Rattle.strc_syntax.specs.View.{declaration_view};
+ghost use Rattle.strc_grammar.specs.Grammar.{kinds, height_limit};
 ghost use Rattle.strc_parse.specs.Seen.{seen_stream_heading, seen_declaration};
-ghost use Rattle.strc_parse.specs.Streams as spec;
-ghost use Rattle.strc_parse.specs.Reading.{Gives};
+ghost use Rattle.strc_grammar.specs.Streams as spec;
+ghost use Rattle.strc_grammar.specs.Reading.{Gives};
 
 use crate::control::{members, statements};
-use crate::error::ReadError;
-use crate::lookahead::{expect, is_word, name, tail, unexpected};
-use crate::parameter::parameters;
-use crate::stream_type::{composite_kind, stream_type};
-use crate::tree::{CompositeKind, CompositeTree, Decl, FilterTree, StreamTree, StreamType};
 use std::alloc::Global;
-use strc_lex::token::{Mark, Name, Token, Word};
+use strc_grammar::ReadError;
+use strc_lex::token::{Keyword, Name, Punctuation, Token};
+use strc_rules::lookahead::{expect, is_keyword, name, tail, unexpected};
+use strc_rules::parameter::parameters;
+use strc_rules::stream_type::{composite_kind, stream_type};
+use strc_syntax::tree::{CompositeKind, CompositeTree, Decl, FilterTree, StreamTree, StreamType};
 
 /// The greatest height of a statement or an expression.
 const HEIGHT_LIMIT: usize = 256;
 
 /// The name of a stream, its parameters and the brace that opens it.
-#[tactic(auto, unfolding(crate::specs::Streams::heading))]
+#[tactic(auto, unfolding(strc_grammar::specs::Streams::heading))]
 fn heading(
     alloc: Global,
     tokens: &[Token],
@@ -29,12 +29,12 @@ fn heading(
 {
     let (called, rest) = name(tokens)?;
     let (parameters, rest) = parameters(alloc, rest)?;
-    let rest = expect(Mark::OpenBrace, rest)?;
+    let rest = expect(Punctuation::OpenBrace, rest)?;
     Ok((called, parameters, rest))
 }
 
-/// A filter: behind its word.
-#[tactic(auto, unfolding(crate::specs::Streams::filter))]
+/// A filter: after its keyword.
+#[tactic(auto, unfolding(strc_grammar::specs::Streams::filter))]
 fn filter(alloc: Global, types: StreamType, tokens: &[Token]) -> Result<(Decl, &[Token]), ReadError>
     ensures { Gives seen_declaration result (spec.filter height_limit types (kinds tokens.now)) }
 {
@@ -53,8 +53,8 @@ fn filter(alloc: Global, types: StreamType, tokens: &[Token]) -> Result<(Decl, &
     Ok((declared, rest))
 }
 
-/// A composite stream: behind its kind.
-#[tactic(auto, unfolding(crate::specs::Streams::composite), using(crate::proofs::Views::row_of_views))]
+/// A composite stream: after its kind.
+#[tactic(auto, unfolding(strc_grammar::specs::Streams::composite), using(strc_syntax::proofs::Views::row_of_views))]
 fn composite(
     alloc: Global,
     types: StreamType,
@@ -75,12 +75,12 @@ fn composite(
     Ok((declared, rest))
 }
 
-/// A stream: behind its type.
-#[tactic(auto, unfolding(crate::specs::Streams::stream))]
+/// A stream: after its type.
+#[tactic(auto, unfolding(strc_grammar::specs::Streams::stream))]
 fn stream(alloc: Global, types: StreamType, tokens: &[Token]) -> Result<(Decl, &[Token]), ReadError>
     ensures { Gives seen_declaration result (spec.stream height_limit types (kinds tokens.now)) }
 {
-    if is_word(Word::Filter, tokens) {
+    if is_keyword(Keyword::Filter, tokens) {
         return filter(alloc, types, tail(tokens));
     }
     match composite_kind(tokens) {
@@ -89,7 +89,7 @@ fn stream(alloc: Global, types: StreamType, tokens: &[Token]) -> Result<(Decl, &
     }
 }
 
-#[tactic(auto, unfolding(crate::specs::Streams::declaration))]
+#[tactic(auto, unfolding(strc_grammar::specs::Streams::declaration))]
 fn declaration(alloc: Global, tokens: &[Token]) -> Result<(Decl, &[Token]), ReadError>
     ensures { Gives seen_declaration result (spec.declaration height_limit (kinds tokens.now)) }
 {
@@ -98,7 +98,7 @@ fn declaration(alloc: Global, tokens: &[Token]) -> Result<(Decl, &[Token]), Read
 }
 
 /// All declarations of a text.
-#[tactic(auto, unfolding(crate::specs::Streams::declarations))]
+#[tactic(auto, unfolding(strc_grammar::specs::Streams::declarations))]
 pub(crate) fn declarations(alloc: Global, tokens: &[Token]) -> Result<Vec<Decl>, ReadError>
     ensures { Gives (λ v. (map declaration_view v.items, [])) result
         (spec.declarations height_limit (kinds tokens.entry.now)) }

@@ -1,17 +1,17 @@
 // Whole texts.
 
 ghost use Rattle.std.specs.Prelude.{◌≡◌, List, IfOk, IfErr};
-ghost use Rattle.strc_parse.specs.Tree.{Declaration};
-ghost use Rattle.strc_parse.specs.View.{program_view};
-ghost use Rattle.strc_parse.specs.Grammar.{kinds, height_limit, Parses, Refuses, IsFound, IsUnambiguous};
-ghost use Rattle.strc_parse.specs.Streams as spec;
-ghost use Rattle.strc_parse.specs.Reading.{Gives};
+ghost use Rattle.strc_syntax.specs.Tree.{Declaration};
+ghost use Rattle.strc_syntax.specs.View.{program_view};
+ghost use Rattle.strc_grammar.specs.Grammar.{kinds, height_limit, Parses, Refuses, IsFound};
+ghost use Rattle.strc_grammar.specs.Streams as spec;
+ghost use Rattle.strc_grammar.specs.Reading.{Gives};
 
 use crate::declaration::declarations;
-use crate::error::{Fault, ParseError, ReadError};
-use crate::tree::Program;
 use std::alloc::Global;
+use strc_grammar::{Fault, ParseError, ReadError};
 use strc_lex::token::Token;
+use strc_syntax::tree::Program;
 
 fn program(alloc: Global, tokens: &[Token]) -> Result<Program, ReadError>
     ensures { Gives program_view result (spec.program height_limit (kinds tokens.now)) }
@@ -22,15 +22,16 @@ fn program(alloc: Global, tokens: &[Token]) -> Result<Program, ReadError>
 
 /// The tree of a program's tokens.
 ///
-/// `Parse` is for tokens that no program has, whatever its height; `Nesting` for those of which a statement or an
-/// expression is higher than 256; `NoMemory` where memory runs out.
+/// `Parse` is for tokens that no program has, whatever its height; `Nesting` for those of which a
+/// statement or an expression is higher than 256; `NoMemory` where memory runs out.
 pub fn parse(alloc: Global, tokens: &[Token]) -> Result<Program, ParseError>
     // What is read is a well-shaped program, and these are its tokens.
     ensures ok { IfOk result (λ p. Parses (kinds tokens.now) (program_view p)) }
     // What a refusal says is so.
     ensures refused { IfErr result (λ e. Refuses (kinds tokens.now) e) }
     // A program whose tokens these are is read, unless memory runs out.
-    ensures found { (program : List Declaration) → Parses (kinds tokens.now) program → IsFound program result }
+    ensures found { (program : List Declaration) → Parses (kinds tokens.now) program
+        → IsFound program result }
 {
     match program(alloc, tokens) {
         Ok(program) => Ok(program),
@@ -42,8 +43,3 @@ pub fn parse(alloc: Global, tokens: &[Token]) -> Result<Program, ParseError>
         }
     }
 }
-
-/// Two programs never share a spelling.
-pub fn one_tree()
-    ensures { IsUnambiguous }
-{}

@@ -1,52 +1,56 @@
 // Statements without others in them, and their parts.
 
 ghost use Rattle.std.specs.Prelude.{◌≡◌, ◌-◌, ◌<◌};
-ghost use Rattle.strc_parse.specs.View.{expr_view};
-ghost use Rattle.strc_parse.specs.Grammar.{kinds};
-ghost use Rattle.strc_parse.specs.Seen.{seen_expr, seen_optional, seen_stmt, seen_behind_first, seen_heading};
-ghost use Rattle.strc_parse.specs.Reading as spec;
-ghost use Rattle.strc_parse.specs.Reading.{Gives};
+ghost use Rattle.strc_syntax.specs.View.{expr_view, stmt_view};
+ghost use Rattle.strc_grammar.specs.Grammar.{kinds};
+ghost use Rattle.std.specs.Option.{option_map};
+ghost use Rattle.strc_rules.specs.Seen.{parsed};
+ghost use Rattle.strc_parse.specs.Seen.{heading_view, seen_behind_first};
+ghost use Rattle.strc_grammar.specs.Reading as spec;
+ghost use Rattle.strc_grammar.specs.Reading.{Gives};
 
-use crate::error::ReadError;
-use crate::expression::{LOOSEST, closed, expression};
-use crate::lookahead::{expect, is_mark, peek, raised, tail};
-use crate::operator::assign_at;
-use crate::tree::{AssignOperator, Expr, Stmt};
-use crate::variable::declared;
 use std::alloc::Global;
-use strc_lex::token::{Mark, Name, Token, TokenKind, Word};
+use strc_grammar::ReadError;
+use strc_lex::token::{Keyword, Name, Punctuation, Token, TokenKind};
+use strc_rules::expression::{LOWEST_PRECEDENCE, closed, expression};
+use strc_rules::held::{before, beside, raise};
+use strc_rules::lookahead::{expect, is_punctuation, peek, tail};
+use strc_rules::operator::assign_at;
+use strc_rules::variable::declared;
+use strc_syntax::tree::{AssignOperator, Expr, Stmt};
 
 /// The declaration as a statement.
-#[tactic(auto, unfolding(crate::specs::Reading::declare))]
+#[tactic(auto, unfolding(strc_grammar::specs::Reading::declare))]
 fn declare(
     alloc: Global,
     depth: usize,
     tokens: &[Token],
 ) -> Result<(Stmt, usize, &[Token]), ReadError>
     requires { 0 < depth }
-    ensures { Gives seen_stmt result (spec.declare depth (kinds tokens.now)) }
+    ensures { Gives (parsed stmt_view) result (spec.declare depth (kinds tokens.now)) }
 {
     let (declared, height, rest) = declared(alloc, depth - 1, tokens)?;
-    let height = raised(depth, height)?;
+    let (declared, height) = raise(depth, declared, height)?;
     Ok((Stmt::Declare(declared), height, rest))
 }
 
 /// An expression that was read, as a statement.
-#[tactic(auto, unfolding(crate::specs::Reading::evaluate))]
+#[tactic(auto, unfolding(strc_grammar::specs::Reading::evaluate))]
 fn evaluate<'t>(
     depth: usize,
     value: Expr,
     height: usize,
     tokens: &'t [Token],
 ) -> Result<(Stmt, usize, &'t [Token]), ReadError>
-    ensures { Gives seen_stmt result (spec.evaluate depth (expr_view value) height (kinds tokens.now)) }
+    ensures { Gives (parsed stmt_view) result
+        (spec.evaluate depth (expr_view value) height (kinds tokens.now)) }
 {
-    let height = raised(depth, height)?;
+    let (value, height) = raise(depth, value, height)?;
     Ok((Stmt::Evaluate(value), height, tokens))
 }
 
-/// `x = e`: behind the operator.
-#[tactic(auto, unfolding(crate::specs::Reading::assign_to))]
+/// `x = e`: after the operator.
+#[tactic(auto, unfolding(strc_grammar::specs::Reading::assign_to))]
 fn assign_to<'t>(
     alloc: Global,
     depth: usize,
@@ -55,15 +59,17 @@ fn assign_to<'t>(
     tokens: &'t [Token],
 ) -> Result<(Stmt, usize, &'t [Token]), ReadError>
     requires { 0 < depth }
-    ensures { Gives seen_stmt result (spec.assign_to depth name operator (kinds tokens.now)) }
+    ensures { Gives (parsed stmt_view) result
+        (spec.assign_to depth name operator (kinds tokens.now)) }
 {
-    let (value, height, rest) = expression(alloc, depth - 1, LOOSEST, tokens)?;
-    let height = raised(depth, height)?;
+    let (value, height, rest) = expression(alloc, depth - 1, LOWEST_PRECEDENCE, tokens)?;
+    let (parts, height) = raise(depth, (name, value), height)?;
+    let (name, value) = parts;
     Ok((Stmt::Assign(name, operator, value), height, rest))
 }
 
-/// `x[i] = e`: behind the operator, with the height of the element.
-#[tactic(auto, unfolding(crate::specs::Reading::assign_element))]
+/// `x[i] = e`: after the operator, with the height of the element.
+#[tactic(auto, unfolding(strc_grammar::specs::Reading::assign_element))]
 fn assign_element<'t>(
     alloc: Global,
     depth: usize,
@@ -74,11 +80,15 @@ fn assign_element<'t>(
     tokens: &'t [Token],
 ) -> Result<(Stmt, usize, &'t [Token]), ReadError>
     requires { 0 < depth }
-    ensures { Gives seen_stmt result
-        (spec.assign_element depth name (expr_view index) element_height operator (kinds tokens.now)) }
+    ensures { Gives (parsed stmt_view) result
+        (spec.assign_element depth name (expr_view index) element_height operator
+        (kinds tokens.now)) }
 {
-    let (value, height, rest) = expression(alloc, depth - 1, LOOSEST, tokens)?;
-    let height = raised(depth, element_height.max(height))?;
+    let value = expression(alloc, depth - 1, LOWEST_PRECEDENCE, tokens);
+    let (element, value) = beside((name, index), value)?;
+    let (value, height, rest) = value;
+    let (parts, height) = raise(depth, (element, value), element_height.max(height))?;
+    let ((name, index), value) = parts;
     Ok((
         Stmt::AssignElement(name, index, operator, value),
         height,
@@ -86,9 +96,9 @@ fn assign_element<'t>(
     ))
 }
 
-/// What an operator that stands first makes of the expression before it: an assignment, where that is a variable or an
-/// element.
-#[tactic(auto, unfolding(crate::specs::Reading::assignment))]
+/// What an operator that comes first makes of the expression before it: an assignment, where that
+/// is a variable or an element.
+#[tactic(auto, unfolding(strc_grammar::specs::Reading::assignment))]
 fn assignment<'t>(
     alloc: Global,
     depth: usize,
@@ -98,7 +108,7 @@ fn assignment<'t>(
     tokens: &'t [Token],
 ) -> Result<(Stmt, usize, &'t [Token]), ReadError>
     requires { 0 < depth }
-    ensures { Gives seen_stmt result
+    ensures { Gives (parsed stmt_view) result
         (spec.assignment depth (expr_view value) height operator (kinds tokens.now)) }
 {
     match value {
@@ -111,7 +121,7 @@ fn assignment<'t>(
     }
 }
 
-#[tactic(auto, unfolding(crate::specs::Reading::after_value))]
+#[tactic(auto, unfolding(strc_grammar::specs::Reading::after_value))]
 fn after_value<'t>(
     alloc: Global,
     depth: usize,
@@ -120,7 +130,7 @@ fn after_value<'t>(
     tokens: &'t [Token],
 ) -> Result<(Stmt, usize, &'t [Token]), ReadError>
     requires { 0 < depth }
-    ensures { Gives seen_stmt result
+    ensures { Gives (parsed stmt_view) result
         (spec.after_value depth (expr_view value) height (kinds tokens.now)) }
 {
     match assign_at(tokens) {
@@ -130,31 +140,31 @@ fn after_value<'t>(
 }
 
 /// An expression or an assignment.
-#[tactic(auto, unfolding(crate::specs::Reading::simple))]
+#[tactic(auto, unfolding(strc_grammar::specs::Reading::simple))]
 fn simple(
     alloc: Global,
     depth: usize,
     tokens: &[Token],
 ) -> Result<(Stmt, usize, &[Token]), ReadError>
     requires { 0 < depth }
-    ensures { Gives seen_stmt result (spec.simple depth (kinds tokens.now)) }
+    ensures { Gives (parsed stmt_view) result (spec.simple depth (kinds tokens.now)) }
 {
-    let (value, height, rest) = expression(alloc, depth - 1, LOOSEST, tokens)?;
+    let (value, height, rest) = expression(alloc, depth - 1, LOWEST_PRECEDENCE, tokens)?;
     after_value(alloc, depth, value, height, rest)
 }
 
-/// The same, or nothing before this mark.
-#[tactic(auto, unfolding(crate::specs::Reading::optional))]
+/// The same, or nothing before this punctuation mark.
+#[tactic(auto, unfolding(strc_grammar::specs::Reading::optional))]
 fn optional(
     alloc: Global,
     depth: usize,
-    end: Mark,
+    end: Punctuation,
     tokens: &[Token],
 ) -> Result<(Stmt, usize, &[Token]), ReadError>
     requires { 0 < depth }
-    ensures { Gives seen_stmt result (spec.optional depth end (kinds tokens.now)) }
+    ensures { Gives (parsed stmt_view) result (spec.optional depth end (kinds tokens.now)) }
 {
-    if is_mark(end, tokens) {
+    if is_punctuation(end, tokens) {
         Ok((Stmt::Empty, 1, tokens))
     } else {
         simple(alloc, depth, tokens)
@@ -162,96 +172,97 @@ fn optional(
 }
 
 /// A statement up to its semicolon.
-#[tactic(auto, unfolding(crate::specs::Reading::part))]
+#[tactic(auto, unfolding(strc_grammar::specs::Reading::part))]
 fn part(alloc: Global, depth: usize, tokens: &[Token]) -> Result<(Stmt, usize, &[Token]), ReadError>
     requires { 0 < depth }
-    ensures { Gives seen_stmt result (spec.part depth (kinds tokens.now)) }
+    ensures { Gives (parsed stmt_view) result (spec.part depth (kinds tokens.now)) }
 {
     match peek(tokens) {
-        Some(TokenKind::Word(Word::Boolean)) => declare(alloc, depth, tokens),
-        Some(TokenKind::Word(Word::Int)) => declare(alloc, depth, tokens),
-        _ => optional(alloc, depth, Mark::Semicolon, tokens),
+        Some(TokenKind::Keyword(Keyword::Boolean)) => declare(alloc, depth, tokens),
+        Some(TokenKind::Keyword(Keyword::Int)) => declare(alloc, depth, tokens),
+        _ => optional(alloc, depth, Punctuation::Semicolon, tokens),
     }
 }
 
 /// The same with the semicolon.
-#[tactic(auto, unfolding(crate::specs::Reading::ended))]
+#[tactic(auto, unfolding(strc_grammar::specs::Reading::ended))]
 pub(crate) fn ended(
     alloc: Global,
     depth: usize,
     tokens: &[Token],
 ) -> Result<(Stmt, usize, &[Token]), ReadError>
     requires { 0 < depth }
-    ensures { Gives seen_stmt result (spec.ended depth (kinds tokens.now)) }
+    ensures { Gives (parsed stmt_view) result (spec.ended depth (kinds tokens.now)) }
 {
     let (read, height, rest) = part(alloc, depth, tokens)?;
-    let rest = expect(Mark::Semicolon, rest)?;
+    let (read, rest) = before(Punctuation::Semicolon, read, rest)?;
     Ok((read, height, rest))
 }
 
 /// `(e)`, with the height of e.
-#[tactic(auto, unfolding(crate::specs::Reading::bracketed))]
+#[tactic(auto, unfolding(strc_grammar::specs::Reading::bracketed))]
 pub(crate) fn bracketed(
     alloc: Global,
     depth: usize,
     tokens: &[Token],
 ) -> Result<(Expr, usize, &[Token]), ReadError>
     requires { 0 < depth }
-    ensures { Gives seen_expr result (spec.bracketed depth (kinds tokens.now)) }
+    ensures { Gives (parsed expr_view) result (spec.bracketed depth (kinds tokens.now)) }
 {
-    let inside = expect(Mark::OpenBracket, tokens)?;
-    closed(alloc, depth - 1, Mark::CloseBracket, inside)
+    let inside = expect(Punctuation::OpenParen, tokens)?;
+    closed(alloc, depth - 1, Punctuation::CloseParen, inside)
 }
 
 /// `(e);`, with the height of a node above e.
-#[tactic(auto, unfolding(crate::specs::Reading::argument))]
+#[tactic(auto, unfolding(strc_grammar::specs::Reading::argument))]
 pub(crate) fn argument(
     alloc: Global,
     depth: usize,
     tokens: &[Token],
 ) -> Result<(Expr, usize, &[Token]), ReadError>
     requires { 0 < depth }
-    ensures { Gives seen_expr result (spec.argument depth (kinds tokens.now)) }
+    ensures { Gives (parsed expr_view) result (spec.argument depth (kinds tokens.now)) }
 {
     let (value, height, rest) = bracketed(alloc, depth, tokens)?;
-    let rest = expect(Mark::Semicolon, rest)?;
-    let height = raised(depth, height)?;
+    let (value, rest) = before(Punctuation::Semicolon, value, rest)?;
+    let (value, height) = raise(depth, value, height)?;
     Ok((value, height, rest))
 }
 
 /// The condition of a `for`, if there is one, and its semicolon.
-#[tactic(auto, unfolding(crate::specs::Reading::condition))]
+#[tactic(auto, unfolding(strc_grammar::specs::Reading::condition))]
 fn condition(
     alloc: Global,
     depth: usize,
     tokens: &[Token],
 ) -> Result<(Option<Expr>, usize, &[Token]), ReadError>
-    ensures { Gives seen_optional result (spec.condition depth (kinds tokens.now)) }
+    ensures { Gives (parsed (option_map expr_view)) result
+        (spec.condition depth (kinds tokens.now)) }
 {
-    if is_mark(Mark::Semicolon, tokens) {
+    if is_punctuation(Punctuation::Semicolon, tokens) {
         return Ok((None, 0, tail(tokens)));
     }
-    let (value, height, rest) = closed(alloc, depth, Mark::Semicolon, tokens)?;
+    let (value, height, rest) = closed(alloc, depth, Punctuation::Semicolon, tokens)?;
     Ok((Some(value), height, rest))
 }
 
-/// The step of a `for`, and the bracket behind it.
-#[tactic(auto, unfolding(crate::specs::Reading::last_part))]
+/// The step of a `for`, and the bracket after it.
+#[tactic(auto, unfolding(strc_grammar::specs::Reading::last_part))]
 fn last_part(
     alloc: Global,
     depth: usize,
     tokens: &[Token],
 ) -> Result<(Stmt, usize, &[Token]), ReadError>
     requires { 0 < depth }
-    ensures { Gives seen_stmt result (spec.last_part depth (kinds tokens.now)) }
+    ensures { Gives (parsed stmt_view) result (spec.last_part depth (kinds tokens.now)) }
 {
-    let (step, height, rest) = optional(alloc, depth, Mark::CloseBracket, tokens)?;
-    let rest = expect(Mark::CloseBracket, rest)?;
+    let (step, height, rest) = optional(alloc, depth, Punctuation::CloseParen, tokens)?;
+    let (step, rest) = before(Punctuation::CloseParen, step, rest)?;
     Ok((step, height, rest))
 }
 
 /// `condition; step)`, and the height of the higher.
-#[tactic(auto, unfolding(crate::specs::Reading::behind_first))]
+#[tactic(auto, unfolding(strc_grammar::specs::Reading::behind_first))]
 fn behind_first(
     alloc: Global,
     depth: usize,
@@ -261,11 +272,12 @@ fn behind_first(
     ensures { Gives seen_behind_first result (spec.behind_first depth (kinds tokens.now)) }
 {
     let (condition, height, rest) = condition(alloc, depth, tokens)?;
-    let (step, step_height, rest) = last_part(alloc, depth, rest)?;
+    let (condition, step) = beside(condition, last_part(alloc, depth, rest))?;
+    let (step, step_height, rest) = step;
     Ok((condition, step, height.max(step_height), rest))
 }
 
-/// What stands in the brackets of a `for`.
+/// What is in the brackets of a `for`.
 #[derive(Drop)]
 pub(crate) struct ForHeading {
     pub(crate) first: Stmt,
@@ -274,18 +286,19 @@ pub(crate) struct ForHeading {
 }
 
 /// `(first; condition; step)`, and the height of the highest.
-#[tactic(auto, unfolding(crate::specs::Reading::for_heading))]
+#[tactic(auto, unfolding(strc_grammar::specs::Reading::for_heading))]
 pub(crate) fn for_heading(
     alloc: Global,
     depth: usize,
     tokens: &[Token],
 ) -> Result<(ForHeading, usize, &[Token]), ReadError>
     requires { 0 < depth }
-    ensures { Gives seen_heading result (spec.for_heading depth (kinds tokens.now)) }
+    ensures { Gives (parsed heading_view) result (spec.for_heading depth (kinds tokens.now)) }
 {
-    let opened = expect(Mark::OpenBracket, tokens)?;
+    let opened = expect(Punctuation::OpenParen, tokens)?;
     let (first, height, rest) = ended(alloc, depth, opened)?;
-    let (condition, step, behind_height, rest) = behind_first(alloc, depth, rest)?;
+    let (first, behind) = beside(first, behind_first(alloc, depth, rest))?;
+    let (condition, step, behind_height, rest) = behind;
     let heading = ForHeading {
         first,
         condition,

@@ -1,8 +1,8 @@
 -- What the tests of a body tell of the filter.
 use Rattle.std.proofs.Common.{◌≡◌, true, false, List, [], ◌∷◌, Result, is_some, unwrap_or, refl, ap, ◌∙◌}
-use Rattle.strc_parse.specs.Tree as tree
-use Rattle.strc_work.specs.Filters.{work_block, work_rates, prework_block, prework_rates, body_block, body_rates}
-use Rattle.strc_work.specs.declared.code.Body.TheVariants as body
+use Rattle.strc_syntax.specs.Tree as tree
+use Rattle.strc_semantics.specs.Filters.{work_block, work_rates, prework_block, prework_rates, body_block, body_rates}
+use Rattle.strc_semantics.specs.declared.body.Body.TheVariants as body
 use Rattle.strc_rate.specs.declared.rates.RateError.{RateError}
 use Rattle.strc_rate.specs.declared.rates.RateError.TheVariants as broken
 use Rattle.strc_rate.specs.Rates.{BodyRates, body_checked, some_prework, prework_checked}

@@ -6,16 +6,16 @@ use Rattle.std.specs.Result.{IfOk}
 use Rattle.std.proofs.lemmas.Option.{IfSome_then}
 use Rattle.std.proofs.lemmas.Result.{IfOk-weaker}
 use Rattle.std.proofs.lemmas.Bool.{cases_lt}
-use Rattle.strc_parse.specs.Tree as tree
-use Rattle.strc_parse.specs.declared.tree.AssignOperator.{AssignOperator}
-use Rattle.strc_parse.specs.declared.tree.AssignOperator.TheVariants as assign
-use Rattle.strc_work.specs.declared.fault.Cause.{Cause}
-use Rattle.strc_work.specs.declared.fault.Cause.TheVariants.{Turns}
-use Rattle.strc_work.specs.Arithmetic.{wrapped, truth, is_true}
-use Rattle.strc_work.specs.Names.{has_name}
-use Rattle.strc_work.specs.Scoping.{Scope, size_of, names_after}
-use Rattle.strc_work.specs.Closed.{IsClosedStmt}
-use Rattle.strc_work.specs.Firing.{then_do, Port, Traffic, Store, cells_named, with_cell, value_in, assigned, declared_in, value_of, initial_cells, condition_value, turned, turn_limit, looped, inside, block_left, stmt_done}
+use Rattle.strc_syntax.specs.Tree as tree
+use Rattle.strc_syntax.specs.declared.tree.AssignOperator.{AssignOperator}
+use Rattle.strc_syntax.specs.declared.tree.AssignOperator.TheVariants as assign
+use Rattle.strc_semantics.specs.declared.fault.Cause.{Cause}
+use Rattle.strc_semantics.specs.declared.fault.Cause.TheVariants.{Turns}
+use Rattle.strc_semantics.specs.Arithmetic.{wrapped, truth, is_true}
+use Rattle.strc_base.specs.Names.{has_name}
+use Rattle.strc_semantics.specs.Scoping.{Scope, size_of, names_after}
+use Rattle.strc_semantics.specs.Closed.{IsClosedStmt}
+use Rattle.strc_semantics.specs.Firing.{then_do, Port, Traffic, Store, cells_named, with_cell, value_in, assigned, declared_in, value_of, initial_cells, condition_value, turned, turn_limit, looped, inside, block_left, stmt_done}
 use Rattle.strc_work.proofs.Variables.{scope_of, scope_of-with_cell}
 use Rattle.strc_rate.specs.Constant.{constant}
 use Rattle.strc_rate.specs.Loops.{Locals, Bound, First, Loop, bound_of, move_of, first_declared, first_assigned, first_of, loop_of, counted_from, counted_loop, value_after, stmt_writes}

@@ -5,29 +5,29 @@ use Rattle.std.specs.Option.{IfSome}
 use Rattle.std.specs.Result.{IfOk}
 use Rattle.std.proofs.lemmas.Bool.{eqb-true}
 use Rattle.std.proofs.lemmas.Result.{IfOk-weaker}
-use Rattle.strc_parse.specs.Tree as tree
-use Rattle.strc_parse.specs.declared.tree.AssignOperator.{AssignOperator}
-use Rattle.strc_parse.specs.declared.tree.AssignOperator.TheVariants as assign
-use Rattle.strc_parse.specs.declared.tree.BinaryOperator.{BinaryOperator}
-use Rattle.strc_parse.specs.declared.tree.BinaryOperator.TheVariants as binary
-use Rattle.strc_work.specs.declared.fault.Cause.{Cause}
-use Rattle.strc_work.specs.declared.fault.Cause.TheVariants.{PeekRange}
-use Rattle.strc_work.specs.Arithmetic.{is_true, binary_value}
-use Rattle.strc_work.specs.Firing.{then_do, Port, Traffic, Store, item_popped, pushed_to, joined, peeked_from, value_of, value_in, assigned_value, place_of, cell_in, cell_set, declared_in, element_joined, element_set, initial_cells, variables_declared}
+use Rattle.strc_syntax.specs.Tree as tree
+use Rattle.strc_syntax.specs.declared.tree.AssignOperator.{AssignOperator}
+use Rattle.strc_syntax.specs.declared.tree.AssignOperator.TheVariants as assign
+use Rattle.strc_syntax.specs.declared.tree.BinaryOperator.{BinaryOperator}
+use Rattle.strc_syntax.specs.declared.tree.BinaryOperator.TheVariants as binary
+use Rattle.strc_semantics.specs.declared.fault.Cause.{Cause}
+use Rattle.strc_semantics.specs.declared.fault.Cause.TheVariants.{PeekRange}
+use Rattle.strc_semantics.specs.Arithmetic.{is_true, binary_value}
+use Rattle.strc_semantics.specs.Firing.{then_do, Port, Traffic, Store, item_popped, pushed_to, joined, peeked_from, value_of, value_in, assigned_value, place_of, cell_in, cell_set, declared_in, element_joined, element_set, initial_cells, variables_declared}
 use Rattle.strc_rate.specs.Constant.{constant}
-use Rattle.strc_rate.specs.Counts.{Counts, held, no_items, one_push, one_pop, same_counts, added, both, either, nothing, multiplied, repeated, sides, Need, need_by, need_of, needed, expr_counts, option_counts, variables_counts}
+use Rattle.strc_rate.specs.Counts.{Counts, saturated, no_items, one_push, one_pop, same_counts, added, both, either, nothing, multiplied, repeated, sides, Need, need_by, need_of, needed, expr_counts, option_counts, variables_counts}
 use Rattle.strc_rate.proofs.Results.{and_first, and_second, then_ok, both_ok, any_ok}
 use Rattle.strc_rate.proofs.Keeping.{strict_holds}
 use Rattle.strc_rate.proofs.LoopParts.{constant_told}
 
--- so many items, as counts are held, are popped and pushed from one traffic to another
+-- so many items, as counts are saturated, are popped and pushed from one traffic to another
 pub record Moves (before after : Traffic) (counts : Counts) : Type 0 where
   pub pops : ℕ
   pub pushes : ℕ
   pub popped : after.popped ≡ before.popped + pops
   pub pushed : length after.pushes ≡ length before.pushes + pushes
-  pub held_pops : held pops ≡ counts.pops
-  pub held_pushes : held pushes ≡ counts.pushes
+  pub saturated_pops : saturated pops ≡ counts.pops
+  pub saturated_pushes : saturated pushes ≡ counts.pushes
 
 -- the same, where the text is counted
 abbrev pub Counted : Option Counts → Traffic → Traffic → Type 0
@@ -35,13 +35,13 @@ Counted None before after = Unit {0}
 Counted (Some counts) before after = Moves before after counts
 
 pub stays : (traffic : Traffic) → Moves traffic traffic no_items
-stays traffic = record { pops = 0; pushes = 0; popped = omega arith; pushed = omega arith; held_pops = omega arith; held_pushes = omega arith }
+stays traffic = record { pops = 0; pushes = 0; popped = omega arith; pushed = omega arith; saturated_pops = omega arith; saturated_pushes = omega arith }
 
 pub moves_same : (before after : Traffic) (c d : Counts) → c.pushes ≡ d.pushes → c.pops ≡ d.pops → Moves before after c → Moves before after d
-moves_same before after c d e f h = record { pops = h.pops; pushes = h.pushes; popped = h.popped; pushed = h.pushed; held_pops = h.held_pops ∙ f; held_pushes = h.held_pushes ∙ e }
+moves_same before after c d e f h = record { pops = h.pops; pushes = h.pushes; popped = h.popped; pushed = h.pushed; saturated_pops = h.saturated_pops ∙ f; saturated_pushes = h.saturated_pushes ∙ e }
 
-held_sum : (m n c d : ℕ) → held m ≡ c → held n ≡ d → held (m + n) ≡ held (c + d)
-held_sum m n c d e f = omega arith
+saturating_sum : (m n c d : ℕ) → saturated m ≡ c → saturated n ≡ d → saturated (m + n) ≡ saturated (c + d)
+saturating_sum m n c d e f = omega arith
 
 pub one_after : (a b c : Traffic) (x y : Counts) → Moves a b x → Moves b c y → Moves a c (added x y)
 one_after a b c x y h k =
@@ -54,8 +54,8 @@ one_after a b c x y h k =
       pushes = h.pushes + k.pushes;
       popped = omega arith;
       pushed = omega arith;
-      held_pops = held_sum h.pops k.pops x.pops y.pops h.held_pops k.held_pops;
-      held_pushes = held_sum h.pushes k.pushes x.pushes y.pushes h.held_pushes k.held_pushes;
+      saturated_pops = saturating_sum h.pops k.pops x.pops y.pops h.saturated_pops k.saturated_pops;
+      saturated_pushes = saturating_sum h.pushes k.pushes x.pushes y.pushes h.saturated_pushes k.saturated_pushes;
     }
 
 pub counted_both : (a b c : Traffic) (x y : Option Counts) → Counted x a b → Counted y b c → Counted (both x y) a c
@@ -192,7 +192,7 @@ joined_counts binary.Remainder left first x right is h = strict_counts binary.Re
 
 pop_counts : (traffic : Traffic) (item : Option ℤ) → IfOk (item_popped item traffic) (λ taken. Moves traffic taken.1 one_pop)
 pop_counts traffic None = tt
-pop_counts traffic (Some item) = record { pops = 1; pushes = 0; popped = refl; pushed = omega arith; held_pops = omega arith; held_pushes = omega arith }
+pop_counts traffic (Some item) = record { pops = 1; pushes = 0; popped = refl; pushed = omega arith; saturated_pops = omega arith; saturated_pushes = omega arith }
 
 -- what an evaluation moves, and its value where that is known
 pub value_counts : (port : Port) (e : tree.Expr) (store : Store) → CountedOk value_traffic (expr_counts e) store.traffic (value_of port e store)
@@ -289,13 +289,13 @@ pub push_counts : (port : Port) (item : ℤ) (traffic : Traffic) → IfOk (pushe
 push_counts port item traffic = by_test (nat_lt (length traffic.pushes) port.room)
   where
     by_test : (test : Bool) → IfOk (if test then Ok (record traffic { pushes = traffic.pushes ++ item ∷ [] }) else Err PeekRange) (λ after. Moves traffic after one_push)
-    by_test true = record { pops = 0; pushes = 1; popped = omega arith; pushed = omega (arith, length-append traffic.pushes (item ∷ [])); held_pops = omega arith; held_pushes = omega arith }
+    by_test true = record { pops = 0; pushes = 1; popped = omega arith; pushed = omega (arith, length-append traffic.pushes (item ∷ [])); saturated_pops = omega arith; saturated_pushes = omega arith }
     by_test false = tt
 
 -- ---- turns
 
-held_more : (n m c t : ℕ) → held n ≡ held (suc t * c) → held m ≡ c → held (n + m) ≡ held (suc (suc t) * c)
-held_more n m c t e f = omega arith
+saturated_more : (n m c t : ℕ) → saturated n ≡ saturated (suc t * c) → saturated m ≡ c → saturated (n + m) ≡ saturated (suc (suc t) * c)
+saturated_more n m c t e f = omega arith
 
 -- one more turn
 pub one_more_counted : (t : ℕ) (a b c : Traffic) (x : Option Counts) → Counted (repeated t x) a b → Counted x b c → Counted (repeated (t + 1) x) a c
@@ -305,8 +305,8 @@ one_more_counted t a b c x h k = subst (λ n. Counted (repeated n x) a c) (sym (
     next n None h k = tt
     next zero (Some y) h k =
         let sum = one_after a b c no_items y h k in
-        let pops = k.held_pops in
-        let pushes = k.held_pushes in
+        let pops = k.saturated_pops in
+        let pushes = k.saturated_pushes in
         moves_same a c (added no_items y) (multiplied 1 y) (omega arith) (omega arith) sum
     next (suc n) (Some y) h k =
         let before_pops = h.popped in
@@ -318,6 +318,6 @@ one_more_counted t a b c x h k = subst (λ n. Counted (repeated n x) a c) (sym (
           pushes = h.pushes + k.pushes;
           popped = omega arith;
           pushed = omega arith;
-          held_pops = held_more h.pops k.pops y.pops n h.held_pops k.held_pops;
-          held_pushes = held_more h.pushes k.pushes y.pushes n h.held_pushes k.held_pushes;
+          saturated_pops = saturated_more h.pops k.pops y.pops n h.saturated_pops k.saturated_pops;
+          saturated_pushes = saturated_more h.pushes k.pushes y.pushes n h.saturated_pushes k.saturated_pushes;
         }

@@ -1,20 +1,20 @@
 -- Counts that stand one after the other.
 use Rattle.std.proofs.Common.{◌≡◌, ℕ, ◌+◌, List, [], ◌∷◌, Option, Some, None, refl, sym, ap, ◌∙◌, arith}
-use Rattle.strc_parse.specs.Tree as tree
+use Rattle.strc_syntax.specs.Tree as tree
 use Rattle.strc_rate.specs.Loops.{Locals, locals_after, counted_loop}
 use Rattle.strc_rate.specs.Peeks.{names_of}
-use Rattle.strc_rate.specs.Ranges.{Ranges, ranges_after}
-use Rattle.strc_rate.proofs.RangedGrowth.{names_behind}
-use Rattle.strc_rate.specs.Counts.{Counts, held, no_items, both, stmt_counts, stmts_counts, option_counts, variables_counts, turns_counts}
+use Rattle.strc_rate.specs.Intervals.{Intervals, intervals_after}
+use Rattle.strc_rate.proofs.IntervalGrowth.{names_behind}
+use Rattle.strc_rate.specs.Counts.{Counts, saturated, no_items, both, stmt_counts, stmts_counts, option_counts, variables_counts, turns_counts}
 
-held_assoc : (a b c : ℕ) → held (held (a + b) + c) ≡ held (a + held (b + c))
-held_assoc a b c = omega arith
+saturated_assoc : (a b c : ℕ) → saturated (saturated (a + b) + c) ≡ saturated (a + saturated (b + c))
+saturated_assoc a b c = omega arith
 
-held_zero : (a b : ℕ) → held (held (a + b) + 0) ≡ held (a + b)
-held_zero a b = omega arith
+saturated_zero : (a b : ℕ) → saturated (saturated (a + b) + 0) ≡ saturated (a + b)
+saturated_zero a b = omega arith
 
-zero_held : (a b : ℕ) → held (0 + held (a + b)) ≡ held (a + b)
-zero_held a b = omega arith
+zero_saturated : (a b : ℕ) → saturated (0 + saturated (a + b)) ≡ saturated (a + b)
+zero_saturated a b = omega arith
 
 -- the grouping doesn't matter
 both_assoc : (first second third : Option Counts) → both (both first second) third ≡ both first (both second third)
@@ -22,24 +22,24 @@ both_assoc None second third = refl
 both_assoc (Some first) None third = refl
 both_assoc (Some first) (Some second) None = refl
 both_assoc (Some first) (Some second) (Some third) =
-    ap (λ n. Some (record { pushes = n; pops = held (held (first.pops + second.pops) + third.pops) })) (held_assoc first.pushes second.pushes third.pushes)
-    ∙ ap (λ n. Some (record { pushes = held (first.pushes + held (second.pushes + third.pushes)); pops = n })) (held_assoc first.pops second.pops third.pops)
+    ap (λ n. Some (record { pushes = n; pops = saturated (saturated (first.pops + second.pops) + third.pops) })) (saturated_assoc first.pushes second.pushes third.pushes)
+    ∙ ap (λ n. Some (record { pushes = saturated (first.pushes + saturated (second.pushes + third.pushes)); pops = n })) (saturated_assoc first.pops second.pops third.pops)
 
 -- nothing behind changes nothing
-both_settled : (first second : Option Counts) → both (both first second) (Some no_items) ≡ both first second
-both_settled None second = refl
-both_settled (Some first) None = refl
-both_settled (Some first) (Some second) =
-    ap (λ n. Some (record { pushes = n; pops = held (held (first.pops + second.pops) + 0) })) (held_zero first.pushes second.pushes)
-    ∙ ap (λ n. Some (record { pushes = held (first.pushes + second.pushes); pops = n })) (held_zero first.pops second.pops)
+both_runnable : (first second : Option Counts) → both (both first second) (Some no_items) ≡ both first second
+both_runnable None second = refl
+both_runnable (Some first) None = refl
+both_runnable (Some first) (Some second) =
+    ap (λ n. Some (record { pushes = n; pops = saturated (saturated (first.pops + second.pops) + 0) })) (saturated_zero first.pushes second.pushes)
+    ∙ ap (λ n. Some (record { pushes = saturated (first.pushes + second.pushes); pops = n })) (saturated_zero first.pops second.pops)
 
 -- nothing before changes nothing
 nothing_before : (first second : Option Counts) → both (Some no_items) (both first second) ≡ both first second
 nothing_before None second = refl
 nothing_before (Some first) None = refl
 nothing_before (Some first) (Some second) =
-    ap (λ n. Some (record { pushes = n; pops = held (0 + held (first.pops + second.pops)) })) (zero_held first.pushes second.pushes)
-    ∙ ap (λ n. Some (record { pushes = held (first.pushes + second.pushes); pops = n })) (zero_held first.pops second.pops)
+    ap (λ n. Some (record { pushes = n; pops = saturated (0 + saturated (first.pops + second.pops)) })) (zero_saturated first.pushes second.pushes)
+    ∙ ap (λ n. Some (record { pushes = saturated (first.pushes + second.pushes); pops = n })) (zero_saturated first.pops second.pops)
 
 before_stmts : (locals : Locals) (statements : tree.Stmts) → both (Some no_items) (stmts_counts locals statements) ≡ stmts_counts locals statements
 before_stmts locals tree.Done = refl
@@ -50,22 +50,22 @@ before_variables [] = refl
 before_variables (first ∷ rest) = nothing_before (option_counts first.initial) (variables_counts rest)
 
 -- one more part behind those so far
-pub settled_step : (so_far here next : Option Counts) → next ≡ both so_far here → both next (Some no_items) ≡ next
-settled_step so_far here next e = ap (λ n. both n (Some no_items)) e ∙ both_settled so_far here ∙ sym e
+pub runnable_step : (so_far here next : Option Counts) → next ≡ both so_far here → both next (Some no_items) ≡ next
+runnable_step so_far here next e = ap (λ n. both n (Some no_items)) e ∙ both_runnable so_far here ∙ sym e
 
-pub stmts_step : (so_far here next whole : Option Counts) (ranges behind : Ranges) (x : tree.Stmt) (rest all : tree.Stmts) → here ≡ stmt_counts (names_of ranges) x → behind ≡ ranges_after ranges x → next ≡ both so_far here → all ≡ tree.Then x rest
-    → both so_far (stmts_counts (names_of ranges) all) ≡ whole → both next (stmts_counts (names_of behind) rest) ≡ whole
-stmts_step so_far here next whole ranges behind x rest all counted names more is left =
+pub stmts_step : (so_far here next whole : Option Counts) (intervals behind : Intervals) (x : tree.Stmt) (rest all : tree.Stmts) → here ≡ stmt_counts (names_of intervals) x → behind ≡ intervals_after intervals x → next ≡ both so_far here → all ≡ tree.Then x rest
+    → both so_far (stmts_counts (names_of intervals) all) ≡ whole → both next (stmts_counts (names_of behind) rest) ≡ whole
+stmts_step so_far here next whole intervals behind x rest all counted names more is left =
     ap (λ n. both n (stmts_counts (names_of behind) rest)) more
     ∙ both_assoc so_far here (stmts_counts (names_of behind) rest)
     ∙ ap (λ h. both so_far (both h (stmts_counts (names_of behind) rest))) counted
-    ∙ ap (λ l. both so_far (both (stmt_counts (names_of ranges) x) (stmts_counts l rest))) (ap names_of names ∙ names_behind ranges x)
-    ∙ ap (λ b. both so_far (stmts_counts (names_of ranges) b)) (sym is)
+    ∙ ap (λ l. both so_far (both (stmt_counts (names_of intervals) x) (stmts_counts l rest))) (ap names_of names ∙ names_behind intervals x)
+    ∙ ap (λ b. both so_far (stmts_counts (names_of intervals) b)) (sym is)
     ∙ left
 
 -- what a first count of nothing tells
-pub first_settled : (none : Counts) → none ≡ no_items → both (Some none) (Some no_items) ≡ Some none
-first_settled none e = ap (λ n. both (Some n) (Some no_items)) e ∙ ap Some (sym e)
+pub first_runnable : (none : Counts) → none ≡ no_items → both (Some none) (Some no_items) ≡ Some none
+first_runnable none e = ap (λ n. both (Some n) (Some no_items)) e ∙ ap Some (sym e)
 
 pub first_stmts : (none : Counts) (locals : Locals) (statements : tree.Stmts) → none ≡ no_items → both (Some none) (stmts_counts locals statements) ≡ stmts_counts locals statements
 first_stmts none locals statements e = ap (λ n. both (Some n) (stmts_counts locals statements)) e ∙ before_stmts locals statements
@@ -82,9 +82,9 @@ variables_step so_far here next whole x rest all counted more is left =
     ∙ left
 
 -- a `for`, by its parts
-pub for_counts : (ranges inner : Ranges) (first step body : tree.Stmt) (condition : Option tree.Expr) (begun turned : Option Counts) → begun ≡ stmt_counts (names_of ranges) first → inner ≡ ranges_after ranges first
-    → turned ≡ turns_counts (counted_loop (names_of ranges) first condition step body) (option_counts condition) (stmt_counts (names_of inner) step) (stmt_counts (names_of inner) body)
-    → both begun turned ≡ stmt_counts (names_of ranges) (tree.For first condition step body)
-for_counts ranges inner first step body condition begun turned counted names turns =
+pub for_counts : (intervals inner : Intervals) (first step body : tree.Stmt) (condition : Option tree.Expr) (begun turned : Option Counts) → begun ≡ stmt_counts (names_of intervals) first → inner ≡ intervals_after intervals first
+    → turned ≡ turns_counts (counted_loop (names_of intervals) first condition step body) (option_counts condition) (stmt_counts (names_of inner) step) (stmt_counts (names_of inner) body)
+    → both begun turned ≡ stmt_counts (names_of intervals) (tree.For first condition step body)
+for_counts intervals inner first step body condition begun turned counted names turns =
     ap (λ b. both b turned) counted
-    ∙ ap (both (stmt_counts (names_of ranges) first)) (turns ∙ ap (λ l. turns_counts (counted_loop (names_of ranges) first condition step body) (option_counts condition) (stmt_counts l step) (stmt_counts l body)) (ap names_of names ∙ names_behind ranges first))
+    ∙ ap (both (stmt_counts (names_of intervals) first)) (turns ∙ ap (λ l. turns_counts (counted_loop (names_of intervals) first condition step body) (option_counts condition) (stmt_counts l step) (stmt_counts l body)) (ap names_of names ∙ names_behind intervals first))

@@ -3,10 +3,10 @@ use Rattle.std.proofs.Common.{◌≡◌, refl, ap, ◌≤◌, true, List, [], le
 use Rattle.std.specs.Prelude.{is_some}
 use Rattle.std.proofs.lemmas.List.{length-take-le}
 use Rattle.std.proofs.lemmas.Result.{IfOk-weaker}
-use Rattle.strc_parse.specs.Tree as tree
-use Rattle.strc_work.specs.declared.code.Body.{Body}
-use Rattle.strc_work.specs.Filters.{body_block, body_rates, push_rate, pop_rate, peek_rate, window_size}
-use Rattle.strc_work.specs.Firing.{Port, Store, no_traffic, port_of, store_at}
+use Rattle.strc_syntax.specs.Tree as tree
+use Rattle.strc_semantics.specs.declared.body.Body.{Body}
+use Rattle.strc_semantics.specs.Filters.{body_block, body_rates, push_rate, pop_rate, peek_rate, window_size}
+use Rattle.strc_semantics.specs.Firing.{Port, Store, no_traffic, port_of, store_at}
 use Rattle.strc_rate.specs.Counts.{stmts_counts}
 use Rattle.strc_rate.specs.Rates.{within_limit, are_within_limit, body_sights, none_popped, checked}
 use Rattle.strc_rate.specs.Safe.{StmtsAreSafe, ClosedPeeksNeverFault}

@@ -4,15 +4,15 @@ use Rattle.std.specs.Prelude.{bytes_eq}
 use Rattle.std.specs.Result.{IfOk}
 use Rattle.std.proofs.lemmas.List.{length-map}
 use Rattle.std.proofs.lemmas.Slice.Eq.{bytes_eq-Decides}
-use Rattle.strc_parse.specs.Tree as tree
-use Rattle.strc_parse.specs.declared.tree.AssignOperator.{AssignOperator}
-use Rattle.strc_parse.specs.declared.tree.AssignOperator.TheVariants as assign
-use Rattle.strc_parse.specs.declared.tree.BinaryOperator.{BinaryOperator}
-use Rattle.strc_parse.specs.declared.tree.BinaryOperator.TheVariants as binary
-use Rattle.strc_work.specs.declared.fault.Cause.{Cause}
-use Rattle.strc_work.specs.Arithmetic.{is_true, binary_value}
-use Rattle.strc_work.specs.Scoping.{Scope, is_declared}
-use Rattle.strc_work.specs.Firing.{then_do, Port, Traffic, Store, Variables, cells_named, with_cell, popped_from, peeked_from, joined, value_of, assigned_value, place_of, cell_in, cell_set, element_joined, element_set, condition_value}
+use Rattle.strc_syntax.specs.Tree as tree
+use Rattle.strc_syntax.specs.declared.tree.AssignOperator.{AssignOperator}
+use Rattle.strc_syntax.specs.declared.tree.AssignOperator.TheVariants as assign
+use Rattle.strc_syntax.specs.declared.tree.BinaryOperator.{BinaryOperator}
+use Rattle.strc_syntax.specs.declared.tree.BinaryOperator.TheVariants as binary
+use Rattle.strc_semantics.specs.declared.fault.Cause.{Cause}
+use Rattle.strc_semantics.specs.Arithmetic.{is_true, binary_value}
+use Rattle.strc_semantics.specs.Scoping.{Scope, is_declared}
+use Rattle.strc_semantics.specs.Firing.{then_do, Port, Traffic, Store, Variables, cells_named, with_cell, popped_from, peeked_from, joined, value_of, assigned_value, place_of, cell_in, cell_set, element_joined, element_set, condition_value}
 use Rattle.strc_work.proofs.Variables.{scope_of, scope_of-with_cell}
 use Rattle.strc_rate.specs.Loops.{expr_writes, option_writes}
 use Rattle.strc_rate.proofs.Results.{or_first, or_second, then_ok, any_ok, below, above, below_all}

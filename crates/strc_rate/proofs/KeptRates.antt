@@ -6,18 +6,18 @@ use Rattle.std.specs.Int.RustNames.{int_lt}
 use Rattle.std.proofs.lemmas.Bool.{eqb-true}
 use Rattle.std.proofs.lemmas.Int.{ints}
 use Rattle.std.proofs.lemmas.Result.{IfOk-weaker}
-use Rattle.strc_parse.specs.Tree as tree
-use Rattle.strc_work.specs.declared.code.Body.{Body}
-use Rattle.strc_work.specs.declared.code.Body.TheVariants as body
-use Rattle.strc_work.specs.Scoping.{Scope}
-use Rattle.strc_work.specs.Filters.{Filter, sized_fields, work_block, work_rates, prework_block, prework_rates, body_block, body_rates, push_rate, pop_rate, item_count}
-use Rattle.strc_work.specs.Closed.{AreClosed, IsClosedFilter}
-use Rattle.strc_work.specs.Firing.{Port, Store, stmts_done, no_traffic, port_of, store_at}
+use Rattle.strc_syntax.specs.Tree as tree
+use Rattle.strc_semantics.specs.declared.body.Body.{Body}
+use Rattle.strc_semantics.specs.declared.body.Body.TheVariants as body
+use Rattle.strc_semantics.specs.Scoping.{Scope}
+use Rattle.strc_semantics.specs.Filters.{Filter, sized_fields, work_block, work_rates, prework_block, prework_rates, body_block, body_rates, push_rate, pop_rate, item_count}
+use Rattle.strc_semantics.specs.Closed.{AreClosed, IsClosedFilter}
+use Rattle.strc_semantics.specs.Firing.{Port, Store, stmts_done, no_traffic, port_of, store_at}
 use Rattle.strc_work.proofs.FilterRuns.{body_closed}
 use Rattle.strc_rate.specs.declared.rates.RateError.{RateError}
 use Rattle.strc_rate.specs.declared.rates.RateError.TheVariants.{RateLimit, RateMismatch}
 use Rattle.strc_rate.specs.Counts.{Counts, stmts_counts}
-use Rattle.strc_rate.specs.Peeks.{Sight}
+use Rattle.strc_rate.specs.Peeks.{PeekBounds}
 use Rattle.strc_rate.specs.Rates.{BodyRates, within_limit, are_within_limit, and_then, same_rate, seen, counted, body_sights, body_checked, work_lacks, work_checked, some_prework, prework_checked, then_work, checked}
 use Rattle.strc_rate.specs.Kept.{CheckedRatesAreKept}
 use Rattle.strc_rate.proofs.Results.{and_first, and_second}
@@ -43,7 +43,7 @@ any_rates (Ok rates) R h = h
 any_rates (Err broken) R h = tt
 
 -- what is known where a body's rates are accepted
-pub accepted_by : (limits lacks : Bool) (rates : List tree.Rate) (counts : Option Counts) (sights : List Sight) (R : Type 0) → ((c : Counts) → limits ≡ true → counts ≡ Some c → item_count (push_rate rates) ≡ c.pushes → item_count (pop_rate rates) ≡ c.pops → R) → IfOk (if not limits || lacks then Err RateLimit else counted rates counts sights) (λ accepted. R)
+pub accepted_by : (limits lacks : Bool) (rates : List tree.Rate) (counts : Option Counts) (sights : List PeekBounds) (R : Type 0) → ((c : Counts) → limits ≡ true → counts ≡ Some c → item_count (push_rate rates) ≡ c.pushes → item_count (pop_rate rates) ≡ c.pops → R) → IfOk (if not limits || lacks then Err RateLimit else counted rates counts sights) (λ accepted. R)
 accepted_by false lacks rates counts sights R go = tt
 accepted_by true true rates counts sights R go = tt
 accepted_by true false rates None sights R go = tt
@@ -68,8 +68,8 @@ body_kept lacks rates block names closed =
     (λ after h.
     let popped = h.popped in
     let pushed = h.pushed in
-    let held_pops = h.held_pops in
-    let held_pushes = h.held_pushes in
+    let saturated_pops = h.saturated_pops in
+    let saturated_pushes = h.saturated_pushes in
     (omega arith, omega arith))
     (subst (λ traffic. IfOk (stmts_done port block store) (λ after. Moves traffic after.traffic c)) none
     (subst (λ x. IfOk (stmts_done port block store) (λ after. Counted x store.traffic after.traffic)) counts (stmts_counted port block [] names store closed tt))))

@@ -1,6 +1,6 @@
 pub mod Narrowing
 pub mod LoopValues
-pub mod RangedGrowth
+pub mod IntervalGrowth
 pub mod Counting
 pub mod Sighting
 pub mod Checking
@@ -13,7 +13,7 @@ pub mod CountedLoops
 pub mod CountedMoves
 pub mod StatementCounts
 pub mod KeptRates
-pub mod RangeValues
+pub mod IntervalValues
 pub mod Readiness
 pub mod SafeValues
 pub mod SafeLoops

@@ -4,21 +4,21 @@ use Rattle.std.specs.Prelude.{bytes_eq, unwrap_or, if◌then◌else◌}
 use Rattle.std.specs.Option.{IfSome, option_map}
 use Rattle.std.specs.Result.{IfOk}
 use Rattle.std.proofs.lemmas.List.{get_or-set_same}
-use Rattle.strc_parse.specs.Tree as tree
-use Rattle.strc_parse.specs.declared.tree.AssignOperator.{AssignOperator}
-use Rattle.strc_parse.specs.declared.tree.AssignOperator.TheVariants as assign
-use Rattle.strc_parse.specs.declared.tree.StepOperator.{StepOperator}
-use Rattle.strc_parse.specs.declared.tree.StepOperator.TheVariants as step
-use Rattle.strc_parse.specs.declared.tree.BinaryOperator.{BinaryOperator}
-use Rattle.strc_parse.specs.declared.tree.BinaryOperator.TheVariants as binary
-use Rattle.strc_work.specs.declared.fault.Cause.{Cause}
-use Rattle.strc_work.specs.Arithmetic.{wrapped, truth, binary_value}
-use Rattle.strc_work.specs.Names.{has_name}
-use Rattle.strc_work.specs.Scoping.{Scope, size_named, size_of, cells_of, with_declared, names_after}
-use Rattle.strc_work.specs.Constants.{constant_value, IsConstant}
-use Rattle.strc_work.specs.Closed.{FitsInitial, AreClosedVariables, IsClosedStmt}
-use Rattle.strc_work.specs.Firing.{then_do, Port, Store, Variables, cells_named, with_cell, value_in, assigned, value_of, value_stepped, assigned_value, joined, inside, stmt_done}
-use Rattle.strc_work.proofs.ConstantValues.{constant_value_Ok}
+use Rattle.strc_syntax.specs.Tree as tree
+use Rattle.strc_syntax.specs.declared.tree.AssignOperator.{AssignOperator}
+use Rattle.strc_syntax.specs.declared.tree.AssignOperator.TheVariants as assign
+use Rattle.strc_syntax.specs.declared.tree.StepOperator.{StepOperator}
+use Rattle.strc_syntax.specs.declared.tree.StepOperator.TheVariants as step
+use Rattle.strc_syntax.specs.declared.tree.BinaryOperator.{BinaryOperator}
+use Rattle.strc_syntax.specs.declared.tree.BinaryOperator.TheVariants as binary
+use Rattle.strc_semantics.specs.declared.fault.Cause.{Cause}
+use Rattle.strc_semantics.specs.Arithmetic.{wrapped, truth, binary_value}
+use Rattle.strc_base.specs.Names.{has_name}
+use Rattle.strc_semantics.specs.Scoping.{Scope, size_named, size_of, cells_of, with_declared, names_after}
+use Rattle.strc_semantics.specs.Constants.{constant_value, IsConstant}
+use Rattle.strc_semantics.specs.Closed.{FitsInitial, AreClosedVariables, IsClosedStmt}
+use Rattle.strc_semantics.specs.Firing.{then_do, Port, Store, Variables, cells_named, with_cell, value_in, assigned, value_of, value_stepped, assigned_value, joined, inside, stmt_done}
+use Rattle.strc_semantics.proofs.ConstantValues.{constant_value_Ok}
 use Rattle.strc_work.proofs.Variables.{scope_of}
 use Rattle.strc_rate.specs.Constant.{is_constant, faultless, constant}
 use Rattle.strc_rate.specs.Loops.{Locals, with_locals, locals_after, Bound, is_order, is_variable, bound_of, step_move, moved_by, sum_move, assign_move, value_move, move_of}

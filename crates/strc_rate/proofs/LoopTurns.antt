@@ -11,10 +11,10 @@ use Rattle.std.proofs.lemmas.Grind.{div_ceil_times}
 use Rattle.std.proofs.lemmas.Bool.Decides.{Decides-int_eq}
 use Rattle.std.proofs.lemmas.Int.{ints, int_wrap_fits, SFits-int_wrap}
 use mir.Syntax.{w32}
-use Rattle.strc_parse.specs.declared.tree.BinaryOperator.{BinaryOperator}
-use Rattle.strc_parse.specs.declared.tree.BinaryOperator.TheVariants as binary
-use Rattle.strc_work.specs.Arithmetic.{wrapped}
-use Rattle.strc_rate.specs.Loops.{Bound, First, Loop, is_order, distance, approach, moves_over, within_32_bits, value_after, kept_loop, loop_of}
+use Rattle.strc_syntax.specs.declared.tree.BinaryOperator.{BinaryOperator}
+use Rattle.strc_syntax.specs.declared.tree.BinaryOperator.TheVariants as binary
+use Rattle.strc_semantics.specs.Arithmetic.{wrapped}
+use Rattle.strc_rate.specs.Loops.{Bound, First, Loop, is_order, distance, step_toward_bound, trip_count, within_32_bits, value_after, loop_within_i32, loop_of}
 
 -- whether a comparison holds
 abbrev pub compares : BinaryOperator → (value limit : ℤ) → Bool
@@ -83,7 +83,7 @@ negated_back (pos zero) m e = absurd (cc)
 negated_back (pos (suc n)) m e = absurd (cc)
 
 -- a move towards the end is one way or the other
-moves_by : (operator : BinaryOperator) (move : ℤ) (m : ℕ) → is_order operator ≡ true → approach operator move ≡ pos (suc m) → (move ≡ pos (suc m)) ⊎ (move ≡ negsuc m)
+moves_by : (operator : BinaryOperator) (move : ℤ) (m : ℕ) → is_order operator ≡ true → step_toward_bound operator move ≡ pos (suc m) → (move ≡ pos (suc m)) ⊎ (move ≡ negsuc m)
 moves_by binary.Less move m order e = inl e
 moves_by binary.LessOrEqual move m order e = inl e
 moves_by binary.Greater move m order e = inr (negated_back move m e)
@@ -107,7 +107,7 @@ one_more : (d : ℤ) (p : ℕ) → (d -ℤ pos p) +ℤ pos 1 ≡ (d +ℤ pos 1) 
 one_more d p = omega (arith, ints)
 
 -- each move comes nearer by as much
-distance_after : (operator : BinaryOperator) (s l move : ℤ) (t m : ℕ) → is_order operator ≡ true → approach operator move ≡ pos (suc m) → distance operator (s +ℤ pos t *ℤ move) l ≡ distance operator s l -ℤ pos (t * suc m)
+distance_after : (operator : BinaryOperator) (s l move : ℤ) (t m : ℕ) → is_order operator ≡ true → step_toward_bound operator move ≡ pos (suc m) → distance operator (s +ℤ pos t *ℤ move) l ≡ distance operator s l -ℤ pos (t * suc m)
 distance_after binary.Less s l move t m order e = nearer_up s l (pos t *ℤ move) (t * suc m) (times_up t move m e)
 distance_after binary.LessOrEqual s l move t m order e =
     ap (λ z. z +ℤ pos 1) (nearer_up s l (pos t *ℤ move) (t * suc m) (times_up t move m e)) ∙ one_more (l -ℤ s) (t * suc m)
@@ -134,7 +134,7 @@ kept_by loop P true true e f h = h (within_fits loop.start e) (within_fits (valu
 kept_by loop P true false e f h = tt
 kept_by loop P false b e f h = tt
 
-kept : (loop : Loop) (P : Loop → Type 0) → (FitsSigned w32 loop.start → FitsSigned w32 (value_after loop loop.turns) → P loop) → IfSome (kept_loop loop) P
+kept : (loop : Loop) (P : Loop → Type 0) → (FitsSigned w32 loop.start → FitsSigned w32 (value_after loop loop.turns) → P loop) → IfSome (loop_within_i32 loop) P
 kept loop P h = kept_by loop P (within_32_bits loop.start) (within_32_bits (value_after loop loop.turns)) refl refl h
 
 pub no_moves : (s move : ℤ) → s +ℤ pos 0 *ℤ move ≡ s
@@ -167,7 +167,7 @@ step_down_by s x y move p q r m is_move is_x is_y next le f g =
     ap wrapped sum ∙ (int_wrap_fits w32 (s +ℤ neg_ℤ (pos q)) (between_down s q r f g le) ∙ ap (λ z. s +ℤ z) (sym is_y))
 
 -- a loop with turns
-some_turns : (first : First) (bound : Bound) (move : ℤ) (n m : ℕ) → is_order bound.operator ≡ true → distance bound.operator first.value bound.limit ≡ pos (suc n) → approach bound.operator move ≡ pos (suc m) → FitsSigned w32 first.value → FitsSigned w32 (value_after (record { name = first.name; start = first.value; move = move; turns = div_ceil (suc n) (suc m) }) (div_ceil (suc n) (suc m))) → Turning bound move (record { name = first.name; start = first.value; move = move; turns = div_ceil (suc n) (suc m) })
+some_turns : (first : First) (bound : Bound) (move : ℤ) (n m : ℕ) → is_order bound.operator ≡ true → distance bound.operator first.value bound.limit ≡ pos (suc n) → step_toward_bound bound.operator move ≡ pos (suc m) → FitsSigned w32 first.value → FitsSigned w32 (value_after (record { name = first.name; start = first.value; move = move; turns = div_ceil (suc n) (suc m) }) (div_ceil (suc n) (suc m))) → Turning bound move (record { name = first.name; start = first.value; move = move; turns = div_ceil (suc n) (suc m) })
 some_turns first bound move n m order far near f g =
     let turns = div_ceil (suc n) (suc m) in
     let sizes = div_ceil_times (suc n) (suc m) (omega arith) in
@@ -202,7 +202,7 @@ pub record Told (first : First) (bound : Bound) (move : ℤ) (loop : Loop) : Typ
   pub name : loop.name ≡ first.name
   pub start : loop.start ≡ first.value
 
-told_by : (first : First) (bound : Bound) (move far near : ℤ) → is_order bound.operator ≡ true → distance bound.operator first.value bound.limit ≡ far → approach bound.operator move ≡ near → IfSome (option_and_then (λ turns. kept_loop (record { name = first.name; start = first.value; move = move; turns = turns })) (moves_over far near)) (Told first bound move)
+told_by : (first : First) (bound : Bound) (move far near : ℤ) → is_order bound.operator ≡ true → distance bound.operator first.value bound.limit ≡ far → step_toward_bound bound.operator move ≡ near → IfSome (option_and_then (λ turns. loop_within_i32 (record { name = first.name; start = first.value; move = move; turns = turns })) (trip_count far near)) (Told first bound move)
 told_by first bound move (negsuc n) near order e f =
     kept (record { name = first.name; start = first.value; move = move; turns = 0 }) (Told first bound move)
     (λ g h. record { turning = no_turns first bound move (suc n) order e; name = refl; start = refl })
@@ -217,4 +217,4 @@ told_by first bound move (pos (suc n)) (negsuc m) order e f = tt
 
 pub loop_told : (first : First) (bound : Bound) (move : ℤ) → is_order bound.operator ≡ true → IfSome (loop_of first bound move) (Told first bound move)
 loop_told first bound move order =
-    told_by first bound move (distance bound.operator first.value bound.limit) (approach bound.operator move) order refl refl
+    told_by first bound move (distance bound.operator first.value bound.limit) (step_toward_bound bound.operator move) order refl refl

@@ -5,7 +5,7 @@ use Rattle.std.proofs.lemmas.Bool.Decides.{Decides-int_eq}
 use Rattle.std.proofs.lemmas.Int.{int_wrap_fits, SFits-int_wrap}
 use lib.Signed.{lt_z}
 use mir.Syntax.{w32}
-use Rattle.strc_work.specs.Arithmetic.{wrapped}
+use Rattle.strc_semantics.specs.Arithmetic.{wrapped}
 use Rattle.strc_rate.specs.Loops.{within_32_bits}
 
 -- 32 bits hold a number that fits them

@@ -1,4 +1,4 @@
--- What is known where a firing comes to a place of its text: the ranges of variables, and how many items it has popped.
+-- What is known where a firing comes to a place of its text: the intervals of variables, and how many items it has popped.
 use Rattle.std.proofs.Common.{◌≡◌, refl, sym, subst, ◌∙◌, ap, ℕ, zero, suc, ◌+◌, ◌-◌, ◌*◌, ◌<◌, ◌≤◌, ℤ, pos, Bool, true, false, cond, ◌||◌, List, [], ◌∷◌, length, take, drop, get_or, replicate, Option, Some, None, arith}
 use Rattle.std.specs.Prelude.{bytes_eq, is_some, if◌then◌else◌}
 use Rattle.std.specs.Option.{IfSome}
@@ -6,27 +6,27 @@ use Rattle.std.specs.Result.{IfOk}
 use Rattle.std.proofs.Math.Nat.{mul-le-mul_right}
 use Rattle.std.proofs.lemmas.List.{length-replicate}
 use Rattle.std.proofs.lemmas.Result.{IfOk-weaker}
-use Rattle.strc_parse.specs.Tree as tree
-use Rattle.strc_parse.specs.declared.tree.BinaryOperator.{BinaryOperator}
-use Rattle.strc_parse.specs.declared.tree.BinaryOperator.TheVariants as binary
-use Rattle.strc_work.specs.Arithmetic.{is_true}
-use Rattle.strc_work.specs.Constants.{decides}
-use Rattle.strc_work.specs.Scoping.{Scope, is_declared, cells_of, with_declared, names_after}
-use Rattle.strc_work.specs.Closed.{FitsInitial, IsClosedStmt}
-use Rattle.strc_work.specs.Firing.{Port, Traffic, Store, Variables, cells_named, value_in, value_of, initial_cells, declared_in, condition_value, inside, stmt_done}
+use Rattle.strc_syntax.specs.Tree as tree
+use Rattle.strc_syntax.specs.declared.tree.BinaryOperator.{BinaryOperator}
+use Rattle.strc_syntax.specs.declared.tree.BinaryOperator.TheVariants as binary
+use Rattle.strc_semantics.specs.Arithmetic.{is_true}
+use Rattle.strc_semantics.specs.Constants.{decides}
+use Rattle.strc_semantics.specs.Scoping.{Scope, is_declared, cells_of, with_declared, names_after}
+use Rattle.strc_semantics.specs.Closed.{FitsInitial, IsClosedStmt}
+use Rattle.strc_semantics.specs.Firing.{Port, Traffic, Store, Variables, cells_named, value_in, value_of, initial_cells, declared_in, condition_value, inside, stmt_done}
 use Rattle.strc_work.proofs.Variables.{scope_of}
 use Rattle.strc_rate.specs.Constant.{constant}
 use Rattle.strc_rate.specs.Loops.{with_locals, locals_after, declares, hides, expr_writes, option_writes, stmt_writes}
-use Rattle.strc_rate.specs.Counts.{Counts, held, no_items, same_counts, both, either, nothing, repeated, sides, Need, needed, need_by, need_of, expr_counts, option_counts, stmt_counts}
-use Rattle.strc_rate.specs.Ranges.{Range, Ranges, with_unknown, ranges_after, range_named}
-use Rattle.strc_rate.specs.Peeks.{Popped, pops_of, behind, in_turns, names_of}
+use Rattle.strc_rate.specs.Counts.{Counts, saturated, no_items, same_counts, both, either, nothing, repeated, sides, Need, needed, need_by, need_of, expr_counts, option_counts, stmt_counts}
+use Rattle.strc_rate.specs.Intervals.{Interval, Intervals, with_unknown, intervals_after, interval_named}
+use Rattle.strc_rate.specs.Peeks.{PopInterval, pops_of, behind, in_turns, names_of}
 use Rattle.strc_rate.proofs.Results.{or_first, or_second, then_ok, both_ok, above, below_all, above_more}
 use Rattle.strc_rate.proofs.Keeping.{Same, same_refl, same_holding, same_cells, value_holds}
 use Rattle.strc_rate.proofs.Unwritten.{Done, scope_length, inside_same, stmt_keeps}
 use Rattle.strc_rate.proofs.LoopParts.{Seen, seen_after}
 use Rattle.strc_rate.proofs.CountedMoves.{Moves, Counted, stays, same_pops, value_counts}
 use Rattle.strc_rate.proofs.StatementCounts.{inside_counts, stmt_counted}
-use Rattle.strc_rate.proofs.RangeValues.{Within, Holds}
+use Rattle.strc_rate.proofs.IntervalValues.{Within, Holds}
 
 -- ---- parts that are counted
 
@@ -105,123 +105,123 @@ right_some binary.Remainder left value x is e f = e
 -- ---- items popped
 
 -- behind a part that was counted no more are popped than is told
-within_behind : (a b : Traffic) (popped : Popped) (x : Option Counts) → is_some x ≡ true → Counted x a b → held a.popped ≤ popped.high → held b.popped ≤ (behind popped x).high
+within_behind : (a b : Traffic) (popped : PopInterval) (x : Option Counts) → is_some x ≡ true → Counted x a b → saturated a.popped ≤ popped.high → saturated b.popped ≤ (behind popped x).high
 within_behind a b popped None e h le = absurd (cc)
 within_behind a b popped (Some x) e h le =
     let more = h.popped in
-    let size = h.held_pops in
+    let size = h.saturated_pops in
     omega arith
 
-turns_pops : (a b : Traffic) (high t turns : ℕ) (x : Counts) → suc t ≤ turns - 1 → Moves a b (record { pushes = held (suc t * x.pushes); pops = held (suc t * x.pops) }) → held a.popped ≤ high → held b.popped ≤ held (high + (turns - 1) * x.pops)
+turns_pops : (a b : Traffic) (high t turns : ℕ) (x : Counts) → suc t ≤ turns - 1 → Moves a b (record { pushes = saturated (suc t * x.pushes); pops = saturated (suc t * x.pops) }) → saturated a.popped ≤ high → saturated b.popped ≤ saturated (high + (turns - 1) * x.pops)
 turns_pops a b high t turns x le h within =
     let more = h.popped in
-    let size = h.held_pops in
+    let size = h.saturated_pops in
     let most : suc t * x.pops ≤ (turns - 1) * x.pops = mul-le-mul_right x.pops le in
     omega arith
 
 -- in a turn of a loop
-pub within_turns : (a b : Traffic) (popped : Popped) (t turns : ℕ) (x : Option Counts) → is_some x ≡ true → suc t ≤ turns → Counted (repeated t x) a b → held a.popped ≤ popped.high → held b.popped ≤ (in_turns popped turns x).high
+pub within_turns : (a b : Traffic) (popped : PopInterval) (t turns : ℕ) (x : Option Counts) → is_some x ≡ true → suc t ≤ turns → Counted (repeated t x) a b → saturated a.popped ≤ popped.high → saturated b.popped ≤ (in_turns popped turns x).high
 within_turns a b popped t turns None e lt h le = absurd (cc)
 within_turns a b popped zero turns (Some x) e lt h le =
     let more = h.popped in
-    let size = h.held_pops in
+    let size = h.saturated_pops in
     omega arith
 within_turns a b popped (suc t) turns (Some x) e lt h le = turns_pops a b popped.high t turns x (omega arith) h le
 
--- ---- ranges
+-- ---- intervals
 
--- variables of known ranges aren't written
-abbrev pub Fixed : Ranges → (List ℕ → Bool) → Type 0
-Fixed ranges writes = (name : List ℕ) → is_some (range_named ranges name) ≡ true → writes name ≡ false
+-- variables of known intervals aren't written
+abbrev pub Fixed : Intervals → (List ℕ → Bool) → Type 0
+Fixed intervals writes = (name : List ℕ) → is_some (interval_named intervals name) ≡ true → writes name ≡ false
 
-holds_by : (range : Option Range) (old new : ℤ) → (is_some range ≡ true → new ≡ old) → IfSome range (λ r. Within r old) → IfSome range (λ r. Within r new)
+holds_by : (interval : Option Interval) (old new : ℤ) → (is_some interval ≡ true → new ≡ old) → IfSome interval (λ r. Within r old) → IfSome interval (λ r. Within r new)
 holds_by None old new same h = tt
-holds_by (Some range) old new same h = subst (Within range) (sym (same refl)) h
+holds_by (Some interval) old new same h = subst (Within interval) (sym (same refl)) h
 
--- ranges hold as long as the cells are the same
-holds_same : (ranges : Ranges) (before after : Store) → ((name : List ℕ) → is_some (range_named ranges name) ≡ true → cells_named after.variables name ≡ cells_named before.variables name) → Holds ranges before → Holds ranges after
-holds_same ranges before after same h name =
-    holds_by (range_named ranges name) (value_in before name) (value_in after name) (λ e. ap (λ c. get_or c 0 (pos 0)) (same name e)) (h name)
+-- intervals hold as long as the cells are the same
+holds_same : (intervals : Intervals) (before after : Store) → ((name : List ℕ) → is_some (interval_named intervals name) ≡ true → cells_named after.variables name ≡ cells_named before.variables name) → Holds intervals before → Holds intervals after
+holds_same intervals before after same h name =
+    holds_by (interval_named intervals name) (value_in before name) (value_in after name) (λ e. ap (λ c. get_or c 0 (pos 0)) (same name e)) (h name)
 
 -- the names behind a statement
-names_unknown : (ranges : Ranges) (variables : List tree.Variable) → names_of (with_unknown ranges variables) ≡ with_locals (names_of ranges) variables
-names_unknown ranges [] = refl
-names_unknown ranges (first ∷ rest) = names_unknown (record { 0 = first.name; 1 = None } ∷ ranges) rest
+names_unknown : (intervals : Intervals) (variables : List tree.Variable) → names_of (with_unknown intervals variables) ≡ with_locals (names_of intervals) variables
+names_unknown intervals [] = refl
+names_unknown intervals (first ∷ rest) = names_unknown (record { 0 = first.name; 1 = None } ∷ intervals) rest
 
-pub names_after_ranges : (ranges : Ranges) (s : tree.Stmt) → names_of (ranges_after ranges s) ≡ locals_after (names_of ranges) s
-names_after_ranges ranges (tree.Declare kind variables) = names_unknown ranges variables
-names_after_ranges ranges tree.Empty = refl
-names_after_ranges ranges (tree.Compose statement) = refl
-names_after_ranges ranges (tree.Block body) = refl
-names_after_ranges ranges (tree.Evaluate value) = refl
-names_after_ranges ranges (tree.Assign assigned operator value) = refl
-names_after_ranges ranges (tree.AssignElement array index operator value) = refl
-names_after_ranges ranges (tree.If condition chosen) = refl
-names_after_ranges ranges (tree.IfElse condition chosen other) = refl
-names_after_ranges ranges (tree.While condition body) = refl
-names_after_ranges ranges (tree.For first condition step body) = refl
-names_after_ranges ranges (tree.Push value) = refl
-names_after_ranges ranges (tree.Print value) = refl
-names_after_ranges ranges (tree.Println value) = refl
+pub names_after_intervals : (intervals : Intervals) (s : tree.Stmt) → names_of (intervals_after intervals s) ≡ locals_after (names_of intervals) s
+names_after_intervals intervals (tree.Declare kind variables) = names_unknown intervals variables
+names_after_intervals intervals tree.Empty = refl
+names_after_intervals intervals (tree.Compose statement) = refl
+names_after_intervals intervals (tree.Block body) = refl
+names_after_intervals intervals (tree.Evaluate value) = refl
+names_after_intervals intervals (tree.Assign assigned operator value) = refl
+names_after_intervals intervals (tree.AssignElement array index operator value) = refl
+names_after_intervals intervals (tree.If condition chosen) = refl
+names_after_intervals intervals (tree.IfElse condition chosen other) = refl
+names_after_intervals intervals (tree.While condition body) = refl
+names_after_intervals intervals (tree.For first condition step body) = refl
+names_after_intervals intervals (tree.Push value) = refl
+names_after_intervals intervals (tree.Print value) = refl
+names_after_intervals intervals (tree.Println value) = refl
 
--- a name whose range is known behind a declaration isn't declared there, and its range was known before
-unknown_by : (ranges : Ranges) (first : List ℕ) (name : List ℕ) (t : Bool) → is_some (cond t None (range_named ranges name)) ≡ true → (is_some (range_named ranges name) ≡ true) × (t ≡ false)
-unknown_by ranges first name true e = absurd (cc)
-unknown_by ranges first name false e = (e, refl)
+-- a name whose interval is known behind a declaration isn't declared there, and its interval was known before
+unknown_by : (intervals : Intervals) (first : List ℕ) (name : List ℕ) (t : Bool) → is_some (cond t None (interval_named intervals name)) ≡ true → (is_some (interval_named intervals name) ≡ true) × (t ≡ false)
+unknown_by intervals first name true e = absurd (cc)
+unknown_by intervals first name false e = (e, refl)
 
 neither : (a b : Bool) → a ≡ false → b ≡ false → (a || b) ≡ false
 neither true b e f = e
 neither false b e f = f
 
-unknown_before : (ranges : Ranges) (variables : List tree.Variable) (name : List ℕ) → is_some (range_named (with_unknown ranges variables) name) ≡ true → (is_some (range_named ranges name) ≡ true) × (declares name variables ≡ false)
-unknown_before ranges [] name e = (e, refl)
-unknown_before ranges (first ∷ rest) name e =
-    let later = unknown_before (record { 0 = first.name; 1 = None } ∷ ranges) rest name e in
-    let here = unknown_by ranges first.name name (bytes_eq first.name name) later.0 in
+unknown_before : (intervals : Intervals) (variables : List tree.Variable) (name : List ℕ) → is_some (interval_named (with_unknown intervals variables) name) ≡ true → (is_some (interval_named intervals name) ≡ true) × (declares name variables ≡ false)
+unknown_before intervals [] name e = (e, refl)
+unknown_before intervals (first ∷ rest) name e =
+    let later = unknown_before (record { 0 = first.name; 1 = None } ∷ intervals) rest name e in
+    let here = unknown_by intervals first.name name (bytes_eq first.name name) later.0 in
     (here.0, neither (bytes_eq first.name name) (declares name rest) here.1 later.1)
 
-pub known_before : (ranges : Ranges) (s : tree.Stmt) (name : List ℕ) → is_some (range_named (ranges_after ranges s) name) ≡ true → (is_some (range_named ranges name) ≡ true) × (hides name s ≡ false)
-known_before ranges (tree.Declare kind variables) name e = unknown_before ranges variables name e
-known_before ranges tree.Empty name e = (e, refl)
-known_before ranges (tree.Compose statement) name e = (e, refl)
-known_before ranges (tree.Block body) name e = (e, refl)
-known_before ranges (tree.Evaluate value) name e = (e, refl)
-known_before ranges (tree.Assign assigned operator value) name e = (e, refl)
-known_before ranges (tree.AssignElement array index operator value) name e = (e, refl)
-known_before ranges (tree.If condition chosen) name e = (e, refl)
-known_before ranges (tree.IfElse condition chosen other) name e = (e, refl)
-known_before ranges (tree.While condition body) name e = (e, refl)
-known_before ranges (tree.For first condition step body) name e = (e, refl)
-known_before ranges (tree.Push value) name e = (e, refl)
-known_before ranges (tree.Print value) name e = (e, refl)
-known_before ranges (tree.Println value) name e = (e, refl)
+pub known_before : (intervals : Intervals) (s : tree.Stmt) (name : List ℕ) → is_some (interval_named (intervals_after intervals s) name) ≡ true → (is_some (interval_named intervals name) ≡ true) × (hides name s ≡ false)
+known_before intervals (tree.Declare kind variables) name e = unknown_before intervals variables name e
+known_before intervals tree.Empty name e = (e, refl)
+known_before intervals (tree.Compose statement) name e = (e, refl)
+known_before intervals (tree.Block body) name e = (e, refl)
+known_before intervals (tree.Evaluate value) name e = (e, refl)
+known_before intervals (tree.Assign assigned operator value) name e = (e, refl)
+known_before intervals (tree.AssignElement array index operator value) name e = (e, refl)
+known_before intervals (tree.If condition chosen) name e = (e, refl)
+known_before intervals (tree.IfElse condition chosen other) name e = (e, refl)
+known_before intervals (tree.While condition body) name e = (e, refl)
+known_before intervals (tree.For first condition step body) name e = (e, refl)
+known_before intervals (tree.Push value) name e = (e, refl)
+known_before intervals (tree.Print value) name e = (e, refl)
+known_before intervals (tree.Println value) name e = (e, refl)
 
--- and so is the range itself
-range_by : (ranges : Ranges) (name : List ℕ) (t : Bool) → t ≡ false → cond t None (range_named ranges name) ≡ range_named ranges name
-range_by ranges name true e = absurd (cc)
-range_by ranges name false e = refl
+-- and so is the interval itself
+interval_by : (intervals : Intervals) (name : List ℕ) (t : Bool) → t ≡ false → cond t None (interval_named intervals name) ≡ interval_named intervals name
+interval_by intervals name true e = absurd (cc)
+interval_by intervals name false e = refl
 
-range_unknown : (ranges : Ranges) (variables : List tree.Variable) (name : List ℕ) → declares name variables ≡ false → range_named (with_unknown ranges variables) name ≡ range_named ranges name
-range_unknown ranges [] name e = refl
-range_unknown ranges (first ∷ rest) name e =
-    range_unknown (record { 0 = first.name; 1 = None } ∷ ranges) rest name (or_second (bytes_eq first.name name) _ e)
-    ∙ range_by ranges name (bytes_eq first.name name) (or_first (bytes_eq first.name name) _ e)
+interval_unknown : (intervals : Intervals) (variables : List tree.Variable) (name : List ℕ) → declares name variables ≡ false → interval_named (with_unknown intervals variables) name ≡ interval_named intervals name
+interval_unknown intervals [] name e = refl
+interval_unknown intervals (first ∷ rest) name e =
+    interval_unknown (record { 0 = first.name; 1 = None } ∷ intervals) rest name (or_second (bytes_eq first.name name) _ e)
+    ∙ interval_by intervals name (bytes_eq first.name name) (or_first (bytes_eq first.name name) _ e)
 
-range_after : (ranges : Ranges) (s : tree.Stmt) (name : List ℕ) → hides name s ≡ false → range_named (ranges_after ranges s) name ≡ range_named ranges name
-range_after ranges (tree.Declare kind variables) name e = range_unknown ranges variables name e
-range_after ranges tree.Empty name e = refl
-range_after ranges (tree.Compose statement) name e = refl
-range_after ranges (tree.Block body) name e = refl
-range_after ranges (tree.Evaluate value) name e = refl
-range_after ranges (tree.Assign assigned operator value) name e = refl
-range_after ranges (tree.AssignElement array index operator value) name e = refl
-range_after ranges (tree.If condition chosen) name e = refl
-range_after ranges (tree.IfElse condition chosen other) name e = refl
-range_after ranges (tree.While condition body) name e = refl
-range_after ranges (tree.For first condition step body) name e = refl
-range_after ranges (tree.Push value) name e = refl
-range_after ranges (tree.Print value) name e = refl
-range_after ranges (tree.Println value) name e = refl
+interval_after : (intervals : Intervals) (s : tree.Stmt) (name : List ℕ) → hides name s ≡ false → interval_named (intervals_after intervals s) name ≡ interval_named intervals name
+interval_after intervals (tree.Declare kind variables) name e = interval_unknown intervals variables name e
+interval_after intervals tree.Empty name e = refl
+interval_after intervals (tree.Compose statement) name e = refl
+interval_after intervals (tree.Block body) name e = refl
+interval_after intervals (tree.Evaluate value) name e = refl
+interval_after intervals (tree.Assign assigned operator value) name e = refl
+interval_after intervals (tree.AssignElement array index operator value) name e = refl
+interval_after intervals (tree.If condition chosen) name e = refl
+interval_after intervals (tree.IfElse condition chosen other) name e = refl
+interval_after intervals (tree.While condition body) name e = refl
+interval_after intervals (tree.For first condition step body) name e = refl
+interval_after intervals (tree.Push value) name e = refl
+interval_after intervals (tree.Print value) name e = refl
+interval_after intervals (tree.Println value) name e = refl
 
 -- ---- variables that are not hidden
 
@@ -275,91 +275,91 @@ done_cells s before after name done unwritten bare =
 
 -- ---- places of the text
 
--- what is known at a place: the local variables, their ranges, and how many items are popped at most
-pub record Ready (ranges : Ranges) (popped : Popped) (store : Store) : Type 0 where
-  pub seen : Seen (names_of ranges) (scope_of store.variables)
-  pub holds : Holds ranges store
-  pub within : held store.traffic.popped ≤ popped.high
+-- what is known at a place: the local variables, their intervals, and how many items are popped at most
+pub record Ready (intervals : Intervals) (popped : PopInterval) (store : Store) : Type 0 where
+  pub seen : Seen (names_of intervals) (scope_of store.variables)
+  pub holds : Holds intervals store
+  pub within : saturated store.traffic.popped ≤ popped.high
 
 -- behind a part that pops nothing
-pub ready_still : (ranges : Ranges) (popped : Popped) (x : Option Counts) (store : Store) → is_some (nothing x) ≡ true → Ready ranges (behind popped x) store → Ready ranges popped store
-ready_still ranges popped x store e ready =
+pub ready_still : (intervals : Intervals) (popped : PopInterval) (x : Option Counts) (store : Store) → is_some (nothing x) ≡ true → Ready intervals (behind popped x) store → Ready intervals popped store
+ready_still intervals popped x store e ready =
     let none = nothing_popped x e in
     let within = ready.within in
     record { seen = ready.seen; holds = ready.holds; within = omega arith }
 
 -- behind a part that leaves the variables
-ready_same : (writes : List ℕ → Bool) (ranges : Ranges) (popped : Popped) (x : Option Counts) (before after : Store) → is_some x ≡ true → Fixed ranges writes → Ready ranges popped before → Counted x before.traffic after.traffic → Same writes before.variables after.variables → Ready ranges (behind popped x) after
-ready_same writes ranges popped x before after e fixed ready moves same = record {
-  seen = subst (Seen (names_of ranges)) (sym same.shape) ready.seen;
-  holds = holds_same ranges before after (λ name known. same_cells writes before.variables after.variables name same (fixed name known)) ready.holds;
+ready_same : (writes : List ℕ → Bool) (intervals : Intervals) (popped : PopInterval) (x : Option Counts) (before after : Store) → is_some x ≡ true → Fixed intervals writes → Ready intervals popped before → Counted x before.traffic after.traffic → Same writes before.variables after.variables → Ready intervals (behind popped x) after
+ready_same writes intervals popped x before after e fixed ready moves same = record {
+  seen = subst (Seen (names_of intervals)) (sym same.shape) ready.seen;
+  holds = holds_same intervals before after (λ name known. same_cells writes before.variables after.variables name same (fixed name known)) ready.holds;
   within = within_behind before.traffic after.traffic popped x e moves ready.within;
 }
 
-pub ready_value : (port : Port) (e : tree.Expr) (ranges : Ranges) (popped : Popped) (store : Store) → is_some (expr_counts e) ≡ true → Fixed ranges (λ name. expr_writes name e) → Ready ranges popped store → IfOk (value_of port e store) (λ given. Ready ranges (behind popped (expr_counts e)) given.1)
-ready_value port e ranges popped store counted fixed ready =
+pub ready_value : (port : Port) (e : tree.Expr) (intervals : Intervals) (popped : PopInterval) (store : Store) → is_some (expr_counts e) ≡ true → Fixed intervals (λ name. expr_writes name e) → Ready intervals popped store → IfOk (value_of port e store) (λ given. Ready intervals (behind popped (expr_counts e)) given.1)
+ready_value port e intervals popped store counted fixed ready =
     let writes : List ℕ → Bool = λ name. expr_writes name e in
     IfOk-weaker (value_of port e store) (λ given. Counted (expr_counts e) store.traffic given.1.traffic × Same writes store.variables given.1.variables) _
-    (λ given h. ready_same writes ranges popped (expr_counts e) store given.1 counted fixed ready h.0 h.1)
+    (λ given h. ready_same writes intervals popped (expr_counts e) store given.1 counted fixed ready h.0 h.1)
     (both_ok (value_of port e store) _ _ (value_counts port e store) (value_holds (λ s. Same writes store.variables s.variables) writes (same_holding writes store.variables) port e store (λ name f. f) (same_refl writes store.variables)))
 
-pub ready_stmt : (port : Port) (s : tree.Stmt) (names : Scope) (ranges : Ranges) (popped : Popped) (store : Store) → IsClosedStmt names s → is_some (stmt_counts (names_of ranges) s) ≡ true → Fixed ranges (λ name. stmt_writes name s) → Ready ranges popped store → IfOk (stmt_done port s store) (Ready (ranges_after ranges s) (behind popped (stmt_counts (names_of ranges) s)))
-ready_stmt port s names ranges popped store closed counted fixed ready =
+pub ready_stmt : (port : Port) (s : tree.Stmt) (names : Scope) (intervals : Intervals) (popped : PopInterval) (store : Store) → IsClosedStmt names s → is_some (stmt_counts (names_of intervals) s) ≡ true → Fixed intervals (λ name. stmt_writes name s) → Ready intervals popped store → IfOk (stmt_done port s store) (Ready (intervals_after intervals s) (behind popped (stmt_counts (names_of intervals) s)))
+ready_stmt port s names intervals popped store closed counted fixed ready =
     let scope = names_after (scope_of store.variables) s in
-    IfOk-weaker (stmt_done port s store) (λ after. Counted (stmt_counts (names_of ranges) s) store.traffic after.traffic × Done (λ name. stmt_writes name s) scope store.variables after.variables) _
+    IfOk-weaker (stmt_done port s store) (λ after. Counted (stmt_counts (names_of intervals) s) store.traffic after.traffic × Done (λ name. stmt_writes name s) scope store.variables after.variables) _
     (λ after h. record {
-      seen = subst (Seen (names_of (ranges_after ranges s))) (sym h.1.exact) (subst (λ l. Seen l scope) (sym (names_after_ranges ranges s)) (seen_after s (names_of ranges) (scope_of store.variables) names closed ready.seen));
-      holds = λ name. later after h.1 name (known_before ranges s name);
-      within = within_behind store.traffic after.traffic popped (stmt_counts (names_of ranges) s) counted h.0 ready.within;
+      seen = subst (Seen (names_of (intervals_after intervals s))) (sym h.1.exact) (subst (λ l. Seen l scope) (sym (names_after_intervals intervals s)) (seen_after s (names_of intervals) (scope_of store.variables) names closed ready.seen));
+      holds = λ name. later after h.1 name (known_before intervals s name);
+      within = within_behind store.traffic after.traffic popped (stmt_counts (names_of intervals) s) counted h.0 ready.within;
     })
-    (both_ok (stmt_done port s store) _ _ (stmt_counted port s (names_of ranges) names store closed ready.seen) (stmt_keeps port s names store closed))
+    (both_ok (stmt_done port s store) _ _ (stmt_counted port s (names_of intervals) names store closed ready.seen) (stmt_keeps port s names store closed))
   where
-    later : (after : Store) → Done (λ name. stmt_writes name s) (names_after (scope_of store.variables) s) store.variables after.variables → (name : List ℕ) → (is_some (range_named (ranges_after ranges s) name) ≡ true → (is_some (range_named ranges name) ≡ true) × (hides name s ≡ false)) → IfSome (range_named (ranges_after ranges s) name) (λ range. Within range (value_in after name))
-    later after done name before = by_range (range_named (ranges_after ranges s) name) refl
+    later : (after : Store) → Done (λ name. stmt_writes name s) (names_after (scope_of store.variables) s) store.variables after.variables → (name : List ℕ) → (is_some (interval_named (intervals_after intervals s) name) ≡ true → (is_some (interval_named intervals name) ≡ true) × (hides name s ≡ false)) → IfSome (interval_named (intervals_after intervals s) name) (λ interval. Within interval (value_in after name))
+    later after done name before = by_interval (interval_named (intervals_after intervals s) name) refl
       where
-        by_range : (range : Option Range) → range_named (ranges_after ranges s) name ≡ range → IfSome range (λ r. Within r (value_in after name))
-        by_range None e = tt
-        by_range (Some range) e =
+        by_interval : (interval : Option Interval) → interval_named (intervals_after intervals s) name ≡ interval → IfSome interval (λ r. Within r (value_in after name))
+        by_interval None e = tt
+        by_interval (Some interval) e =
             let old = before (ap is_some e) in
             let same : value_in after name ≡ value_in store name = ap (λ c. get_or c 0 (pos 0)) (done_cells s store.variables after.variables name done (fixed name old.0) old.1) in
-            let was : range_named ranges name ≡ Some range = sym (range_after ranges s name old.1) ∙ e in
-            subst (Within range) (sym same) (subst (λ r. IfSome r (λ q. Within q (value_in store name))) was (ready.holds name))
+            let was : interval_named intervals name ≡ Some interval = sym (interval_after intervals s name old.1) ∙ e in
+            subst (Within interval) (sym same) (subst (λ r. IfSome r (λ q. Within q (value_in store name))) was (ready.holds name))
 
 -- a statement in a scope of its own
-pub ready_inside : (port : Port) (s : tree.Stmt) (names : Scope) (ranges : Ranges) (popped : Popped) (store : Store) → IsClosedStmt names s → is_some (stmt_counts (names_of ranges) s) ≡ true → Fixed ranges (λ name. stmt_writes name s) → Ready ranges popped store → IfOk (inside (stmt_done port s) store) (Ready ranges (behind popped (stmt_counts (names_of ranges) s)))
-ready_inside port s names ranges popped store closed counted fixed ready =
+pub ready_inside : (port : Port) (s : tree.Stmt) (names : Scope) (intervals : Intervals) (popped : PopInterval) (store : Store) → IsClosedStmt names s → is_some (stmt_counts (names_of intervals) s) ≡ true → Fixed intervals (λ name. stmt_writes name s) → Ready intervals popped store → IfOk (inside (stmt_done port s) store) (Ready intervals (behind popped (stmt_counts (names_of intervals) s)))
+ready_inside port s names intervals popped store closed counted fixed ready =
     let writes : List ℕ → Bool = λ name. stmt_writes name s in
-    IfOk-weaker (inside (stmt_done port s) store) (λ after. Counted (stmt_counts (names_of ranges) s) store.traffic after.traffic × Same writes store.variables after.variables) _
-    (λ after h. ready_same writes ranges popped (stmt_counts (names_of ranges) s) store after counted fixed ready h.0 h.1)
-    (both_ok (inside (stmt_done port s) store) _ _ (inside_counts (stmt_counts (names_of ranges) s) (stmt_done port s) store (stmt_counted port s (names_of ranges) names store closed ready.seen))
+    IfOk-weaker (inside (stmt_done port s) store) (λ after. Counted (stmt_counts (names_of intervals) s) store.traffic after.traffic × Same writes store.variables after.variables) _
+    (λ after h. ready_same writes intervals popped (stmt_counts (names_of intervals) s) store after counted fixed ready h.0 h.1)
+    (both_ok (inside (stmt_done port s) store) _ _ (inside_counts (stmt_counts (names_of intervals) s) (stmt_done port s) store (stmt_counted port s (names_of intervals) names store closed ready.seen))
     (inside_same writes writes (stmt_done port s) store (λ name e. e) (IfOk-weaker (stmt_done port s store) (λ after. Done writes (names_after (scope_of store.variables) s) store.variables after.variables) _ (λ after k. k.grown) (stmt_keeps port s names store closed))))
 
 -- a condition
-pub ready_condition : (port : Port) (condition : Option tree.Expr) (ranges : Ranges) (popped : Popped) (store : Store) → is_some (option_counts condition) ≡ true → Fixed ranges (λ name. option_writes name condition) → Ready ranges popped store → IfOk (condition_value port condition store) (λ given. Ready ranges (behind popped (option_counts condition)) given.1)
-ready_condition port None ranges popped store counted fixed ready =
-    ready_same (λ name. false) ranges popped (Some no_items) store store counted (λ name e. refl) ready (stays store.traffic) (same_refl (λ name. false) store.variables)
-ready_condition port (Some condition) ranges popped store counted fixed ready = ready_value port condition ranges popped store counted fixed ready
+pub ready_condition : (port : Port) (condition : Option tree.Expr) (intervals : Intervals) (popped : PopInterval) (store : Store) → is_some (option_counts condition) ≡ true → Fixed intervals (λ name. option_writes name condition) → Ready intervals popped store → IfOk (condition_value port condition store) (λ given. Ready intervals (behind popped (option_counts condition)) given.1)
+ready_condition port None intervals popped store counted fixed ready =
+    ready_same (λ name. false) intervals popped (Some no_items) store store counted (λ name e. refl) ready (stays store.traffic) (same_refl (λ name. false) store.variables)
+ready_condition port (Some condition) intervals popped store counted fixed ready = ready_value port condition intervals popped store counted fixed ready
 
--- a new variable, whose range isn't known
-ready_declared : (ranges : Ranges) (popped : Popped) (name : List ℕ) (cells : List ℤ) (store : Store) → 1 ≤ length cells → Ready ranges popped store → Ready (record { 0 = name; 1 = None } ∷ ranges) popped (declared_in store name cells)
-ready_declared ranges popped name cells store some ready = record {
+-- a new variable, whose interval isn't known
+ready_declared : (intervals : Intervals) (popped : PopInterval) (name : List ℕ) (cells : List ℤ) (store : Store) → 1 ≤ length cells → Ready intervals popped store → Ready (record { 0 = name; 1 = None } ∷ intervals) popped (declared_in store name cells)
+ready_declared intervals popped name cells store some ready = record {
   seen = (refl, some, ready.seen);
   holds = λ other. by_test other (bytes_eq name other);
   within = ready.within;
 }
   where
-    by_test : (other : List ℕ) (t : Bool) → IfSome (cond t None (range_named ranges other)) (λ r. Within r (get_or (cond t cells (cells_named store.variables other)) 0 (pos 0)))
+    by_test : (other : List ℕ) (t : Bool) → IfSome (cond t None (interval_named intervals other)) (λ r. Within r (get_or (cond t cells (cells_named store.variables other)) 0 (pos 0)))
     by_test other true = tt
     by_test other false = ready.holds other
 
-pub ready_initial : (port : Port) (cells : ℕ) (name : List ℕ) (initial : Option tree.Expr) (ranges : Ranges) (popped : Popped) (store : Store) → FitsInitial cells initial → is_some (option_counts initial) ≡ true → Fixed ranges (λ n. option_writes n initial) → Ready ranges popped store → IfOk (initial_cells port cells initial store) (λ given. Ready (record { 0 = name; 1 = None } ∷ ranges) (behind popped (option_counts initial)) (declared_in given.1 name given.0))
-ready_initial port cells name None ranges popped store fits counted fixed ready =
-    ready_declared ranges (behind popped (Some no_items)) name (replicate cells (pos 0)) store (omega (arith, length-replicate cells (pos 0)))
-    (ready_same (λ n. false) ranges popped (Some no_items) store store counted (λ n e. refl) ready (stays store.traffic) (same_refl (λ n. false) store.variables))
-ready_initial port cells name (Some initial) ranges popped store fits counted fixed ready =
-    then_ok (value_of port initial store) _ (λ given. Ready ranges (behind popped (expr_counts initial)) given.1) (λ given. Ready (record { 0 = name; 1 = None } ∷ ranges) (behind popped (expr_counts initial)) (declared_in given.1 name given.0))
-    (ready_value port initial ranges popped store counted fixed ready)
-    (λ given h. ready_declared ranges (behind popped (expr_counts initial)) name (given.0 ∷ []) given.1 (omega arith) h)
+pub ready_initial : (port : Port) (cells : ℕ) (name : List ℕ) (initial : Option tree.Expr) (intervals : Intervals) (popped : PopInterval) (store : Store) → FitsInitial cells initial → is_some (option_counts initial) ≡ true → Fixed intervals (λ n. option_writes n initial) → Ready intervals popped store → IfOk (initial_cells port cells initial store) (λ given. Ready (record { 0 = name; 1 = None } ∷ intervals) (behind popped (option_counts initial)) (declared_in given.1 name given.0))
+ready_initial port cells name None intervals popped store fits counted fixed ready =
+    ready_declared intervals (behind popped (Some no_items)) name (replicate cells (pos 0)) store (omega (arith, length-replicate cells (pos 0)))
+    (ready_same (λ n. false) intervals popped (Some no_items) store store counted (λ n e. refl) ready (stays store.traffic) (same_refl (λ n. false) store.variables))
+ready_initial port cells name (Some initial) intervals popped store fits counted fixed ready =
+    then_ok (value_of port initial store) _ (λ given. Ready intervals (behind popped (expr_counts initial)) given.1) (λ given. Ready (record { 0 = name; 1 = None } ∷ intervals) (behind popped (expr_counts initial)) (declared_in given.1 name given.0))
+    (ready_value port initial intervals popped store counted fixed ready)
+    (λ given h. ready_declared intervals (behind popped (expr_counts initial)) name (given.0 ∷ []) given.1 (omega arith) h)
 
 -- what runs in a turn is counted
 pub repeated_some : (turns : ℕ) (t : ℕ) (x : Option Counts) → t < turns → is_some (repeated turns x) ≡ true → is_some x ≡ true

@@ -9,17 +9,17 @@ use Rattle.std.proofs.Math.Nat.{mul-le-mul_right}
 use Rattle.std.proofs.lemmas.Bool.{cases_lt}
 use Rattle.std.proofs.lemmas.Int.{ints}
 use Rattle.std.proofs.lemmas.Result.{IfOk-weaker}
-use Rattle.strc_parse.specs.Tree as tree
-use Rattle.strc_work.specs.declared.fault.Cause.{Cause}
-use Rattle.strc_work.specs.Arithmetic.{is_true, truth}
-use Rattle.strc_work.specs.Scoping.{Scope, size_of, names_after}
-use Rattle.strc_work.specs.Closed.{IsClosedStmt}
-use Rattle.strc_work.specs.Firing.{then_do, Port, Traffic, Store, value_in, condition_value, turned, turn_limit, inside, stmt_done}
+use Rattle.strc_syntax.specs.Tree as tree
+use Rattle.strc_semantics.specs.declared.fault.Cause.{Cause}
+use Rattle.strc_semantics.specs.Arithmetic.{is_true, truth}
+use Rattle.strc_semantics.specs.Scoping.{Scope, size_of, names_after}
+use Rattle.strc_semantics.specs.Closed.{IsClosedStmt}
+use Rattle.strc_semantics.specs.Firing.{then_do, Port, Traffic, Store, value_in, condition_value, turned, turn_limit, inside, stmt_done}
 use Rattle.strc_work.proofs.Variables.{scope_of}
 use Rattle.strc_rate.specs.Loops.{Locals, Loop, value_after, option_writes, stmt_writes}
 use Rattle.strc_rate.specs.Counts.{Counts, repeated}
-use Rattle.strc_rate.specs.Ranges.{Range, Ranges, range_named, with_range, turns_range}
-use Rattle.strc_rate.specs.Peeks.{Popped, in_turns, names_of}
+use Rattle.strc_rate.specs.Intervals.{Interval, Intervals, interval_named, with_interval, turns_interval}
+use Rattle.strc_rate.specs.Peeks.{PopInterval, in_turns, names_of}
 use Rattle.strc_rate.specs.Safe.{LoopIsSafe}
 use Rattle.strc_rate.proofs.Results.{or_first, or_second, then_ok, both_ok, ok_known}
 use Rattle.strc_rate.proofs.Keeping.{same_name, Given, Same, same_cells}
@@ -28,7 +28,7 @@ use Rattle.strc_rate.proofs.LoopParts.{Seen}
 use Rattle.strc_rate.proofs.CountedLoops.{Known, At, turn_at, test_holds, test_ends}
 use Rattle.strc_rate.proofs.CountedMoves.{Counted, one_more_counted}
 use Rattle.strc_rate.proofs.StatementCounts.{Parts, more_turns}
-use Rattle.strc_rate.proofs.RangeValues.{Within, Holds, Between, between_up, between_down}
+use Rattle.strc_rate.proofs.IntervalValues.{Within, Holds, Between, between_up, between_down}
 use Rattle.strc_rate.proofs.Readiness.{Ready, Fixed, within_turns}
 use Rattle.strc_rate.proofs.SafeValues.{match_by}
 
@@ -68,7 +68,7 @@ turns_safe I turns turn_safe test body free safe holds ends kept (suc fuel) t st
       (cases_lt t turns),
 )
 
--- ---- the range of a counted loop's variable
+-- ---- the interval of a counted loop's variable
 
 fewer_times : (s : ℤ) (x y : ℤ) (p q : ℕ) → x ≡ pos p → y ≡ pos q → p ≤ q → Between (s +ℤ x) s (s +ℤ y)
 fewer_times s x y p q e f le = between_up s (s +ℤ y) (s +ℤ x) p (q - p) (omega (arith, ints)) (omega (arith, ints))
@@ -80,50 +80,50 @@ moved_between : (start move : ℤ) (t m : ℕ) → t ≤ m → Between (start +�
 moved_between start (pos k) t m le = fewer_times start (pos t *ℤ pos k) (pos m *ℤ pos k) (t * k) (m * k) (pos-*ℤ-pos t k) (pos-*ℤ-pos m k) (mul-le-mul_right k le)
 moved_between start (negsuc k) t m le = fewer_times_down start (pos t *ℤ negsuc k) (pos m *ℤ negsuc k) (t * suc k) (m * suc k) (pos-*ℤ-negsuc t k) (pos-*ℤ-negsuc m k) (mul-le-mul_right (suc k) le)
 
-turn_within : (loop : Loop) (t : ℕ) → t < loop.turns → Within (turns_range loop) (value_after loop t)
+turn_within : (loop : Loop) (t : ℕ) → t < loop.turns → Within (turns_interval loop) (value_after loop t)
 turn_within loop t lt = moved_between loop.start loop.move t (loop.turns - 1) (omega arith)
 
--- ---- a range that is known in a loop
+-- ---- an interval that is known in a loop
 
-named_here : (first : List ℕ × Option Range) (rest : Ranges) (name other : List ℕ) (range : Range) (u : Bool) → bytes_eq first.0 name ≡ true → bytes_eq first.0 other ≡ u → (cond u (Some range) (range_named rest other) ≡ cond u first.1 (range_named rest other)) ⊎ ((cond u (Some range) (range_named rest other) ≡ Some range) × (other ≡ name))
-named_here first rest name other range true e f = inr (refl, sym (same_name first.0 other f) ∙ same_name first.0 name e)
-named_here first rest name other range false e f = inl refl
+named_here : (first : List ℕ × Option Interval) (rest : Intervals) (name other : List ℕ) (interval : Interval) (u : Bool) → bytes_eq first.0 name ≡ true → bytes_eq first.0 other ≡ u → (cond u (Some interval) (interval_named rest other) ≡ cond u first.1 (interval_named rest other)) ⊎ ((cond u (Some interval) (interval_named rest other) ≡ Some interval) × (other ≡ name))
+named_here first rest name other interval true e f = inr (refl, sym (same_name first.0 other f) ∙ same_name first.0 name e)
+named_here first rest name other interval false e f = inl refl
 
-named_there : (first : List ℕ × Option Range) (rest : Ranges) (name other : List ℕ) (range : Range) (u : Bool) → (range_named (with_range rest name range) other ≡ range_named rest other) ⊎ ((range_named (with_range rest name range) other ≡ Some range) × (other ≡ name)) → (cond u first.1 (range_named (with_range rest name range) other) ≡ cond u first.1 (range_named rest other)) ⊎ ((cond u first.1 (range_named (with_range rest name range) other) ≡ Some range) × (other ≡ name))
-named_there first rest name other range true h = inl refl
-named_there first rest name other range false h = h
+named_there : (first : List ℕ × Option Interval) (rest : Intervals) (name other : List ℕ) (interval : Interval) (u : Bool) → (interval_named (with_interval rest name interval) other ≡ interval_named rest other) ⊎ ((interval_named (with_interval rest name interval) other ≡ Some interval) × (other ≡ name)) → (cond u first.1 (interval_named (with_interval rest name interval) other) ≡ cond u first.1 (interval_named rest other)) ⊎ ((cond u first.1 (interval_named (with_interval rest name interval) other) ≡ Some interval) × (other ≡ name))
+named_there first rest name other interval true h = inl refl
+named_there first rest name other interval false h = h
 
-named_by : (first : List ℕ × Option Range) (rest : Ranges) (name other : List ℕ) (range : Range) (t : Bool) → bytes_eq first.0 name ≡ t → (range_named (with_range rest name range) other ≡ range_named rest other) ⊎ ((range_named (with_range rest name range) other ≡ Some range) × (other ≡ name)) → (range_named (cond t (record { 0 = first.0; 1 = Some range } ∷ rest) (first ∷ with_range rest name range)) other ≡ range_named (first ∷ rest) other) ⊎ ((range_named (cond t (record { 0 = first.0; 1 = Some range } ∷ rest) (first ∷ with_range rest name range)) other ≡ Some range) × (other ≡ name))
-named_by first rest name other range true e h = named_here first rest name other range (bytes_eq first.0 other) e refl
-named_by first rest name other range false e h = named_there first rest name other range (bytes_eq first.0 other) h
+named_by : (first : List ℕ × Option Interval) (rest : Intervals) (name other : List ℕ) (interval : Interval) (t : Bool) → bytes_eq first.0 name ≡ t → (interval_named (with_interval rest name interval) other ≡ interval_named rest other) ⊎ ((interval_named (with_interval rest name interval) other ≡ Some interval) × (other ≡ name)) → (interval_named (cond t (record { 0 = first.0; 1 = Some interval } ∷ rest) (first ∷ with_interval rest name interval)) other ≡ interval_named (first ∷ rest) other) ⊎ ((interval_named (cond t (record { 0 = first.0; 1 = Some interval } ∷ rest) (first ∷ with_interval rest name interval)) other ≡ Some interval) × (other ≡ name))
+named_by first rest name other interval true e h = named_here first rest name other interval (bytes_eq first.0 other) e refl
+named_by first rest name other interval false e h = named_there first rest name other interval (bytes_eq first.0 other) h
 
--- the range of a name is the new one, or that from before
-named_with : (ranges : Ranges) (name other : List ℕ) (range : Range) → (range_named (with_range ranges name range) other ≡ range_named ranges other) ⊎ ((range_named (with_range ranges name range) other ≡ Some range) × (other ≡ name))
-named_with [] name other range = inl refl
-named_with (first ∷ rest) name other range = named_by first rest name other range (bytes_eq first.0 name) refl (named_with rest name other range)
+-- the interval of a name is the new one, or that from before
+named_with : (intervals : Intervals) (name other : List ℕ) (interval : Interval) → (interval_named (with_interval intervals name interval) other ≡ interval_named intervals other) ⊎ ((interval_named (with_interval intervals name interval) other ≡ Some interval) × (other ≡ name))
+named_with [] name other interval = inl refl
+named_with (first ∷ rest) name other interval = named_by first rest name other interval (bytes_eq first.0 name) refl (named_with rest name other interval)
 
-holds_with : (ranges : Ranges) (name : List ℕ) (range : Range) (store : Store) → Within range (value_in store name) → Holds ranges store → Holds (with_range ranges name range) store
-holds_with ranges name range store within h other =
+holds_with : (intervals : Intervals) (name : List ℕ) (interval : Interval) (store : Store) → Within interval (value_in store name) → Holds intervals store → Holds (with_interval intervals name interval) store
+holds_with intervals name interval store within h other =
     ⊎_elim
-    (λ (e : range_named (with_range ranges name range) other ≡ range_named ranges other). subst (λ r. IfSome r (λ q. Within q (value_in store other))) (sym e) (h other))
-    (λ (e : (range_named (with_range ranges name range) other ≡ Some range) × (other ≡ name)).
-    subst (λ r. IfSome r (λ q. Within q (value_in store other))) (sym e.0) (subst (λ n. Within range (value_in store n)) (sym e.1) within))
-    (named_with ranges name other range)
+    (λ (e : interval_named (with_interval intervals name interval) other ≡ interval_named intervals other). subst (λ r. IfSome r (λ q. Within q (value_in store other))) (sym e) (h other))
+    (λ (e : (interval_named (with_interval intervals name interval) other ≡ Some interval) × (other ≡ name)).
+    subst (λ r. IfSome r (λ q. Within q (value_in store other))) (sym e.0) (subst (λ n. Within interval (value_in store n)) (sym e.1) within))
+    (named_with intervals name other interval)
 
-pub fixed_with : (ranges : Ranges) (name : List ℕ) (range : Range) (writes : List ℕ → Bool) → writes name ≡ false → Fixed ranges writes → Fixed (with_range ranges name range) writes
-fixed_with ranges name range writes unwritten fixed other known =
+pub fixed_with : (intervals : Intervals) (name : List ℕ) (interval : Interval) (writes : List ℕ → Bool) → writes name ≡ false → Fixed intervals writes → Fixed (with_interval intervals name interval) writes
+fixed_with intervals name interval writes unwritten fixed other known =
     ⊎_elim
-    (λ (e : range_named (with_range ranges name range) other ≡ range_named ranges other). fixed other (sym (ap is_some e) ∙ known))
-    (λ (e : (range_named (with_range ranges name range) other ≡ Some range) × (other ≡ name)). subst (λ n. writes n ≡ false) (sym e.1) unwritten)
-    (named_with ranges name other range)
+    (λ (e : interval_named (with_interval intervals name interval) other ≡ interval_named intervals other). fixed other (sym (ap is_some e) ∙ known))
+    (λ (e : (interval_named (with_interval intervals name interval) other ≡ Some interval) × (other ≡ name)). subst (λ n. writes n ≡ false) (sym e.1) unwritten)
+    (named_with intervals name other interval)
 
-names_by : (first : List ℕ × Option Range) (rest : Ranges) (name : List ℕ) (range : Range) (t : Bool) → names_of (with_range rest name range) ≡ names_of rest → names_of (cond t (record { 0 = first.0; 1 = Some range } ∷ rest) (first ∷ with_range rest name range)) ≡ first.0 ∷ names_of rest
-names_by first rest name range true h = refl
-names_by first rest name range false h = ap (λ l. first.0 ∷ l) h
+names_by : (first : List ℕ × Option Interval) (rest : Intervals) (name : List ℕ) (interval : Interval) (t : Bool) → names_of (with_interval rest name interval) ≡ names_of rest → names_of (cond t (record { 0 = first.0; 1 = Some interval } ∷ rest) (first ∷ with_interval rest name interval)) ≡ first.0 ∷ names_of rest
+names_by first rest name interval true h = refl
+names_by first rest name interval false h = ap (λ l. first.0 ∷ l) h
 
-pub names_with : (ranges : Ranges) (name : List ℕ) (range : Range) → names_of (with_range ranges name range) ≡ names_of ranges
-names_with [] name range = refl
-names_with (first ∷ rest) name range = names_by first rest name range (bytes_eq first.0 name) (names_with rest name range)
+pub names_with : (intervals : Intervals) (name : List ℕ) (interval : Interval) → names_of (with_interval intervals name interval) ≡ names_of intervals
+names_with [] name interval = refl
+names_with (first ∷ rest) name interval = names_by first rest name interval (bytes_eq first.0 name) (names_with rest name interval)
 
 -- ---- the turns of a counted loop
 
@@ -158,18 +158,18 @@ module _ {locals : Locals} {first : tree.Stmt} {condition : Option tree.Expr} {s
       (λ middle h. inside_after writes (λ name. stmt_writes name step) (names_after (scope_of middle.variables) step) begun.variables (stmt_done port step) middle (λ name e. or_first (stmt_writes name step) _ (or_second (option_writes name condition) _ e)) (stmt_keeps port step names middle closed_step) h)))
 
   -- what is known in a turn
-  pub ready_turn : (ranges : Ranges) (popped : Popped) (t : ℕ) (store : Store) → t < loop.turns → is_some x ≡ true → Fixed ranges (turn_writes condition step body) → Ready ranges popped begun → InTurn t store → Ready (with_range ranges loop.name (turns_range loop)) (in_turns popped loop.turns x) store
-  ready_turn ranges popped t store lt counted fixed ready here = record {
-    seen = subst (λ l. Seen l (scope_of store.variables)) (sym (names_with ranges loop.name (turns_range loop))) (subst (Seen (names_of ranges)) (sym here.same.shape) ready.seen);
+  pub ready_turn : (intervals : Intervals) (popped : PopInterval) (t : ℕ) (store : Store) → t < loop.turns → is_some x ≡ true → Fixed intervals (turn_writes condition step body) → Ready intervals popped begun → InTurn t store → Ready (with_interval intervals loop.name (turns_interval loop)) (in_turns popped loop.turns x) store
+  ready_turn intervals popped t store lt counted fixed ready here = record {
+    seen = subst (λ l. Seen l (scope_of store.variables)) (sym (names_with intervals loop.name (turns_interval loop))) (subst (Seen (names_of intervals)) (sym here.same.shape) ready.seen);
     holds =
-        holds_with ranges loop.name (turns_range loop) store (subst (Within (turns_range loop)) (sym here.at.value) (turn_within loop t lt))
-        (λ name. kept name (range_named ranges name) (λ e. ap (λ c. get_or c 0 (pos 0)) (same_cells (turn_writes condition step body) begun.variables store.variables name here.same (fixed name e))) (ready.holds name));
+        holds_with intervals loop.name (turns_interval loop) store (subst (Within (turns_interval loop)) (sym here.at.value) (turn_within loop t lt))
+        (λ name. kept name (interval_named intervals name) (λ e. ap (λ c. get_or c 0 (pos 0)) (same_cells (turn_writes condition step body) begun.variables store.variables name here.same (fixed name e))) (ready.holds name));
     within = within_turns begun.traffic store.traffic popped t loop.turns x counted (omega arith) here.at.so_far ready.within;
   }
     where
-      kept : (name : List ℕ) (range : Option Range) → (is_some range ≡ true → value_in store name ≡ value_in begun name) → IfSome range (λ r. Within r (value_in begun name)) → IfSome range (λ r. Within r (value_in store name))
+      kept : (name : List ℕ) (interval : Option Interval) → (is_some interval ≡ true → value_in store name ≡ value_in begun name) → IfSome interval (λ r. Within r (value_in begun name)) → IfSome interval (λ r. Within r (value_in store name))
       kept name None same h = tt
-      kept name (Some range) same h = subst (Within range) (sym (same refl)) h
+      kept name (Some interval) same h = subst (Within interval) (sym (same refl)) h
 
   -- each turn of the body is safe, and so is the loop
   pub counted_safe : (turn_safe : Store → Type 0) → ((t : ℕ) (store : Store) → t < loop.turns → InTurn t store → turn_safe store) → InTurn 0 begun → LoopIsSafe (suc turn_limit) (λ s. Unit {0}) turn_safe (condition_value port condition) (λ turn. then_do (inside (stmt_done port body) turn) (inside (stmt_done port step))) begun

@@ -3,12 +3,12 @@ use Rattle.std.proofs.Common.{◌≡◌, refl, sym, subst, ◌∙◌, ap, ℕ, s
 use Rattle.std.specs.Option.{IfSome}
 use Rattle.std.specs.Result.{IfOk}
 use Rattle.std.proofs.lemmas.Result.{IfOk-weaker}
-use Rattle.strc_parse.specs.Tree as tree
-use Rattle.strc_work.specs.declared.fault.Cause.{Cause}
-use Rattle.strc_work.specs.Arithmetic.{is_true}
-use Rattle.strc_work.specs.Scoping.{Scope, cells_of, size_of, names_after}
-use Rattle.strc_work.specs.Closed.{IsClosedStmt, AreClosed}
-use Rattle.strc_work.specs.Firing.{then_do, Port, Traffic, Store, cells_named, value_in, value_of, condition_value, pushed_to, turn_limit, looped, inside, stmt_done, stmts_done}
+use Rattle.strc_syntax.specs.Tree as tree
+use Rattle.strc_semantics.specs.declared.fault.Cause.{Cause}
+use Rattle.strc_semantics.specs.Arithmetic.{is_true}
+use Rattle.strc_semantics.specs.Scoping.{Scope, cells_of, size_of, names_after}
+use Rattle.strc_semantics.specs.Closed.{IsClosedStmt, AreClosed}
+use Rattle.strc_semantics.specs.Firing.{then_do, Port, Traffic, Store, cells_named, value_in, value_of, condition_value, pushed_to, turn_limit, looped, inside, stmt_done, stmts_done}
 use Rattle.strc_work.proofs.Variables.{scope_of}
 use Rattle.strc_rate.specs.Constant.{constant}
 use Rattle.strc_rate.specs.Loops.{Locals, locals_after, Loop, counted_loop, value_after, stmt_writes, expr_writes}
@@ -73,7 +73,7 @@ still_loop : (scope : Scope) (x : Option Counts) (test : Store → Result (ℤ �
 still_loop scope x test body still tests turns store is =
     let P : Store → Type 0 = λ s. Moves store.traffic s.traffic no_items × (scope_of s.variables ≡ scope) in
     IfOk-weaker (looped (suc turn_limit) test body store) P _ (λ after h. h.0)
-    (looped_holds P (λ s n h. (record { pops = h.0.pops; pushes = h.0.pushes; popped = h.0.popped; pushed = h.0.pushed; held_pops = h.0.held_pops; held_pushes = h.0.held_pushes }, h.1)) (suc turn_limit) test body
+    (looped_holds P (λ s n h. (record { pops = h.0.pops; pushes = h.0.pushes; popped = h.0.popped; pushed = h.0.pushed; saturated_pops = h.0.saturated_pops; saturated_pushes = h.0.saturated_pushes }, h.1)) (suc turn_limit) test body
     (λ s h. IfOk-weaker (test s) (λ given. Counted x s.traffic given.1.traffic × (scope_of given.1.variables ≡ scope)) _ (λ given k. (still_twice store.traffic s.traffic given.1.traffic h.0 (still s.traffic given.1.traffic k.0), k.1)) (tests s h.1))
     (λ s h. IfOk-weaker (body s) (λ after. Moves s.traffic after.traffic no_items × (scope_of after.variables ≡ scope)) _ (λ after k. (still_twice store.traffic s.traffic after.traffic h.0 k.0, k.1)) (turns s h.1))
     store (stays store.traffic, is))
@@ -129,7 +129,7 @@ for_counts scope x y z test step body tests steps turns store is =
 
 pub more_turns : (x : Option Counts) (before traffic : Traffic) (n : ℕ) → Counted x before traffic → Counted x before (record traffic { turns = n })
 more_turns None before traffic n h = tt
-more_turns (Some x) before traffic n h = record { pops = h.pops; pushes = h.pushes; popped = h.popped; pushed = h.pushed; held_pops = h.held_pops; held_pushes = h.held_pushes }
+more_turns (Some x) before traffic n h = record { pops = h.pops; pushes = h.pushes; popped = h.popped; pushed = h.pushed; saturated_pops = h.saturated_pops; saturated_pushes = h.saturated_pushes }
 
 -- as many turns as are told
 counted_turns : (locals : Locals) (first : tree.Stmt) (condition : Option tree.Expr) (step body : tree.Stmt) (loop : Loop) → Known locals first condition step body loop → (port : Port) (names scope : Scope) (x : Option Counts) → IsClosedStmt names body → Parts scope x (inside (stmt_done port body)) → (store : Store) → scope_of store.variables ≡ scope → HasValue loop.name loop.start store → CountedOk store_traffic (repeated loop.turns x) store.traffic (looped (suc turn_limit) (condition_value port condition) (λ turn. then_do (inside (stmt_done port body) turn) (inside (stmt_done port step))) store)
@@ -172,7 +172,7 @@ still_value port e store go same =
 -- a word is printed
 printed_counted : (x : Option Counts) (before traffic after : Traffic) → after.popped ≡ traffic.popped → after.pushes ≡ traffic.pushes → Counted x before traffic → Counted x before after
 printed_counted None before traffic after e f h = tt
-printed_counted (Some x) before traffic after e f h = record { pops = h.pops; pushes = h.pushes; popped = e ∙ h.popped; pushed = ap length f ∙ h.pushed; held_pops = h.held_pops; held_pushes = h.held_pushes }
+printed_counted (Some x) before traffic after e f h = record { pops = h.pops; pushes = h.pushes; popped = e ∙ h.popped; pushed = ap length f ∙ h.pushed; saturated_pops = h.saturated_pops; saturated_pushes = h.saturated_pushes }
 
 mutual
   pub stmt_counted : (port : Port) (s : tree.Stmt) (locals : Locals) (names : Scope) (store : Store) → IsClosedStmt names s → Seen locals (scope_of store.variables) → CountedOk store_traffic (stmt_counts locals s) store.traffic (stmt_done port s store)

@@ -4,13 +4,13 @@ use Rattle.std.specs.Prelude.{bytes_eq, nat_lt}
 use Rattle.std.specs.Result.{IfOk}
 use Rattle.std.proofs.lemmas.Result.{IfOk-weaker}
 use Rattle.std.proofs.lemmas.List.{length-map, length-replicate}
-use Rattle.strc_parse.specs.Tree as tree
-use Rattle.strc_work.specs.declared.fault.Cause.{Cause}
-use Rattle.strc_work.specs.declared.fault.Cause.TheVariants.{Turns}
-use Rattle.strc_work.specs.Arithmetic.{is_true}
-use Rattle.strc_work.specs.Scoping.{Scope, is_declared, cells_of, with_declared, names_after}
-use Rattle.strc_work.specs.Closed.{FitsInitial, AreClosedVariables, IsClosedStmt, AreClosed}
-use Rattle.strc_work.specs.Firing.{then_do, Port, Store, Variables, cells_named, declared_in, value_of, initial_cells, variables_declared, condition_value, pushed_to, turned, turn_limit, looped, inside, stmt_done, stmts_done}
+use Rattle.strc_syntax.specs.Tree as tree
+use Rattle.strc_semantics.specs.declared.fault.Cause.{Cause}
+use Rattle.strc_semantics.specs.declared.fault.Cause.TheVariants.{Turns}
+use Rattle.strc_semantics.specs.Arithmetic.{is_true}
+use Rattle.strc_semantics.specs.Scoping.{Scope, is_declared, cells_of, with_declared, names_after}
+use Rattle.strc_semantics.specs.Closed.{FitsInitial, AreClosedVariables, IsClosedStmt, AreClosed}
+use Rattle.strc_semantics.specs.Firing.{then_do, Port, Store, Variables, cells_named, declared_in, value_of, initial_cells, variables_declared, condition_value, pushed_to, turned, turn_limit, looped, inside, stmt_done, stmts_done}
 use Rattle.strc_work.proofs.Variables.{scope_of}
 use Rattle.strc_rate.specs.Loops.{declares, hides, expr_writes, option_writes, variables_write, stmt_writes, stmts_write}
 use Rattle.strc_rate.proofs.Results.{or_first, or_second, then_ok, any_ok, below, above, below_below, below_map, below_all, below_more, above_more}

@@ -2,22 +2,23 @@
 -- and pops are counted each by itself, and a text is counted only where both are.
 use Rattle.std.specs.Prelude.{ℕ, ◌+◌, ◌*◌, min, zero, suc, ℤ, Bool, ◌&&◌, nat_eq, List, [], ◌∷◌, Option, Some, None, if◌then◌else◌}
 use Rattle.std.specs.Option.{option_and_then, option_map}
-use Rattle.strc_parse.specs.Tree as tree
-use Rattle.strc_parse.specs.declared.tree.BinaryOperator.{BinaryOperator}
-use Rattle.strc_parse.specs.declared.tree.BinaryOperator.TheVariants as binary
-use Rattle.strc_work.specs.Arithmetic.{is_true}
-use Rattle.strc_work.specs.Constants.{decides}
+use Rattle.strc_syntax.specs.Tree as tree
+use Rattle.strc_syntax.specs.declared.tree.BinaryOperator.{BinaryOperator}
+use Rattle.strc_syntax.specs.declared.tree.BinaryOperator.TheVariants as binary
+use Rattle.strc_semantics.specs.Arithmetic.{is_true}
+use Rattle.strc_semantics.specs.Constants.{decides}
 use Rattle.strc_rate.specs.Constant.{constant}
 use Rattle.strc_rate.specs.Loops.{Locals, locals_after, Loop, counted_loop}
+use Rattle.strc_rate.specs.declared.counts.TheConstants.{COUNT_LIMIT}
 -- when an operator's right side is evaluated
 pub use Rattle.strc_rate.specs.declared.counts.Need.{Need}
 pub use Rattle.strc_rate.specs.declared.counts.Need.TheVariants.{Always, Never, Sometimes}
 -- so many pushes, and so many pops
 pub use Rattle.strc_rate.specs.declared.counts.Counts.{Counts}
 
--- counts above 65,536 are held at 65,537
-abbrev pub held : ℕ → ℕ
-held count = min count 65537
+-- counts above 65,536 are saturated at 65,537
+abbrev pub saturated : ℕ → ℕ
+saturated count = min count COUNT_LIMIT
 
 abbrev pub no_items : Counts
 no_items = record { pushes = 0; pops = 0 }
@@ -33,7 +34,7 @@ same_counts first second = nat_eq first.pushes second.pushes && nat_eq first.pop
 
 -- one after the other
 abbrev pub added : Counts → Counts → Counts
-added first second = record { pushes = held (first.pushes + second.pushes); pops = held (first.pops + second.pops) }
+added first second = record { pushes = saturated (first.pushes + second.pushes); pops = saturated (first.pops + second.pops) }
 
 abbrev pub both : Option Counts → Option Counts → Option Counts
 both first second = option_and_then (λ counts. option_map (added counts) second) first
@@ -51,7 +52,7 @@ nothing counts = option_and_then (if_same no_items) counts
 
 -- so many times; nothing is looked at for none
 abbrev pub multiplied : ℕ → Counts → Counts
-multiplied times counts = record { pushes = held (times * counts.pushes); pops = held (times * counts.pops) }
+multiplied times counts = record { pushes = saturated (times * counts.pushes); pops = saturated (times * counts.pops) }
 
 abbrev pub repeated : ℕ → Option Counts → Option Counts
 repeated zero counts = Some no_items

@@ -1,12 +1,12 @@
 -- What the counted rates of a filter promise of its firings.
 use Rattle.std.specs.Prelude.{◌≡◌, ℕ, ◌<◌, ℤ, true, false, List, length, Option, IfSome, Result, Ok, IfOk}
-use Rattle.strc_parse.specs.Tree as tree
-use Rattle.strc_work.specs.declared.code.Body.{Body}
-use Rattle.strc_work.specs.declared.fault.Cause.{Cause}
-use Rattle.strc_work.specs.Filters.{Filter, body_block, body_rates, push_rate, pop_rate, item_count}
-use Rattle.strc_work.specs.Closed.{IsClosedFilter}
-use Rattle.strc_work.specs.Arithmetic.{truth}
-use Rattle.strc_work.specs.Firing.{Port, Store, value_in, condition_value, stmts_done, port_of, store_at}
+use Rattle.strc_syntax.specs.Tree as tree
+use Rattle.strc_semantics.specs.declared.body.Body.{Body}
+use Rattle.strc_semantics.specs.declared.fault.Cause.{Cause}
+use Rattle.strc_semantics.specs.Filters.{Filter, body_block, body_rates, push_rate, pop_rate, item_count}
+use Rattle.strc_semantics.specs.Closed.{IsClosedFilter}
+use Rattle.strc_semantics.specs.Arithmetic.{truth}
+use Rattle.strc_semantics.specs.Firing.{Port, Store, value_in, condition_value, stmts_done, port_of, store_at}
 use Rattle.strc_rate.specs.Loops.{Locals, value_after, counted_loop}
 use Rattle.strc_rate.specs.Rates.{checked}
 

@@ -1,7 +1,7 @@
 pub mod Constant
 pub mod Loops
 pub mod Counts
-pub mod Ranges
+pub mod Intervals
 pub mod Peeks
 pub mod Rates
 pub mod Kept

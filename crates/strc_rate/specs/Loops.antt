@@ -3,15 +3,15 @@ use Rattle.std.specs.Prelude.{ℕ, zero, suc, ℤ, pos, negsuc, neg_ℤ, ◌+ℤ
 use Rattle.std.specs.Option.{option_and_then, option_map}
 use Rattle.std.specs.Int.{div_ceil}
 use Rattle.std.specs.Ordering.{int_eq}
-use Rattle.strc_parse.specs.Tree as tree
-use Rattle.strc_parse.specs.declared.tree.AssignOperator.{AssignOperator}
-use Rattle.strc_parse.specs.declared.tree.AssignOperator.TheVariants as assign
-use Rattle.strc_parse.specs.declared.tree.StepOperator.{StepOperator}
-use Rattle.strc_parse.specs.declared.tree.StepOperator.TheVariants as step
-use Rattle.strc_parse.specs.declared.tree.BinaryOperator.{BinaryOperator}
-use Rattle.strc_parse.specs.declared.tree.BinaryOperator.TheVariants as binary
-use Rattle.strc_work.specs.Names.{has_name}
-use Rattle.strc_work.specs.Arithmetic.{wrapped}
+use Rattle.strc_syntax.specs.Tree as tree
+use Rattle.strc_syntax.specs.declared.tree.AssignOperator.{AssignOperator}
+use Rattle.strc_syntax.specs.declared.tree.AssignOperator.TheVariants as assign
+use Rattle.strc_syntax.specs.declared.tree.StepOperator.{StepOperator}
+use Rattle.strc_syntax.specs.declared.tree.StepOperator.TheVariants as step
+use Rattle.strc_syntax.specs.declared.tree.BinaryOperator.{BinaryOperator}
+use Rattle.strc_syntax.specs.declared.tree.BinaryOperator.TheVariants as binary
+use Rattle.strc_base.specs.Names.{has_name}
+use Rattle.strc_semantics.specs.Arithmetic.{wrapped}
 use Rattle.strc_rate.specs.Constant.{constant}
 -- a comparison of the loop's variable with its bound
 pub use Rattle.strc_rate.specs.declared.loops.Bound.{Bound}
@@ -179,17 +179,17 @@ distance binary.GreaterOrEqual value limit = value -ℤ limit +ℤ pos 1
 distance _ value limit = pos 0
 
 -- by how much a move comes nearer to where the condition is false
-abbrev pub approach : BinaryOperator → ℤ → ℤ
-approach binary.Less move = move
-approach binary.LessOrEqual move = move
-approach _ move = neg_ℤ move
+abbrev pub step_toward_bound : BinaryOperator → ℤ → ℤ
+step_toward_bound binary.Less move = move
+step_toward_bound binary.LessOrEqual move = move
+step_toward_bound _ move = neg_ℤ move
 
 -- the least number of moves after which a distance is gone
-abbrev pub moves_over : (distance approach : ℤ) → Option ℕ
-moves_over (negsuc n) approach = Some 0
-moves_over (pos zero) approach = Some 0
-moves_over (pos (suc n)) (pos (suc m)) = Some (div_ceil (suc n) (suc m))
-moves_over (pos (suc n)) _ = None
+abbrev pub trip_count : (distance step_toward_bound : ℤ) → Option ℕ
+trip_count (negsuc n) step_toward_bound = Some 0
+trip_count (pos zero) step_toward_bound = Some 0
+trip_count (pos (suc n)) (pos (suc m)) = Some (div_ceil (suc n) (suc m))
+trip_count (pos (suc n)) _ = None
 
 -- whether 32 bits hold a whole number: wrapping leaves it as it is
 abbrev pub within_32_bits : ℤ → Bool
@@ -207,14 +207,14 @@ abbrev pub value_after : Loop → ℕ → ℤ
 value_after loop turns = loop.start +ℤ pos turns *ℤ loop.move
 
 -- a loop that begins and ends within 32 bits
-abbrev pub kept_loop : Loop → Option Loop
-kept_loop loop =
+abbrev pub loop_within_i32 : Loop → Option Loop
+loop_within_i32 loop =
     if within_32_bits loop.start && within_32_bits (value_after loop loop.turns) then Some loop else None
 
 abbrev pub loop_of : First → Bound → ℤ → Option Loop
 loop_of first bound move =
-    option_and_then (λ turns. kept_loop (record { name = first.name; start = first.value; move = move; turns = turns }))
-    (moves_over (distance bound.operator first.value bound.limit) (approach bound.operator move))
+    option_and_then (λ turns. loop_within_i32 (record { name = first.name; start = first.value; move = move; turns = turns }))
+    (trip_count (distance bound.operator first.value bound.limit) (step_toward_bound bound.operator move))
 
 -- the loop, where its first part, its condition and its step are of these forms, and its body doesn't write its variable
 abbrev pub counted_from : Option First → Option tree.Expr → (step body : tree.Stmt) → Option Loop

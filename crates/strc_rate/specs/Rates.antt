@@ -1,12 +1,13 @@
 -- The rates of a filter: what is declared against what is counted.
 use Rattle.std.specs.Prelude.{ℕ, ℤ, pos, Bool, true, false, not, ◌&&◌, ◌||◌, nat_eq, List, [], ◌∷◌, map, Option, Some, None, Result, Ok, Err, if◌then◌else◌}
 use Rattle.std.specs.Int.RustNames.{int_lt}
-use Rattle.strc_parse.specs.Tree as tree
-use Rattle.strc_parse.specs.declared.tree.ItemType.{ItemType}
-use Rattle.strc_parse.specs.declared.tree.ItemType.TheVariants as item
-use Rattle.strc_work.specs.Filters.{Filter, work_block, work_rates, prework_block, prework_rates, push_rate, pop_rate, peek_rate, item_count, window_size}
+use Rattle.strc_syntax.specs.Tree as tree
+use Rattle.strc_syntax.specs.declared.tree.ItemType.{ItemType}
+use Rattle.strc_syntax.specs.declared.tree.ItemType.TheVariants as item
+use Rattle.strc_semantics.specs.Filters.{Filter, work_block, work_rates, prework_block, prework_rates, push_rate, pop_rate, peek_rate, item_count, window_size}
 use Rattle.strc_rate.specs.Counts.{Counts, stmts_counts}
-use Rattle.strc_rate.specs.Peeks.{Sight, Closed, Outside, Popped, stmts_sights}
+use Rattle.strc_rate.specs.Peeks.{PeekBounds, Closed, Outside, PopInterval, stmts_sights}
+use Rattle.strc_rate.specs.declared.rates.TheConstants.{RATE_LIMIT}
 use Rattle.strc_rate.specs.declared.rates.RateError.{RateError}
 use Rattle.strc_rate.specs.declared.rates.RateError.TheVariants.{RateLimit, RateUnknown, RateMismatch, PeekOutside}
 
@@ -24,7 +25,7 @@ pub record FilterRates : Type 0 where
 
 -- a rate is neither below 0 nor above 65,536
 abbrev pub within_limit : ℤ → Bool
-within_limit rate = not (int_lt rate (pos 0)) && not (int_lt (pos 65536) rate)
+within_limit rate = not (int_lt rate (pos 0)) && not (int_lt RATE_LIMIT rate)
 
 abbrev pub are_within_limit : List tree.Rate → Bool
 are_within_limit rates = within_limit (push_rate rates) && (within_limit (pop_rate rates) && within_limit (peek_rate rates))
@@ -47,20 +48,20 @@ and_then (Err broken) next = Err broken
 abbrev pub same_rate : (declared counted : ℕ) → Result (Unit {0}) RateError
 same_rate declared counted = if nat_eq declared counted then Ok tt else Err (RateMismatch declared counted)
 
-abbrev pub is_closed : Sight → Bool
+abbrev pub is_closed : PeekBounds → Bool
 is_closed Closed = true
 is_closed _ = false
 
-abbrev pub is_outside : Sight → Bool
+abbrev pub is_outside : PeekBounds → Bool
 is_outside Outside = true
 is_outside _ = false
 
-abbrev pub some_outside : List Sight → Bool
+abbrev pub some_outside : List PeekBounds → Bool
 some_outside [] = false
 some_outside (first ∷ rest) = is_outside first || some_outside rest
 
 -- no peek is outside of its window
-abbrev pub seen : List tree.Rate → List Sight → Result BodyRates RateError
+abbrev pub seen : List tree.Rate → List PeekBounds → Result BodyRates RateError
 seen rates sights =
     if some_outside sights then Err PeekOutside
     else Ok (record {
@@ -71,18 +72,18 @@ seen rates sights =
     })
 
 -- the counted pushes, and then the counted pops, are the declared ones
-abbrev pub counted : List tree.Rate → Option Counts → List Sight → Result BodyRates RateError
+abbrev pub counted : List tree.Rate → Option Counts → List PeekBounds → Result BodyRates RateError
 counted rates None sights = Err RateUnknown
 counted rates (Some counts) sights =
     and_then (same_rate (item_count (push_rate rates)) counts.pushes)
     (and_then (same_rate (item_count (pop_rate rates)) counts.pops) (seen rates sights))
 
 -- the items popped where a firing begins
-abbrev pub none_popped : Popped
+abbrev pub none_popped : PopInterval
 none_popped = record { low = 0; high = 0 }
 
 -- the peeks of a body
-abbrev pub body_sights : List tree.Rate → tree.Stmts → List Sight
+abbrev pub body_sights : List tree.Rate → tree.Stmts → List PeekBounds
 body_sights rates block = stmts_sights (window_size rates) [] none_popped block
 
 -- the rates of a body: their limits, then the counts, then the peeks

@@ -2,60 +2,60 @@
 -- known where peeks are told, and asks this of each peek that is run.
 use Rattle.std.specs.Prelude.{◌≡◌, ℕ, zero, suc, ◌≤◌, ℤ, List, [], ◌∷◌, length, Option, Some, None, Result, IfOk, IsSome}
 use Rattle.std.specs.Bool.{MatchBool}
-use Rattle.strc_parse.specs.Tree as tree
-use Rattle.strc_work.specs.declared.code.Body.{Body}
-use Rattle.strc_work.specs.declared.fault.Cause.{Cause}
-use Rattle.strc_work.specs.Arithmetic.{is_true}
-use Rattle.strc_work.specs.Constants.{decides}
-use Rattle.strc_work.specs.Scoping.{cells_of}
-use Rattle.strc_work.specs.Filters.{Filter, body_block, body_rates, window_size}
-use Rattle.strc_work.specs.Closed.{IsClosedFilter}
-use Rattle.strc_work.specs.Firing.{then_do, Port, Store, item_ahead, value_of, initial_cells, declared_in, condition_value, turned, turn_limit, inside, stmt_done, port_of, store_at}
+use Rattle.strc_syntax.specs.Tree as tree
+use Rattle.strc_semantics.specs.declared.body.Body.{Body}
+use Rattle.strc_semantics.specs.declared.fault.Cause.{Cause}
+use Rattle.strc_semantics.specs.Arithmetic.{is_true}
+use Rattle.strc_semantics.specs.Constants.{decides}
+use Rattle.strc_semantics.specs.Scoping.{cells_of}
+use Rattle.strc_semantics.specs.Filters.{Filter, body_block, body_rates, window_size}
+use Rattle.strc_semantics.specs.Closed.{IsClosedFilter}
+use Rattle.strc_semantics.specs.Firing.{then_do, Port, Store, item_ahead, value_of, initial_cells, declared_in, condition_value, turned, turn_limit, inside, stmt_done, port_of, store_at}
 use Rattle.strc_rate.specs.Loops.{Loop, counted_loop}
 use Rattle.strc_rate.specs.Counts.{Counts, expr_counts, option_counts, stmt_counts}
-use Rattle.strc_rate.specs.Ranges.{Ranges, ranges_after, range_of, with_range, turns_range}
-use Rattle.strc_rate.specs.Peeks.{Popped, behind, in_turns, Closed, sight_at, names_of}
+use Rattle.strc_rate.specs.Intervals.{Intervals, intervals_after, interval_of, with_interval, turns_interval}
+use Rattle.strc_rate.specs.Peeks.{PopInterval, behind, in_turns, Closed, sight_at, names_of}
 use Rattle.strc_rate.specs.Rates.{none_popped, checked}
 
 -- the item of a closed peek is in the window, where the index has a value
-abbrev pub PeekIsSafe : (window : ℕ) → Port → Ranges → Popped → (index : tree.Expr) → Store → Type 0
-PeekIsSafe window port ranges popped index store =
-    sight_at window (behind popped (expr_counts index)) (range_of ranges index) ≡ Closed
+abbrev pub PeekIsSafe : (window : ℕ) → Port → Intervals → PopInterval → (index : tree.Expr) → Store → Type 0
+PeekIsSafe window port intervals popped index store =
+    sight_at window (behind popped (expr_counts index)) (interval_of intervals index) ≡ Closed
     → IfOk (value_of port index store) (λ place. IsSome (item_ahead port place.1.traffic.popped place.0))
 
 -- each closed peek of an expression that is run in this store
-abbrev pub ExprIsSafe : (window : ℕ) → Port → Ranges → Popped → tree.Expr → Store → Type 0
-ExprIsSafe window port ranges popped (tree.Number value) store = Unit {0}
-ExprIsSafe window port ranges popped (tree.Truth value) store = Unit {0}
-ExprIsSafe window port ranges popped (tree.Read name) store = Unit {0}
-ExprIsSafe window port ranges popped (tree.Element name index) store = ExprIsSafe window port ranges popped index store
-ExprIsSafe window port ranges popped tree.Pop store = Unit {0}
-ExprIsSafe window port ranges popped (tree.Peek index) store =
-    ExprIsSafe window port ranges popped index store × PeekIsSafe window port ranges popped index store
-ExprIsSafe window port ranges popped (tree.Group inner) store = ExprIsSafe window port ranges popped inner store
-ExprIsSafe window port ranges popped (tree.Unary operator operand) store = ExprIsSafe window port ranges popped operand store
-ExprIsSafe window port ranges popped (tree.Step operator name) store = Unit {0}
-ExprIsSafe window port ranges popped (tree.StepElement operator name index) store = ExprIsSafe window port ranges popped index store
-ExprIsSafe window port ranges popped (tree.Binary operator left right) store =
-    ExprIsSafe window port ranges popped left store
+abbrev pub ExprIsSafe : (window : ℕ) → Port → Intervals → PopInterval → tree.Expr → Store → Type 0
+ExprIsSafe window port intervals popped (tree.Number value) store = Unit {0}
+ExprIsSafe window port intervals popped (tree.Truth value) store = Unit {0}
+ExprIsSafe window port intervals popped (tree.Read name) store = Unit {0}
+ExprIsSafe window port intervals popped (tree.Element name index) store = ExprIsSafe window port intervals popped index store
+ExprIsSafe window port intervals popped tree.Pop store = Unit {0}
+ExprIsSafe window port intervals popped (tree.Peek index) store =
+    ExprIsSafe window port intervals popped index store × PeekIsSafe window port intervals popped index store
+ExprIsSafe window port intervals popped (tree.Group inner) store = ExprIsSafe window port intervals popped inner store
+ExprIsSafe window port intervals popped (tree.Unary operator operand) store = ExprIsSafe window port intervals popped operand store
+ExprIsSafe window port intervals popped (tree.Step operator name) store = Unit {0}
+ExprIsSafe window port intervals popped (tree.StepElement operator name index) store = ExprIsSafe window port intervals popped index store
+ExprIsSafe window port intervals popped (tree.Binary operator left right) store =
+    ExprIsSafe window port intervals popped left store
     × IfOk (value_of port left store) (λ first.
-    MatchBool (decides operator first.0) (Unit {0}) (ExprIsSafe window port ranges (behind popped (expr_counts left)) right first.1))
-ExprIsSafe window port ranges popped (tree.Conditional condition chosen other) store =
-    ExprIsSafe window port ranges popped condition store
+    MatchBool (decides operator first.0) (Unit {0}) (ExprIsSafe window port intervals (behind popped (expr_counts left)) right first.1))
+ExprIsSafe window port intervals popped (tree.Conditional condition chosen other) store =
+    ExprIsSafe window port intervals popped condition store
     × IfOk (value_of port condition store) (λ test.
-    MatchBool (is_true test.0) (ExprIsSafe window port ranges (behind popped (expr_counts condition)) chosen test.1)
-    (ExprIsSafe window port ranges (behind popped (expr_counts condition)) other test.1))
+    MatchBool (is_true test.0) (ExprIsSafe window port intervals (behind popped (expr_counts condition)) chosen test.1)
+    (ExprIsSafe window port intervals (behind popped (expr_counts condition)) other test.1))
 
-abbrev pub OptionIsSafe : (window : ℕ) → Port → Ranges → Popped → Option tree.Expr → Store → Type 0
-OptionIsSafe window port ranges popped None store = Unit {0}
-OptionIsSafe window port ranges popped (Some value) store = ExprIsSafe window port ranges popped value store
+abbrev pub OptionIsSafe : (window : ℕ) → Port → Intervals → PopInterval → Option tree.Expr → Store → Type 0
+OptionIsSafe window port intervals popped None store = Unit {0}
+OptionIsSafe window port intervals popped (Some value) store = ExprIsSafe window port intervals popped value store
 
-abbrev pub VariablesAreSafe : (window : ℕ) → Port → Ranges → Popped → (cells : ℕ) → List tree.Variable → Store → Type 0
-VariablesAreSafe window port ranges popped cells [] store = Unit {0}
-VariablesAreSafe window port ranges popped cells (first ∷ rest) store =
-    OptionIsSafe window port ranges popped first.initial store
+abbrev pub VariablesAreSafe : (window : ℕ) → Port → Intervals → PopInterval → (cells : ℕ) → List tree.Variable → Store → Type 0
+VariablesAreSafe window port intervals popped cells [] store = Unit {0}
+VariablesAreSafe window port intervals popped cells (first ∷ rest) store =
+    OptionIsSafe window port intervals popped first.initial store
     × IfOk (initial_cells port cells first.initial store) (λ given.
-    VariablesAreSafe window port (record { 0 = first.name; 1 = None } ∷ ranges) (behind popped (option_counts first.initial)) cells rest
+    VariablesAreSafe window port (record { 0 = first.name; 1 = None } ∷ intervals) (behind popped (option_counts first.initial)) cells rest
     (declared_in given.1 first.name given.0))
 
 -- each turn of a loop
@@ -74,60 +74,60 @@ UnlessCounted None safe = safe
 UnlessCounted (Some loop) safe = Unit {0}
 
 -- what is known in the turns of a counted loop, or of another
-abbrev pub ranges_in : Option Loop → Ranges → Ranges
-ranges_in None ranges = ranges
-ranges_in (Some loop) ranges = with_range ranges loop.name (turns_range loop)
+abbrev pub intervals_in : Option Loop → Intervals → Intervals
+intervals_in None intervals = intervals
+intervals_in (Some loop) intervals = with_interval intervals loop.name (turns_interval loop)
 
-abbrev pub popped_in : Option Loop → Popped → Option Counts → Popped
+abbrev pub popped_in : Option Loop → PopInterval → Option Counts → PopInterval
 popped_in None popped counts = popped
 popped_in (Some loop) popped counts = in_turns popped loop.turns counts
 
 abbrev mutual
   -- each closed peek of a statement that is run from this store
-  pub StmtIsSafe : (window : ℕ) → Port → Ranges → Popped → tree.Stmt → Store → Type 0
-  StmtIsSafe window port ranges popped tree.Empty store = Unit {0}
-  StmtIsSafe window port ranges popped (tree.Compose statement) store = Unit {0}
-  StmtIsSafe window port ranges popped (tree.Block body) store = StmtsAreSafe window port ranges popped body store
-  StmtIsSafe window port ranges popped (tree.Declare kind variables) store =
-      VariablesAreSafe window port ranges popped (cells_of kind) variables store
-  StmtIsSafe window port ranges popped (tree.Evaluate value) store = ExprIsSafe window port ranges popped value store
-  StmtIsSafe window port ranges popped (tree.Assign name operator value) store = ExprIsSafe window port ranges popped value store
-  StmtIsSafe window port ranges popped (tree.AssignElement name index operator value) store =
-      ExprIsSafe window port ranges popped index store
-      × IfOk (value_of port index store) (λ at. ExprIsSafe window port ranges (behind popped (expr_counts index)) value at.1)
-  StmtIsSafe window port ranges popped (tree.If condition chosen) store =
-      ExprIsSafe window port ranges popped condition store
+  pub StmtIsSafe : (window : ℕ) → Port → Intervals → PopInterval → tree.Stmt → Store → Type 0
+  StmtIsSafe window port intervals popped tree.Empty store = Unit {0}
+  StmtIsSafe window port intervals popped (tree.Compose statement) store = Unit {0}
+  StmtIsSafe window port intervals popped (tree.Block body) store = StmtsAreSafe window port intervals popped body store
+  StmtIsSafe window port intervals popped (tree.Declare kind variables) store =
+      VariablesAreSafe window port intervals popped (cells_of kind) variables store
+  StmtIsSafe window port intervals popped (tree.Evaluate value) store = ExprIsSafe window port intervals popped value store
+  StmtIsSafe window port intervals popped (tree.Assign name operator value) store = ExprIsSafe window port intervals popped value store
+  StmtIsSafe window port intervals popped (tree.AssignElement name index operator value) store =
+      ExprIsSafe window port intervals popped index store
+      × IfOk (value_of port index store) (λ at. ExprIsSafe window port intervals (behind popped (expr_counts index)) value at.1)
+  StmtIsSafe window port intervals popped (tree.If condition chosen) store =
+      ExprIsSafe window port intervals popped condition store
       × IfOk (value_of port condition store) (λ test.
-      MatchBool (is_true test.0) (StmtIsSafe window port ranges (behind popped (expr_counts condition)) chosen test.1) (Unit {0}))
-  StmtIsSafe window port ranges popped (tree.IfElse condition chosen other) store =
-      ExprIsSafe window port ranges popped condition store
+      MatchBool (is_true test.0) (StmtIsSafe window port intervals (behind popped (expr_counts condition)) chosen test.1) (Unit {0}))
+  StmtIsSafe window port intervals popped (tree.IfElse condition chosen other) store =
+      ExprIsSafe window port intervals popped condition store
       × IfOk (value_of port condition store) (λ test.
-      MatchBool (is_true test.0) (StmtIsSafe window port ranges (behind popped (expr_counts condition)) chosen test.1)
-      (StmtIsSafe window port ranges (behind popped (expr_counts condition)) other test.1))
-  StmtIsSafe window port ranges popped (tree.While condition body) store =
-      LoopIsSafe (suc turn_limit) (λ s. ExprIsSafe window port ranges popped condition s) (λ s. StmtIsSafe window port ranges popped body s)
+      MatchBool (is_true test.0) (StmtIsSafe window port intervals (behind popped (expr_counts condition)) chosen test.1)
+      (StmtIsSafe window port intervals (behind popped (expr_counts condition)) other test.1))
+  StmtIsSafe window port intervals popped (tree.While condition body) store =
+      LoopIsSafe (suc turn_limit) (λ s. ExprIsSafe window port intervals popped condition s) (λ s. StmtIsSafe window port intervals popped body s)
       (value_of port condition) (inside (stmt_done port body)) store
-  StmtIsSafe window port ranges popped (tree.For first condition step body) store =
-      let inner = ranges_after ranges first in
-      let begun = behind popped (stmt_counts (names_of ranges) first) in
-      let told = counted_loop (names_of ranges) first condition step body in
-      StmtIsSafe window port ranges popped first store
+  StmtIsSafe window port intervals popped (tree.For first condition step body) store =
+      let inner = intervals_after intervals first in
+      let begun = behind popped (stmt_counts (names_of intervals) first) in
+      let told = counted_loop (names_of intervals) first condition step body in
+      StmtIsSafe window port intervals popped first store
       × IfOk (stmt_done port first store)
       (LoopIsSafe (suc turn_limit) (λ s. UnlessCounted told (OptionIsSafe window port inner begun condition s))
       (λ s.
-      StmtIsSafe window port (ranges_in told inner) (popped_in told begun (stmt_counts (names_of inner) body)) body s
+      StmtIsSafe window port (intervals_in told inner) (popped_in told begun (stmt_counts (names_of inner) body)) body s
       × UnlessCounted told (IfOk (inside (stmt_done port body) s) (λ after. StmtIsSafe window port inner begun step after)))
       (condition_value port condition) (λ turn. then_do (inside (stmt_done port body) turn) (inside (stmt_done port step))))
-  StmtIsSafe window port ranges popped (tree.Push value) store = ExprIsSafe window port ranges popped value store
-  StmtIsSafe window port ranges popped (tree.Print value) store = ExprIsSafe window port ranges popped value store
-  StmtIsSafe window port ranges popped (tree.Println value) store = ExprIsSafe window port ranges popped value store
+  StmtIsSafe window port intervals popped (tree.Push value) store = ExprIsSafe window port intervals popped value store
+  StmtIsSafe window port intervals popped (tree.Print value) store = ExprIsSafe window port intervals popped value store
+  StmtIsSafe window port intervals popped (tree.Println value) store = ExprIsSafe window port intervals popped value store
 
-  pub StmtsAreSafe : (window : ℕ) → Port → Ranges → Popped → tree.Stmts → Store → Type 0
-  StmtsAreSafe window port ranges popped tree.Done store = Unit {0}
-  StmtsAreSafe window port ranges popped (tree.Then first rest) store =
-      StmtIsSafe window port ranges popped first store
+  pub StmtsAreSafe : (window : ℕ) → Port → Intervals → PopInterval → tree.Stmts → Store → Type 0
+  StmtsAreSafe window port intervals popped tree.Done store = Unit {0}
+  StmtsAreSafe window port intervals popped (tree.Then first rest) store =
+      StmtIsSafe window port intervals popped first store
       × IfOk (stmt_done port first store) (λ middle.
-      StmtsAreSafe window port (ranges_after ranges first) (behind popped (stmt_counts (names_of ranges) first)) rest middle)
+      StmtsAreSafe window port (intervals_after intervals first) (behind popped (stmt_counts (names_of intervals) first)) rest middle)
 
 -- in each firing of a filter before a whole window, each closed peek that is run finds its item
 abbrev pub HasSafePeeks : Filter → Type 0

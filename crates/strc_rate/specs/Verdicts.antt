@@ -1,4 +1,4 @@
--- How code answers a judgement of rates: with what it gives, or with its refusal, or for want of memory.
+-- How code answers a judgement of rates: with what it gives, or with its refusal, or where memory runs out.
 use Rattle.std.specs.Prelude.{◌≡◌, Result, Ok, Err}
 use Rattle.std.specs.Option.{option_map}
 use Rattle.strc_rate.specs.declared.rates.BodyRates.{BodyRates}
@@ -7,7 +7,7 @@ use Rattle.strc_rate.specs.Rates as judged
 use Rattle.strc_rate.specs.declared.rates.RateError.{RateError}
 use Rattle.strc_rate.specs.declared.rates.RateError.TheVariants as broken
 
--- the judgement's refusal, if it isn't want of memory
+-- the judgement's refusal, if it isn't out of memory
 abbrev pub IsRefusal : {A : Type 0} → Result A RateError → RateError → Type 0
 IsRefusal expected broken.NoMemory = Unit {0}
 IsRefusal expected refusal = expected ≡ Err refusal

@@ -1,13 +1,14 @@
 // Which expressions have the same value in each evaluation, told from the text alone.
 
 ghost use Rattle.std.specs.Prelude.{◌≡◌};
-ghost use Rattle.strc_parse.specs.View.{expr_view};
+ghost use Rattle.strc_syntax.specs.View.{expr_view};
 ghost use Rattle.strc_rate.specs.Constant as spec;
 
-use strc_parse::tree::Expr;
-use strc_work::evaluation;
+use strc_semantics::evaluation;
+use strc_syntax::tree::Expr;
 
-/// The value of an expression that stands on numbers, truth values and operators alone, and has no fault.
+/// The value of an expression that stands on numbers, truth values and operators alone, and has no
+/// fault.
 pub(crate) fn constant(value: &Expr) -> Option<i32>
     ensures { result ≡ spec.constant (expr_view value.now) }
 {

@@ -1,24 +1,24 @@
 // How many items a part of a text pushes and pops.
 
 ghost use Rattle.std.specs.Prelude.{◌≡◌, ◌+◌, ◌*◌};
-ghost use Rattle.strc_parse.specs.View.{expr_view};
+ghost use Rattle.strc_syntax.specs.View.{expr_view};
 ghost use Rattle.strc_rate.specs.Counts as spec;
 
 use crate::constant::constant;
-use strc_parse::tree::{BinaryOperator, Expr};
+use strc_syntax::tree::{BinaryOperator, Expr};
 
-// From here on a count is held.
+// From here on a count is saturated.
 const COUNT_LIMIT: u32 = 65537;
 
-/// So many items, each number held at 65,537.
-#[derive(Clone, Copy, Debug, PartialEq, Eq)]
+/// So many items, each number saturated at 65,537.
+#[derive(Clone, Copy, PartialEq, Eq)]
 pub(crate) struct Counts {
     pub pushes: u32,
     pub pops: u32,
 }
 
 /// When an operator's right side is evaluated.
-#[derive(Clone, Copy, Debug, PartialEq, Eq)]
+#[derive(Clone, Copy, PartialEq, Eq)]
 pub(crate) enum Need {
     Always,
     Never,
@@ -50,8 +50,8 @@ pub(crate) fn both(first: Option<Counts>, second: Option<Counts>) -> Option<Coun
     match first {
         Some(first) => match second {
             Some(second) => Some(Counts {
-                pushes: held_sum(first.pushes, second.pushes),
-                pops: held_sum(first.pops, second.pops),
+                pushes: saturating_sum(first.pushes, second.pushes),
+                pops: saturating_sum(first.pops, second.pops),
             }),
             None => None,
         },
@@ -101,8 +101,8 @@ pub(crate) fn repeated(times: u64, counts: Option<Counts>) -> Option<Counts>
     }
     match counts {
         Some(counts) => Some(Counts {
-            pushes: held_product(times, counts.pushes),
-            pops: held_product(times, counts.pops),
+            pushes: saturating_product(times, counts.pushes),
+            pops: saturating_product(times, counts.pops),
         }),
         None => None,
     }
@@ -153,16 +153,16 @@ pub(crate) fn needed(need: Need, counts: Option<Counts>) -> Option<Counts>
     }
 }
 
-/// The sum of two numbers, held.
-pub(crate) fn held_sum(first: u32, second: u32) -> u32
-    ensures { result ≡ spec.held (first + second) }
+/// The sum of two numbers, saturated.
+pub(crate) fn saturating_sum(first: u32, second: u32) -> u32
+    ensures { result ≡ spec.saturated (first + second) }
 {
     first.saturating_add(second).min(COUNT_LIMIT)
 }
 
-/// The product of two numbers, held.
-pub(crate) fn held_product(times: u64, count: u32) -> u32
-    ensures { result ≡ spec.held (times * count) }
+/// The product of two numbers, saturated.
+pub(crate) fn saturating_product(times: u64, count: u32) -> u32
+    ensures { result ≡ spec.saturated (times * count) }
 {
     times
         .saturating_mul(u64::from(count))

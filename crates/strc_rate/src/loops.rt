@@ -1,24 +1,25 @@
 // Counted loops: `for` loops whose number of turns is told by their text.
 
-ghost use Rattle.std.specs.Prelude.{◌≡◌, ◌≤◌, ◌*◌, ◌+◌, ◌^◌, ◌+ℤ◌, ◌*ℤ◌, pos, unsigned_abs, IfSome, map, if◌then◌else◌};
+ghost use Rattle.std.specs.Prelude.{◌≡◌, ◌≤◌, ◌*◌, ◌+◌, ◌^◌, ◌+ℤ◌, ◌*ℤ◌, pos, unsigned_abs, IfSome};
+ghost use Rattle.std.specs.Prelude.{map, if◌then◌else◌};
 ghost use Rattle.std.specs.Option.{option_and_then, option_map};
-ghost use Rattle.strc_parse.specs.View.{expr_view, type_view, variable_view, stmt_view};
+ghost use Rattle.strc_syntax.specs.View.{expr_view, type_view, variable_view, stmt_view};
 ghost use Rattle.strc_rate.specs.Loops as spec;
 ghost use Rattle.strc_rate.specs.Peeks.{names_of};
-ghost use Rattle.strc_rate.specs.Ranges.{turns_range};
+ghost use Rattle.strc_rate.specs.Intervals.{turns_interval};
 ghost use Rattle.strc_rate.specs.Seen.{first_view, loop_view};
 
 use crate::constant::constant;
-use crate::range::{Range, between, narrowed};
-use crate::ranged_scope::RangedScope;
+use crate::interval::{Interval, between, narrowed};
+use crate::interval_scope::IntervalScope;
 use crate::writes::{same_name, statement_writes};
 use strc_lex::token::Name;
-use strc_parse::tree::{
+use strc_syntax::tree::{
     AssignOperator, BinaryOperator, Expr, StepOperator, Stmt, Variable, VariableType,
 };
 
 /// A comparison of the loop's variable with its bound.
-#[derive(Clone, Copy, Debug, PartialEq, Eq)]
+#[derive(Clone, Copy, PartialEq, Eq)]
 pub(crate) struct Bound {
     pub operator: BinaryOperator,
     pub limit: i32,
@@ -31,7 +32,8 @@ pub(crate) struct First<'a> {
     pub value: i32,
 }
 
-/// A counted loop: its variable, the first value, by how much each turn moves it, and the number of turns.
+/// A counted loop: its variable, the first value, by how much each turn moves it, and the number of
+/// turns.
 #[derive(Drop)]
 pub(crate) struct CountedLoop<'a> {
     pub name: &'a Name,
@@ -39,21 +41,22 @@ pub(crate) struct CountedLoop<'a> {
     pub step: i64,
     pub turns: u64,
     /// The values of the variable in the turns.
-    pub range: Range,
+    pub interval: Interval,
 }
 
-/// The counted loop that a `for` is, where its first part, its condition and its step are of these forms, and its body
-/// doesn't write its variable.
+/// The counted loop that a `for` is, where its first part, its condition and its step are of these
+/// forms, and its body doesn't write its variable.
 pub(crate) fn counted_loop<'a>(
-    names: &RangedScope,
+    names: &IntervalScope,
     first: &'a Stmt,
     condition: &Option<Expr>,
     step: &Stmt,
     body: &Stmt,
 ) -> Option<CountedLoop<'a>>
-    ensures counted { option_map loop_view result ≡ spec.counted_loop (names_of names.now) (stmt_view first.now)
+    ensures counted { option_map loop_view result
+        ≡ spec.counted_loop (names_of names.now) (stmt_view first.now)
         (option_map expr_view condition.now) (stmt_view step.now) (stmt_view body.now) }
-    ensures range { IfSome result (λ told. told.range ≡ turns_range (loop_view told)) }
+    ensures interval { IfSome result (λ told. told.interval ≡ turns_interval (loop_view told)) }
 {
     let first = first_of(first, names)?;
     if statement_writes(body, first.name) {
@@ -65,8 +68,9 @@ pub(crate) fn counted_loop<'a>(
 }
 
 /// The first part of a loop: one local variable is given a constant, and nothing else.
-fn first_of<'a>(first: &'a Stmt, names: &RangedScope) -> Option<First<'a>>
-    ensures { option_map first_view result ≡ spec.first_of (names_of names.now) (stmt_view first.now) }
+fn first_of<'a>(first: &'a Stmt, names: &IntervalScope) -> Option<First<'a>>
+    ensures { option_map first_view result ≡ spec.first_of (names_of names.now)
+        (stmt_view first.now) }
 {
     match first {
         Stmt::Declare(declared) => first_declared(&declared.kind, &declared.variables),
@@ -83,7 +87,8 @@ fn first_of<'a>(first: &'a Stmt, names: &RangedScope) -> Option<First<'a>>
 
 /// One variable that is declared with a constant.
 fn first_declared<'a>(kind: &VariableType, variables: &'a [Variable]) -> Option<First<'a>>
-    ensures { option_map first_view result ≡ spec.first_declared (type_view kind.now) (map variable_view variables.now) }
+    ensures { option_map first_view result ≡ spec.first_declared (type_view kind.now)
+        (map variable_view variables.now) }
 {
     match kind {
         VariableType::Int => match variables {
@@ -104,7 +109,8 @@ fn first_declared<'a>(kind: &VariableType, variables: &'a [Variable]) -> Option<
 }
 
 fn option_bound(condition: &Option<Expr>, name: &Name) -> Option<Bound>
-    ensures { result ≡ option_and_then (spec.bound_of name.now) (option_map expr_view condition.now) }
+    ensures { result ≡ option_and_then (spec.bound_of name.now)
+        (option_map expr_view condition.now) }
 {
     match condition {
         Some(condition) => bound_of(condition, name),
@@ -236,7 +242,8 @@ fn moved_by(operator: BinaryOperator, value: &Expr) -> Option<i64>
     }
 }
 
-/// How far it is from a value to the nearest one at which the condition is false; below 1 where it is false already.
+/// How far it is from a value to the nearest one at which the condition is false; below 1 where it
+/// is false already.
 fn distance(operator: BinaryOperator, value: i32, limit: i32) -> i64
     ensures far { result ≡ spec.distance operator value limit }
     ensures small { unsigned_abs result ≤ 2 ^ 32 }
@@ -252,9 +259,9 @@ fn distance(operator: BinaryOperator, value: i32, limit: i32) -> i64
 }
 
 /// By how much a move comes nearer to where the condition is false.
-fn approach(operator: BinaryOperator, step: i64) -> i64
+fn step_toward_bound(operator: BinaryOperator, step: i64) -> i64
     requires { unsigned_abs step ≤ 2 ^ 31 }
-    ensures nearer { result ≡ spec.approach operator step }
+    ensures nearer { result ≡ spec.step_toward_bound operator step }
     ensures same { unsigned_abs result ≡ unsigned_abs step }
 {
     match operator {
@@ -264,45 +271,50 @@ fn approach(operator: BinaryOperator, step: i64) -> i64
 }
 
 /// The least number of moves after which a distance is gone.
-fn moves_over(distance: i64, approach: i64) -> Option<u64>
-    ensures moves { result ≡ spec.moves_over distance approach }
+fn trip_count(distance: i64, step_toward_bound: i64) -> Option<u64>
+    ensures moves { result ≡ spec.trip_count distance step_toward_bound }
     ensures few { IfSome result (λ moves. moves ≤ unsigned_abs distance) }
-    ensures near { IfSome result (λ moves. moves * unsigned_abs approach ≤ unsigned_abs distance + unsigned_abs approach) }
+    ensures near { IfSome result (λ moves. moves * unsigned_abs step_toward_bound
+        ≤ unsigned_abs distance + unsigned_abs step_toward_bound) }
 {
     if distance <= 0 {
         return Some(0);
     }
-    if approach <= 0 {
+    if step_toward_bound <= 0 {
         return None;
     }
-    Some(distance.unsigned_abs().div_ceil(approach.unsigned_abs()))
+    Some(
+        distance
+            .unsigned_abs()
+            .div_ceil(step_toward_bound.unsigned_abs()),
+    )
 }
 
 fn loop_of(name: &Name, start: i32, bound: Bound, step: i64) -> Option<CountedLoop>
     requires { unsigned_abs step ≤ 2 ^ 31 }
     ensures counted { option_map loop_view result
         ≡ spec.loop_of (record { name = name.now; value = start }) bound step }
-    ensures range { IfSome result (λ told. told.range ≡ turns_range (loop_view told)) }
+    ensures interval { IfSome result (λ told. told.interval ≡ turns_interval (loop_view told)) }
 {
     let away = distance(bound.operator, start, bound.limit);
-    let nearer = approach(bound.operator, step);
-    match moves_over(away, nearer) {
-        Some(turns) => kept_loop(name, start, step, turns),
+    let nearer = step_toward_bound(bound.operator, step);
+    match trip_count(away, nearer) {
+        Some(turns) => loop_within_i32(name, start, step, turns),
         None => None,
     }
 }
 
 /// A loop that ends within 32 bits.
-fn kept_loop(name: &Name, start: i32, step: i64, turns: u64) -> Option<CountedLoop>
+fn loop_within_i32(name: &Name, start: i32, step: i64, turns: u64) -> Option<CountedLoop>
     requires turns { turns ≤ 2 ^ 32 }
     requires moves { turns * unsigned_abs step ≤ 2 ^ 33 }
-    ensures counted { option_map loop_view result ≡ spec.kept_loop (record {
+    ensures counted { option_map loop_view result ≡ spec.loop_within_i32 (record {
       name = name.now;
       start = start;
       move = step;
       turns = turns;
     }) }
-    ensures range { IfSome result (λ told. told.range ≡ turns_range (loop_view told)) }
+    ensures interval { IfSome result (λ told. told.interval ≡ turns_interval (loop_view told)) }
 {
     let end = value_within(start, step, turns);
     if end.is_none() {
@@ -315,7 +327,7 @@ fn kept_loop(name: &Name, start: i32, step: i64, turns: u64) -> Option<CountedLo
             start,
             step,
             turns,
-            range: between(start, last),
+            interval: between(start, last),
         }),
         None => None,
     }
@@ -325,7 +337,8 @@ fn kept_loop(name: &Name, start: i32, step: i64, turns: u64) -> Option<CountedLo
 fn value_within(start: i32, step: i64, turns: u64) -> Option<i32>
     requires turns { turns ≤ 2 ^ 32 }
     requires moves { turns * unsigned_abs step ≤ 2 ^ 33 }
-    ensures { let value = start +ℤ pos turns *ℤ step in result ≡ (if spec.within_32_bits value then Some value else None) }
+    ensures { let value = start +ℤ pos turns *ℤ step in result
+        ≡ (if spec.within_32_bits value then Some value else None) }
 {
     narrowed(value_after(start, step, turns))
 }

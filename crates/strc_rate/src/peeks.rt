@@ -1,37 +1,39 @@
-// Which peeks stay within their window, told from the text, and which can't reach into it. The walk counts what it passes, so that
-// it knows how many items are popped before each peek.
+// Which peeks stay within their window, told from the text, and which can't reach into it. The walk
+// counts what it passes, so that it knows how many items are popped before each peek.
 
 ghost use Rattle.std.specs.Prelude.{◌≡◌, ◌++◌, IfOk, OnOk, map};
 ghost use Rattle.std.specs.Option.{option_map};
-ghost use Rattle.strc_parse.specs.View.{expr_view, variable_view, stmt_view, block_view};
+ghost use Rattle.strc_syntax.specs.View.{expr_view, variable_view, stmt_view, block_view};
 ghost use Rattle.strc_rate.specs.Counts as counting;
 ghost use Rattle.strc_rate.specs.Peeks as spec;
 ghost use Rattle.strc_rate.specs.Peeks.{names_of};
-ghost use Rattle.strc_rate.specs.Ranges.{with_unknown, with_range, ranges_after};
+ghost use Rattle.strc_rate.specs.Intervals.{with_unknown, with_interval, intervals_after};
 
 use crate::constant::constant;
 use crate::counts::{
     Counts, Need, both, either, need_of, no_items, nothing, one_pop, one_push, repeated,
 };
+use crate::interval_scope::IntervalScope;
+use crate::intervals::interval_of;
+use crate::item_counts::statement_counts;
 use crate::loops::{CountedLoop, counted_loop};
-use crate::ranged_scope::RangedScope;
-use crate::ranges::range_of;
-use crate::sight::{Popped, Sight, behind, in_turns, sight_at};
-use crate::tallies::statement_counts;
-use strc_parse::tree::{Expr, Stmt, Variable};
-use strc_work::memory::NoMemory;
+use crate::sight::{PeekBounds, PopInterval, behind, in_turns, sight_at};
+use strc_base::memory::NoMemory;
+use strc_syntax::tree::{Expr, Stmt, Variable};
 
-/// Adds what is told of the peeks of statements in a row, in order of the text, and gives the counts of the statements.
+/// Adds what is told of the peeks of statements in a row, in order of the text, and gives the
+/// counts of the statements.
 #[cycle(peeks)]
-#[tactic(auto, using(crate::proofs::RangedGrowth::drop_own, crate::proofs::RangedGrowth::names_behind))]
-pub(crate) fn look_at_block(
+#[tactic(auto, using(crate::proofs::IntervalGrowth::drop_own, crate::proofs::IntervalGrowth::names_behind))]
+pub(crate) fn check_peeks_in_block(
     block: &[Stmt],
-    names: &mut RangedScope,
+    names: &mut IntervalScope,
     window: u32,
-    popped: Popped,
-    sights: &mut Vec<Sight>,
+    popped: PopInterval,
+    sights: &mut Vec<PeekBounds>,
 ) -> Result<Option<Counts>, NoMemory>
-    ensures counts { IfOk result (λ counts. counts ≡ counting.stmts_counts (names_of names.old) (block_view block.now)) }
+    ensures counts { IfOk result (λ counts. counts
+        ≡ counting.stmts_counts (names_of names.old) (block_view block.now)) }
     ensures sights { OnOk result (sights.new.items
         ≡ sights.old.items ++ spec.stmts_sights window names.old popped (block_view block.now)) }
     ensures names { OnOk result (names.new ≡ names.old) }
@@ -40,7 +42,7 @@ pub(crate) fn look_at_block(
     let mut counts = Some(no_items());
     let mut here = popped;
     for statement in block {
-        let passed = look_at_statement(statement, names, window, here, sights)?;
+        let passed = check_peeks_in_statement(statement, names, window, here, sights)?;
         here = behind(here, passed);
         counts = both(counts, passed);
     }
@@ -50,41 +52,42 @@ pub(crate) fn look_at_block(
 
 /// The same of a statement, which may add to the names.
 #[cycle(peeks)]
-#[tactic(auto, using(crate::proofs::RangedGrowth::drop_own, crate::proofs::RangedGrowth::names_behind))]
-fn look_at_statement(
+#[tactic(auto, using(crate::proofs::IntervalGrowth::drop_own, crate::proofs::IntervalGrowth::names_behind))]
+fn check_peeks_in_statement(
     statement: &Stmt,
-    names: &mut RangedScope,
+    names: &mut IntervalScope,
     window: u32,
-    popped: Popped,
-    sights: &mut Vec<Sight>,
+    popped: PopInterval,
+    sights: &mut Vec<PeekBounds>,
 ) -> Result<Option<Counts>, NoMemory>
-    ensures counts { IfOk result (λ counts. counts ≡ counting.stmt_counts (names_of names.old) (stmt_view statement.now)) }
+    ensures counts { IfOk result (λ counts. counts
+        ≡ counting.stmt_counts (names_of names.old) (stmt_view statement.now)) }
     ensures sights { OnOk result (sights.new.items
         ≡ sights.old.items ++ spec.stmt_sights window names.old popped (stmt_view statement.now)) }
-    ensures names { OnOk result (names.new ≡ ranges_after names.old (stmt_view statement.now)) }
+    ensures names { OnOk result (names.new ≡ intervals_after names.old (stmt_view statement.now)) }
 {
     match statement {
         Stmt::Empty | Stmt::Compose(_) => Ok(Some(no_items())),
-        Stmt::Block(body) => look_at_block(body, names, window, popped, sights),
+        Stmt::Block(body) => check_peeks_in_block(body, names, window, popped, sights),
         Stmt::Declare(declared) => {
-            look_at_variables(&declared.variables, names, window, popped, sights)
+            check_peeks_in_variables(&declared.variables, names, window, popped, sights)
         }
         Stmt::Evaluate(value)
         | Stmt::Assign(_, _, value)
         | Stmt::Print(value)
-        | Stmt::Println(value) => look_at_expression(value, names, window, popped, sights),
+        | Stmt::Println(value) => check_peeks_in_expression(value, names, window, popped, sights),
         Stmt::AssignElement(_, index, _, value) => {
-            let index = look_at_expression(index, names, window, popped, sights)?;
+            let index = check_peeks_in_expression(index, names, window, popped, sights)?;
             let here = behind(popped, index);
-            let value = look_at_expression(value, names, window, here, sights)?;
+            let value = check_peeks_in_expression(value, names, window, here, sights)?;
             Ok(both(index, value))
         }
         Stmt::Push(value) => {
-            let value = look_at_expression(value, names, window, popped, sights)?;
+            let value = check_peeks_in_expression(value, names, window, popped, sights)?;
             Ok(both(value, Some(one_push())))
         }
         Stmt::If(condition, chosen) => {
-            let test = look_at_expression(condition, names, window, popped, sights)?;
+            let test = check_peeks_in_expression(condition, names, window, popped, sights)?;
             let here = behind(popped, test);
             let chosen = match constant(condition) {
                 Some(0) => Some(no_items()),
@@ -97,7 +100,7 @@ fn look_at_statement(
             Ok(both(test, chosen))
         }
         Stmt::IfElse(condition, chosen, other) => {
-            let test = look_at_expression(condition, names, window, popped, sights)?;
+            let test = check_peeks_in_expression(condition, names, window, popped, sights)?;
             let here = behind(popped, test);
             let taken = match constant(condition) {
                 Some(0) => look_inside(other, names, window, here, sights)?,
@@ -111,19 +114,19 @@ fn look_at_statement(
             Ok(both(test, taken))
         }
         Stmt::While(condition, body) => {
-            let test = look_at_expression(condition, names, window, popped, sights)?;
+            let test = check_peeks_in_expression(condition, names, window, popped, sights)?;
             let body = look_inside(body, names, window, popped, sights)?;
             Ok(both(nothing(test), nothing(body)))
         }
         Stmt::For(first, condition, step, body) => {
             let counted = counted_loop(names, first, condition, step, body);
             let outside = names.len();
-            let begun = look_at_statement(first, names, window, popped, sights)?;
+            let begun = check_peeks_in_statement(first, names, window, popped, sights)?;
             let here = behind(popped, begun);
             let turned = match counted {
-                Some(counted) => look_at_turns(body, counted, names, window, here, sights)?,
+                Some(counted) => check_peeks_in_turns(body, counted, names, window, here, sights)?,
                 None => {
-                    let test = look_at_option(condition, names, window, here, sights)?;
+                    let test = check_peeks_in_option(condition, names, window, here, sights)?;
                     let step = look_inside(step, names, window, here, sights)?;
                     let body = look_inside(body, names, window, here, sights)?;
                     both(nothing(test), both(nothing(step), nothing(body)))
@@ -137,42 +140,47 @@ fn look_at_statement(
 
 /// The same of a statement whose names end with it.
 #[cycle(peeks)]
-#[tactic(auto, using(crate::proofs::RangedGrowth::drop_own, crate::proofs::RangedGrowth::names_behind))]
+#[tactic(auto, using(crate::proofs::IntervalGrowth::drop_own, crate::proofs::IntervalGrowth::names_behind))]
 fn look_inside(
     statement: &Stmt,
-    names: &mut RangedScope,
+    names: &mut IntervalScope,
     window: u32,
-    popped: Popped,
-    sights: &mut Vec<Sight>,
+    popped: PopInterval,
+    sights: &mut Vec<PeekBounds>,
 ) -> Result<Option<Counts>, NoMemory>
-    ensures counts { IfOk result (λ counts. counts ≡ counting.stmt_counts (names_of names.old) (stmt_view statement.now)) }
+    ensures counts { IfOk result (λ counts. counts
+        ≡ counting.stmt_counts (names_of names.old) (stmt_view statement.now)) }
     ensures sights { OnOk result (sights.new.items
         ≡ sights.old.items ++ spec.stmt_sights window names.old popped (stmt_view statement.now)) }
     ensures names { OnOk result (names.new ≡ names.old) }
 {
     let outside = names.len();
-    let counts = look_at_statement(statement, names, window, popped, sights)?;
+    let counts = check_peeks_in_statement(statement, names, window, popped, sights)?;
     names.leave(outside);
     Ok(counts)
 }
 
-/// The same of the turns of a counted loop, in which its variable has a range. Nothing is looked at in a loop of no turn.
+/// The same of the turns of a counted loop, in which its variable has an interval. Nothing is
+/// looked at in a loop of no turn.
 #[cycle(peeks)]
-#[tactic(auto, using(crate::proofs::RangedGrowth::drop_own, crate::proofs::RangedGrowth::given_back, crate::proofs::RangedGrowth::with_range_given))]
-fn look_at_turns(
+#[tactic(auto, using(crate::proofs::IntervalGrowth::drop_own, crate::proofs::IntervalGrowth::given_back, crate::proofs::IntervalGrowth::with_interval_given))]
+fn check_peeks_in_turns(
     body: &Stmt,
     counted: CountedLoop,
-    names: &mut RangedScope,
+    names: &mut IntervalScope,
     window: u32,
-    popped: Popped,
-    sights: &mut Vec<Sight>,
+    popped: PopInterval,
+    sights: &mut Vec<PeekBounds>,
 ) -> Result<Option<Counts>, NoMemory>
     ensures counts { IfOk result (λ counts. counts
-        ≡ counting.repeated counted.entry.turns (counting.stmt_counts (names_of names.old) (stmt_view body.now))) }
-    ensures sights { let within = with_range names.old counted.entry.name.now counted.entry.range in
+        ≡ counting.repeated counted.entry.turns
+        (counting.stmt_counts (names_of names.old) (stmt_view body.now))) }
+    ensures sights { let within = with_interval names.old counted.entry.name.now
+        counted.entry.interval in
         let counts = counting.stmt_counts (names_of names.old) (stmt_view body.now) in
         OnOk result (sights.new.items ≡ sights.old.items ++ spec.some_turns counted.entry.turns
-        (spec.stmt_sights window within (spec.in_turns popped counted.entry.turns counts) (stmt_view body.now))) }
+        (spec.stmt_sights window within (spec.in_turns popped counted.entry.turns counts)
+        (stmt_view body.now))) }
     ensures names { OnOk result (names.new ≡ names.old) }
 {
     if counted.turns == 0 {
@@ -181,31 +189,34 @@ fn look_at_turns(
     let outside = names.len();
     let counts = statement_counts(body, names)?;
     names.leave(outside);
-    let before = names.range_of(counted.name);
-    names.give_range(counted.name, Some(counted.range));
+    let before = names.interval_of(counted.name);
+    names.give_interval(counted.name, Some(counted.interval));
     let here = in_turns(popped, counted.turns, counts);
     look_inside(body, names, window, here, sights)?;
-    names.give_range(counted.name, before);
+    names.give_interval(counted.name, before);
     Ok(repeated(counted.turns, counts))
 }
 
 /// The same of the initialisers of a declaration, whose variables are added to the names.
-fn look_at_variables(
+fn check_peeks_in_variables(
     variables: &[Variable],
-    names: &mut RangedScope,
+    names: &mut IntervalScope,
     window: u32,
-    popped: Popped,
-    sights: &mut Vec<Sight>,
+    popped: PopInterval,
+    sights: &mut Vec<PeekBounds>,
 ) -> Result<Option<Counts>, NoMemory>
-    ensures counts { IfOk result (λ counts. counts ≡ counting.variables_counts (map variable_view variables.now)) }
+    ensures counts { IfOk result (λ counts. counts
+        ≡ counting.variables_counts (map variable_view variables.now)) }
     ensures sights { OnOk result (sights.new.items
-        ≡ sights.old.items ++ spec.variables_sights window names.old popped (map variable_view variables.now)) }
-    ensures names { OnOk result (names.new ≡ with_unknown names.old (map variable_view variables.now)) }
+        ≡ sights.old.items ++ spec.variables_sights window names.old popped
+        (map variable_view variables.now)) }
+    ensures names { OnOk result (names.new ≡ with_unknown names.old
+        (map variable_view variables.now)) }
 {
     let mut counts = Some(no_items());
     let mut here = popped;
     for variable in variables {
-        let passed = look_at_option(&variable.initial, names, window, here, sights)?;
+        let passed = check_peeks_in_option(&variable.initial, names, window, here, sights)?;
         here = behind(here, passed);
         counts = both(counts, passed);
         names.declare(&variable.name)?;
@@ -213,30 +224,32 @@ fn look_at_variables(
     Ok(counts)
 }
 
-fn look_at_option(
+fn check_peeks_in_option(
     value: &Option<Expr>,
-    names: &RangedScope,
+    names: &IntervalScope,
     window: u32,
-    popped: Popped,
-    sights: &mut Vec<Sight>,
+    popped: PopInterval,
+    sights: &mut Vec<PeekBounds>,
 ) -> Result<Option<Counts>, NoMemory>
-    ensures counts { IfOk result (λ counts. counts ≡ counting.option_counts (option_map expr_view value.now)) }
+    ensures counts { IfOk result (λ counts. counts
+        ≡ counting.option_counts (option_map expr_view value.now)) }
     ensures sights { OnOk result (sights.new.items
-        ≡ sights.old.items ++ spec.option_sights window names.now popped (option_map expr_view value.now)) }
+        ≡ sights.old.items ++ spec.option_sights window names.now popped
+        (option_map expr_view value.now)) }
 {
     match value {
         None => Ok(Some(no_items())),
-        Some(value) => look_at_expression(value, names, window, popped, sights),
+        Some(value) => check_peeks_in_expression(value, names, window, popped, sights),
     }
 }
 
 /// The same of an expression.
-fn look_at_expression(
+fn check_peeks_in_expression(
     value: &Expr,
-    names: &RangedScope,
+    names: &IntervalScope,
     window: u32,
-    popped: Popped,
-    sights: &mut Vec<Sight>,
+    popped: PopInterval,
+    sights: &mut Vec<PeekBounds>,
 ) -> Result<Option<Counts>, NoMemory>
     ensures counts { IfOk result (λ counts. counts ≡ counting.expr_counts (expr_view value.now)) }
     ensures sights { OnOk result (sights.new.items
@@ -248,38 +261,38 @@ fn look_at_expression(
         }
         Expr::Pop => Ok(Some(one_pop())),
         Expr::Peek(index) => {
-            let counts = look_at_expression(index, names, window, popped, sights)?;
+            let counts = check_peeks_in_expression(index, names, window, popped, sights)?;
             let here = behind(popped, counts);
-            sights.push(sight_at(window, here, range_of(index, names)))?;
+            sights.push(sight_at(window, here, interval_of(index, names)))?;
             Ok(counts)
         }
         Expr::Element(_, inner)
         | Expr::Group(inner)
         | Expr::Unary(_, inner)
         | Expr::StepElement(_, _, inner) => {
-            look_at_expression(inner, names, window, popped, sights)
+            check_peeks_in_expression(inner, names, window, popped, sights)
         }
         Expr::Binary(operator, left, right) => {
-            let first = look_at_expression(left, names, window, popped, sights)?;
+            let first = check_peeks_in_expression(left, names, window, popped, sights)?;
             let here = behind(popped, first);
             let second = match need_of(*operator, left) {
-                Need::Always => look_at_expression(right, names, window, here, sights)?,
+                Need::Always => check_peeks_in_expression(right, names, window, here, sights)?,
                 Need::Never => Some(no_items()),
                 Need::Sometimes => {
-                    nothing(look_at_expression(right, names, window, here, sights)?)
+                    nothing(check_peeks_in_expression(right, names, window, here, sights)?)
                 }
             };
             Ok(both(first, second))
         }
         Expr::Conditional(condition, chosen, other) => {
-            let test = look_at_expression(condition, names, window, popped, sights)?;
+            let test = check_peeks_in_expression(condition, names, window, popped, sights)?;
             let here = behind(popped, test);
             let taken = match constant(condition) {
-                Some(0) => look_at_expression(other, names, window, here, sights)?,
-                Some(_) => look_at_expression(chosen, names, window, here, sights)?,
+                Some(0) => check_peeks_in_expression(other, names, window, here, sights)?,
+                Some(_) => check_peeks_in_expression(chosen, names, window, here, sights)?,
                 None => {
-                    let chosen = look_at_expression(chosen, names, window, here, sights)?;
-                    let other = look_at_expression(other, names, window, here, sights)?;
+                    let chosen = check_peeks_in_expression(chosen, names, window, here, sights)?;
+                    let other = check_peeks_in_expression(other, names, window, here, sights)?;
                     either(chosen, other)
                 }
             };

@@ -2,20 +2,21 @@
 
 ghost use Rattle.std.specs.Prelude.{◌≡◌, ◌&&◌, IfOk, map};
 ghost use Rattle.std.specs.Option.{option_map};
-ghost use Rattle.strc_work.specs.Filters as filters;
-ghost use Rattle.strc_work.specs.Filters.{filter_of};
+ghost use Rattle.strc_semantics.specs.Filters as filters;
+ghost use Rattle.strc_semantics.specs.Filters.{filter_of};
 ghost use Rattle.strc_rate.specs.Rates as spec;
 ghost use Rattle.strc_rate.specs.Kept.{KeepsRates};
 ghost use Rattle.strc_rate.specs.Safe.{HasSafePeeks};
 ghost use Rattle.strc_rate.specs.Verdicts.{IsVerdict, body_view, rates_view};
 
-use crate::peeks::look_at_block;
-use crate::ranged_scope::RangedScope;
-use crate::sight::{Popped, Sight};
+use crate::interval_scope::IntervalScope;
+use crate::peeks::check_peeks_in_block;
+use crate::sight::{PeekBounds, PopInterval};
 use std::alloc::{AllocError, AllocFailed, Global};
-use strc_parse::tree::ItemType;
-use strc_work::code::{Body, Code, DeclaredRates};
-use strc_work::memory::NoMemory;
+use strc_base::memory::NoMemory;
+use strc_semantics::body::Body;
+use strc_syntax::tree::ItemType;
+use strc_work::code::{Code, DeclaredRates};
 
 // The highest rate that may be declared.
 const RATE_LIMIT: i32 = 65536;
@@ -48,7 +49,7 @@ pub enum RateError {
     RateLimit,
     /// What a body pushes or pops can't be counted from its text.
     RateUnknown,
-    /// A declared rate isn't the counted one, which is held at 65,537.
+    /// A declared rate isn't the counted one, which is saturated at 65,537.
     RateMismatch { declared: u32, counted: u32 },
     /// A peek can't be within its window.
     PeekOutside,
@@ -91,10 +92,11 @@ impl<T: Drop> From<AllocFailed<T>> for RateError {
 
 /// The rates of a filter, or the first reason why they aren't accepted.
 ///
-/// The prework comes before the work. Of each body these are tested in order: that each rate is from 0 to 65,536, and
-/// that a work has no rate 0 on a side with items (`RateLimit`); that the text's pushes and pops can be counted
-/// (`RateUnknown`); that the counted pushes, and then the counted pops, are the declared ones (`RateMismatch`); and that
-/// no peek must look past its window (`PeekOutside`). `NoMemory` can come in place of any answer.
+/// The prework comes before the work. Of each body these are tested in order: that each rate is
+/// from 0 to 65,536, and that a work has no rate 0 on a side with items (`RateLimit`); that the
+/// text's pushes and pops can be counted (`RateUnknown`); that the counted pushes, and then the
+/// counted pops, are the declared ones (`RateMismatch`); and that no peek must look past its window
+/// (`PeekOutside`). `NoMemory` can come in place of any answer.
 pub fn check(alloc: Global, code: &Code) -> Result<Rates, RateError>
     ensures verdict { IsVerdict rates_view (spec.checked (filter_of code.now)) result }
     ensures kept { IfOk result (λ rates. KeepsRates (filter_of code.now)) }
@@ -118,7 +120,8 @@ fn judge(alloc: Global, code: &Code) -> Result<Rates, RateError>
 fn check_prework(alloc: Global, code: &Code) -> Result<Option<BodyRates>, RateError>
     ensures verdict { let members = (filter_of code.now).members in
         IsVerdict (option_map body_view)
-        (spec.prework_checked (filters.prework_rates members) (filters.prework_block members)) result }
+        (spec.prework_checked (filters.prework_rates members)
+        (filters.prework_block members)) result }
 {
     if !code.has_prework() {
         return Ok(None);
@@ -149,16 +152,17 @@ fn lacks_rate(side: ItemType, rate: i32) -> bool
 fn check_body(alloc: Global, code: &Code, body: Body, lacks: bool) -> Result<BodyRates, RateError>
     ensures verdict { let members = (filter_of code.now).members in
         IsVerdict body_view
-        (spec.body_checked lacks (filters.body_rates body members) (filters.body_block body members)) result }
+        (spec.body_checked lacks (filters.body_rates body members)
+        (filters.body_block body members)) result }
 {
     let rates = code.rates(body);
     if !are_within_limit(rates) || lacks {
         return Err(RateError::RateLimit);
     }
-    let mut names = RangedScope::new(alloc);
+    let mut names = IntervalScope::new(alloc);
     let mut sights = Vec::new(alloc);
     let window = code.window(body);
-    let counts = look_at_block(
+    let counts = check_peeks_in_block(
         code.block(body),
         &mut names,
         window,
@@ -177,7 +181,8 @@ fn check_body(alloc: Global, code: &Code, body: Body, lacks: bool) -> Result<Bod
 
 /// Whether no rate is below 0 or above the limit.
 fn are_within_limit(rates: DeclaredRates) -> bool
-    ensures { result ≡ spec.within_limit rates.push && (spec.within_limit rates.pop && spec.within_limit rates.peek) }
+    ensures { result ≡ spec.within_limit rates.push &&
+        (spec.within_limit rates.pop && spec.within_limit rates.peek) }
 {
     is_within_limit(rates.push) && (is_within_limit(rates.pop) && is_within_limit(rates.peek))
 }
@@ -196,10 +201,10 @@ fn item_count(rate: i32) -> u32
 }
 
 /// The items popped where a firing begins.
-fn none_popped() -> Popped
+fn none_popped() -> PopInterval
     ensures { result ≡ spec.none_popped }
 {
-    Popped { low: 0, high: 0 }
+    PopInterval { low: 0, high: 0 }
 }
 
 /// A declared rate is the counted one.
@@ -214,7 +219,12 @@ fn same_rate(declared: u32, counted: u32) -> Result<(), RateError>
 }
 
 /// The rates of a body whose counts are the declared ones, if no peek is outside of its window.
-fn seen(alloc: Global, code: &Code, body: Body, sights: &[Sight]) -> Result<BodyRates, RateError>
+fn seen(
+    alloc: Global,
+    code: &Code,
+    body: Body,
+    sights: &[PeekBounds],
+) -> Result<BodyRates, RateError>
     ensures verdict { IsVerdict body_view
         (spec.seen (filters.body_rates body (filter_of code.now).members) sights.now) result }
 {
@@ -230,7 +240,7 @@ fn seen(alloc: Global, code: &Code, body: Body, sights: &[Sight]) -> Result<Body
     })
 }
 
-fn some_outside(sights: &[Sight]) -> bool
+fn some_outside(sights: &[PeekBounds]) -> bool
     ensures { result ≡ spec.some_outside sights.now }
 {
     for sight in sights {
@@ -241,26 +251,26 @@ fn some_outside(sights: &[Sight]) -> bool
     false
 }
 
-fn is_outside(sight: Sight) -> bool
+fn is_outside(sight: PeekBounds) -> bool
     ensures { result ≡ spec.is_outside sight }
 {
     match sight {
-        Sight::Outside => true,
+        PeekBounds::Outside => true,
         _ => false,
     }
 }
 
-fn is_closed(sight: Sight) -> bool
+fn is_closed(sight: PeekBounds) -> bool
     ensures { result ≡ spec.is_closed sight }
 {
     match sight {
-        Sight::Closed => true,
+        PeekBounds::Closed => true,
         _ => false,
     }
 }
 
 /// Of each sight, in order, whether it is closed.
-fn closed_of(alloc: Global, sights: &[Sight]) -> Result<Vec<bool>, AllocError>
+fn closed_of(alloc: Global, sights: &[PeekBounds]) -> Result<Vec<bool>, AllocError>
     ensures { IfOk result (λ closed. closed.items ≡ map spec.is_closed sights.now) }
 {
     let mut closed = Vec::with_capacity(alloc, sights.len())?;

@@ -4,19 +4,20 @@ ghost use Rattle.std.specs.Prelude.{◌≡◌};
 ghost use Rattle.strc_rate.specs.Counts.{Counts};
 ghost use Rattle.strc_rate.specs.Peeks as spec;
 
-use crate::counts::{Counts, held_product, held_sum};
-use crate::range::Range;
+use crate::counts::{Counts, saturating_product, saturating_sum};
+use crate::interval::Interval;
 
-/// Between how many items a firing has popped when it comes to a place of its text, held as counts are.
-#[derive(Clone, Copy, Debug, PartialEq, Eq)]
-pub(crate) struct Popped {
+/// Between how many items a firing has popped when it comes to a place of its text, saturated as
+/// counts are.
+#[derive(Clone, Copy, PartialEq, Eq)]
+pub(crate) struct PopInterval {
     pub low: u32,
     pub high: u32,
 }
 
 /// What a peek's text tells.
-#[derive(Clone, Copy, Debug, PartialEq, Eq)]
-pub(crate) enum Sight {
+#[derive(Clone, Copy, PartialEq, Eq)]
+pub(crate) enum PeekBounds {
     /// It stays within its window.
     Closed,
     /// It can't be within its window.
@@ -26,24 +27,24 @@ pub(crate) enum Sight {
 }
 
 /// Behind a part that was counted.
-pub(crate) fn behind(popped: Popped, counts: Option<Counts>) -> Popped
+pub(crate) fn behind(popped: PopInterval, counts: Option<Counts>) -> PopInterval
     ensures { result ≡ spec.behind popped counts }
 {
     let pops = pops_of(counts);
-    Popped {
-        low: held_sum(popped.low, pops),
-        high: held_sum(popped.high, pops),
+    PopInterval {
+        low: saturating_sum(popped.low, pops),
+        high: saturating_sum(popped.high, pops),
     }
 }
 
 /// In a turn of a loop, behind the pops of the turns before it.
-pub(crate) fn in_turns(popped: Popped, turns: u64, counts: Option<Counts>) -> Popped
+pub(crate) fn in_turns(popped: PopInterval, turns: u64, counts: Option<Counts>) -> PopInterval
     ensures { result ≡ spec.in_turns popped turns counts }
 {
-    let before = held_product(turns.saturating_sub(1), pops_of(counts));
-    Popped {
+    let before = saturating_product(turns.saturating_sub(1), pops_of(counts));
+    PopInterval {
         low: popped.low,
-        high: held_sum(popped.high, before),
+        high: saturating_sum(popped.high, before),
     }
 }
 
@@ -56,19 +57,19 @@ fn pops_of(counts: Option<Counts>) -> u32
     }
 }
 
-/// What the text of a peek tells whose index has this range.
-pub(crate) fn sight_at(window: u32, popped: Popped, index: Option<Range>) -> Sight
+/// What the text of a peek tells whose index has this interval.
+pub(crate) fn sight_at(window: u32, popped: PopInterval, index: Option<Interval>) -> PeekBounds
     ensures { result ≡ spec.sight_at window popped index }
 {
     let Some(index) = index else {
-        return Sight::Open;
+        return PeekBounds::Open;
     };
     let window = i64::from(window);
     if !(index.low < 0) && i64::from(index.high) + i64::from(popped.high) < window {
-        return Sight::Closed;
+        return PeekBounds::Closed;
     }
     if index.high < 0 || !(i64::from(index.low) + i64::from(popped.low) < window) {
-        return Sight::Outside;
+        return PeekBounds::Outside;
     }
-    Sight::Open
+    PeekBounds::Open
 }

@@ -2,11 +2,11 @@
 
 ghost use Rattle.std.specs.Prelude.{◌≡◌, bytes_eq, map};
 ghost use Rattle.std.specs.Option.{option_map};
-ghost use Rattle.strc_parse.specs.View.{expr_view, variable_view, stmt_view, block_view};
+ghost use Rattle.strc_syntax.specs.View.{expr_view, variable_view, stmt_view, block_view};
 ghost use Rattle.strc_rate.specs.Loops as spec;
 
 use strc_lex::token::Name;
-use strc_parse::tree::{Expr, Stmt, Variable};
+use strc_syntax::tree::{Expr, Stmt, Variable};
 
 /// Whether two names are the same.
 pub(crate) fn same_name(first: &Name, second: &Name) -> bool
@@ -15,8 +15,8 @@ pub(crate) fn same_name(first: &Name, second: &Name) -> bool
     first.as_bytes() == second.as_bytes()
 }
 
-/// Whether statements in a row write the variable that this name has where they stand, and not an inner one of the
-/// same name.
+/// Whether statements in a row write the variable that this name has where they stand, and not an
+/// inner one of the same name.
 #[cycle(writes)]
 fn block_writes(block: &[Stmt], name: &Name) -> bool
     ensures { result ≡ spec.stmts_write name.now (block_view block.now) }
@@ -32,7 +32,8 @@ fn block_writes(block: &[Stmt], name: &Name) -> bool
     false
 }
 
-/// Whether a statement writes the variable that this name has where it stands, and not an inner one of the same name.
+/// Whether a statement writes the variable that this name has where it stands, and not an inner one
+/// of the same name.
 #[cycle(writes)]
 pub(crate) fn statement_writes(statement: &Stmt, name: &Name) -> bool
     ensures { result ≡ spec.stmt_writes name.now (stmt_view statement.now) }

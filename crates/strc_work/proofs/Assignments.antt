@@ -1,22 +1,23 @@
 -- The code of assignments.
 use Rattle.std.proofs.Common.{◌≡◌, ◌≢◌, ℕ, ◌+◌, ◌<◌, ◌≤◌, true, ℤ, pos, ◌+ℤ◌, List, length, set, Option, Some, None, Result, Ok, Err, refl, sym, ap, ◌∙◌, subst, arith}
 use Rattle.std.proofs.lemmas.List.{get_or-set_same, get_or-set_other, length-set}
-use Rattle.strc_parse.specs.Tree as tree
-use Rattle.strc_parse.specs.declared.tree.AssignOperator.{AssignOperator}
-use Rattle.strc_parse.specs.declared.tree.AssignOperator.TheVariants as assign
-use Rattle.strc_parse.specs.declared.tree.BinaryOperator.{BinaryOperator}
-use Rattle.strc_parse.specs.declared.tree.BinaryOperator.TheVariants as binary
-use Rattle.strc_work.specs.declared.fault.Cause.{Cause}
-use Rattle.strc_work.specs.declared.fault.Cause.TheVariants.{Index}
-use Rattle.strc_work.specs.declared.step.Step.TheVariants as act
-use Rattle.strc_work.specs.Arithmetic.{wrapped, binary_value}
-use Rattle.strc_work.specs.Scoping.{Scope, total, slot_of, size_of}
-use Rattle.strc_work.specs.Closed.{IsNamed, IsClosed}
-use Rattle.strc_work.specs.Firing.{Port, Store, then_do, cells_named, cell_in, value_in, with_cell, cell_set, assigned, assigned_value, place_in, tested_place, place_of, element_joined, element_set, value_of}
-use Rattle.strc_work.specs.Machine.{Machine, Act, before, slot_value, slot_written, step_done, nodes_done, nodes_room}
-use Rattle.strc_work.specs.Lowering.{changes_none, one, binary_step, operand_slot, operand_nodes, compound_nodes, element_nodes}
+use Rattle.strc_syntax.specs.Tree as tree
+use Rattle.strc_syntax.specs.declared.tree.AssignOperator.{AssignOperator}
+use Rattle.strc_syntax.specs.declared.tree.AssignOperator.TheVariants as assign
+use Rattle.strc_syntax.specs.declared.tree.BinaryOperator.{BinaryOperator}
+use Rattle.strc_syntax.specs.declared.tree.BinaryOperator.TheVariants as binary
+use Rattle.strc_semantics.specs.declared.fault.Cause.{Cause}
+use Rattle.strc_semantics.specs.declared.fault.Cause.TheVariants.{Index}
+use Rattle.strc_machine.specs.declared.inst.Inst.TheVariants as act
+use Rattle.strc_semantics.specs.Arithmetic.{wrapped, binary_value}
+use Rattle.strc_semantics.specs.Scoping.{Scope, total, slot_of, size_of}
+use Rattle.strc_semantics.specs.Closed.{IsNamed, IsClosed}
+use Rattle.strc_semantics.specs.Firing.{Port, Store, then_do, cells_named, cell_in, value_in, with_cell, cell_set, assigned, assigned_value, place_in, tested_place, place_of, element_joined, element_set, value_of}
+use Rattle.strc_machine.specs.Machine.{Machine, Act, before, slot_value, slot_written, inst_done, nodes_done, nodes_room}
+use Rattle.strc_work.specs.Lowering.{writes_no_variable, one, binary_step, operand_slot, operand_nodes, compound_nodes, element_nodes}
 use Rattle.strc_work.proofs.Variables.{scope_of, at, Holds, Holds-set_above, Holds-assigned, scope_of-with_cell}
-use Rattle.strc_work.proofs.Related.{Related, then_related, nodes_done-before, nodes_room-before, then_last}
+use Rattle.strc_work.proofs.Related.{Related, then_related, nodes_done-before, then_last}
+use Rattle.strc_machine.proofs.Spelled.{nodes_room-before}
 use Rattle.strc_work.proofs.Expressions.{Arrives, StandsAt, Ready, machine_at, named_size, named_cell, named_value, operand_runs}
 use Rattle.strc_work.proofs.Elements.{place_within, same_place, operand_low, stored_holds}
 use Rattle.strc_work.proofs.ExpressionRuns.{expr_runs, left_stays, binary_step_done, machine_is}
@@ -87,10 +88,10 @@ set_by_place names name size slot free before given m (Some place) named roomy s
     (stored_reaches names name size given.1 m place given.0 named roomy stands.traffic stands.names_are stands.holds (stands.size ∙ same) (below place refl))
 
 -- an element that gets a value, from where the index's code has led
-set_goes_on : (port : Port) (name : List ℕ) (index value : tree.Expr) (names : Scope) (store : Store) (slots : List ℤ) (first : ℤ × Store) (m1 : Machine) → let from = operand_slot names (changes_none value) index (total names) in IsNamed names name → IsClosed names index → IsClosed names value → Ready names (total names) store slots → nodes_room (element_nodes names name from assign.Set value (total names + 1)) ≤ length slots → StandsAt names from (total names) slots first m1 → Related (Reaches names (length slots)) (element_set port name assign.Set value first) (nodes_done port (element_nodes names name from assign.Set value (total names + 1)) m1)
+set_goes_on : (port : Port) (name : List ℕ) (index value : tree.Expr) (names : Scope) (store : Store) (slots : List ℤ) (first : ℤ × Store) (m1 : Machine) → let from = operand_slot names (writes_no_variable value) index (total names) in IsNamed names name → IsClosed names index → IsClosed names value → Ready names (total names) store slots → nodes_room (element_nodes names name from assign.Set value (total names + 1)) ≤ length slots → StandsAt names from (total names) slots first m1 → Related (Reaches names (length slots)) (element_set port name assign.Set value first) (nodes_done port (element_nodes names name from assign.Set value (total names + 1)) m1)
 set_goes_on port name index value names store slots first m1 named closed closed' ready room stands1 =
     let free = total names + 1 in
-    let from = operand_slot names (changes_none value) index (total names) in
+    let from = operand_slot names (writes_no_variable value) index (total names) in
     let base = slot_of names name in
     let c = operand_nodes names true value free in
     let at_value = operand_slot names true value free in
@@ -101,9 +102,9 @@ set_goes_on port name index value names store slots first m1 named closed closed
     let ready1 : Ready names free first.1 m1.slots = record { names_are = stands1.names_are; holds = stands1.holds; above = omega arith; roomy = omega arith } in
     let goal_is : Result Store Cause → Result Machine Cause → Type 0 = Related (Reaches names (length slots)) in
     let meant : ℤ × Store → Result Store Cause = λ given. then_do (place_of given.1 name first.0) (λ place. Ok (cell_set given.1 name place given.0)) in
-    let steps_are : nodes_done port (before c (one last)) m1 ≡ then_do (nodes_done port c (machine_at m1.slots first.1)) (step_done port last) = then_last port c last m1 ∙ ap (λ m. then_do (nodes_done port c m) (step_done port last)) (machine_is m1 first.1 stands1.traffic) in
+    let steps_are : nodes_done port (before c (one last)) m1 ≡ then_do (nodes_done port c (machine_at m1.slots first.1)) (inst_done port last) = then_last port c last m1 ∙ ap (λ m. then_do (nodes_done port c m) (inst_done port last)) (machine_is m1 first.1 stands1.traffic) in
     subst (goal_is (then_do (value_of port value first.1) meant)) (sym steps_are)
-    (then_related (StandsAt names at_value free m1.slots) (Reaches names (length slots)) (value_of port value first.1) (nodes_done port c (machine_at m1.slots first.1)) meant (step_done port last) (operand_runs port value (expr_runs port value) names true free first.1 m1.slots closed' ready1 (omega arith)) (λ second m2 is stands2.
+    (then_related (StandsAt names at_value free m1.slots) (Reaches names (length slots)) (value_of port value first.1) (nodes_done port c (machine_at m1.slots first.1)) meant (inst_done port last) (operand_runs port value (expr_runs port value) names true free first.1 m1.slots closed' ready1 (omega arith)) (λ second m2 is stands2.
     let index_is = left_stays port names index value (total names) store slots first second m1 m2 closed ready is stands1 stands2.holds stands2.kept in
     let o = place_in (length (cells_named second.1.variables name)) first.0 in
     let place_is = same_place names name second.1 m2.slots first.0 m2 from stands2.names_are stands2.holds named index_is in
@@ -147,17 +148,17 @@ stands_beside names slot free other before given m value above more low stands =
     }
 
 -- a compound assignment, from where the old value stands in a free slot
-joined_goes_on : (port : Port) (name : List ℕ) (operator : BinaryOperator) (index value : tree.Expr) (names : Scope) (store : Store) (slots : List ℤ) (first : ℤ × Store) (m1 : Machine) (place : ℕ) (old : ℤ) → let from = operand_slot names (changes_none value) index (total names) in let free = total names + 1 in let c = operand_nodes names true value (free + 1) in let at_value = operand_slot names true value (free + 1) in let base = slot_of names name in let size = size_of names name in IsNamed names name → IsClosed names index → IsClosed names value → Ready names (total names) store slots → nodes_room c ≤ length slots → free < length slots → place < size → place_in size first.0 ≡ Some place → slot_value m1 free ≡ old → StandsAt names from (total names) slots first m1 → Related (Reaches names (length slots)) (then_do (value_of port value first.1) (λ given. then_do (binary_value operator old given.0) (λ new. Ok (cell_set given.1 name place new)))) (nodes_done port (before c (Act (binary_step operator free free at_value) (one (act.Store base size from free)))) m1)
+joined_goes_on : (port : Port) (name : List ℕ) (operator : BinaryOperator) (index value : tree.Expr) (names : Scope) (store : Store) (slots : List ℤ) (first : ℤ × Store) (m1 : Machine) (place : ℕ) (old : ℤ) → let from = operand_slot names (writes_no_variable value) index (total names) in let free = total names + 1 in let c = operand_nodes names true value (free + 1) in let at_value = operand_slot names true value (free + 1) in let base = slot_of names name in let size = size_of names name in IsNamed names name → IsClosed names index → IsClosed names value → Ready names (total names) store slots → nodes_room c ≤ length slots → free < length slots → place < size → place_in size first.0 ≡ Some place → slot_value m1 free ≡ old → StandsAt names from (total names) slots first m1 → Related (Reaches names (length slots)) (then_do (value_of port value first.1) (λ given. then_do (binary_value operator old given.0) (λ new. Ok (cell_set given.1 name place new)))) (nodes_done port (before c (Act (binary_step operator free free at_value) (one (act.Store base size from free)))) m1)
 joined_goes_on port name operator index value names store slots first m1 place old named closed closed' ready room_c within lt place_is old_is stands1 =
     let free = total names + 1 in
-    let from = operand_slot names (changes_none value) index (total names) in
+    let from = operand_slot names (writes_no_variable value) index (total names) in
     let c = operand_nodes names true value (free + 1) in
     let at_value = operand_slot names true value (free + 1) in
     let store_code = one (act.Store (slot_of names name) (size_of names name) from free) in
     let rest = Act (binary_step operator free free at_value) store_code in
     let size1 = stands1.size in
     let roomy = ready.roomy in
-    let low = operand_low port index names (changes_none value) (total names) store slots closed ready in
+    let low = operand_low port index names (writes_no_variable value) (total names) store slots closed ready in
     let ready1 : Ready names (free + 1) first.1 m1.slots = record { names_are = stands1.names_are; holds = stands1.holds; above = omega arith; roomy = omega arith } in
     let goal_is : Result Store Cause → Result Machine Cause → Type 0 = Related (Reaches names (length slots)) in
     let meant : ℤ × Store → Result Store Cause = λ given. then_do (binary_value operator old given.0) (λ new. Ok (cell_set given.1 name place new)) in
@@ -166,7 +167,7 @@ joined_goes_on port name operator index value names store slots first m1 place o
     (then_related (StandsAt names at_value (free + 1) m1.slots) (Reaches names (length slots)) (value_of port value first.1) (nodes_done port c (machine_at m1.slots first.1)) meant (nodes_done port rest) (operand_runs port value (expr_runs port value) names true (free + 1) first.1 m1.slots closed' ready1 (omega arith)) (λ second m2 is stands2.
     let index_is = left_stays port names index value (total names) store slots first second m1 m2 closed ready is stands1 stands2.holds (λ k bottom high. stands2.kept k bottom (omega arith)) in
     let old2 : slot_value m2 free ≡ old = stands2.kept free (omega arith) (omega arith) ∙ old_is in
-    let done_is : step_done port (binary_step operator free free at_value) m2 ≡ then_do (binary_value operator old second.0) (λ v. Ok (slot_written m2 free v)) =
+    let done_is : inst_done port (binary_step operator free free at_value) m2 ≡ then_do (binary_value operator old second.0) (λ v. Ok (slot_written m2 free v)) =
     binary_step_done port operator free free at_value m2
     ∙ ap (λ v. then_do (binary_value operator v (slot_value m2 at_value)) (λ w. Ok (slot_written m2 free w))) old2
     ∙ ap (λ v. then_do (binary_value operator old v) (λ w. Ok (slot_written m2 free w))) stands2.value in
@@ -174,10 +175,10 @@ joined_goes_on port name operator index value names store slots first m1 place o
     (joined_by_result port names name (length slots) from free place first.0 second.1 m2 (binary_value operator old second.0) named roomy stands2.traffic stands2.names_are stands2.holds (stands2.size ∙ size1) (omega arith) (omega arith) within lt index_is place_is)))
 
 -- a compound assignment, from where the index's code has led
-compound_by_place : (port : Port) (name : List ℕ) (operator : BinaryOperator) (index value : tree.Expr) (names : Scope) (store : Store) (slots : List ℤ) (first : ℤ × Store) (m1 : Machine) (o : Option ℕ) → let from = operand_slot names (changes_none value) index (total names) in IsNamed names name → IsClosed names index → IsClosed names value → Ready names (total names) store slots → nodes_room (compound_nodes names name from operator value (total names + 1)) ≤ length slots → ((place : ℕ) → o ≡ Some place → place < size_of names name) → place_in (size_of names name) first.0 ≡ o → StandsAt names from (total names) slots first m1 → Related (Reaches names (length slots)) (then_do (tested_place o) (λ place. let old = cell_in first.1 name place in then_do (value_of port value first.1) (λ given. then_do (binary_value operator old given.0) (λ new. Ok (cell_set given.1 name place new))))) (nodes_done port (compound_nodes names name from operator value (total names + 1)) m1)
+compound_by_place : (port : Port) (name : List ℕ) (operator : BinaryOperator) (index value : tree.Expr) (names : Scope) (store : Store) (slots : List ℤ) (first : ℤ × Store) (m1 : Machine) (o : Option ℕ) → let from = operand_slot names (writes_no_variable value) index (total names) in IsNamed names name → IsClosed names index → IsClosed names value → Ready names (total names) store slots → nodes_room (compound_nodes names name from operator value (total names + 1)) ≤ length slots → ((place : ℕ) → o ≡ Some place → place < size_of names name) → place_in (size_of names name) first.0 ≡ o → StandsAt names from (total names) slots first m1 → Related (Reaches names (length slots)) (then_do (tested_place o) (λ place. let old = cell_in first.1 name place in then_do (value_of port value first.1) (λ given. then_do (binary_value operator old given.0) (λ new. Ok (cell_set given.1 name place new))))) (nodes_done port (compound_nodes names name from operator value (total names + 1)) m1)
 compound_by_place port name operator index value names store slots first m1 None named closed closed' ready room below place_is stands1 =
     let free = total names + 1 in
-    let from = operand_slot names (changes_none value) index (total names) in
+    let from = operand_slot names (writes_no_variable value) index (total names) in
     let base = slot_of names name in
     let c = operand_nodes names true value (free + 1) in
     let at_value = operand_slot names true value (free + 1) in
@@ -187,7 +188,7 @@ compound_by_place port name operator index value names store slots first m1 None
     subst (Related (Reaches names (length slots)) (Err Index)) (sym (ap loads found)) refl
 compound_by_place port name operator index value names store slots first m1 (Some place) named closed closed' ready room below place_is stands1 =
     let free = total names + 1 in
-    let from = operand_slot names (changes_none value) index (total names) in
+    let from = operand_slot names (writes_no_variable value) index (total names) in
     let base = slot_of names name in
     let c = operand_nodes names true value (free + 1) in
     let at_value = operand_slot names true value (free + 1) in
@@ -200,7 +201,7 @@ compound_by_place port name operator index value names store slots first m1 (Som
     let lt = below place refl in
     let old = cell_in first.1 name place in
     let old_is = named_cell names first.1 m1.slots name place stands1.names_are stands1.holds named lt in
-    let low = operand_low port index names (changes_none value) (total names) store slots closed ready in
+    let low = operand_low port index names (writes_no_variable value) (total names) store slots closed ready in
     let loads : Option ℕ → Result Machine Cause = λ p. then_do (then_do (tested_place p) (λ place. Ok (slot_written m1 free (slot_value m1 (base + place))))) (nodes_done port rest) in
     let found : place_in (size_of names name) (slot_value m1 from) ≡ Some place = ap (place_in (size_of names name)) stands1.value ∙ place_is in
     let loaded : loads (Some place) ≡ nodes_done port rest (slot_written m1 free old) = ap (λ v. nodes_done port rest (slot_written m1 free v)) old_is in
@@ -209,14 +210,14 @@ compound_by_place port name operator index value names store slots first m1 (Som
     subst (Related (Reaches names (length slots)) meant) (sym (ap loads found ∙ loaded))
     (joined_goes_on port name operator index value names store slots first (slot_written m1 free old) place old named closed closed' ready room_c within lt place_is (get_or-set_same m1.slots free old (pos 0) within1) stands2)
 
-compound_goes_on : (port : Port) (name : List ℕ) (operator : BinaryOperator) (index value : tree.Expr) (names : Scope) (store : Store) (slots : List ℤ) (first : ℤ × Store) (m1 : Machine) → let from = operand_slot names (changes_none value) index (total names) in IsNamed names name → IsClosed names index → IsClosed names value → Ready names (total names) store slots → nodes_room (compound_nodes names name from operator value (total names + 1)) ≤ length slots → StandsAt names from (total names) slots first m1 → Related (Reaches names (length slots)) (element_joined port name operator value first) (nodes_done port (compound_nodes names name from operator value (total names + 1)) m1)
+compound_goes_on : (port : Port) (name : List ℕ) (operator : BinaryOperator) (index value : tree.Expr) (names : Scope) (store : Store) (slots : List ℤ) (first : ℤ × Store) (m1 : Machine) → let from = operand_slot names (writes_no_variable value) index (total names) in IsNamed names name → IsClosed names index → IsClosed names value → Ready names (total names) store slots → nodes_room (compound_nodes names name from operator value (total names + 1)) ≤ length slots → StandsAt names from (total names) slots first m1 → Related (Reaches names (length slots)) (element_joined port name operator value first) (nodes_done port (compound_nodes names name from operator value (total names + 1)) m1)
 compound_goes_on port name operator index value names store slots first m1 named closed closed' ready room stands1 =
     let variables = first.1.variables in
     let o = place_in (length (cells_named variables name)) first.0 in
     let place_is : place_in (size_of names name) first.0 ≡ o = ap (λ n. place_in n first.0) (sym (named_size names variables m1.slots name stands1.names_are stands1.holds named)) in
     compound_by_place port name operator index value names store slots first m1 o named closed closed' ready room (λ place e. place_within names name first.1 m1.slots first.0 place stands1.names_are stands1.holds named e) place_is stands1
 
-element_goes_on : (port : Port) (name : List ℕ) (operator : AssignOperator) (index value : tree.Expr) (names : Scope) (store : Store) (slots : List ℤ) (first : ℤ × Store) (m1 : Machine) → let from = operand_slot names (changes_none value) index (total names) in IsNamed names name → IsClosed names index → IsClosed names value → Ready names (total names) store slots → nodes_room (element_nodes names name from operator value (total names + 1)) ≤ length slots → StandsAt names from (total names) slots first m1 → Related (Reaches names (length slots)) (element_set port name operator value first) (nodes_done port (element_nodes names name from operator value (total names + 1)) m1)
+element_goes_on : (port : Port) (name : List ℕ) (operator : AssignOperator) (index value : tree.Expr) (names : Scope) (store : Store) (slots : List ℤ) (first : ℤ × Store) (m1 : Machine) → let from = operand_slot names (writes_no_variable value) index (total names) in IsNamed names name → IsClosed names index → IsClosed names value → Ready names (total names) store slots → nodes_room (element_nodes names name from operator value (total names + 1)) ≤ length slots → StandsAt names from (total names) slots first m1 → Related (Reaches names (length slots)) (element_set port name operator value first) (nodes_done port (element_nodes names name from operator value (total names + 1)) m1)
 element_goes_on port name assign.Set index value names store slots first m1 named closed closed' ready room stands =
     set_goes_on port name index value names store slots first m1 named closed closed' ready room stands
 element_goes_on port name assign.Add index value names store slots first m1 named closed closed' ready room stands =
@@ -233,7 +234,7 @@ element_goes_on port name assign.Remainder index value names store slots first m
 -- an assignment to an element
 pub element_assigned : (port : Port) (name : List ℕ) (index : tree.Expr) (operator : AssignOperator) (value : tree.Expr) → RunsStmt port (tree.AssignElement name index operator value)
 element_assigned port name index operator value names store slots closed ready room =
-    let stays = changes_none value in
+    let stays = writes_no_variable value in
     let a = operand_nodes names stays index (total names) in
     let from = operand_slot names stays index (total names) in
     let b = element_nodes names name from operator value (total names + 1) in

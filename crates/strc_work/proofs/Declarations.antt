@@ -1,15 +1,16 @@
 -- The code of declarations.
 use Rattle.std.proofs.Common.{◌≡◌, ℕ, zero, suc, ◌+◌, ◌<◌, ◌≤◌, ℤ, pos, List, [], ◌∷◌, ◌++◌, length, set, take, drop, replicate, Option, Some, None, Result, refl, sym, ap, ◌∙◌, subst, arith, length-append}
 use Rattle.std.proofs.lemmas.List.{get_or-set_same, length-set, length-take-le, length-replicate, length-drop, get_or_append_left, get_or-append-add, get_or-take, get_or-replicate}
-use Rattle.strc_parse.specs.Tree as tree
-use Rattle.strc_work.specs.declared.fault.Cause.{Cause}
-use Rattle.strc_work.specs.Scoping.{Scope, total, with_declared}
-use Rattle.strc_work.specs.Closed.{IsClosedInitial, FitsInitial, AreClosedVariables}
-use Rattle.strc_work.specs.Firing.{Port, Store, then_do, value_of, declared_in, initial_cells, variables_declared}
-use Rattle.strc_work.specs.Machine.{Machine, cleared, nodes_done, nodes_room}
+use Rattle.strc_syntax.specs.Tree as tree
+use Rattle.strc_semantics.specs.declared.fault.Cause.{Cause}
+use Rattle.strc_semantics.specs.Scoping.{Scope, total, with_declared}
+use Rattle.strc_semantics.specs.Closed.{IsClosedInitial, FitsInitial, AreClosedVariables}
+use Rattle.strc_semantics.specs.Firing.{Port, Store, then_do, value_of, declared_in, initial_cells, variables_declared}
+use Rattle.strc_machine.specs.Machine.{Machine, cleared, nodes_done, nodes_room}
 use Rattle.strc_work.specs.Lowering.{expr_nodes, initial_nodes, variables_nodes}
 use Rattle.strc_work.proofs.Variables.{scope_of, at, HoldsFrom, Holds, Holds-same, Holds-set_above}
-use Rattle.strc_work.proofs.Related.{Related, then_related, map_related, nodes_done-before, nodes_room-before}
+use Rattle.strc_work.proofs.Related.{Related, then_related, map_related, nodes_done-before}
+use Rattle.strc_machine.proofs.Spelled.{nodes_room-before}
 use Rattle.strc_work.proofs.Expressions.{Arrives, Ready, machine_at, expr_room}
 use Rattle.strc_work.proofs.ExpressionRuns.{expr_runs}
 use Rattle.strc_work.proofs.Reaching.{Reaches, empty_reaches, go_on}

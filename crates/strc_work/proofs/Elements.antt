@@ -3,20 +3,21 @@ use Rattle.std.proofs.Common.{◌≡◌, ◌≢◌, ℕ, ◌+◌, ◌<◌, ◌�
 use Rattle.std.specs.Prelude.{unwrap_or, nat_lt}
 use Rattle.std.proofs.lemmas.List.{get_or-set_same, get_or-set_other, length-set}
 use Rattle.std.proofs.lemmas.Bool.{ltb-true}
-use Rattle.strc_parse.specs.Tree as tree
-use Rattle.strc_parse.specs.declared.tree.StepOperator.{StepOperator}
-use Rattle.strc_parse.specs.declared.tree.StepOperator.TheVariants as step
-use Rattle.strc_work.specs.declared.fault.Cause.{Cause}
-use Rattle.strc_work.specs.declared.fault.Cause.TheVariants.{Index}
-use Rattle.strc_work.specs.declared.step.Step.TheVariants as act
-use Rattle.strc_work.specs.Arithmetic.{wrapped}
-use Rattle.strc_work.specs.Scoping.{Scope, total, slot_of, size_of}
-use Rattle.strc_work.specs.Closed.{IsNamed, IsClosed}
-use Rattle.strc_work.specs.Firing.{Port, Store, then_do, cells_named, cell_in, with_cell, cell_set, place_in, tested_place, place_of, value_stepped, step_value, value_of}
-use Rattle.strc_work.specs.Machine.{Machine, Act, before, slot_value, slot_written, step_done, nodes_done, nodes_room}
+use Rattle.strc_syntax.specs.Tree as tree
+use Rattle.strc_syntax.specs.declared.tree.StepOperator.{StepOperator}
+use Rattle.strc_syntax.specs.declared.tree.StepOperator.TheVariants as step
+use Rattle.strc_semantics.specs.declared.fault.Cause.{Cause}
+use Rattle.strc_semantics.specs.declared.fault.Cause.TheVariants.{Index}
+use Rattle.strc_machine.specs.declared.inst.Inst.TheVariants as act
+use Rattle.strc_semantics.specs.Arithmetic.{wrapped}
+use Rattle.strc_semantics.specs.Scoping.{Scope, total, slot_of, size_of}
+use Rattle.strc_semantics.specs.Closed.{IsNamed, IsClosed}
+use Rattle.strc_semantics.specs.Firing.{Port, Store, then_do, cells_named, cell_in, with_cell, cell_set, place_in, tested_place, place_of, value_stepped, step_value, value_of}
+use Rattle.strc_machine.specs.Machine.{Machine, Act, before, slot_value, slot_written, inst_done, nodes_done, nodes_room}
 use Rattle.strc_work.specs.Lowering.{stands_at, one, step_amount, picked, element_step_nodes, operand_slot, operand_nodes}
 use Rattle.strc_work.proofs.Variables.{scope_of, Holds, Holds-set_above, Holds-with_cell, scope_of-with_cell}
-use Rattle.strc_work.proofs.Related.{Related, then_related, nodes_done-before, nodes_room-before, then_last}
+use Rattle.strc_work.proofs.Related.{Related, then_related, nodes_done-before, then_last}
+use Rattle.strc_machine.proofs.Spelled.{nodes_room-before}
 use Rattle.strc_work.proofs.Expressions.{Arrives, StandsAt, Ready, machine_at, Runs, named_slots, named_size, named_cell, variable_runs, stays_slot, operand_runs}
 
 -- ---- places
@@ -90,7 +91,7 @@ element_runs port name index run names into free store slots closed ready room =
     let meant_last : ℤ × Store → Result (ℤ × Store) Cause = λ given. then_do (place_of given.1 name given.0) (λ place. Ok (cell_in given.1 name place, given.1)) in
     let goal_is : Result (ℤ × Store) Cause → Result Machine Cause → Type 0 = Related (Arrives names into free slots) in
     subst (goal_is (then_do (value_of port index store) meant_last)) (sym (then_last port a last (machine_at slots store)))
-    (then_related (StandsAt names from free slots) (Arrives names into free slots) (value_of port index store) (nodes_done port a (machine_at slots store)) meant_last (step_done port last) (operand_runs port index run names true free store slots closed.1 ready room_a) (λ given m is stands.
+    (then_related (StandsAt names from free slots) (Arrives names into free slots) (value_of port index store) (nodes_done port a (machine_at slots store)) meant_last (inst_done port last) (operand_runs port index run names true free store slots closed.1 ready room_a) (λ given m is stands.
     let o = place_in (length (cells_named given.1.variables name)) given.0 in
     let place_is = same_place names name given.1 m.slots given.0 m from stands.names_are stands.holds closed.0 stands.value in
     let loads : Option ℕ → Result Machine Cause = λ p. then_do (tested_place p) (λ place. Ok (slot_written m into (slot_value m (base + place)))) in

@@ -2,20 +2,20 @@
 use Rattle.std.proofs.Common.{◌≡◌, ℕ, suc, ◌+◌, ◌-◌, ◌<◌, Bool, true, false, cond, List, [], ◌∷◌, length, drop, get_or, map, reverse, Some, None, Result, Ok, Err, OnOk, refl, sym, ap, ◌∙◌, add-one}
 use Rattle.std.specs.Prelude.{unwrap_or}
 use Rattle.std.proofs.Math.Seq.{drop-cons}
-use Rattle.strc_parse.specs.declared.tree.AssignOperator.{AssignOperator}
-use Rattle.strc_parse.specs.declared.tree.AssignOperator.TheVariants as assign
-use Rattle.strc_work.specs.declared.step.Step.TheVariants as act
-use Rattle.strc_work.specs.Firing.{assigned_value}
+use Rattle.strc_syntax.specs.declared.tree.AssignOperator.{AssignOperator}
+use Rattle.strc_syntax.specs.declared.tree.AssignOperator.TheVariants as assign
+use Rattle.strc_machine.specs.declared.inst.Inst.TheVariants as act
+use Rattle.strc_semantics.specs.Firing.{assigned_value}
 use Rattle.strc_work.specs.Emission.{compound_of, old_slot, old_nodes}
-use Rattle.strc_parse.specs.Tree as tree
-use Rattle.strc_parse.specs.declared.tree.BinaryOperator.{BinaryOperator}
-use Rattle.strc_parse.specs.declared.tree.BinaryOperator.TheVariants as binary
-use Rattle.strc_work.specs.Machine.{Nodes, before}
-use Rattle.strc_work.specs.Lowering.{one, unless_there, changes_none, binary_step, expr_nodes, operand_nodes, operand_slot, initial_nodes, variables_nodes, field_nodes, fields_nodes, initials_nodes, inits_nodes, stmt_nodes, stmts_nodes, element_nodes, compound_nodes}
-use Rattle.strc_work.specs.Scoping.{Scope, names_after, total, slot_of, size_of}
+use Rattle.strc_syntax.specs.Tree as tree
+use Rattle.strc_syntax.specs.declared.tree.BinaryOperator.{BinaryOperator}
+use Rattle.strc_syntax.specs.declared.tree.BinaryOperator.TheVariants as binary
+use Rattle.strc_machine.specs.Machine.{Nodes, before}
+use Rattle.strc_work.specs.Lowering.{one, unless_there, writes_no_variable, binary_step, expr_nodes, operand_nodes, operand_slot, initial_nodes, variables_nodes, field_nodes, fields_nodes, initials_nodes, inits_nodes, stmt_nodes, stmts_nodes, element_nodes, compound_nodes}
+use Rattle.strc_semantics.specs.Scoping.{Scope, names_after, total, slot_of, size_of}
 use Rattle.strc_work.proofs.FilterRuns.{total-reverse}
-use Rattle.strc_work.proofs.Growth.{drop_inner, stands_on_after, stands_on_itself}
-use Rattle.strc_work.proofs.Nodes.{before_assoc, before_end}
+use Rattle.strc_semantics.proofs.Growth.{drop_inner, stands_on_after, stands_on_itself}
+use Rattle.strc_machine.proofs.Nodes.{before_assoc, before_end}
 
 -- the code of one more statement
 pub stmts_nodes_more : (names names' : Scope) (old new : Nodes) (first : tree.Stmt) (rest : tree.Stmts) → new ≡ before old (stmt_nodes names first) → names' ≡ names_after names first → before new (stmts_nodes names' rest) ≡ before old (stmts_nodes names (tree.Then first rest))
@@ -27,12 +27,6 @@ stmts_nodes_more names names' old new first rest code scope =
 -- the names that are left behind a statement in a scope of its own
 pub left_after : (names : Scope) (s : tree.Stmt) → drop (length (names_after names s) - length names) (names_after names s) ≡ names
 left_after names s = drop_inner names (names_after names s) (stands_on_after names names s (stands_on_itself names))
-
--- the first of a list's parts that are left, and the others
-pub map-drop : {X Y : Type 0} (f : X → Y) (items : List X) (i : ℕ) (x : X) → i < length items → x ≡ get_or items i x → map f (drop i items) ≡ f x ∷ map f (drop (i + 1) items)
-map-drop f items i x lt at =
-    let e : drop (suc i) items ≡ drop (i + 1) items = rw add-one refl in
-    ap (map f) (drop-cons items i x lt) ∙ ap (λ y. f y ∷ map f (drop (suc i) items)) (sym at) ∙ ap (λ l. f x ∷ map f l) e
 
 -- one more part behind what was written
 more : (old new first rest all : Nodes) → new ≡ before old first → before first rest ≡ all → before new rest ≡ before old all
@@ -73,22 +67,22 @@ abbrev compound : Scope → List ℕ → BinaryOperator → tree.Expr → (into 
 compound names name operator value into free left at =
     before left (before (operand_nodes names true value (free + 1)) (one (binary_step operator into at (operand_slot names true value (free + 1)))))
 
-compound_pieces : (names : Scope) (name : List ℕ) (operator : AssignOperator) (plain : BinaryOperator) (value : tree.Expr) (into free : ℕ) → compound_of operator ≡ Some plain → expr_nodes names (assigned_value name operator value) into free ≡ compound names name plain value into free (old_nodes (changes_none value) (slot_of names name) free) (old_slot (changes_none value) (slot_of names name) free)
+compound_pieces : (names : Scope) (name : List ℕ) (operator : AssignOperator) (plain : BinaryOperator) (value : tree.Expr) (into free : ℕ) → compound_of operator ≡ Some plain → expr_nodes names (assigned_value name operator value) into free ≡ compound names name plain value into free (old_nodes (writes_no_variable value) (slot_of names name) free) (old_slot (writes_no_variable value) (slot_of names name) free)
 compound_pieces names name assign.Set plain value into free e = absurd (cc)
-compound_pieces names name assign.Add plain value into free e = let same : binary.Add ≡ plain = cc in rw (sym same) (pieces (changes_none value) (slot_of names name) free (compound names name binary.Add value into free))
-compound_pieces names name assign.Subtract plain value into free e = let same : binary.Subtract ≡ plain = cc in rw (sym same) (pieces (changes_none value) (slot_of names name) free (compound names name binary.Subtract value into free))
-compound_pieces names name assign.Multiply plain value into free e = let same : binary.Multiply ≡ plain = cc in rw (sym same) (pieces (changes_none value) (slot_of names name) free (compound names name binary.Multiply value into free))
-compound_pieces names name assign.Divide plain value into free e = let same : binary.Divide ≡ plain = cc in rw (sym same) (pieces (changes_none value) (slot_of names name) free (compound names name binary.Divide value into free))
-compound_pieces names name assign.Remainder plain value into free e = let same : binary.Remainder ≡ plain = cc in rw (sym same) (pieces (changes_none value) (slot_of names name) free (compound names name binary.Remainder value into free))
+compound_pieces names name assign.Add plain value into free e = let same : binary.Add ≡ plain = cc in rw (sym same) (pieces (writes_no_variable value) (slot_of names name) free (compound names name binary.Add value into free))
+compound_pieces names name assign.Subtract plain value into free e = let same : binary.Subtract ≡ plain = cc in rw (sym same) (pieces (writes_no_variable value) (slot_of names name) free (compound names name binary.Subtract value into free))
+compound_pieces names name assign.Multiply plain value into free e = let same : binary.Multiply ≡ plain = cc in rw (sym same) (pieces (writes_no_variable value) (slot_of names name) free (compound names name binary.Multiply value into free))
+compound_pieces names name assign.Divide plain value into free e = let same : binary.Divide ≡ plain = cc in rw (sym same) (pieces (writes_no_variable value) (slot_of names name) free (compound names name binary.Divide value into free))
+compound_pieces names name assign.Remainder plain value into free e = let same : binary.Remainder ≡ plain = cc in rw (sym same) (pieces (writes_no_variable value) (slot_of names name) free (compound names name binary.Remainder value into free))
 
-pub assigned_more : (names : Scope) (name : List ℕ) (operator : AssignOperator) (plain : BinaryOperator) (value : tree.Expr) (into free left right : ℕ) (old first second last : Nodes) → compound_of operator ≡ Some plain → left ≡ old_slot (changes_none value) (slot_of names name) free → first ≡ before old (old_nodes (changes_none value) (slot_of names name) free) → right ≡ operand_slot names true value (free + 1) → second ≡ before first (operand_nodes names true value (free + 1)) → last ≡ before second (one (binary_step plain into left right)) → last ≡ before old (expr_nodes names (assigned_value name operator value) into free)
+pub assigned_more : (names : Scope) (name : List ℕ) (operator : AssignOperator) (plain : BinaryOperator) (value : tree.Expr) (into free left right : ℕ) (old first second last : Nodes) → compound_of operator ≡ Some plain → left ≡ old_slot (writes_no_variable value) (slot_of names name) free → first ≡ before old (old_nodes (writes_no_variable value) (slot_of names name) free) → right ≡ operand_slot names true value (free + 1) → second ≡ before first (operand_nodes names true value (free + 1)) → last ≡ before second (one (binary_step plain into left right)) → last ≡ before old (expr_nodes names (assigned_value name operator value) into free)
 assigned_more names name operator plain value into free left right old first second last e left_is first_is right_is second_is last_is =
-    let kept = old_nodes (changes_none value) (slot_of names name) free in
+    let kept = old_nodes (writes_no_variable value) (slot_of names name) free in
     let operand = operand_nodes names true value (free + 1) in
-    let step : Nodes = one (binary_step plain into (old_slot (changes_none value) (slot_of names name) free) (operand_slot names true value (free + 1))) in
+    let step : Nodes = one (binary_step plain into (old_slot (writes_no_variable value) (slot_of names name) free) (operand_slot names true value (free + 1))) in
     last_is
     ∙ ap (λ n. before second (one (binary_step plain into n right))) left_is
-    ∙ ap (λ n. before second (one (binary_step plain into (old_slot (changes_none value) (slot_of names name) free) n))) right_is
+    ∙ ap (λ n. before second (one (binary_step plain into (old_slot (writes_no_variable value) (slot_of names name) free) n))) right_is
     ∙ ap (λ n. before n step) (second_is ∙ ap (λ n. before n operand) first_is)
     ∙ before_assoc (before old kept) operand step
     ∙ before_assoc old kept (before operand step)

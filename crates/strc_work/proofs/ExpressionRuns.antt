@@ -2,23 +2,24 @@
 use Rattle.std.proofs.Common.{◌≡◌, ◌≢◌, ℕ, ◌+◌, ◌<◌, ◌≤◌, true, cond, ℤ, pos, neg_ℤ, ◌+ℤ◌, List, length, set, Option, Some, None, Result, Ok, Err, refl, sym, ap, ◌∙◌, subst, arith}
 use Rattle.std.specs.Prelude.{unwrap_or}
 use Rattle.std.proofs.lemmas.List.{get_or-set_same, get_or-set_other, length-set}
-use Rattle.strc_parse.specs.Tree as tree
-use Rattle.strc_parse.specs.declared.tree.UnaryOperator.{UnaryOperator}
-use Rattle.strc_parse.specs.declared.tree.UnaryOperator.TheVariants as unary
-use Rattle.strc_parse.specs.declared.tree.BinaryOperator.{BinaryOperator}
-use Rattle.strc_parse.specs.declared.tree.BinaryOperator.TheVariants as binary
-use Rattle.strc_parse.specs.declared.tree.StepOperator.{StepOperator}
-use Rattle.strc_parse.specs.declared.tree.StepOperator.TheVariants as step
-use Rattle.strc_work.specs.declared.fault.Cause.{Cause}
-use Rattle.strc_work.specs.declared.step.Step.TheVariants as act
-use Rattle.strc_work.specs.Arithmetic.{wrapped, truth, is_true, unary_value, binary_value}
-use Rattle.strc_work.specs.Scoping.{Scope, total, slot_of}
-use Rattle.strc_work.specs.Closed.{IsNamed, IsClosed}
-use Rattle.strc_work.specs.Firing.{Port, Store, Traffic, then_do, value_in, joined, value_of, popped_from, peeked_from, assigned, with_cell}
-use Rattle.strc_work.specs.Machine.{Machine, Nodes, End, Choice, before, slot_value, slot_written, step_done, chosen_by, nodes_done, nodes_room, unary_done, binary_done}
-use Rattle.strc_work.specs.Lowering.{variable_slot, changes_none, stands_at, one, unary_step, binary_step, expr_nodes, operand_slot, operand_nodes}
+use Rattle.strc_syntax.specs.Tree as tree
+use Rattle.strc_syntax.specs.declared.tree.UnaryOperator.{UnaryOperator}
+use Rattle.strc_syntax.specs.declared.tree.UnaryOperator.TheVariants as unary
+use Rattle.strc_syntax.specs.declared.tree.BinaryOperator.{BinaryOperator}
+use Rattle.strc_syntax.specs.declared.tree.BinaryOperator.TheVariants as binary
+use Rattle.strc_syntax.specs.declared.tree.StepOperator.{StepOperator}
+use Rattle.strc_syntax.specs.declared.tree.StepOperator.TheVariants as step
+use Rattle.strc_semantics.specs.declared.fault.Cause.{Cause}
+use Rattle.strc_machine.specs.declared.inst.Inst.TheVariants as act
+use Rattle.strc_semantics.specs.Arithmetic.{wrapped, truth, is_true, unary_value, binary_value}
+use Rattle.strc_semantics.specs.Scoping.{Scope, total, slot_of}
+use Rattle.strc_semantics.specs.Closed.{IsNamed, IsClosed}
+use Rattle.strc_semantics.specs.Firing.{Port, Store, Traffic, then_do, value_in, joined, value_of, popped_from, peeked_from, assigned, with_cell}
+use Rattle.strc_machine.specs.Machine.{Machine, Nodes, End, Choice, before, slot_value, slot_written, inst_done, chosen_by, nodes_done, nodes_room, unary_done, binary_done}
+use Rattle.strc_work.specs.Lowering.{variable_slot, writes_no_variable, stands_at, one, unary_step, binary_step, expr_nodes, operand_slot, operand_nodes}
 use Rattle.strc_work.proofs.Variables.{scope_of, at, Holds, Holds-set_above, Holds-assigned, scope_of-with_cell, same_slots}
-use Rattle.strc_work.proofs.Related.{Related, then_related, weaker_related, chosen_related, nodes_done-before, nodes_room-before, then_end, then_last}
+use Rattle.strc_work.proofs.Related.{Related, then_related, weaker_related, chosen_related, nodes_done-before, then_end, then_last}
+use Rattle.strc_machine.proofs.Spelled.{nodes_room-before}
 use Rattle.strc_work.proofs.Expressions.{Arrives, StandsAt, Ready, machine_at, Runs, Strict, by_operator, named_below, named_value, total-variables, variable_runs, Keeps, keeps, stays_slot, operand_runs, arrived_stands, expr_room}
 use Rattle.strc_work.proofs.Elements.{element_runs, step_element_runs}
 
@@ -44,12 +45,12 @@ pop_runs port names into free store slots (Ok taken) ready = record {
 }
 pop_runs port names into free store slots (Err cause) ready = refl
 
-unary_step_done : (port : Port) (operator : UnaryOperator) (into from : ℕ) (m : Machine) → step_done port (unary_step operator into from) m ≡ unary_done operator into from m
+unary_step_done : (port : Port) (operator : UnaryOperator) (into from : ℕ) (m : Machine) → inst_done port (unary_step operator into from) m ≡ unary_done operator into from m
 unary_step_done port unary.Negate into from m = refl
 unary_step_done port unary.Not into from m = refl
 unary_step_done port unary.Complement into from m = refl
 
-pub binary_step_done : (port : Port) (operator : BinaryOperator) (into left right : ℕ) (m : Machine) → step_done port (binary_step operator into left right) m ≡ binary_done operator into left right m
+pub binary_step_done : (port : Port) (operator : BinaryOperator) (into left right : ℕ) (m : Machine) → inst_done port (binary_step operator into left right) m ≡ binary_done operator into left right m
 binary_step_done port binary.LogicalOr into left right m = refl
 binary_step_done port binary.LogicalAnd into left right m = refl
 binary_step_done port binary.Equal into left right m = refl
@@ -99,11 +100,11 @@ pub machine_is : (m : Machine) (store : Store) → m.traffic ≡ store.traffic �
 machine_is m store e = ap (λ t. record { slots = m.slots; traffic = t }) e
 
 -- the left operand's value is still there after the right operand's code
-pub left_stays : (port : Port) (names : Scope) (left right : tree.Expr) (free : ℕ) (store : Store) (slots : List ℤ) (first second : ℤ × Store) (m1 m2 : Machine) → IsClosed names left → Ready names free store slots → value_of port right first.1 ≡ Ok second → StandsAt names (operand_slot names (changes_none right) left free) free slots first m1 → Holds second.1.variables m2.slots → ((k : ℕ) → total names ≤ k → k < free + 1 → at m2.slots k ≡ at m1.slots k) → at m2.slots (operand_slot names (changes_none right) left free) ≡ first.0
+pub left_stays : (port : Port) (names : Scope) (left right : tree.Expr) (free : ℕ) (store : Store) (slots : List ℤ) (first second : ℤ × Store) (m1 m2 : Machine) → IsClosed names left → Ready names free store slots → value_of port right first.1 ≡ Ok second → StandsAt names (operand_slot names (writes_no_variable right) left free) free slots first m1 → Holds second.1.variables m2.slots → ((k : ℕ) → total names ≤ k → k < free + 1 → at m2.slots k ≡ at m1.slots k) → at m2.slots (operand_slot names (writes_no_variable right) left free) ≡ first.0
 left_stays port names left right free store slots first second m1 m2 closed ready is stands holds kept =
-    by_place (stands_at names (changes_none right) left) (λ slot at_slot. stays_slot names (changes_none right) left slot at_slot) stands.value
+    by_place (stands_at names (writes_no_variable right) left) (λ slot at_slot. stays_slot names (writes_no_variable right) left slot at_slot) stands.value
   where
-    by_place : (o : Option ℕ) → ((slot : ℕ) → o ≡ Some slot → (changes_none right ≡ true) × (variable_slot names left ≡ Some slot)) → at m1.slots (unwrap_or o free) ≡ first.0 → at m2.slots (unwrap_or o free) ≡ first.0
+    by_place : (o : Option ℕ) → ((slot : ℕ) → o ≡ Some slot → (writes_no_variable right ≡ true) × (variable_slot names left ≡ Some slot)) → at m1.slots (unwrap_or o free) ≡ first.0 → at m2.slots (unwrap_or o free) ≡ first.0
     by_place None place value =
         let above = ready.above in
         kept free above (omega arith) ∙ value
@@ -118,7 +119,7 @@ left_stays port names left right free store slots first second m1 m2 closed read
 -- an operator between operands that are both evaluated
 strict_runs : (port : Port) (operator : BinaryOperator) → Strict operator → (left right : tree.Expr) → Runs port left → Runs port right → Runs port (tree.Binary operator left right)
 strict_runs port operator strict left right run_left run_right names into free store slots closed ready room =
-    let stays = changes_none right in
+    let stays = writes_no_variable right in
     let a = operand_nodes names stays left free in
     let b = operand_nodes names true right (free + 1) in
     let at_left = operand_slot names stays left free in
@@ -139,12 +140,12 @@ strict_runs port operator strict left right run_left run_right names into free s
     let roomy = ready.roomy in
     let ready1 : Ready names (free + 1) first.1 m1.slots = record { names_are = stands1.names_are; holds = stands1.holds; above = omega arith; roomy = omega arith } in
     let room_b1 : nodes_room b ≤ length m1.slots = omega arith in
-    let steps_are : nodes_done port (before b (one last)) m1 ≡ then_do (nodes_done port b (machine_at m1.slots first.1)) (step_done port last) = then_last port b last m1 ∙ ap (λ m. then_do (nodes_done port b m) (step_done port last)) (machine_is m1 first.1 stands1.traffic) in
+    let steps_are : nodes_done port (before b (one last)) m1 ≡ then_do (nodes_done port b (machine_at m1.slots first.1)) (inst_done port last) = then_last port b last m1 ∙ ap (λ m. then_do (nodes_done port b m) (inst_done port last)) (machine_is m1 first.1 stands1.traffic) in
     subst (λ r. goal_is r (nodes_done port (before b (one last)) m1)) (sym (strict.value first (value_of port right)))
     (subst (goal_is (then_do (value_of port right first.1) (meant_last first.0))) (sym steps_are)
-    (then_related (StandsAt names at_right (free + 1) m1.slots) (Arrives names into free slots) (value_of port right first.1) (nodes_done port b (machine_at m1.slots first.1)) (meant_last first.0) (step_done port last) (operand_runs port right run_right names true (free + 1) first.1 m1.slots closed.1 ready1 room_b1) (λ second m2 is_second stands2.
+    (then_related (StandsAt names at_right (free + 1) m1.slots) (Arrives names into free slots) (value_of port right first.1) (nodes_done port b (machine_at m1.slots first.1)) (meant_last first.0) (inst_done port last) (operand_runs port right run_right names true (free + 1) first.1 m1.slots closed.1 ready1 room_b1) (λ second m2 is_second stands2.
     let value1 = left_stays port names left right free store slots first second m1 m2 closed.0 ready is_second stands1 stands2.holds stands2.kept in
-    let done_is : step_done port last m2 ≡ then_do (binary_value operator first.0 second.0) (λ value. Ok (slot_written m2 into value)) =
+    let done_is : inst_done port last m2 ≡ then_do (binary_value operator first.0 second.0) (λ value. Ok (slot_written m2 into value)) =
     binary_step_done port operator into at_left at_right m2
     ∙ ap (λ v. then_do (binary_value operator v (slot_value m2 at_right)) (λ value. Ok (slot_written m2 into value))) value1
     ∙ ap (λ v. then_do (binary_value operator first.0 v) (λ value. Ok (slot_written m2 into value))) stands2.value in
@@ -161,7 +162,7 @@ unary_runs port operator operand run names into free store slots closed ready ro
     let meant_last : ℤ × Store → Result (ℤ × Store) Cause = λ right. Ok (unary_value operator right.0, right.1) in
     let goal_is : Result (ℤ × Store) Cause → Result Machine Cause → Type 0 = Related (Arrives names into free slots) in
     subst (goal_is (then_do (value_of port operand store) meant_last)) (sym (then_last port a last (machine_at slots store)))
-    (then_related (StandsAt names from free slots) (Arrives names into free slots) (value_of port operand store) (nodes_done port a (machine_at slots store)) meant_last (step_done port last) (operand_runs port operand run names true free store slots closed ready room_a) (λ given m is stands.
+    (then_related (StandsAt names from free slots) (Arrives names into free slots) (value_of port operand store) (nodes_done port a (machine_at slots store)) meant_last (inst_done port last) (operand_runs port operand run names true free store slots closed ready room_a) (λ given m is stands.
     subst (goal_is (meant_last given)) (sym (unary_step_done port operator into from m))
     (unary_arrives names operator into from free slots given m stands)))
 
@@ -175,8 +176,8 @@ peek_runs port index run names into free store slots closed ready room =
     let meant_last : ℤ × Store → Result (ℤ × Store) Cause = λ place. then_do (peeked_from port place.0 place.1.traffic) (λ item. Ok (item, place.1)) in
     let goal_is : Result (ℤ × Store) Cause → Result Machine Cause → Type 0 = Related (Arrives names into free slots) in
     subst (goal_is (then_do (value_of port index store) meant_last)) (sym (then_last port a last (machine_at slots store)))
-    (then_related (StandsAt names from free slots) (Arrives names into free slots) (value_of port index store) (nodes_done port a (machine_at slots store)) meant_last (step_done port last) (operand_runs port index run names true free store slots closed ready room_a) (λ given m is stands.
-    let done_is : step_done port last m ≡ then_do (peeked_from port given.0 given.1.traffic) (λ item. Ok (slot_written m into item)) =
+    (then_related (StandsAt names from free slots) (Arrives names into free slots) (value_of port index store) (nodes_done port a (machine_at slots store)) meant_last (inst_done port last) (operand_runs port index run names true free store slots closed ready room_a) (λ given m is stands.
+    let done_is : inst_done port last m ≡ then_do (peeked_from port given.0 given.1.traffic) (λ item. Ok (slot_written m into item)) =
     ap (λ v. then_do (peeked_from port v m.traffic) (λ item. Ok (slot_written m into item))) stands.value
     ∙ ap (λ t. then_do (peeked_from port given.0 t) (λ item. Ok (slot_written m into item))) stands.traffic in
     subst (goal_is (meant_last given)) (sym done_is)

@@ -3,23 +3,24 @@ use Rattle.std.proofs.Common.{◌≡◌, ◌≢◌, ℕ, ◌+◌, ◌<◌, ◌�
 use Rattle.std.specs.Prelude.{unwrap_or, if◌then◌else◌}
 use Rattle.std.proofs.lemmas.List.{get_or-set_same, get_or-set_other, length-set}
 use Rattle.std.proofs.lemmas.Bool.{false≢true}
-use Rattle.strc_parse.specs.Tree as tree
-use Rattle.strc_parse.specs.declared.tree.UnaryOperator.{UnaryOperator}
-use Rattle.strc_parse.specs.declared.tree.UnaryOperator.TheVariants as unary
-use Rattle.strc_parse.specs.declared.tree.BinaryOperator.{BinaryOperator}
-use Rattle.strc_parse.specs.declared.tree.BinaryOperator.TheVariants as binary
-use Rattle.strc_parse.specs.declared.tree.StepOperator.{StepOperator}
-use Rattle.strc_parse.specs.declared.tree.StepOperator.TheVariants as step
-use Rattle.strc_work.specs.declared.fault.Cause.{Cause}
-use Rattle.strc_work.specs.declared.step.Step.TheVariants as act
-use Rattle.strc_work.specs.Arithmetic.{unary_value, binary_value, is_true}
-use Rattle.strc_work.specs.Scoping.{Scope, total, slot_of, size_of}
-use Rattle.strc_work.specs.Closed.{IsNamed, IsClosed}
-use Rattle.strc_work.specs.Firing.{Port, Variables, Store, Traffic, then_do, cells_named, cell_in, value_in, place_in, tested_place, place_of, joined, value_of, popped_from, peeked_from}
-use Rattle.strc_work.specs.Machine.{Machine, Nodes, End, Choice, before, nodes_done, step_room, nodes_room}
-use Rattle.strc_work.specs.Lowering.{variable_slot, changes_none, stands_at, unless_there, one, unary_step, binary_step, step_nodes, element_step_nodes, binary_nodes, expr_nodes, operand_slot, operand_nodes}
+use Rattle.strc_syntax.specs.Tree as tree
+use Rattle.strc_syntax.specs.declared.tree.UnaryOperator.{UnaryOperator}
+use Rattle.strc_syntax.specs.declared.tree.UnaryOperator.TheVariants as unary
+use Rattle.strc_syntax.specs.declared.tree.BinaryOperator.{BinaryOperator}
+use Rattle.strc_syntax.specs.declared.tree.BinaryOperator.TheVariants as binary
+use Rattle.strc_syntax.specs.declared.tree.StepOperator.{StepOperator}
+use Rattle.strc_syntax.specs.declared.tree.StepOperator.TheVariants as step
+use Rattle.strc_semantics.specs.declared.fault.Cause.{Cause}
+use Rattle.strc_machine.specs.declared.inst.Inst.TheVariants as act
+use Rattle.strc_semantics.specs.Arithmetic.{unary_value, binary_value, is_true}
+use Rattle.strc_semantics.specs.Scoping.{Scope, total, slot_of, size_of}
+use Rattle.strc_semantics.specs.Closed.{IsNamed, IsClosed}
+use Rattle.strc_semantics.specs.Firing.{Port, Variables, Store, Traffic, then_do, cells_named, cell_in, value_in, place_in, tested_place, place_of, joined, value_of, popped_from, peeked_from}
+use Rattle.strc_machine.specs.Machine.{Machine, Nodes, End, Choice, before, nodes_done, inst_room, nodes_room}
+use Rattle.strc_work.specs.Lowering.{variable_slot, writes_no_variable, stands_at, unless_there, one, unary_step, binary_step, step_nodes, element_step_nodes, binary_nodes, expr_nodes, operand_slot, operand_nodes}
 use Rattle.strc_work.proofs.Variables.{scope_of, at, Holds, Holds-set_above, slot_of-below, slot_of-value, size_of-some, size_of-is}
-use Rattle.strc_work.proofs.Related.{Related, weaker_related, nodes_room-before}
+use Rattle.strc_work.proofs.Related.{Related, weaker_related}
+use Rattle.strc_machine.proofs.Spelled.{nodes_room-before}
 
 -- the machine stands where the store is, with the value about to be written into a slot; the slots from `total names` up to `free` are kept
 pub record Arrives (names : Scope) (into free : ℕ) (before : List ℤ) (given : ℤ × Store) (after : Machine) : Type 0 where
@@ -218,7 +219,7 @@ element_keeps variables name (Ok given) h =
     element_by_place variables name given (place_in (length (cells_named given.1.variables name)) given.0) h
 element_keeps variables name (Err cause) h = tt
 
-pub keeps : (port : Port) (e : tree.Expr) → changes_none e ≡ true → (store : Store) → Keeps store.variables (value_of port e store)
+pub keeps : (port : Port) (e : tree.Expr) → writes_no_variable e ≡ true → (store : Store) → Keeps store.variables (value_of port e store)
 keeps port (tree.Number value) none store = refl
 keeps port (tree.Truth value) none store = refl
 keeps port (tree.Read name) none store = refl
@@ -228,8 +229,8 @@ keeps port (tree.Peek index) none store =
     peek_keeps port store.variables (value_of port index store) (keeps port index none store)
 keeps port (tree.StepElement operator name index) none store = absurd (false≢true none)
 keeps port (tree.Conditional condition chosen other) none store =
-    let both = both_true (changes_none condition) (changes_none chosen && changes_none other) none in
-    let sides = both_true (changes_none chosen) (changes_none other) both.1 in
+    let both = both_true (writes_no_variable condition) (writes_no_variable chosen && writes_no_variable other) none in
+    let sides = both_true (writes_no_variable chosen) (writes_no_variable other) both.1 in
     test_keeps store.variables (value_of port chosen) (value_of port other) (value_of port condition store) (keeps port condition both.0 store) (keeps port chosen sides.0) (keeps port other sides.1)
 keeps port tree.Pop none store = popped_keeps store (popped_from port store.traffic)
 keeps port (tree.Group inner) none store = keeps port inner none store
@@ -237,16 +238,16 @@ keeps port (tree.Unary operator operand) none store =
     unary_keeps store.variables operator (value_of port operand store) (keeps port operand none store)
 keeps port (tree.Step operator name) none store = absurd (false≢true none)
 keeps port (tree.Binary operator left right) none store =
-    let both = both_true (changes_none left) (changes_none right) none in
+    let both = both_true (writes_no_variable left) (writes_no_variable right) none in
     left_keeps port store.variables operator right (value_of port left store) (keeps port right both.1) (keeps port left both.0 store)
 
 -- the slot that an expression's code writes is one of those that it needs
-pub unary_room : (operator : UnaryOperator) (into from : ℕ) → into + 1 ≤ step_room (unary_step operator into from)
+pub unary_room : (operator : UnaryOperator) (into from : ℕ) → into + 1 ≤ inst_room (unary_step operator into from)
 unary_room unary.Negate into from = omega arith
 unary_room unary.Not into from = omega arith
 unary_room unary.Complement into from = omega arith
 
-pub binary_room : (operator : BinaryOperator) (into left right : ℕ) → into + 1 ≤ step_room (binary_step operator into left right)
+pub binary_room : (operator : BinaryOperator) (into left right : ℕ) → into + 1 ≤ inst_room (binary_step operator into left right)
 binary_room binary.LogicalOr into left right = omega arith
 binary_room binary.LogicalAnd into left right = omega arith
 binary_room binary.Equal into left right = omega arith
@@ -305,9 +306,9 @@ expr_room names (tree.StepElement operator name index) into free closed =
     omega (arith, nodes_room-before (unless_there (variable_slot names index) (expr_nodes names index free (free + 1))) last)
 expr_room names (tree.Binary operator left right) into free closed =
     binary_nodes_room operator (expr_nodes names left free (free + 1)) (expr_nodes names right free (free + 1))
-    (unless_there (stands_at names (changes_none right) left) (expr_nodes names left free (free + 1)))
+    (unless_there (stands_at names (writes_no_variable right) left) (expr_nodes names left free (free + 1)))
     (unless_there (variable_slot names right) (expr_nodes names right (free + 1) (free + 1 + 1)))
-    into free (unwrap_or (stands_at names (changes_none right) left) free) (unwrap_or (variable_slot names right) (free + 1))
+    into free (unwrap_or (stands_at names (writes_no_variable right) left) free) (unwrap_or (variable_slot names right) (free + 1))
 expr_room names (tree.Conditional condition chosen other) into free closed =
     let a = unless_there (variable_slot names condition) (expr_nodes names condition free (free + 1)) in
     let slot = unwrap_or (variable_slot names condition) free in

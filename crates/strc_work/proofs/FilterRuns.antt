@@ -2,18 +2,19 @@
 use Rattle.std.proofs.Common.{◌≡◌, ℕ, ◌+◌, ◌-◌, ◌<◌, ◌≤◌, ℤ, pos, List, [], ◌∷◌, ◌++◌, length, take, drop, reverse, replicate, Option, Some, None, Result, Ok, refl, sym, ap, ◌∙◌, subst, arith, append_assoc}
 use Rattle.std.specs.Prelude.{unwrap_or}
 use Rattle.std.proofs.lemmas.List.{reverse-append, append-nil, length-take-le, length-drop, get_or-take, get_or-drop, get_or-replicate, length-replicate}
-use Rattle.strc_parse.specs.Tree as tree
-use Rattle.strc_work.specs.declared.fault.Cause.{Cause}
-use Rattle.strc_work.specs.declared.code.Body.{Body}
-use Rattle.strc_work.specs.declared.code.Body.TheVariants as body
-use Rattle.strc_work.specs.Filters.{Filter, sized_all, sized_fields, work_block, prework_block, body_block}
-use Rattle.strc_work.specs.Scoping.{Scope, cells_of, total, slot_of}
-use Rattle.strc_work.specs.Closed.{IsNamed, IsClosedInitial, AreClosedFields, AreClosed, AreClosedMembers, IsClosedFilter}
-use Rattle.strc_work.specs.Firing.{Variables, Store, Traffic, then_do, value_of, assigned, block_left, inside, stmts_done, bound_onto, no_traffic, store_at, field_values, shut, initial_given, fields_started, members_started, inits_done, started, Fired, port_of, fired}
-use Rattle.strc_work.specs.Machine.{Machine, nodes_done, nodes_room}
+use Rattle.strc_syntax.specs.Tree as tree
+use Rattle.strc_semantics.specs.declared.fault.Cause.{Cause}
+use Rattle.strc_semantics.specs.declared.body.Body.{Body}
+use Rattle.strc_semantics.specs.declared.body.Body.TheVariants as body
+use Rattle.strc_semantics.specs.Filters.{Filter, sized_all, sized_fields, work_block, prework_block, body_block}
+use Rattle.strc_semantics.specs.Scoping.{Scope, cells_of, total, slot_of}
+use Rattle.strc_semantics.specs.Closed.{IsNamed, IsClosedInitial, AreClosedFields, AreClosed, AreClosedMembers, IsClosedFilter}
+use Rattle.strc_semantics.specs.Firing.{Variables, Store, Traffic, then_do, value_of, assigned, block_left, inside, stmts_done, bound_onto, no_traffic, store_at, field_values, shut, initial_given, fields_started, members_started, inits_done, started, Fired, port_of, fired}
+use Rattle.strc_machine.specs.Machine.{Machine, nodes_done, nodes_room}
 use Rattle.strc_work.specs.Lowering.{stmts_nodes, field_scope, field_nodes, fields_nodes, initials_nodes, inits_nodes, start_nodes, body_nodes, slot_count}
 use Rattle.strc_work.proofs.Variables.{scope_of, at, Holds, values-Holds}
-use Rattle.strc_work.proofs.Related.{Related, then_related, map_related, nodes_done-before, nodes_room-before}
+use Rattle.strc_work.proofs.Related.{Related, then_related, map_related, nodes_done-before}
+use Rattle.strc_machine.proofs.Spelled.{nodes_room-before}
 use Rattle.strc_work.proofs.Expressions.{Arrives, Ready, machine_at}
 use Rattle.strc_work.proofs.ExpressionRuns.{expr_runs}
 use Rattle.strc_work.proofs.Reaching.{Reaches, ReachesOn, empty_reaches, left_reaches, go_on}

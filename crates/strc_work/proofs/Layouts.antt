@@ -4,10 +4,10 @@ use Rattle.std.specs.Prelude.{bytes_eq}
 use Rattle.std.proofs.Math.ListN.{get_or-append}
 use Rattle.std.proofs.Math.Seq.{get_or-append_seam}
 use Rattle.std.proofs.lemmas.List.{length-reverse, reverse-append, reverse-reverse, take_all}
-use Rattle.strc_work.proofs.Scopes.{number_named-below, reverse-take_of, reverse-take_more}
+use Rattle.strc_base.proofs.Scopes.{number_named-below, reverse-take_of, reverse-take_more}
 use Rattle.strc_work.specs.declared.layout.Place.{Place}
-use Rattle.strc_work.specs.Names.{number_named}
-use Rattle.strc_work.specs.Scoping.{total, slot_named, size_named}
+use Rattle.strc_base.specs.Names.{number_named}
+use Rattle.strc_semantics.specs.Scoping.{total, slot_named, size_named}
 use Rattle.strc_work.specs.Layouts.{with_cells, AreLaid}
 
 pub same_length : (names : List (List ℕ)) (places : List Place) → AreLaid names places → length places ≡ length names

@@ -1,19 +1,4 @@
-pub mod Wrapping
-pub mod Tables
-pub mod Scopes
-pub mod Numbered
 pub mod Layouts
-pub mod Growth
-pub mod TypedGrowth
-pub mod Blocks
-pub mod Members
-pub mod Spelled
-pub mod Nodes
-pub mod Turns
-pub mod Runs
-pub mod Flattening
-pub mod Built
-pub mod Resolved
 pub mod Variables
 pub mod Related
 pub mod Expressions
@@ -29,6 +14,3 @@ pub mod Emitted
 pub mod Prework
 pub mod Printing
 pub mod Answering
-pub mod Resolving
-pub mod ConstantValues
-pub mod FixedRates

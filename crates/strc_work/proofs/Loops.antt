@@ -1,16 +1,17 @@
 -- Choices between statements, and loops.
 use Rattle.std.proofs.Common.{◌≡◌, ℕ, zero, suc, ◌<◌, ◌≤◌, Bool, true, false, cond, ℤ, pos, List, length, set, Option, Some, None, Result, Ok, Err, refl, sym, ap, subst, arith}
 use Rattle.std.proofs.lemmas.List.{get_or-set_same, length-set}
-use Rattle.strc_parse.specs.Tree as tree
-use Rattle.strc_work.specs.declared.fault.Cause.{Cause}
-use Rattle.strc_work.specs.Arithmetic.{is_true}
-use Rattle.strc_work.specs.Scoping.{Scope, total}
-use Rattle.strc_work.specs.Closed.{IsClosed, IsClosedInitial}
-use Rattle.strc_work.specs.Firing.{Port, Store, Traffic, then_do, value_of, one_more_turn, turned, turn_limit, looped, condition_value}
-use Rattle.strc_work.specs.Machine.{Machine, Nodes, End, Choice, Loop, before, slot_value, turned_on, chosen_by, cycled, nodes_done, nodes_room}
+use Rattle.strc_syntax.specs.Tree as tree
+use Rattle.strc_semantics.specs.declared.fault.Cause.{Cause}
+use Rattle.strc_semantics.specs.Arithmetic.{is_true}
+use Rattle.strc_semantics.specs.Scoping.{Scope, total}
+use Rattle.strc_semantics.specs.Closed.{IsClosed, IsClosedInitial}
+use Rattle.strc_semantics.specs.Firing.{Port, Store, Traffic, then_do, value_of, one_more_turn, turned, turn_limit, looped, condition_value}
+use Rattle.strc_machine.specs.Machine.{Machine, Nodes, End, Choice, Loop, before, slot_value, turned_on, chosen_by, cycled, nodes_done, nodes_room}
 use Rattle.strc_work.specs.Lowering.{operand_slot, operand_nodes, condition_nodes, condition_slot}
 use Rattle.strc_work.proofs.Variables.{scope_of, Holds-set_above}
-use Rattle.strc_work.proofs.Related.{Related, then_related, weaker_related, chosen_related, nodes_done-before, nodes_room-before, then_end}
+use Rattle.strc_work.proofs.Related.{Related, then_related, weaker_related, chosen_related, nodes_done-before, then_end}
+use Rattle.strc_machine.proofs.Spelled.{nodes_room-before}
 use Rattle.strc_work.proofs.Expressions.{StandsAt, Ready, machine_at, operand_runs, total-variables}
 use Rattle.strc_work.proofs.ExpressionRuns.{expr_runs}
 use Rattle.strc_work.proofs.Reaching.{Reaches, stands_reach}

@@ -1,9 +1,9 @@
 -- Filters without a prework.
 use Rattle.std.proofs.Common.{◌≡◌, false, List, [], ◌∷◌, Option, Some, None, refl, ◌∙◌}
 use Rattle.std.specs.Prelude.{is_some, unwrap_or}
-use Rattle.strc_parse.specs.Tree as tree
-use Rattle.strc_work.specs.declared.code.Body.TheVariants as body
-use Rattle.strc_work.specs.Filters.{work_block, work_rates, prework_block, prework_rates, body_block, body_rates}
+use Rattle.strc_syntax.specs.Tree as tree
+use Rattle.strc_semantics.specs.declared.body.Body.TheVariants as body
+use Rattle.strc_semantics.specs.Filters.{work_block, work_rates, prework_block, prework_rates, body_block, body_rates}
 
 none_or : {X : Type 0} (o : Option X) (other : X) → is_some o ≡ false → unwrap_or o other ≡ other
 none_or (Some x) other e = absurd (cc)

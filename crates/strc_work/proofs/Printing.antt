@@ -1,28 +1,28 @@
 -- The code of a text prints just where it does.
 use Rattle.std.proofs.Common.{◌≡◌, ℕ, zero, suc, ◌+◌, Bool, true, false, ◌||◌, List, [], ◌∷◌, Option, Some, None, Result, Ok, Err, refl, sym, ap, ◌∙◌}
 use Rattle.std.specs.Prelude.{unwrap_or}
-use Rattle.strc_parse.specs.Tree as tree
-use Rattle.strc_parse.specs.declared.tree.UnaryOperator.{UnaryOperator}
-use Rattle.strc_parse.specs.declared.tree.UnaryOperator.TheVariants as unary
-use Rattle.strc_parse.specs.declared.tree.BinaryOperator.{BinaryOperator}
-use Rattle.strc_parse.specs.declared.tree.BinaryOperator.TheVariants as binary
-use Rattle.strc_parse.specs.declared.tree.AssignOperator.{AssignOperator}
-use Rattle.strc_parse.specs.declared.tree.AssignOperator.TheVariants as assign
-use Rattle.strc_parse.specs.declared.tree.StepOperator.{StepOperator}
-use Rattle.strc_parse.specs.declared.tree.StepOperator.TheVariants as step
-use Rattle.strc_work.specs.declared.step.Step.{Step}
-use Rattle.strc_work.specs.declared.step.Step.TheVariants as act
-use Rattle.strc_work.specs.declared.code.Body.{Body}
-use Rattle.strc_work.specs.declared.code.Body.TheVariants as body
-use Rattle.strc_work.specs.declared.fault.Halt.{Halt}
-use Rattle.strc_work.specs.declared.fault.Halt.TheVariants as halt
-use Rattle.strc_work.specs.Running.{WantsOnlyWords}
-use Rattle.strc_work.specs.Filters.{Filter, stmt_prints, stmts_print, work_block, body_block, filter_prints}
-use Rattle.strc_work.specs.Firing.{assigned_value}
-use Rattle.strc_work.specs.Scoping.{Scope, cells_of, total, slot_of, size_of, names_after}
-use Rattle.strc_work.specs.Machine.{Nodes, End, Act, Choice, Loop, before, step_prints, nodes_print}
-use Rattle.strc_work.specs.Lowering.{unless_there, variable_slot, stands_at, changes_none, one, unary_step, binary_step, step_nodes, element_step_nodes, binary_nodes, expr_nodes, operand_slot, operand_nodes, evaluation_nodes, used_nodes, compound_nodes, element_nodes, initial_nodes, variables_nodes, condition_nodes, condition_slot, stmt_nodes, stmts_nodes, body_nodes, field_scope}
-use Rattle.strc_work.specs.Closed.{IsClosedStmt, AreClosed, IsClosedFilter}
+use Rattle.strc_syntax.specs.Tree as tree
+use Rattle.strc_syntax.specs.declared.tree.UnaryOperator.{UnaryOperator}
+use Rattle.strc_syntax.specs.declared.tree.UnaryOperator.TheVariants as unary
+use Rattle.strc_syntax.specs.declared.tree.BinaryOperator.{BinaryOperator}
+use Rattle.strc_syntax.specs.declared.tree.BinaryOperator.TheVariants as binary
+use Rattle.strc_syntax.specs.declared.tree.AssignOperator.{AssignOperator}
+use Rattle.strc_syntax.specs.declared.tree.AssignOperator.TheVariants as assign
+use Rattle.strc_syntax.specs.declared.tree.StepOperator.{StepOperator}
+use Rattle.strc_syntax.specs.declared.tree.StepOperator.TheVariants as step
+use Rattle.strc_machine.specs.declared.inst.Inst.{Inst}
+use Rattle.strc_machine.specs.declared.inst.Inst.TheVariants as act
+use Rattle.strc_semantics.specs.declared.body.Body.{Body}
+use Rattle.strc_semantics.specs.declared.body.Body.TheVariants as body
+use Rattle.strc_semantics.specs.declared.fault.Halt.{Halt}
+use Rattle.strc_semantics.specs.declared.fault.Halt.TheVariants as halt
+use Rattle.strc_machine.specs.Running.{WantsOnlyWords}
+use Rattle.strc_semantics.specs.Filters.{Filter, stmt_prints, stmts_print, work_block, body_block, filter_prints}
+use Rattle.strc_semantics.specs.Firing.{assigned_value}
+use Rattle.strc_semantics.specs.Scoping.{Scope, cells_of, total, slot_of, size_of, names_after}
+use Rattle.strc_machine.specs.Machine.{Nodes, End, Act, Choice, Loop, before, inst_prints, nodes_print}
+use Rattle.strc_work.specs.Lowering.{unless_there, variable_slot, stands_at, writes_no_variable, one, unary_step, binary_step, step_nodes, element_step_nodes, binary_nodes, expr_nodes, operand_slot, operand_nodes, evaluation_nodes, used_nodes, compound_nodes, element_nodes, initial_nodes, variables_nodes, condition_nodes, condition_slot, stmt_nodes, stmts_nodes, body_nodes, field_scope}
+use Rattle.strc_semantics.specs.Closed.{IsClosedStmt, AreClosed, IsClosedFilter}
 use Rattle.strc_work.proofs.Expressions.{by_operator}
 use Rattle.strc_work.proofs.FilterRuns.{body_closed}
 
@@ -70,7 +70,7 @@ or_turned false false = refl
 nodes_print-before : (a b : Nodes) → nodes_print (before a b) ≡ nodes_print a || nodes_print b
 nodes_print-before End b = refl
 nodes_print-before (Act first rest) b =
-    or_by_result (step_prints first) (nodes_print rest) (nodes_print b) (nodes_print (before rest b)) (nodes_print-before rest b)
+    or_by_result (inst_prints first) (nodes_print rest) (nodes_print b) (nodes_print (before rest b)) (nodes_print-before rest b)
 nodes_print-before (Choice slot chosen other rest) b =
     three_or (nodes_print chosen) (nodes_print other) (nodes_print rest) (nodes_print b) (nodes_print (before rest b)) (nodes_print-before rest b)
 nodes_print-before (Loop condition slot body rest) b =
@@ -151,7 +151,7 @@ expr_silent names (tree.StepElement operator name index) into free =
     let a = expr_nodes names index free (free + 1) in
     silent-before (unless_there o a) (element_step_nodes operator (slot_of names name) (size_of names name) (unwrap_or o free) into (free + 1)) (unless_there_silent o a (expr_silent names index free (free + 1)))
 expr_silent names (tree.Binary operator left right) into free =
-    let o = stands_at names (changes_none right) left in
+    let o = stands_at names (writes_no_variable right) left in
     let p = variable_slot names right in
     let a = expr_nodes names left free (free + 1) in
     let b = expr_nodes names right (free + 1) (free + 1 + 1) in
@@ -180,7 +180,7 @@ condition_silent : (names : Scope) (condition : Option tree.Expr) → nodes_prin
 condition_silent names None = refl
 condition_silent names (Some condition) = operand_silent names true condition (total names)
 
-used_print : (names : Scope) (e : tree.Expr) (last : ℕ → Step) → nodes_print (used_nodes names e last) ≡ nodes_print (one (last (operand_slot names true e (total names))))
+used_print : (names : Scope) (e : tree.Expr) (last : ℕ → Inst) → nodes_print (used_nodes names e last) ≡ nodes_print (one (last (operand_slot names true e (total names))))
 used_print names e last =
     silent-before (operand_nodes names true e (total names)) (one (last (operand_slot names true e (total names)))) (operand_silent names true e (total names))
 
@@ -236,7 +236,7 @@ mutual
   stmt_print names (tree.Evaluate value) closed = evaluation_silent names value
   stmt_print names (tree.Assign name operator value) closed = expr_silent names (assigned_value name operator value) (slot_of names name) (total names)
   stmt_print names (tree.AssignElement name index operator value) closed =
-      let stays = changes_none value in
+      let stays = writes_no_variable value in
       let from = operand_slot names stays index (total names) in
       silent-before (operand_nodes names stays index (total names)) (element_nodes names name from operator value (total names + 1)) (operand_silent names stays index (total names))
       ∙ element_silent names name from operator value (total names + 1)
@@ -296,7 +296,7 @@ body_prints body.Prework filter closed prints =
 body_prints body.Work filter closed prints =
     ap (λ t. t || stmts_print (body_block body.Prework filter.members)) (sym (body_print body.Work filter closed) ∙ prints)
 
--- want of memory at code that prints where other code does
+-- out of memory at code that prints where other code does
 wants_also : (prints prints' : Bool) → (prints ≡ true → prints' ≡ true) → (result : Result (Unit {0}) Halt) → WantsOnlyWords prints result → WantsOnlyWords prints' result
 wants_also prints prints' more (Ok done) wants = tt
 wants_also prints prints' more (Err (halt.Fault cause)) wants = tt

@@ -1,14 +1,14 @@
 -- Where code leads: a machine that stands where a store is.
 use Rattle.std.proofs.Common.{◌≡◌, ℕ, ◌-◌, ◌≤◌, ℤ, List, ◌++◌, length, drop, Result, refl, sym, ap, ◌∙◌, subst, arith, append_assoc}
 use Rattle.std.proofs.lemmas.List.{drop-map}
-use Rattle.strc_parse.specs.Tree as tree
-use Rattle.strc_work.specs.declared.fault.Cause.{Cause}
-use Rattle.strc_work.specs.Scoping.{Scope, total, names_after}
-use Rattle.strc_work.specs.Closed.{IsClosedStmt, AreClosed}
-use Rattle.strc_work.specs.Firing.{Port, Variables, Store, block_left, inside, stmt_done, stmts_done}
-use Rattle.strc_work.specs.Machine.{Machine, Nodes, nodes_done, nodes_room}
+use Rattle.strc_syntax.specs.Tree as tree
+use Rattle.strc_semantics.specs.declared.fault.Cause.{Cause}
+use Rattle.strc_semantics.specs.Scoping.{Scope, total, names_after}
+use Rattle.strc_semantics.specs.Closed.{IsClosedStmt, AreClosed}
+use Rattle.strc_semantics.specs.Firing.{Port, Variables, Store, block_left, inside, stmt_done, stmts_done}
+use Rattle.strc_machine.specs.Machine.{Machine, Nodes, nodes_done, nodes_room}
 use Rattle.strc_work.specs.Lowering.{stmt_nodes, stmts_nodes}
-use Rattle.strc_work.proofs.Growth.{StandsOn, stands_on_itself, stands_on_after, drop_inner}
+use Rattle.strc_semantics.proofs.Growth.{StandsOn, stands_on_itself, stands_on_after, drop_inner}
 use Rattle.strc_work.proofs.Variables.{scope_of, Holds, Holds-drop, length-scope_of}
 use Rattle.strc_work.proofs.Related.{Related, weaker_related, map_related}
 use Rattle.strc_work.proofs.Expressions.{StandsAt, Ready, machine_at}

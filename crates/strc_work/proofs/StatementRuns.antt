@@ -1,19 +1,20 @@
 -- Each statement's code does what it means.
 use Rattle.std.proofs.Common.{◌≡◌, ℕ, suc, ◌+◌, ◌≤◌, Bool, true, false, ℤ, pos, negsuc, List, length, Option, Some, Result, Ok, Err, refl, sym, ap, ◌∙◌, subst, arith}
 use Rattle.std.proofs.lemmas.List.{length-set}
-use Rattle.strc_parse.specs.Tree as tree
-use Rattle.strc_parse.specs.declared.tree.StepOperator.TheVariants as step
-use Rattle.strc_work.specs.declared.fault.Cause.{Cause}
-use Rattle.strc_work.specs.declared.step.Step.{Step}
-use Rattle.strc_work.specs.declared.step.Step.TheVariants as act
-use Rattle.strc_work.specs.Scoping.{Scope, cells_of, total, slot_of, names_after}
-use Rattle.strc_work.specs.Closed.{IsClosed, IsClosedStmt}
-use Rattle.strc_work.specs.Firing.{Port, Store, Traffic, then_do, value_of, pushed_to, printed, assigned, assigned_value, turn_limit, looped, condition_value, inside, block_left, stmt_done, stmts_done}
-use Rattle.strc_work.specs.Machine.{Machine, End, Choice, Loop, before, slot_value, step_done, nodes_done, nodes_room}
+use Rattle.strc_syntax.specs.Tree as tree
+use Rattle.strc_syntax.specs.declared.tree.StepOperator.TheVariants as step
+use Rattle.strc_semantics.specs.declared.fault.Cause.{Cause}
+use Rattle.strc_machine.specs.declared.inst.Inst.{Inst}
+use Rattle.strc_machine.specs.declared.inst.Inst.TheVariants as act
+use Rattle.strc_semantics.specs.Scoping.{Scope, cells_of, total, slot_of, names_after}
+use Rattle.strc_semantics.specs.Closed.{IsClosed, IsClosedStmt}
+use Rattle.strc_semantics.specs.Firing.{Port, Store, Traffic, then_do, value_of, pushed_to, printed, assigned, assigned_value, turn_limit, looped, condition_value, inside, block_left, stmt_done, stmts_done}
+use Rattle.strc_machine.specs.Machine.{Machine, End, Choice, Loop, before, slot_value, inst_done, nodes_done, nodes_room}
 use Rattle.strc_work.specs.Lowering.{one, expr_nodes, operand_slot, operand_nodes, condition_nodes, condition_slot, stmt_nodes, stmts_nodes, used_nodes}
-use Rattle.strc_work.proofs.Growth.{stands_on_itself}
+use Rattle.strc_semantics.proofs.Growth.{stands_on_itself}
 use Rattle.strc_work.proofs.Variables.{scope_of, Holds, Holds-set_above}
-use Rattle.strc_work.proofs.Related.{Related, then_related, map_related, nodes_done-before, nodes_room-before, then_last}
+use Rattle.strc_work.proofs.Related.{Related, then_related, map_related, nodes_done-before, then_last}
+use Rattle.strc_machine.proofs.Spelled.{nodes_room-before}
 use Rattle.strc_work.proofs.Expressions.{Arrives, StandsAt, Ready, machine_at, operand_runs}
 use Rattle.strc_work.proofs.ExpressionRuns.{expr_runs}
 use Rattle.strc_work.proofs.Reaching.{Reaches, ReachesOn, RunsStmt, RunsStmts, few, empty_reaches, left_reaches, reaches_on, rest_runs, inside_goes_on}
@@ -66,14 +67,14 @@ printed_reaches names slots ends_line slot given after roomy stands = record {
 }
 
 -- a statement that uses an expression's value in a last step
-used_runs : (port : Port) (e : tree.Expr) (last : ℕ → Step) (meant : ℤ × Store → Result Store Cause) (names : Scope) (store : Store) (slots : List ℤ) → IsClosed names e → Ready names (total names) store slots → nodes_room (used_nodes names e last) ≤ length slots → ((given : ℤ × Store) (m : Machine) → StandsAt names (operand_slot names true e (total names)) (total names) slots given m → Related (Reaches names (length slots)) (meant given) (step_done port (last (operand_slot names true e (total names))) m)) → Related (Reaches names (length slots)) (then_do (value_of port e store) meant) (nodes_done port (used_nodes names e last) (machine_at slots store))
+used_runs : (port : Port) (e : tree.Expr) (last : ℕ → Inst) (meant : ℤ × Store → Result Store Cause) (names : Scope) (store : Store) (slots : List ℤ) → IsClosed names e → Ready names (total names) store slots → nodes_room (used_nodes names e last) ≤ length slots → ((given : ℤ × Store) (m : Machine) → StandsAt names (operand_slot names true e (total names)) (total names) slots given m → Related (Reaches names (length slots)) (meant given) (inst_done port (last (operand_slot names true e (total names))) m)) → Related (Reaches names (length slots)) (then_do (value_of port e store) meant) (nodes_done port (used_nodes names e last) (machine_at slots store))
 used_runs port e last meant names store slots closed ready room go =
     let free = total names in
     let a = operand_nodes names true e free in
     let slot = operand_slot names true e free in
     let room_a : nodes_room a ≤ length slots = omega (arith, nodes_room-before a (one (last slot))) in
     subst (Related (Reaches names (length slots)) (then_do (value_of port e store) meant)) (sym (then_last port a (last slot) (machine_at slots store)))
-    (then_related (StandsAt names slot free slots) (Reaches names (length slots)) (value_of port e store) (nodes_done port a (machine_at slots store)) meant (step_done port (last slot)) (operand_runs port e (expr_runs port e) names true free store slots closed ready room_a) (λ given m is stands. go given m stands))
+    (then_related (StandsAt names slot free slots) (Reaches names (length slots)) (value_of port e store) (nodes_done port a (machine_at slots store)) meant (inst_done port (last slot)) (operand_runs port e (expr_runs port e) names true free store slots closed ready room_a) (λ given m is stands. go given m stands))
 
 push_runs : (port : Port) (e : tree.Expr) → RunsStmt port (tree.Push e)
 push_runs port e names store slots closed ready room =
@@ -81,7 +82,7 @@ push_runs port e names store slots closed ready room =
     let slot = operand_slot names true e (total names) in
     let meant : ℤ × Store → Result Store Cause = λ given. then_do (pushed_to port given.0 given.1.traffic) (λ traffic. Ok (record given.1 { traffic = traffic })) in
     used_runs port e act.Push meant names store slots closed ready room (λ given m stands.
-    let done_is : step_done port (act.Push slot) m ≡ then_do (pushed_to port given.0 given.1.traffic) (λ traffic. Ok (record m { traffic = traffic })) =
+    let done_is : inst_done port (act.Push slot) m ≡ then_do (pushed_to port given.0 given.1.traffic) (λ traffic. Ok (record m { traffic = traffic })) =
     ap (λ v. then_do (pushed_to port v m.traffic) (λ traffic. Ok (record m { traffic = traffic }))) stands.value
     ∙ ap (λ t. then_do (pushed_to port given.0 t) (λ traffic. Ok (record m { traffic = traffic }))) stands.traffic in
     subst (Related (Reaches names (length slots)) (meant given)) (sym done_is)

@@ -4,9 +4,9 @@ use Rattle.std.specs.Prelude.{unwrap_or, bytes_eq}
 use Rattle.std.proofs.lemmas.List.{get_or-set_same, get_or-set_other, length-set, length-map, length-drop, length-take-le, get_or-take, get_or-drop, ext_get_or}
 use Rattle.std.proofs.Math.Seq.{take-add}
 use Rattle.std.proofs.lemmas.Bool.{false≢true, cases_lt}
-use Rattle.strc_work.specs.Scoping.{Scope, total, is_declared, slot_named, slot_of, size_named, size_of}
-use Rattle.strc_work.specs.Firing.{Variables, cells_named, with_cell, values_of}
-use Rattle.strc_work.specs.Closed.{IsNamed}
+use Rattle.strc_semantics.specs.Scoping.{Scope, total, is_declared, slot_named, slot_of, size_named, size_of}
+use Rattle.strc_semantics.specs.Firing.{Variables, cells_named, with_cell, values_of}
+use Rattle.strc_semantics.specs.Closed.{IsNamed}
 
 -- the variables with the numbers of their cells
 abbrev pub scope_of : Variables → Scope

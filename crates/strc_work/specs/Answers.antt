@@ -1,13 +1,13 @@
 -- How a firing and a start answer.
 use Rattle.std.specs.Prelude.{◌≡◌, ℤ, List, ◌++◌, Result, Ok, Err}
-use Rattle.strc_work.specs.declared.fault.Cause.{Cause}
-use Rattle.strc_work.specs.declared.fault.Halt.{Halt}
-use Rattle.strc_work.specs.declared.fault.Halt.TheVariants as halt
+use Rattle.strc_semantics.specs.declared.fault.Cause.{Cause}
+use Rattle.strc_semantics.specs.declared.fault.Halt.{Halt}
+use Rattle.strc_semantics.specs.declared.fault.Halt.TheVariants as halt
 use Rattle.strc_work.specs.declared.code.StartError.{StartError}
 use Rattle.strc_work.specs.declared.code.StartError.TheVariants as start
-use Rattle.strc_work.specs.declared.word.Word.{Word}
+use Rattle.strc_semantics.specs.declared.word.Word.{Word}
 use Rattle.strc_work.specs.Kept.{Kept}
-use Rattle.strc_work.specs.Firing.{Fired}
+use Rattle.strc_semantics.specs.Firing.{Fired}
 
 -- a firing gave these values of the fields and these pushes, and its words stand behind those before it
 pub record HasGiven (outcome : Result Fired Cause) (fields pushes : List ℤ) (before after : List Word) : Type 0 where
@@ -15,7 +15,7 @@ pub record HasGiven (outcome : Result Fired Cause) (fields pushes : List ℤ) (b
   pub is : outcome ≡ Ok (record { fields = fields; pushes = pushes; words = words })
   pub printed : after ≡ before ++ words
 
--- an answer tells what a firing gave, or its fault; want of memory tells nothing
+-- an answer tells what a firing gave, or its fault; out of memory tells nothing
 abbrev pub Fires : Result Fired Cause → Result (Unit {0}) Halt → (fields pushes : List ℤ) (before after : List Word) → Type 0
 Fires outcome (Ok done) fields pushes before after = HasGiven outcome fields pushes before after
 Fires outcome (Err (halt.Fault cause)) fields pushes before after = outcome ≡ Err cause

@@ -1,7 +1,7 @@
 -- Variables with the places of their cells.
 use Rattle.std.specs.Prelude.{ℕ, ◌≡◌, ◌+◌, ◌<◌, ◌^◌, List, [], ◌∷◌}
 use Rattle.strc_work.specs.declared.layout.Place.{Place}
-use Rattle.strc_work.specs.Scoping.{Scope, total}
+use Rattle.strc_semantics.specs.Scoping.{Scope, total}
 
 -- names beside the numbers of their cells
 abbrev pub with_cells : List (List ℕ) → List Place → Scope

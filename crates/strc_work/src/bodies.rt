@@ -2,13 +2,13 @@
 
 ghost use Rattle.std.specs.Prelude.{◌≡◌, max, map, is_some};
 ghost use Rattle.std.specs.Option.{option_map};
-ghost use Rattle.strc_parse.specs.View.{expr_view, stmt_view, block_view, rate_view};
-ghost use Rattle.strc_work.specs.Filters as filters;
+ghost use Rattle.strc_syntax.specs.View.{expr_view, stmt_view, block_view, rate_view};
+ghost use Rattle.strc_semantics.specs.Filters as filters;
 ghost use Rattle.strc_work.specs.Lowered as lowered;
 
-use crate::code::Body;
-use crate::frame::Limits;
-use strc_parse::tree::{Expr, Member, RateKind, RateTree, Stmt};
+use strc_machine::io::FiringLimits;
+use strc_semantics::body::Body;
+use strc_syntax::tree::{Expr, Member, RateKind, RateTree, Stmt};
 
 /// Whether there is a prework.
 pub fn has_prework(members: &[Member]) -> bool
@@ -101,14 +101,14 @@ fn prework_block(members: &[Member]) -> Option<&[Stmt]>
 }
 
 /// What a body of these rates may pop, look at and push.
-pub fn limits_of(rates: &[RateTree]) -> Limits
+pub fn limits_of(rates: &[RateTree]) -> FiringLimits
     ensures { result ≡ lowered.limits_of (map rate_view rates.now) }
 {
     let pops = item_count(rate_of(rates, RateKind::Pop));
     let peeks = item_count(peek_rate(rates));
-    Limits {
+    FiringLimits {
         pops,
-        looks: pops.max(peeks),
+        peek: pops.max(peeks),
         pushes: item_count(rate_of(rates, RateKind::Push)),
     }
 }

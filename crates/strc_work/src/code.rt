@@ -1,29 +1,33 @@
 // Lowered code: a filter's tree with its constants put in, and the nodes that mean it.
 
 ghost use Rattle.std.specs.Prelude.{◌≡◌, [], IfOk, is_some};
-ghost use Rattle.strc_parse.specs.View.{block_view};
-ghost use Rattle.strc_work.specs.Filters as filters;
-ghost use Rattle.strc_work.specs.Scoping.{total};
-ghost use Rattle.strc_work.specs.Code.{code_of};
-ghost use Rattle.strc_work.specs.Flat.{IsFlat};
+ghost use Rattle.strc_syntax.specs.View.{block_view};
+ghost use Rattle.strc_semantics.specs.Filters as filters;
+ghost use Rattle.strc_semantics.specs.Scoping.{total};
+ghost use Rattle.strc_machine.specs.Code.{code_of};
+ghost use Rattle.strc_machine.specs.Flat.{IsFlat};
 ghost use Rattle.strc_work.specs.Lowered.{limits_of, first_routine};
 ghost use Rattle.strc_work.specs.StartErrors.{start_error_of};
-ghost use Rattle.strc_work.specs.declared.code.Body.TheVariants as bodied;
+ghost use Rattle.strc_semantics.specs.declared.body.Body.TheVariants as bodied;
 
-use crate::fault::{Cause, Halt};
-use crate::frame::{Frame, Limits, Tape};
-use crate::memory::NoMemory;
-use crate::node::Node;
+use crate::bodies;
+use crate::frame::Frame;
 use crate::state::State;
-use crate::window::Window;
-use crate::word::Word;
-use crate::{bodies, copies, flat, machine};
 use std::alloc::Global;
 use std::marker::Model;
-use strc_parse::tree::{FilterTree, RateKind, Stmt};
+use strc_base::memory::NoMemory;
+use strc_machine::io::{FiringIo, FiringLimits};
+use strc_machine::node::{Node, copy_node};
+use strc_machine::window::Window;
+use strc_machine::{linearize, machine};
+use strc_semantics::body::Body;
+use strc_semantics::fault::{Cause, Halt};
+use strc_semantics::word::Word;
+use strc_syntax::copies;
+use strc_syntax::tree::{FilterTree, RateKind, Stmt};
 
 /// The code of a filter.
-#[derive(Debug, Drop)]
+#[derive(Drop)]
 pub struct Code {
     tree: FilterTree,
     start: Routine,
@@ -34,11 +38,11 @@ pub struct Code {
 }
 
 impl Model for Code {
-    ghost use Rattle.strc_parse.specs.declared.tree.FilterTree.{FilterTree};
+    ghost use Rattle.strc_syntax.specs.declared.tree.FilterTree.{FilterTree};
 
     ghost Value = { FilterTree };
 
-    ghost use Rattle.strc_parse.specs.contracts.tree.FilterTree as filter_tree;
+    ghost use Rattle.strc_syntax.specs.contracts.tree.FilterTree as filter_tree;
 
     ghost coded = { filter_tree.the_row.coded };
 
@@ -50,35 +54,27 @@ impl Model for Code {
 }
 
 /// A body's code, its flat form, which is what is run, and what it may pop, look at and push.
-#[derive(Debug, Drop)]
+#[derive(Drop)]
 pub(crate) struct Routine {
     pub code: Node,
     pub flat: Node,
-    pub limits: Limits,
+    pub limits: FiringLimits,
 }
 
 impl Routine {
     /// The routine of this code.
-    pub(crate) fn new(alloc: Global, code: Node, limits: Limits) -> Result<Routine, NoMemory>
+    pub(crate) fn new(alloc: Global, code: Node, limits: FiringLimits) -> Result<Routine, NoMemory>
         ensures code { IfOk result (λ routine. routine.code ≡ code) }
         ensures flat { IfOk result (λ routine. IsFlat routine.flat (code_of routine.code)) }
         ensures limits { IfOk result (λ routine. routine.limits ≡ limits) }
     {
-        let flat = flat::flatten(alloc, &code)?;
+        let flat = linearize::linearize(alloc, &code)?;
         Ok(Routine { code, flat, limits })
     }
 }
 
-/// Which of a filter's bodies is fired.
-#[derive(Clone, Copy, Debug, PartialEq, Eq)]
-pub enum Body {
-    /// The body of the first firing; where there is none, the work.
-    Prework,
-    Work,
-}
-
 /// Rates as they are declared; a missing one is 0, and a missing peek rate is the pop rate.
-#[derive(Clone, Copy, Debug, PartialEq, Eq)]
+#[derive(Clone, Copy, PartialEq, Eq)]
 pub struct DeclaredRates {
     pub push: i32,
     pub pop: i32,
@@ -96,11 +92,11 @@ pub enum StartError {
 
 impl Code {
     ghost use Rattle.strc_work.specs.Lowering.{start_nodes, body_nodes};
-    ghost use Rattle.strc_work.specs.Closed.{IsClosedFilter};
+    ghost use Rattle.strc_semantics.specs.Closed.{IsClosedFilter};
     ghost use Rattle.strc_work.specs.States.{IsStateOf, IsFrameOf};
-    ghost use Rattle.strc_work.specs.Firing.{started, fired};
+    ghost use Rattle.strc_semantics.specs.Firing.{started, fired};
     ghost use Rattle.strc_work.specs.Answers.{Starts, Fires};
-    ghost use Rattle.strc_work.specs.Running.{MoreWords, WantsOnlyWords};
+    ghost use Rattle.strc_machine.specs.Running.{MoreWords, WantsOnlyWords};
 
     /// The code of a resolved tree and its parts.
     pub(crate) fn of_parts(
@@ -112,10 +108,12 @@ impl Code {
     ) -> Code
         requires fields { fields ≡ total (filters.sized_fields (filters.filter_of tree).members) }
         requires start { code_of start.code ≡ start_nodes (filters.filter_of tree) }
-        requires prework { code_of (first_routine prework work).code ≡ body_nodes bodied.Prework (filters.filter_of tree) }
+        requires prework { code_of (first_routine prework work).code
+            ≡ body_nodes bodied.Prework (filters.filter_of tree) }
         requires work { code_of work.code ≡ body_nodes bodied.Work (filters.filter_of tree) }
         requires start_flat { IsFlat start.flat (code_of start.code) }
-        requires prework_flat { IsFlat (first_routine prework work).flat (code_of (first_routine prework work).code) }
+        requires prework_flat { IsFlat (first_routine prework work).flat
+            (code_of (first_routine prework work).code) }
         requires work_flat { IsFlat work.flat (code_of work.code) }
         requires prework_limits { (first_routine prework work).limits
             ≡ limits_of (filters.body_rates bodied.Prework (filters.filter_of tree).members) }
@@ -124,8 +122,13 @@ impl Code {
         requires closed { IsClosedFilter (filters.filter_of tree) }
         ensures { result ≡ tree }
     {
-        let first = first_of(&prework, &work).code.room();
-        let slots = fields.max(start.code.room().max(first.max(work.code.room())));
+        let first = first_of(&prework, &work).code.slot_count();
+        let slots = fields.max(
+            start
+                .code
+                .slot_count()
+                .max(first.max(work.code.slot_count())),
+        );
         Code {
             tree,
             start,
@@ -145,7 +148,7 @@ impl Code {
             Some(prework) => Some(copy_routine(alloc, prework)?),
         };
         Ok(Code {
-            tree: copies::copy_filter(alloc, &self.tree)?,
+            tree: copy_filter(alloc, &self.tree)?,
             start: copy_routine(alloc, &self.start)?,
             prework,
             work: copy_routine(alloc, &self.work)?,
@@ -162,15 +165,15 @@ impl Code {
         let Ok(mut slots) = Vec::from_elem(alloc, 0, self.slots) else {
             return Err(StartError::NoMemory);
         };
-        let mut tape = Tape {
+        let mut tape = FiringIo {
             popped: 0,
             pushed: 0,
             turns: 0,
             buffer: Vec::new(alloc),
         };
-        let limits = Limits {
+        let limits = FiringLimits {
             pops: 0,
-            looks: 0,
+            peek: 0,
             pushes: 0,
         };
         let mut words = Vec::new(alloc);
@@ -200,7 +203,7 @@ impl Code {
         let room = first.max(self.routine(Body::Work).limits.pushes);
         let buffer = Vec::from_elem(alloc, 0, room as usize)?;
         Ok(Frame {
-            tape: Tape {
+            tape: FiringIo {
                 popped: 0,
                 pushed: 0,
                 turns: 0,
@@ -220,9 +223,11 @@ impl Code {
     ) -> Result<(), Halt>
         requires state { IsStateOf (filters.filter_of self.now) state.old }
         requires frame { IsFrameOf (filters.filter_of self.now) frame.old }
-        ensures fired { Fires (fired (filters.filter_of self.now) body state.old.fields (W.items window.now))
+        ensures fired { Fires (fired (filters.filter_of self.now) body state.old.fields
+            (W.items window.now))
             result state.new.fields frame.new.items words.old.items words.new.items }
-        ensures memory { WantsOnlyWords (filters.filter_prints (filters.filter_of self.now)) result }
+        ensures memory { WantsOnlyWords (filters.filter_prints
+            (filters.filter_of self.now)) result }
         ensures words { MoreWords words.old.items words.new.items }
         ensures state { IsStateOf (filters.filter_of self.now) state.new }
         ensures frame { IsFrameOf (filters.filter_of self.now) frame.new }
@@ -258,7 +263,8 @@ impl Code {
 
     /// The statements of a body; without a prework each body is the work.
     pub fn block(&self, body: Body) -> &[Stmt]
-        ensures { block_view result.now ≡ filters.body_block body (filters.filter_of self.now).members }
+        ensures { block_view result.now ≡ filters.body_block body
+            (filters.filter_of self.now).members }
     {
         bodies::block_of(&self.tree.members, body)
     }
@@ -282,9 +288,10 @@ impl Code {
 
     /// How many items a firing of a body may look at.
     pub fn window(&self, body: Body) -> u32
-        ensures { result ≡ filters.window_size (filters.body_rates body (filters.filter_of self.now).members) }
+        ensures { result ≡ filters.window_size
+            (filters.body_rates body (filters.filter_of self.now).members) }
     {
-        self.routine(body).limits.looks
+        self.routine(body).limits.peek
     }
 
     /// Whether a firing can print.
@@ -327,7 +334,7 @@ fn copy_routine(alloc: Global, routine: &Routine) -> Result<Routine, NoMemory>
     ensures flat { IfOk result (λ copy. IsFlat copy.flat (code_of copy.code)) }
     ensures limits { IfOk result (λ copy. copy.limits ≡ routine.now.limits) }
 {
-    let code = copies::copy_node(alloc, &routine.code)?;
+    let code = copy_node(alloc, &routine.code)?;
     Routine::new(alloc, code, routine.limits)
 }
 
@@ -339,4 +346,16 @@ fn start_error(halt: Halt) -> StartError
         Halt::Fault(cause) => StartError::ConstFault { cause },
         Halt::NoMemory => StartError::NoMemory,
     }
+}
+
+/// An equal filter.
+fn copy_filter(alloc: Global, tree: &FilterTree) -> Result<FilterTree, NoMemory>
+    ensures { IfOk result (λ copy. filters.filter_of copy ≡ filters.filter_of tree.now) }
+{
+    let members = copies::copy_members(alloc, &tree.members)?;
+    Ok(FilterTree {
+        input: tree.input,
+        output: tree.output,
+        members,
+    })
 }

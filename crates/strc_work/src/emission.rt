@@ -2,28 +2,30 @@
 
 ghost use Rattle.std.specs.Prelude.{◌≡◌, [], ◌∷◌, IfOk, OnOk, map, reverse};
 ghost use Rattle.std.specs.Option.{option_map};
-ghost use Rattle.strc_parse.specs.View.{expr_view, variable_view, member_view};
-ghost use Rattle.strc_work.specs.Filters.{members_of, filter_of, sized_fields, body_block, body_rates};
-ghost use Rattle.strc_work.specs.Scoping.{with_declared};
-ghost use Rattle.strc_work.specs.Machine.{before};
-ghost use Rattle.strc_work.specs.Code.{code_of};
-ghost use Rattle.strc_work.specs.Flat.{IsFlat};
+ghost use Rattle.strc_syntax.specs.View.{expr_view, variable_view, member_view};
+ghost use Rattle.strc_semantics.specs.Filters.{members_of, filter_of, sized_fields, body_block};
+ghost use Rattle.strc_semantics.specs.Filters.{body_rates};
+ghost use Rattle.strc_semantics.specs.Scoping.{with_declared};
+ghost use Rattle.strc_machine.specs.Machine.{before};
+ghost use Rattle.strc_machine.specs.Code.{code_of};
+ghost use Rattle.strc_machine.specs.Flat.{IsFlat};
 ghost use Rattle.strc_work.specs.Lowering as spec;
 ghost use Rattle.strc_work.specs.Lowered as lowered;
-ghost use Rattle.strc_work.specs.Closed.{IsClosedFilter};
-ghost use Rattle.strc_work.specs.Written.{written};
+ghost use Rattle.strc_semantics.specs.Closed.{IsClosedFilter};
+ghost use Rattle.strc_machine.specs.Written.{written};
 
 use crate::bodies;
-use crate::builder::Builder;
-use crate::code::{Body, Code, Routine};
+use crate::code::{Code, Routine};
 use crate::expression_code::emit_expr;
-use crate::frame::Limits;
 use crate::layout::Layout;
-use crate::memory::NoMemory;
 use crate::operands::cells_of;
 use crate::statement_code::emit_block;
 use std::alloc::Global;
-use strc_parse::tree::{FilterTree, Member, Variable};
+use strc_base::memory::NoMemory;
+use strc_machine::builder::Builder;
+use strc_machine::io::FiringLimits;
+use strc_semantics::body::Body;
+use strc_syntax::tree::{FilterTree, Member, Variable};
 
 /// The code of a filter that keeps the rules.
 #[tactic(auto, using(crate::proofs::Prework::no_prework_block, crate::proofs::Prework::no_prework_rates, crate::proofs::Emitted::total_reverse))]
@@ -57,7 +59,8 @@ fn field_layout(alloc: Global, members: &[Member]) -> Result<Layout, NoMemory>
 
 /// More variables of so many cells, the last one innermost.
 fn declare_all(names: &mut Layout, cells: u32, variables: &[Variable]) -> Result<(), NoMemory>
-    ensures { OnOk result (names.new ≡ with_declared names.old cells (map variable_view variables.now)) }
+    ensures { OnOk result (names.new ≡ with_declared names.old cells
+        (map variable_view variables.now)) }
 {
     for variable in variables {
         names.declare(&variable.name, cells)?;
@@ -66,19 +69,20 @@ fn declare_all(names: &mut Layout, cells: u32, variables: &[Variable]) -> Result
 }
 
 /// The code of a filter's start: its fields' initialisers, and then `init`.
-#[tactic(auto, using(crate::proofs::Nodes::before_assoc))]
+#[tactic(auto, using(strc_machine::proofs::Nodes::before_assoc))]
 fn emit_start(alloc: Global, names: &mut Layout, members: &[Member]) -> Result<Routine, NoMemory>
     ensures code { IfOk result (λ start. code_of start.code
-        ≡ before (spec.initials_nodes names.old (members_of members.now)) (spec.inits_nodes names.old (members_of members.now))) }
+        ≡ before (spec.initials_nodes names.old (members_of members.now))
+        (spec.inits_nodes names.old (members_of members.now))) }
     ensures flat { IfOk result (λ start. IsFlat start.flat (code_of start.code)) }
     ensures names { OnOk result (names.new ≡ names.old) }
 {
     let mut code = Builder::new(alloc);
     emit_initials(&mut code, names, members)?;
     emit_inits(&mut code, names, members)?;
-    let nothing = Limits {
+    let nothing = FiringLimits {
         pops: 0,
-        looks: 0,
+        peek: 0,
         pushes: 0,
     };
     Routine::new(alloc, code.finish()?, nothing)
@@ -96,7 +100,7 @@ fn emit_initials(code: &mut Builder, names: &Layout, members: &[Member]) -> Resu
 }
 
 /// The code of a member's initialisers.
-#[tactic(auto, using(crate::proofs::Nodes::before_end))]
+#[tactic(auto, using(strc_machine::proofs::Nodes::before_end))]
 fn emit_initial(code: &mut Builder, names: &Layout, member: &Member) -> Result<(), NoMemory>
     ensures { OnOk result (written code.new
         ≡ before (written code.old) (spec.initials_nodes names.now (member_view member.now ∷ []))) }
@@ -110,7 +114,8 @@ fn emit_initial(code: &mut Builder, names: &Layout, member: &Member) -> Result<(
 /// The code of fields that are declared together.
 fn emit_fields(code: &mut Builder, names: &Layout, variables: &[Variable]) -> Result<(), NoMemory>
     ensures { OnOk result (written code.new
-        ≡ before (written code.old) (spec.fields_nodes names.now (map variable_view variables.now))) }
+        ≡ before (written code.old) (spec.fields_nodes names.now
+        (map variable_view variables.now))) }
 {
     for variable in variables {
         emit_field(code, names, variable)?;
@@ -119,10 +124,11 @@ fn emit_fields(code: &mut Builder, names: &Layout, variables: &[Variable]) -> Re
 }
 
 /// The code of a field's initialiser, where it has one.
-#[tactic(auto, using(crate::proofs::Nodes::before_end))]
+#[tactic(auto, using(strc_machine::proofs::Nodes::before_end))]
 fn emit_field(code: &mut Builder, names: &Layout, variable: &Variable) -> Result<(), NoMemory>
     ensures { OnOk result (written code.new ≡ before (written code.old)
-        (spec.field_nodes names.now variable.now.name (option_map expr_view variable.now.initial))) }
+        (spec.field_nodes names.now variable.now.name
+        (option_map expr_view variable.now.initial))) }
 {
     match &variable.initial {
         None => Ok(()),
@@ -146,7 +152,7 @@ fn emit_inits(code: &mut Builder, names: &mut Layout, members: &[Member]) -> Res
 }
 
 /// The code of a member that is an `init`.
-#[tactic(auto, using(crate::proofs::Nodes::before_end))]
+#[tactic(auto, using(strc_machine::proofs::Nodes::before_end))]
 fn emit_init(code: &mut Builder, names: &mut Layout, member: &Member) -> Result<(), NoMemory>
     ensures code { OnOk result (written code.new
         ≡ before (written code.old) (spec.inits_nodes names.old (member_view member.now ∷ []))) }

@@ -1,30 +1,30 @@
 // The code of expressions.
 
 ghost use Rattle.std.specs.Prelude.{◌≡◌, ◌+◌, IfOk, OnOk};
-ghost use Rattle.strc_parse.specs.Tree as tree;
-ghost use Rattle.strc_parse.specs.View.{expr_view};
-ghost use Rattle.strc_work.specs.Scoping.{total, slot_of};
-ghost use Rattle.strc_work.specs.Machine.{before};
+ghost use Rattle.strc_syntax.specs.Tree as tree;
+ghost use Rattle.strc_syntax.specs.View.{expr_view};
+ghost use Rattle.strc_semantics.specs.Scoping.{total, slot_of};
+ghost use Rattle.strc_machine.specs.Machine.{before};
 ghost use Rattle.strc_work.specs.Lowering as spec;
-ghost use Rattle.strc_work.specs.Written.{written};
+ghost use Rattle.strc_machine.specs.Written.{written};
 ghost use Rattle.strc_work.specs.Emission.{old_slot, old_nodes};
-ghost use Rattle.strc_work.specs.Firing.{assigned_value};
+ghost use Rattle.strc_semantics.specs.Firing.{assigned_value};
 
-use crate::arithmetic::truth;
-use crate::builder::Builder;
 use crate::layout::{Layout, Place};
-use crate::memory::NoMemory;
 use crate::operands::{
-    after, binary_step, changes_none, compound_operator, picked, step_amount, unary_step,
-    variable_slot,
+    after, binary_step, compound_operator, picked, step_amount, unary_step, variable_slot,
+    writes_no_variable,
 };
-use crate::step::Step;
+use strc_base::memory::NoMemory;
 use strc_lex::token::Name;
-use strc_parse::tree::{AssignOperator, BinaryOperator, Expr, StepOperator};
+use strc_machine::builder::Builder;
+use strc_machine::inst::Inst;
+use strc_semantics::arithmetic::truth;
+use strc_syntax::tree::{AssignOperator, BinaryOperator, Expr, StepOperator};
 
 /// The code that puts an expression's value into a slot; the slots from `free` on are free.
 #[cycle(expression)]
-#[tactic(auto, using(crate::proofs::Nodes::before_assoc, crate::proofs::Nodes::before_end))]
+#[tactic(auto, using(strc_machine::proofs::Nodes::before_assoc, strc_machine::proofs::Nodes::before_end))]
 pub fn emit_expr(
     code: &mut Builder,
     names: &Layout,
@@ -32,16 +32,17 @@ pub fn emit_expr(
     into: u32,
     free: u32,
 ) -> Result<(), NoMemory>
-    ensures { OnOk result (written code.new ≡ before (written code.old) (spec.expr_nodes names.now (expr_view value.now) into free)) }
+    ensures { OnOk result (written code.new ≡ before (written code.old)
+        (spec.expr_nodes names.now (expr_view value.now) into free)) }
 {
     match value {
-        Expr::Number(number) => code.put(Step::Const(into, *number)),
-        Expr::Truth(value) => code.put(Step::Const(into, truth(*value))),
-        Expr::Read(name) => code.put(Step::Copy(into, names.slot_of(name))),
-        Expr::Pop => code.put(Step::Pop(into)),
+        Expr::Number(number) => code.put(Inst::Const(into, *number)),
+        Expr::Truth(value) => code.put(Inst::Const(into, truth(*value))),
+        Expr::Read(name) => code.put(Inst::Copy(into, names.slot_of(name))),
+        Expr::Pop => code.put(Inst::Pop(into)),
         Expr::Peek(index) => {
             let from = emit_operand(code, names, index, true, free)?;
-            code.put(Step::Peek(into, from))
+            code.put(Inst::Peek(into, from))
         }
         Expr::Group(inner) => emit_expr(code, names, inner, into, free),
         Expr::Unary(operator, operand) => {
@@ -57,7 +58,7 @@ pub fn emit_expr(
                 let mut late = code.fresh();
                 emit_expr(&mut late, names, right, free, after(free)?)?;
                 code.put_choice(free, done, late)?;
-                code.put(Step::Copy(into, free))
+                code.put(Inst::Copy(into, free))
             }
             BinaryOperator::LogicalAnd => {
                 emit_expr(code, names, left, free, after(free)?)?;
@@ -65,10 +66,10 @@ pub fn emit_expr(
                 let mut late = code.fresh();
                 emit_expr(&mut late, names, right, free, after(free)?)?;
                 code.put_choice(free, late, done)?;
-                code.put(Step::Copy(into, free))
+                code.put(Inst::Copy(into, free))
             }
             _ => {
-                let left = emit_operand(code, names, left, changes_none(right), free)?;
+                let left = emit_operand(code, names, left, writes_no_variable(right), free)?;
                 let right = emit_operand(code, names, right, true, after(free)?)?;
                 code.put(binary_step(*operator, into, left, right))
             }
@@ -83,7 +84,7 @@ pub fn emit_expr(
         }
         Expr::Element(name, index) => {
             let index = emit_operand(code, names, index, true, free)?;
-            code.put(Step::Load(into, names.slot_of(name), names.size_of(name), index))
+            code.put(Inst::Load(into, names.slot_of(name), names.size_of(name), index))
         }
         Expr::StepElement(operator, name, index) => {
             let place = Place {
@@ -96,10 +97,10 @@ pub fn emit_expr(
     }
 }
 
-/// The code that puts an expression's value into a slot, and that slot. Where it `stays`, a variable's value stays in
-/// its own slot.
+/// The code that puts an expression's value into a slot, and that slot. Where it `stays`, a
+/// variable's value stays in its own slot.
 #[cycle(expression)]
-#[tactic(auto, using(crate::proofs::Nodes::before_end))]
+#[tactic(auto, using(strc_machine::proofs::Nodes::before_end))]
 pub fn emit_operand(
     code: &mut Builder,
     names: &Layout,
@@ -109,7 +110,8 @@ pub fn emit_operand(
 ) -> Result<u32, NoMemory>
     ensures { IfOk result
         (λ at. (at ≡ spec.operand_slot names.now stays (expr_view value.now) free)
-        × (written code.new ≡ before (written code.old) (spec.operand_nodes names.now stays (expr_view value.now) free))) }
+        × (written code.new ≡ before (written code.old)
+        (spec.operand_nodes names.now stays (expr_view value.now) free))) }
 {
     if stays {
         if let Some(slot) = variable_slot(names, value) {
@@ -121,7 +123,7 @@ pub fn emit_operand(
 }
 
 /// The code of `x++` and its like.
-#[tactic(auto, using(crate::proofs::Nodes::before_assoc))]
+#[tactic(auto, using(strc_machine::proofs::Nodes::before_assoc))]
 fn emit_step(
     code: &mut Builder,
     operator: StepOperator,
@@ -129,23 +131,24 @@ fn emit_step(
     into: u32,
     free: u32,
 ) -> Result<(), NoMemory>
-    ensures { OnOk result (written code.new ≡ before (written code.old) (spec.step_nodes operator slot into free)) }
+    ensures { OnOk result (written code.new ≡ before (written code.old)
+        (spec.step_nodes operator slot into free)) }
 {
     match operator {
         StepOperator::IncrementFirst | StepOperator::DecrementFirst => {
-            code.put(Step::AddConst(slot, slot, step_amount(operator)))?;
-            code.put(Step::Copy(into, slot))
+            code.put(Inst::AddConst(slot, slot, step_amount(operator)))?;
+            code.put(Inst::Copy(into, slot))
         }
         StepOperator::IncrementAfter | StepOperator::DecrementAfter => {
-            code.put(Step::Copy(free, slot))?;
-            code.put(Step::AddConst(slot, slot, step_amount(operator)))?;
-            code.put(Step::Copy(into, free))
+            code.put(Inst::Copy(free, slot))?;
+            code.put(Inst::AddConst(slot, slot, step_amount(operator)))?;
+            code.put(Inst::Copy(into, free))
         }
     }
 }
 
 /// The code of `a[i]++` and its like, where the index stands in a slot.
-#[tactic(auto, using(crate::proofs::Nodes::before_assoc))]
+#[tactic(auto, using(strc_machine::proofs::Nodes::before_assoc))]
 fn emit_element_step(
     code: &mut Builder,
     operator: StepOperator,
@@ -158,10 +161,10 @@ fn emit_element_step(
         (spec.element_step_nodes operator place.slot place.cells index into free)) }
 {
     let new = after(free)?;
-    code.put(Step::Load(free, place.slot, place.cells, index))?;
-    code.put(Step::AddConst(new, free, step_amount(operator)))?;
-    code.put(Step::Store(place.slot, place.cells, index, new))?;
-    code.put(Step::Copy(into, picked(operator, free, new)))
+    code.put(Inst::Load(free, place.slot, place.cells, index))?;
+    code.put(Inst::AddConst(new, free, step_amount(operator)))?;
+    code.put(Inst::Store(place.slot, place.cells, index, new))?;
+    code.put(Inst::Copy(into, picked(operator, free, new)))
 }
 
 /// The code of an expression whose value isn't used.
@@ -171,19 +174,20 @@ pub fn emit_evaluation(
     value: &Expr,
     free: u32,
 ) -> Result<(), NoMemory>
-    ensures { OnOk result (written code.new ≡ before (written code.old) (spec.evaluation_nodes names.now (expr_view value.now) free)) }
+    ensures { OnOk result (written code.new ≡ before (written code.old)
+        (spec.evaluation_nodes names.now (expr_view value.now) free)) }
 {
     match value {
         Expr::Step(operator, name) => {
             let slot = names.slot_of(name);
-            code.put(Step::AddConst(slot, slot, step_amount(*operator)))
+            code.put(Inst::AddConst(slot, slot, step_amount(*operator)))
         }
         _ => emit_expr(code, names, value, free, after(free)?),
     }
 }
 
 /// The code of an assignment.
-#[tactic(auto, using(crate::proofs::Nodes::before_assoc))]
+#[tactic(auto, using(strc_machine::proofs::Nodes::before_assoc))]
 pub fn emit_assign(
     code: &mut Builder,
     names: &Layout,
@@ -201,15 +205,16 @@ pub fn emit_assign(
     match compound_operator(operator) {
         None => emit_expr(code, names, value, into, free),
         Some(operator) => {
-            let left = emit_old(code, into, changes_none(value), free)?;
+            let left = emit_old(code, into, writes_no_variable(value), free)?;
             let right = emit_operand(code, names, value, true, after(free)?)?;
             code.put(binary_step(operator, into, left, right))
         }
     }
 }
 
-/// The code that keeps a variable's value, and its slot. Where it `stays`, it stays in its own slot.
-#[tactic(auto, using(crate::proofs::Nodes::before_end))]
+/// The code that keeps a variable's value, and its slot. Where it `stays`, it stays in its own
+/// slot.
+#[tactic(auto, using(strc_machine::proofs::Nodes::before_end))]
 fn emit_old(code: &mut Builder, slot: u32, stays: bool, free: u32) -> Result<u32, NoMemory>
     ensures { IfOk result
         (λ at. (at ≡ old_slot stays slot free)
@@ -218,12 +223,12 @@ fn emit_old(code: &mut Builder, slot: u32, stays: bool, free: u32) -> Result<u32
     if stays {
         return Ok(slot);
     }
-    code.put(Step::Copy(free, slot))?;
+    code.put(Inst::Copy(free, slot))?;
     Ok(free)
 }
 
 /// The code of an assignment to an element: the index, and then what the operator says.
-#[tactic(auto, using(crate::proofs::Nodes::before_assoc))]
+#[tactic(auto, using(strc_machine::proofs::Nodes::before_assoc))]
 pub fn emit_assign_element(
     code: &mut Builder,
     names: &Layout,
@@ -233,15 +238,16 @@ pub fn emit_assign_element(
     value: &Expr,
 ) -> Result<(), NoMemory>
     ensures { OnOk result (written code.new ≡ before (written code.old)
-        (spec.stmt_nodes names.now (tree.AssignElement name.now (expr_view index.now) operator (expr_view value.now)))) }
+        (spec.stmt_nodes names.now (tree.AssignElement name.now (expr_view index.now) operator
+        (expr_view value.now)))) }
 {
     let free = names.total();
-    let index = emit_operand(code, names, index, changes_none(value), free)?;
+    let index = emit_operand(code, names, index, writes_no_variable(value), free)?;
     emit_element(code, names, name, index, operator, value, after(free)?)
 }
 
 /// The code of an assignment to the element at an index that stands in a slot.
-#[tactic(auto, using(crate::proofs::Nodes::before_assoc, crate::proofs::Emitted::element_set_nodes, crate::proofs::Emitted::element_compound_nodes))]
+#[tactic(auto, using(strc_machine::proofs::Nodes::before_assoc, crate::proofs::Emitted::element_set_nodes, crate::proofs::Emitted::element_compound_nodes))]
 fn emit_element(
     code: &mut Builder,
     names: &Layout,
@@ -257,14 +263,15 @@ fn emit_element(
     match compound_operator(operator) {
         None => {
             let from = emit_operand(code, names, value, true, free)?;
-            code.put(Step::Store(names.slot_of(name), names.size_of(name), index, from))
+            code.put(Inst::Store(names.slot_of(name), names.size_of(name), index, from))
         }
         Some(operator) => emit_compound(code, names, name, index, operator, value, free),
     }
 }
 
-/// The code of a compound assignment to an element: its old value, the value, the operator, and the store.
-#[tactic(auto, using(crate::proofs::Nodes::before_assoc))]
+/// The code of a compound assignment to an element: its old value, the value, the operator, and the
+/// store.
+#[tactic(auto, using(strc_machine::proofs::Nodes::before_assoc))]
 fn emit_compound(
     code: &mut Builder,
     names: &Layout,
@@ -279,8 +286,8 @@ fn emit_compound(
 {
     let slot = names.slot_of(name);
     let cells = names.size_of(name);
-    code.put(Step::Load(free, slot, cells, index))?;
+    code.put(Inst::Load(free, slot, cells, index))?;
     let right = emit_operand(code, names, value, true, after(free)?)?;
     code.put(binary_step(operator, free, free, right))?;
-    code.put(Step::Store(slot, cells, index, free))
+    code.put(Inst::Store(slot, cells, index, free))
 }

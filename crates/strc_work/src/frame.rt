@@ -3,11 +3,12 @@
 ghost use Rattle.std.specs.Prelude.{◌≡◌};
 
 use std::marker::Model;
+use strc_machine::io::FiringIo;
 
 /// The items that a firing has pushed, with room for as many as it may push. Contracts see both.
-#[derive(Debug, Drop)]
+#[derive(Drop)]
 pub struct Frame {
-    pub(crate) tape: Tape,
+    pub(crate) tape: FiringIo,
 }
 
 impl Model for Frame {
@@ -22,23 +23,6 @@ impl Model for Frame {
     } };
 
     ghost invariant = { λ f. f.tape.pushed ≤ length f.tape.buffer.items };
-}
-
-/// How many items were popped, those pushed, the first `pushed` ones of the buffer, and how many turns were made.
-#[derive(Debug, Drop)]
-pub struct Tape {
-    pub popped: u32,
-    pub pushed: usize,
-    pub turns: u32,
-    pub buffer: Vec<i32>,
-}
-
-/// How many items a body may pop, look at and push.
-#[derive(Clone, Copy, Debug, PartialEq, Eq)]
-pub struct Limits {
-    pub pops: u32,
-    pub looks: u32,
-    pub pushes: u32,
 }
 
 impl Frame {

@@ -2,21 +2,22 @@
 
 ghost use Rattle.std.specs.Prelude.{◌≡◌, ◌-◌, [], ◌∷◌, OnOk, length, drop};
 
-use crate::memory::NoMemory;
-use crate::scope::Scope;
 use std::alloc::Global;
 use std::marker::Model;
+use strc_base::memory::NoMemory;
+use strc_base::scope::Scope;
 use strc_lex::token::Name;
 
 /// Where a variable's cells stand: the first slot, and how many there are.
-#[derive(Clone, Copy, Debug, PartialEq, Eq)]
+#[derive(Clone, Copy)]
 pub struct Place {
     pub slot: u32,
     pub cells: u32,
 }
 
-/// Variables in the order in which they were declared, each one's cells behind those of the ones before. Contracts see
-/// the list of the names with their numbers of cells, the innermost first. A look-up takes expected constant time.
+/// Variables in the order in which they were declared, each one's cells behind those of the ones
+/// before. Contracts see the list of the names with their numbers of cells, the innermost first. A
+/// look-up takes expected constant time.
 #[derive(Drop)]
 pub struct Layout {
     names: Scope,
@@ -26,7 +27,7 @@ pub struct Layout {
 
 impl Model for Layout {
     ghost use Rattle.std.specs.Prelude.{reverse};
-    ghost use Rattle.strc_work.specs.Scoping.{Scope as Sized};
+    ghost use Rattle.strc_semantics.specs.Scoping.{Scope as Sized};
 
     ghost Value = { Sized };
 
@@ -38,7 +39,7 @@ impl Model for Layout {
 }
 
 impl Layout {
-    ghost use Rattle.strc_work.specs.Scoping as scoping;
+    ghost use Rattle.strc_semantics.specs.Scoping as scoping;
 
     /// No variables. It takes no memory.
     pub fn new(alloc: Global) -> Layout

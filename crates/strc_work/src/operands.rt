@@ -1,21 +1,22 @@
 // Small parts of lowering: slots, operators, and what expressions change.
 
 ghost use Rattle.std.specs.Prelude.{◌≡◌, ◌+◌, IfOk};
-ghost use Rattle.strc_parse.specs.View.{expr_view, type_view};
-ghost use Rattle.strc_work.specs.Scoping as scoping;
-ghost use Rattle.strc_work.specs.Machine.{End};
-ghost use Rattle.strc_work.specs.Code.{spelled};
+ghost use Rattle.strc_syntax.specs.View.{expr_view, type_view};
+ghost use Rattle.strc_semantics.specs.Scoping as scoping;
+ghost use Rattle.strc_machine.specs.Machine.{End};
+ghost use Rattle.strc_machine.specs.Code.{spelled};
 ghost use Rattle.strc_work.specs.Lowering as spec;
 ghost use Rattle.strc_work.specs.Emission.{compound_of};
 
 use crate::layout::Layout;
-use crate::memory::NoMemory;
-use crate::step::Step;
-use strc_parse::tree::{
+use strc_base::memory::NoMemory;
+use strc_machine::inst::Inst;
+use strc_syntax::tree::{
     AssignOperator, BinaryOperator, Expr, StepOperator, UnaryOperator, VariableType,
 };
 
-/// How many cells a variable of a type has. The length of an array is a number: constants are put in.
+/// How many cells a variable of a type has. The length of an array is a number: constants are put
+/// in.
 pub fn cells_of(kind: &VariableType) -> u32
     ensures { result ≡ scoping.cells_of (type_view kind.now) }
 {
@@ -56,18 +57,18 @@ pub fn variable_slot(names: &Layout, value: &Expr) -> Option<u32>
 }
 
 /// Whether an expression changes no variable.
-pub fn changes_none(value: &Expr) -> bool
-    ensures { result ≡ spec.changes_none (expr_view value.now) }
+pub fn writes_no_variable(value: &Expr) -> bool
+    ensures { result ≡ spec.writes_no_variable (expr_view value.now) }
 {
     match value {
         Expr::Number(_) | Expr::Truth(_) | Expr::Read(_) | Expr::Pop => true,
-        Expr::Element(_, index) | Expr::Peek(index) => changes_none(index),
-        Expr::Group(inner) => changes_none(inner),
-        Expr::Unary(_, operand) => changes_none(operand),
+        Expr::Element(_, index) | Expr::Peek(index) => writes_no_variable(index),
+        Expr::Group(inner) => writes_no_variable(inner),
+        Expr::Unary(_, operand) => writes_no_variable(operand),
         Expr::Step(_, _) | Expr::StepElement(_, _, _) => false,
-        Expr::Binary(_, left, right) => changes_none(left) && changes_none(right),
+        Expr::Binary(_, left, right) => writes_no_variable(left) && writes_no_variable(right),
         Expr::Conditional(condition, chosen, other) => {
-            changes_none(condition) && changes_none(chosen) && changes_none(other)
+            writes_no_variable(condition) && writes_no_variable(chosen) && writes_no_variable(other)
         }
     }
 }
@@ -97,14 +98,14 @@ pub fn step_amount(operator: StepOperator) -> i32
 }
 
 /// The step that puts 0 into so many slots.
-pub fn zeros_step(into: u32, cells: u32) -> Step
+pub fn zeros_step(into: u32, cells: u32) -> Inst
     ensures step { result ≡ spec.zeros_step into cells }
     ensures alone { spelled result End ≡ spec.one result }
 {
     if cells == 1 {
-        Step::Const(into, 0)
+        Inst::Const(into, 0)
     } else {
-        Step::Clear(into, cells)
+        Inst::Clear(into, cells)
     }
 }
 
@@ -119,38 +120,38 @@ pub fn picked(operator: StepOperator, old: u32, new: u32) -> u32
 }
 
 /// The step of an operator before its operand.
-pub fn unary_step(operator: UnaryOperator, into: u32, from: u32) -> Step
+pub fn unary_step(operator: UnaryOperator, into: u32, from: u32) -> Inst
     ensures step { result ≡ spec.unary_step operator into from }
     ensures alone { spelled result End ≡ spec.one result }
 {
     match operator {
-        UnaryOperator::Negate => Step::Negate(into, from),
-        UnaryOperator::Not => Step::Not(into, from),
-        UnaryOperator::Complement => Step::Complement(into, from),
+        UnaryOperator::Negate => Inst::Negate(into, from),
+        UnaryOperator::Not => Inst::Not(into, from),
+        UnaryOperator::Complement => Inst::Complement(into, from),
     }
 }
 
 /// The step of an operator between its operands, where both are evaluated first.
-pub fn binary_step(operator: BinaryOperator, into: u32, left: u32, right: u32) -> Step
+pub fn binary_step(operator: BinaryOperator, into: u32, left: u32, right: u32) -> Inst
     ensures step { result ≡ spec.binary_step operator into left right }
     ensures alone { spelled result End ≡ spec.one result }
 {
     match operator {
-        BinaryOperator::LogicalOr | BinaryOperator::Or => Step::Or(into, left, right),
-        BinaryOperator::ExclusiveOr => Step::ExclusiveOr(into, left, right),
-        BinaryOperator::LogicalAnd | BinaryOperator::And => Step::And(into, left, right),
-        BinaryOperator::Equal => Step::Equal(into, left, right),
-        BinaryOperator::NotEqual => Step::NotEqual(into, left, right),
-        BinaryOperator::Less => Step::Less(into, left, right),
-        BinaryOperator::LessOrEqual => Step::LessOrEqual(into, left, right),
-        BinaryOperator::Greater => Step::Less(into, right, left),
-        BinaryOperator::GreaterOrEqual => Step::LessOrEqual(into, right, left),
-        BinaryOperator::ShiftLeft => Step::ShiftLeft(into, left, right),
-        BinaryOperator::ShiftRight => Step::ShiftRight(into, left, right),
-        BinaryOperator::Add => Step::Add(into, left, right),
-        BinaryOperator::Subtract => Step::Subtract(into, left, right),
-        BinaryOperator::Multiply => Step::Multiply(into, left, right),
-        BinaryOperator::Divide => Step::Divide(into, left, right),
-        BinaryOperator::Remainder => Step::Remainder(into, left, right),
+        BinaryOperator::LogicalOr | BinaryOperator::Or => Inst::Or(into, left, right),
+        BinaryOperator::ExclusiveOr => Inst::ExclusiveOr(into, left, right),
+        BinaryOperator::LogicalAnd | BinaryOperator::And => Inst::And(into, left, right),
+        BinaryOperator::Equal => Inst::Equal(into, left, right),
+        BinaryOperator::NotEqual => Inst::NotEqual(into, left, right),
+        BinaryOperator::Less => Inst::Less(into, left, right),
+        BinaryOperator::LessOrEqual => Inst::LessOrEqual(into, left, right),
+        BinaryOperator::Greater => Inst::Less(into, right, left),
+        BinaryOperator::GreaterOrEqual => Inst::LessOrEqual(into, right, left),
+        BinaryOperator::ShiftLeft => Inst::ShiftLeft(into, left, right),
+        BinaryOperator::ShiftRight => Inst::ShiftRight(into, left, right),
+        BinaryOperator::Add => Inst::Add(into, left, right),
+        BinaryOperator::Subtract => Inst::Subtract(into, left, right),
+        BinaryOperator::Multiply => Inst::Multiply(into, left, right),
+        BinaryOperator::Divide => Inst::Divide(into, left, right),
+        BinaryOperator::Remainder => Inst::Remainder(into, left, right),
     }
 }

@@ -2,9 +2,9 @@
 
 use std::marker::Model;
 
-/// The values of a filter's fields, and room for the locals of a firing behind them. Contracts see the values, in
-/// order, and the room for both.
-#[derive(Debug, Drop)]
+/// The values of a filter's fields, and room for the locals of a firing behind them. Contracts see
+/// the values, in order, and the room for both.
+#[derive(Drop)]
 pub struct State {
     pub(crate) slots: Vec<i32>,
     pub(crate) fields: usize,

@@ -2,21 +2,21 @@
 
 ghost use Rattle.std.specs.Prelude.{◌≡◌, ◌+◌, ◌∷◌, IfOk, OnOk, map};
 ghost use Rattle.std.specs.Option.{option_map};
-ghost use Rattle.strc_parse.specs.View.{expr_view, variable_view, stmt_view, block_view};
-ghost use Rattle.strc_work.specs.Machine.{before};
+ghost use Rattle.strc_syntax.specs.View.{expr_view, variable_view, stmt_view, block_view};
+ghost use Rattle.strc_machine.specs.Machine.{before};
 ghost use Rattle.strc_work.specs.Lowering as spec;
-ghost use Rattle.strc_work.specs.Scoping.{names_after, total, with_declared};
-ghost use Rattle.strc_work.specs.Written.{written};
+ghost use Rattle.strc_semantics.specs.Scoping.{names_after, total, with_declared};
+ghost use Rattle.strc_machine.specs.Written.{written};
 
-use crate::builder::Builder;
 use crate::expression_code::{
     emit_assign, emit_assign_element, emit_evaluation, emit_expr, emit_operand,
 };
 use crate::layout::Layout;
-use crate::memory::NoMemory;
 use crate::operands::{cells_of, zeros_step};
-use crate::step::Step;
-use strc_parse::tree::{Expr, Stmt, Variable};
+use strc_base::memory::NoMemory;
+use strc_machine::builder::Builder;
+use strc_machine::inst::Inst;
+use strc_syntax::tree::{Expr, Stmt, Variable};
 
 /// The code of a block of its own.
 pub fn emit_block(code: &mut Builder, names: &mut Layout, block: &[Stmt]) -> Result<(), NoMemory>
@@ -34,7 +34,7 @@ pub fn emit_block(code: &mut Builder, names: &mut Layout, block: &[Stmt]) -> Res
 
 /// The code of a statement.
 #[cycle(statement)]
-#[tactic(auto, using(crate::proofs::Nodes::before_assoc, crate::proofs::Nodes::before_end, crate::proofs::Emitted::left_after))]
+#[tactic(auto, using(strc_machine::proofs::Nodes::before_assoc, strc_machine::proofs::Nodes::before_end, crate::proofs::Emitted::left_after))]
 fn emit_stmt(code: &mut Builder, names: &mut Layout, statement: &Stmt) -> Result<(), NoMemory>
     ensures code { OnOk result (written code.new
         ≡ before (written code.old) (spec.stmt_nodes names.old (stmt_view statement.now))) }
@@ -93,15 +93,15 @@ fn emit_stmt(code: &mut Builder, names: &mut Layout, statement: &Stmt) -> Result
         }
         Stmt::Push(value) => {
             let from = emit_operand(code, names, value, true, free)?;
-            code.put(Step::Push(from))
+            code.put(Inst::Push(from))
         }
         Stmt::Print(value) => {
             let from = emit_operand(code, names, value, true, free)?;
-            code.put(Step::Print(from))
+            code.put(Inst::Print(from))
         }
         Stmt::Println(value) => {
             let from = emit_operand(code, names, value, true, free)?;
-            code.put(Step::Println(from))
+            code.put(Inst::Println(from))
         }
     }
 }
@@ -135,7 +135,7 @@ fn emit_condition(
     match condition {
         // A loop without a condition goes on.
         None => {
-            code.put(Step::Const(free, 1))?;
+            code.put(Inst::Const(free, 1))?;
             Ok(free)
         }
         Some(condition) => emit_operand(code, names, condition, true, free),
@@ -143,7 +143,7 @@ fn emit_condition(
 }
 
 /// The code of variables that are declared one after another.
-#[tactic(auto, using(crate::proofs::Nodes::before_assoc, crate::proofs::Nodes::before_end))]
+#[tactic(auto, using(strc_machine::proofs::Nodes::before_assoc, strc_machine::proofs::Nodes::before_end))]
 fn emit_variables(
     code: &mut Builder,
     names: &mut Layout,
@@ -151,8 +151,10 @@ fn emit_variables(
     variables: &[Variable],
 ) -> Result<(), NoMemory>
     ensures code { OnOk result (written code.new
-        ≡ before (written code.old) (spec.variables_nodes names.old cells (map variable_view variables.now))) }
-    ensures names { OnOk result (names.new ≡ with_declared names.old cells (map variable_view variables.now)) }
+        ≡ before (written code.old) (spec.variables_nodes names.old cells
+        (map variable_view variables.now))) }
+    ensures names { OnOk result (names.new ≡ with_declared names.old cells
+        (map variable_view variables.now)) }
 {
     for variable in variables {
         emit_variable(code, names, cells, variable)?;
@@ -167,9 +169,11 @@ fn emit_variable(
     cells: u32,
     variable: &Variable,
 ) -> Result<(), NoMemory>
-    ensures code { OnOk result (written code.new ≡ before (written code.old) (spec.initial_nodes names.old cells
+    ensures code { OnOk result (written code.new
+        ≡ before (written code.old) (spec.initial_nodes names.old cells
         (option_map expr_view variable.now.initial) (total names.old) (total names.old + cells))) }
-    ensures names { OnOk result (names.new ≡ record { 0 = variable.now.name; 1 = cells } ∷ names.old) }
+    ensures names { OnOk result (names.new ≡ record { 0 = variable.now.name; 1 = cells }
+        ∷ names.old) }
 {
     let into = names.total();
     match &variable.initial {

@@ -1,8 +1,9 @@
 use Rattle.std.proofs.Common.{List, map, option_map, sym, ap, ◌∙◌, subst}
 use Rattle.std.specs.List.{AllByRecursion}
-use Rattle.strc_parse.specs.View.{program_view}
-use Rattle.strc_elab.specs.Graphs.{NodeCode}
-use Rattle.strc_elab.specs.View.{stream_view, node_view}
+use Rattle.strc_syntax.specs.View.{program_view}
+use Rattle.strc_graph.specs.Graphs.{NodeCode}
+use Rattle.strc_elab.specs.View.{stream_view}
+use Rattle.strc_graph.specs.NodeView.{node_view}
 use Rattle.strc_cli.specs.Compiling.{refusal_of}
 use Rattle.strc_cli.specs.Loading.{CanStart}
 use Rattle.strc_cli.specs.Pipeline.{loaded}

@@ -1,7 +1,7 @@
 use Rattle.std.proofs.Common.{◌≡◌, ℕ, true, false, List, [], Option, subst, sym, ap, ◌∙◌, inl, inr, refl, rules}
 use Rattle.strc_elab.specs.Flattening.{nodes_of}
 use Rattle.strc_cli.specs.declared.ready.ReadyNode.{ReadyNode}
-use Rattle.strc_cli.specs.Answers.{are_settled}
+use Rattle.strc_cli.specs.Answers.{are_runnable}
 use Rattle.strc_cli.specs.Loading.{codes_in, all_loaded_in}
 use Rattle.strc_cli.specs.Pipeline.{Loaded, laps}
 use Rattle.strc_cli.specs.Programs.{Accepts, IsTrueOf}
@@ -19,21 +19,21 @@ returns-in_default c =
 
 pub returns-in-Ok-run : goal.returns-in-Ok-run
 returns-in-Ok-run c =
-    let holds : c.are_settled.result ≡ true = search rules in
+    let holds : c.are_runnable.result ≡ true = search rules in
     let is = c.in-Ok.ensures in (
       c.in-Some.rounds,
       sym c.round_count.ensures ∙ c.in-Some.is,
       record {
         stream = is.stream;
         accepted = subst (λ (main : Option (List ℕ)). Accepts c.args.text.now main is.stream) c.main_name.ensures is.accepted;
-        settled = ap are_settled (sym (loaded_codes c.in-Ok.nodes.items (nodes_of is.stream) is.loads)) ∙ sym (ap (λ (l : List ReadyNode). are_settled (codes_in l)) c.deref.ensures.value) ∙ sym c.are_settled.ensures ∙ holds;
+        runnable = ap are_runnable (sym (loaded_codes c.in-Ok.nodes.items (nodes_of is.stream) is.loads)) ∙ sym (ap (λ (l : List ReadyNode). are_runnable (codes_in l)) c.deref.ensures.value) ∙ sym c.are_runnable.ensures ∙ holds;
         ends = subst (λ (all : List Loaded). IsEnding c.in-Ok-run.outcome (laps c.in-Some.rounds 0 all [])) (ap all_loaded_in c.deref_mut.ensures.value ∙ is.loads) c.in-Ok-run.ensures;
       },
     )
 
-pub returns-then-not-are_settled : goal.returns-then-not-are_settled
-returns-then-not-are_settled c =
-    let fails : c.are_settled.result ≡ false = search rules in
+pub returns-then-not-are_runnable : goal.returns-then-not-are_runnable
+returns-then-not-are_runnable c =
+    let fails : c.are_runnable.result ≡ false = search rules in
     let is = c.in-Ok.ensures in
     inr (inr (
       refl,
@@ -41,6 +41,6 @@ returns-then-not-are_settled c =
       (
         is.stream,
         subst (λ (main : Option (List ℕ)). Accepts c.args.text.now main is.stream) c.main_name.ensures is.accepted,
-        ap are_settled (sym (loaded_codes c.in-Ok.nodes.items (nodes_of is.stream) is.loads)) ∙ sym (ap (λ (l : List ReadyNode). are_settled (codes_in l)) c.deref.ensures.value) ∙ sym c.are_settled.ensures ∙ fails,
+        ap are_runnable (sym (loaded_codes c.in-Ok.nodes.items (nodes_of is.stream) is.loads)) ∙ sym (ap (λ (l : List ReadyNode). are_runnable (codes_in l)) c.deref.ensures.value) ∙ sym c.are_runnable.ensures ∙ fails,
       ),
     ))

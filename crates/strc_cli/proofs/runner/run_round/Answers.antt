@@ -2,7 +2,7 @@ use Rattle.strc_cli.proofs.Laps.{underway_start, underway_step, underway_end, un
 use Rattle.strc_cli.specs.Loading.{fields_in, all_loaded_in}
 use Rattle.strc_cli.specs.Pipeline.{lap_from}
 use Rattle.std.proofs.Common.{[], arith, subst, sym}
-use Rattle.strc_work.specs.declared.fault.Cause.{Cause}
+use Rattle.strc_semantics.specs.declared.fault.Cause.{Cause}
 use Rattle.strc_cli.specs.Running.{HasStopped}
 use Rattle.strc_cli.proofs.runner.run_round.Goals as goal
 

@@ -1,6 +1,6 @@
 use Rattle.std.proofs.Common.{◌≡◌, ◌++◌, map}
 use Rattle.std.specs.List.{AllByRecursion}
-use Rattle.strc_elab.specs.View.{node_view}
+use Rattle.strc_graph.specs.NodeView.{node_view}
 use Rattle.strc_cli.specs.Loading.{CanStart, all_loaded_in}
 use Rattle.strc_cli.specs.Pipeline.{loaded}
 use Rattle.strc_cli.proofs.start.ready_nodes.Given as goal

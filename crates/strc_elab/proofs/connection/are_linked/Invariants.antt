@@ -1,6 +1,6 @@
 use Rattle.std.proofs.Common.{ℕ, ◌<◌, ◌+◌, map}
-use Rattle.strc_elab.specs.Graphs.{inputs_at, outputs_at}
-use Rattle.strc_elab.specs.View.{node_view}
+use Rattle.strc_graph.specs.Graphs.{inputs_at, outputs_at}
+use Rattle.strc_graph.specs.NodeView.{node_view}
 use Rattle.strc_elab.proofs.connection.are_linked.Given as goal
 
 -- each node before the next one gives items to the one behind it

@@ -1,6 +1,6 @@
 use Rattle.std.proofs.Common.{◌≡◌, ◌+◌, drop, map, count_by}
-use Rattle.strc_elab.specs.Graphs.{gives_words}
-use Rattle.strc_elab.specs.View.{node_view}
+use Rattle.strc_graph.specs.Graphs.{gives_words}
+use Rattle.strc_graph.specs.NodeView.{node_view}
 use Rattle.strc_elab.proofs.connection.count_outputs.Given as goal
 
 -- those so far, and those among the nodes left

@@ -1,6 +1,6 @@
 use Rattle.std.proofs.Common.{ℕ, map, subst}
-use Rattle.strc_parse.specs.Tree.{Declaration}
-use Rattle.strc_parse.specs.View.{declaration_view}
+use Rattle.strc_syntax.specs.Tree.{Declaration}
+use Rattle.strc_syntax.specs.View.{declaration_view}
 use Rattle.strc_elab.specs.Answering.{IsVerdict}
 use Rattle.strc_elab.specs.Tasks.{made_view, text_view}
 use Rattle.strc_elab.proofs.Levels.{main_made-task}

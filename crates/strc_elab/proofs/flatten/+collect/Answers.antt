@@ -1,5 +1,6 @@
 use Rattle.std.proofs.Common.{◌≡◌, ◌++◌, length, map, sym, ap, ◌∙◌, arith}
-use Rattle.strc_elab.specs.View.{stream_view, node_view}
+use Rattle.strc_elab.specs.View.{stream_view}
+use Rattle.strc_graph.specs.NodeView.{node_view}
 use Rattle.strc_elab.specs.Flattening.{nodes_of}
 use Rattle.strc_elab.proofs.Views.{list_nodes, list_nodes-empty, nodes_of-Pipeline}
 use Rattle.strc_elab.proofs.flatten.+collect.Goals as goal

@@ -1,5 +1,5 @@
 use Rattle.std.proofs.Common.{◌≡◌, ◌++◌, map}
-use Rattle.strc_elab.specs.View.{node_view}
+use Rattle.strc_graph.specs.NodeView.{node_view}
 use Rattle.strc_elab.proofs.Views.{list_nodes}
 use Rattle.strc_elab.proofs.flatten.+collect.Given as goal
 

@@ -1,8 +1,9 @@
 use Rattle.std.proofs.Common.{◌≡◌, ◌-◌, ◌++◌, ◌∙◌, List, length, map, sym, ap, subst, Ok, Err}
 use Rattle.std.proofs.lemmas.List.{length-map}
-use Rattle.strc_elab.specs.declared.graph.Node.{Node}
-use Rattle.strc_elab.specs.Graphs.{node_name}
-use Rattle.strc_elab.specs.View.{stream_view, node_view, graph_view}
+use Rattle.strc_graph.specs.declared.graph.Node.{Node}
+use Rattle.strc_graph.specs.Graphs.{node_name}
+use Rattle.strc_elab.specs.View.{stream_view}
+use Rattle.strc_graph.specs.NodeView.{node_view, graph_view}
 use Rattle.strc_elab.specs.Flattening.{nodes_of}
 use Rattle.strc_elab.specs.Rows.{AreLinked, links}
 use Rattle.strc_elab.proofs.Views.{names_of-is, node_names-view}

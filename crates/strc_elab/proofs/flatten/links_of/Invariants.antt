@@ -1,5 +1,5 @@
 use Rattle.std.proofs.Common.{◌≡◌, map}
-use Rattle.strc_elab.specs.View.{channel_view}
+use Rattle.strc_graph.specs.NodeView.{channel_view}
 use Rattle.strc_elab.specs.Rows.{links}
 use Rattle.strc_elab.proofs.flatten.links_of.Given as goal
 

@@ -1,8 +1,8 @@
 use Rattle.std.proofs.Common.{◌≡◌, ◌-◌, ◌∙◌, List, length, map, sym, ap, subst, arith}
 use Rattle.std.specs.Prelude.{All}
 use Rattle.std.proofs.lemmas.List.{length-map}
-use Rattle.strc_elab.specs.Graphs.{Channel, JoinsPorts}
-use Rattle.strc_elab.specs.View.{node_view, channel_view}
+use Rattle.strc_graph.specs.Graphs.{Channel, JoinsPorts}
+use Rattle.strc_graph.specs.NodeView.{node_view, channel_view}
 use Rattle.strc_elab.specs.Rows.{links}
 use Rattle.strc_elab.proofs.Links.{links_join}
 use Rattle.strc_elab.proofs.flatten.row.Goals as goal

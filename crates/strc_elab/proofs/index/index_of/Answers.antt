@@ -2,7 +2,7 @@ use Rattle.std.proofs.Common.{ℕ, List, take, map, None, Some, Bor, ap, ◌∙�
 use Rattle.std.specs.Map.{lookup}
 use Rattle.std.specs.Cmp.Lexicographic.{pointwise}
 use Rattle.indexmap.proofs.CallerLemmas.{insert_entry-new}
-use Rattle.strc_parse.specs.declared.tree.Decl.{Decl}
+use Rattle.strc_syntax.specs.declared.tree.Decl.{Decl}
 use Rattle.strc_elab.specs.Names.{place_from}
 use Rattle.strc_elab.specs.Elaboration.{not_doubled}
 use Rattle.strc_elab.proofs.NameTables.{first_found, lookup-append, named_push, none_of, doubled_later, doubled_here}

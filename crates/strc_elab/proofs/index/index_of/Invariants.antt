@@ -1,7 +1,7 @@
 use Rattle.std.proofs.Common.{◌≡◌, take, drop, map, [], List, ℕ, nat_eq}
 use Rattle.std.specs.Cmp.Lexicographic.{pointwise}
 use Rattle.indexmap.specs.IndexMap.{get_by}
-use Rattle.strc_parse.specs.View.{declaration_view}
+use Rattle.strc_syntax.specs.View.{declaration_view}
 use Rattle.strc_elab.specs.Elaboration.{doubled_from}
 use Rattle.strc_elab.specs.Names.{place_from}
 use Rattle.strc_elab.proofs.index.index_of.Given as goal

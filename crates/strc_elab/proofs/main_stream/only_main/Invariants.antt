@@ -1,6 +1,6 @@
 use Rattle.std.proofs.Common.{◌≡◌, ◌++◌, drop, map}
 use Rattle.std.specs.Option.{option_map, option_to_list}
-use Rattle.strc_parse.specs.View.{declaration_view}
+use Rattle.strc_syntax.specs.View.{declaration_view}
 use Rattle.strc_elab.specs.Elaboration as spec
 use Rattle.strc_elab.proofs.main_stream.only_main.Given as goal
 

@@ -1,6 +1,6 @@
 use Rattle.std.proofs.Common.{◌≡◌, length, arith, subst}
 use Rattle.strc_lex.specs.Text.{LexesBetween, StopsAt}
-use Rattle.strc_lex.proofs.Gaps.{gap_ordered}
+use Rattle.strc_lex.proofs.TriviaRuns.{trivia_run_ordered}
 use Rattle.strc_lex.proofs.Lexing.{lexes_only, stuck_lexes, lexes_push, stands_at}
 use Rattle.strc_lex.proofs.lexer.lex.Goals as goal
 
@@ -27,7 +27,7 @@ returns-in_default-clause-stuck c = λ at e.
 pub loop-at-smaller : goal.loop-at-smaller
 loop-at-smaller c =
     let found = rw c.in-Some.is at c.in_ok-kind.ensures.found in
-    let on = gap_ordered c.args.text.now _ _ c.gap_end-at-in-loop-at.ensures.gap in
+    let on = trivia_run_ordered c.args.text.now _ _ c.trivia_end-at-in-loop-at.ensures.trivia_run in
     omega (arith, found.1, found.2, on)
 
 pub loop-at-preserved : goal.loop-at-preserved
@@ -35,9 +35,9 @@ loop-at-preserved c =
     let found = rw c.in-Some.is at c.in_ok-kind.ensures.found in
     let stands = stands_at c.args.text.now c.loop-at.at c.in-Some.len c.in-Some.kind found.0 found.1 in
     record {
-      front = rw c.in_ok-push.ensures.items (lexes_push c.args.text.now 0 c.loop-at.tokens.items _ c.gap_end-at-in-loop-at.result c.loop-at.invariant.front stands c.gap_end-at-in-loop-at.ensures.gap);
-      bare = c.gap_end-at-in-loop-at.ensures.bare;
-      within = c.gap_end-at-in-loop-at.ensures.gap.within;
+      front = rw c.in_ok-push.ensures.items (lexes_push c.args.text.now 0 c.loop-at.tokens.items _ c.trivia_end-at-in-loop-at.result c.loop-at.invariant.front stands c.trivia_end-at-in-loop-at.ensures.trivia_run);
+      bare = c.trivia_end-at-in-loop-at.ensures.bare;
+      within = c.trivia_end-at-in-loop-at.ensures.trivia_run.within;
     }
 
 pub returns-clause-only : goal.returns-clause-only

@@ -1,13 +1,13 @@
 use Rattle.std.proofs.Common.{ℕ, length, ◌-◌, ◌≤◌, drop}
-use Rattle.strc_lex.specs.Gaps.{IsPiece}
+use Rattle.strc_lex.specs.Trivia.{IsTrivia}
 use Rattle.strc_lex.specs.Text.{LexesBetween}
 use Rattle.strc_lex.proofs.lexer.lex.Given as goal
 
--- what was passed is gaps and the tokens so far, and no piece of a gap begins here
+-- what was passed is trivia_runs and the tokens so far, and no trivia of a trivia_run begins here
 abbrev pub invariant-loop-at : goal.invariant-loop-at
 invariant-loop-at l = record {
   front : LexesBetween l.text 0 l.tokens.items l.at;
-  bare : (len : ℕ) → IsPiece (drop l.at l.text) len → ⊥;
+  bare : (len : ℕ) → IsTrivia (drop l.at l.text) len → ⊥;
   within : l.at ≤ length l.text;
 }
 

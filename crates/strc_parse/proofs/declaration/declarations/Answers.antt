@@ -1,11 +1,11 @@
 use Rattle.std.proofs.Common.{◌≡◌, ◌+◌, ◌∙◌, ◌∷◌, [], ◌++◌, Ok, length, map, sym, refl}
 use Rattle.std.proofs.lemmas.Result.{err_from_is_err_and}
 use Rattle.std.proofs.lemmas.List.{map_push}
-use Rattle.strc_parse.specs.View.{declaration_view}
-use Rattle.strc_parse.specs.Grammar.{kinds, height_limit}
-use Rattle.strc_parse.specs.Reading.{one_more}
-use Rattle.strc_parse.specs.Streams.{at_end, declaration}
-use Rattle.strc_parse.proofs.Repeated.{Fails-then, end_reached, end_ahead, repeated_on, repeated_ends, repeated_fails, repeated_over}
+use Rattle.strc_syntax.specs.View.{declaration_view}
+use Rattle.strc_grammar.specs.Grammar.{kinds, height_limit}
+use Rattle.strc_grammar.specs.Reading.{one_more}
+use Rattle.strc_grammar.specs.Streams.{at_end, declaration}
+use Rattle.strc_grammar.proofs.Repeated.{Fails-then, end_reached, end_ahead, repeated_on, repeated_ends, repeated_fails, repeated_over}
 use Rattle.strc_parse.proofs.declaration.declarations.Goals as goal
 
 pub returns-then-is_empty : goal.returns-then-is_empty

@@ -1,8 +1,8 @@
 use Rattle.std.proofs.Common.{◌≡◌, ◌-◌, map}
-use Rattle.strc_parse.specs.View.{declaration_view}
-use Rattle.strc_parse.specs.Grammar.{kinds, height_limit}
-use Rattle.strc_parse.specs.Reading.{repeated, one_more}
-use Rattle.strc_parse.specs.Streams.{declarations, at_end, declaration}
+use Rattle.strc_syntax.specs.View.{declaration_view}
+use Rattle.strc_grammar.specs.Grammar.{kinds, height_limit}
+use Rattle.strc_grammar.specs.Reading.{repeated, one_more}
+use Rattle.strc_grammar.specs.Streams.{declarations, at_end, declaration}
 use Rattle.strc_parse.proofs.declaration.declarations.Given as goal
 
 abbrev pub invariant-loop-turn : goal.invariant-loop-turn

@@ -1,29 +1,29 @@
 use Rattle.std.proofs.Common.{◌≡◌, ◌+◌, ◌++◌, drop, refl, sym, ap, ◌∙◌}
 use Rattle.std.proofs.lemmas.Result.{IfOk-weaker, on_ok_weaker}
 use Rattle.std.specs.Option.{option_map}
-use Rattle.strc_parse.specs.View.{expr_view, stmt_view, block_view}
+use Rattle.strc_syntax.specs.View.{expr_view, stmt_view, block_view}
 use Rattle.strc_rate.specs.Loops.{counted_loop}
-use Rattle.strc_rate.specs.Ranges.{ranges_after}
+use Rattle.strc_rate.specs.Intervals.{intervals_after}
 use Rattle.strc_rate.specs.Seen.{loop_view}
-use Rattle.strc_work.proofs.Blocks.{stmt_view-Block, block_view-drop}
+use Rattle.strc_syntax.proofs.Blocks.{stmt_view-Block, block_view-drop}
 use Rattle.strc_rate.specs.Counts.{both, nothing, repeated, option_counts, turns_counts, stmt_counts, stmts_counts}
 use Rattle.strc_rate.specs.Peeks.{names_of, stmt_sights, stmts_sights}
-use Rattle.strc_rate.proofs.Counting.{first_stmts, first_settled, settled_step, stmts_step, for_counts}
+use Rattle.strc_rate.proofs.Counting.{first_stmts, first_runnable, runnable_step, stmts_step, for_counts}
 use Rattle.strc_rate.proofs.Sighting.{stmts_seen}
-use Rattle.strc_rate.proofs.RangedGrowth.{stands_on_itself, stands_on_after}
+use Rattle.strc_rate.proofs.IntervalGrowth.{stands_on_itself, stands_on_after}
 use Rattle.strc_rate.proofs.peeks.+peeks.Goals as goal
-use Rattle.strc_rate.proofs.peeks.+peeks.Goals.{look_at_statement-in-Some-counted+in_ok-turned-in-Some-counted, look_at_statement-in-None-counted+in_ok-test-in-None-counted+in_ok-step-in-None-counted+in_ok-body-in-None-counted}
+use Rattle.strc_rate.proofs.peeks.+peeks.Goals.{check_peeks_in_statement-in-Some-counted+in_ok-turned-in-Some-counted, check_peeks_in_statement-in-None-counted+in_ok-test-in-None-counted+in_ok-step-in-None-counted+in_ok-body-in-None-counted}
 
-pub look_at_block-loop-statement-init : goal.look_at_block-loop-statement-init
-look_at_block-loop-statement-init t c = record {
+pub check_peeks_in_block-loop-statement-init : goal.check_peeks_in_block-loop-statement-init
+check_peeks_in_block-loop-statement-init t c = record {
   counted = first_stmts c.no_items.result (names_of c.args.names.now) (block_view c.args.block.now) c.no_items.ensures;
-  settled = first_settled c.no_items.result c.no_items.ensures;
+  runnable = first_runnable c.no_items.result c.no_items.ensures;
   seen = refl;
   names = stands_on_itself c.args.names.now;
 }
 
-pub look_at_block-loop-statement-preserved : goal.look_at_block-loop-statement-preserved
-look_at_block-loop-statement-preserved t c =
+pub check_peeks_in_block-loop-statement-preserved : goal.check_peeks_in_block-loop-statement-preserved
+check_peeks_in_block-loop-statement-preserved t c =
     let all = c.args.block.now in
     let i = c.loop-statement.statement-index in
     let x = stmt_view c.statement-item.result in
@@ -34,55 +34,55 @@ look_at_block-loop-statement-preserved t c =
     let names = c.in_ok-passed.ensures.names in
     let invariant = c.loop-statement.invariant in
     record {
-      counted = stmts_step so_far here c.both-counts.result _ c.loop-statement.names c.look_at_statement.new.names x rest (block_view (drop i all)) c.in_ok-passed.ensures.counts names c.both-counts.ensures next invariant.counted;
-      settled = settled_step so_far here c.both-counts.result c.both-counts.ensures;
-      seen = stmts_seen c.loop-statement.sights.items c.look_at_statement.new.sights.items _ c.args.window c.loop-statement.names c.look_at_statement.new.names c.loop-statement.here c.behind-here.result here x rest (block_view (drop i all)) c.in_ok-passed.ensures.counts names c.behind-here.ensures c.in_ok-passed.ensures.sights next invariant.seen;
+      counted = stmts_step so_far here c.both-counts.result _ c.loop-statement.names c.check_peeks_in_statement.new.names x rest (block_view (drop i all)) c.in_ok-passed.ensures.counts names c.both-counts.ensures next invariant.counted;
+      runnable = runnable_step so_far here c.both-counts.result c.both-counts.ensures;
+      seen = stmts_seen c.loop-statement.sights.items c.check_peeks_in_statement.new.sights.items _ c.args.window c.loop-statement.names c.check_peeks_in_statement.new.names c.loop-statement.here c.behind-here.result here x rest (block_view (drop i all)) c.in_ok-passed.ensures.counts names c.behind-here.ensures c.in_ok-passed.ensures.sights next invariant.seen;
       names = rw names (stands_on_after c.args.names.now c.loop-statement.names x invariant.names);
     }
 
-pub look_at_statement-returns-in-Block-clause-counts : goal.look_at_statement-returns-in-Block-clause-counts
-look_at_statement-returns-in-Block-clause-counts t c =
+pub check_peeks_in_statement-returns-in-Block-clause-counts : goal.check_peeks_in_statement-returns-in-Block-clause-counts
+check_peeks_in_statement-returns-in-Block-clause-counts t c =
     let locals = names_of c.args.names.now in
     let same =
     ap (λ items. stmts_counts locals (block_view items)) c.deref.ensures.value
     ∙ ap (stmt_counts locals) (sym (stmt_view-Block c.in-Block.body))
     ∙ ap (λ s. stmt_counts locals (stmt_view s)) (sym c.in-Block.is) in
-    IfOk-weaker c.look_at_block.result _ _ (λ counts h. h ∙ same) c.look_at_block.ensures.counts
+    IfOk-weaker c.check_peeks_in_block.result _ _ (λ counts h. h ∙ same) c.check_peeks_in_block.ensures.counts
 
-pub look_at_statement-returns-in-Block-clause-sights : goal.look_at_statement-returns-in-Block-clause-sights
-look_at_statement-returns-in-Block-clause-sights t c =
+pub check_peeks_in_statement-returns-in-Block-clause-sights : goal.check_peeks_in_statement-returns-in-Block-clause-sights
+check_peeks_in_statement-returns-in-Block-clause-sights t c =
     let window = c.args.window in
-    let ranges = c.args.names.now in
+    let intervals = c.args.names.now in
     let popped = c.args.popped in
     let same =
-    ap (λ items. stmts_sights window ranges popped (block_view items)) c.deref.ensures.value
-    ∙ ap (stmt_sights window ranges popped) (sym (stmt_view-Block c.in-Block.body))
-    ∙ ap (λ s. stmt_sights window ranges popped (stmt_view s)) (sym c.in-Block.is) in
-    on_ok_weaker c.look_at_block.result (λ h. h ∙ ap (λ s. c.args.sights.now.items ++ s) same) c.look_at_block.ensures.sights
+    ap (λ items. stmts_sights window intervals popped (block_view items)) c.deref.ensures.value
+    ∙ ap (stmt_sights window intervals popped) (sym (stmt_view-Block c.in-Block.body))
+    ∙ ap (λ s. stmt_sights window intervals popped (stmt_view s)) (sym c.in-Block.is) in
+    on_ok_weaker c.check_peeks_in_block.result (λ h. h ∙ ap (λ s. c.args.sights.now.items ++ s) same) c.check_peeks_in_block.ensures.sights
 
-pub look_at_statement-returns-after-counted-clause-counts : goal.look_at_statement-returns-after-counted-clause-counts
-look_at_statement-returns-after-counted-clause-counts t c =
-    let ranges = c.args.names.now in
+pub check_peeks_in_statement-returns-after-counted-clause-counts : goal.check_peeks_in_statement-returns-after-counted-clause-counts
+check_peeks_in_statement-returns-after-counted-clause-counts t c =
+    let intervals = c.args.names.now in
     let first = stmt_view c.in-For.first.value in
     let condition = option_map expr_view c.in-For.condition in
     let step = stmt_view c.in-For.step.value in
     let body = stmt_view c.in-For.body.value in
-    let behind = c.look_at_statement.new.names in
+    let behind = c.check_peeks_in_statement.new.names in
     let begun = c.in_ok-begun-in-For.begun in
-    let counted : begun ≡ stmt_counts (names_of ranges) first = c.in_ok-begun-in-For.ensures.counts ∙ ap (λ s. stmt_counts (names_of ranges) (stmt_view s)) c.deref-in-For-4.ensures in
-    let names : behind ≡ ranges_after ranges first = c.in_ok-begun-in-For.ensures.names ∙ ap (λ s. ranges_after ranges (stmt_view s)) c.deref-in-For-4.ensures in
-    let told : option_map loop_view c.counted_loop-counted.result ≡ counted_loop (names_of ranges) first condition step body =
+    let counted : begun ≡ stmt_counts (names_of intervals) first = c.in_ok-begun-in-For.ensures.counts ∙ ap (λ s. stmt_counts (names_of intervals) (stmt_view s)) c.deref-in-For-4.ensures in
+    let names : behind ≡ intervals_after intervals first = c.in_ok-begun-in-For.ensures.names ∙ ap (λ s. intervals_after intervals (stmt_view s)) c.deref-in-For-4.ensures in
+    let told : option_map loop_view c.counted_loop-counted.result ≡ counted_loop (names_of intervals) first condition step body =
     c.counted_loop-counted.ensures.counted
-    ∙ ap (λ s. counted_loop (names_of ranges) (stmt_view s) condition (stmt_view c.deref-in-For-2.result.now) (stmt_view c.deref-in-For-3.result.now)) c.deref-in-For.ensures
-    ∙ ap (λ s. counted_loop (names_of ranges) first condition (stmt_view s) (stmt_view c.deref-in-For-3.result.now)) c.deref-in-For-2.ensures
-    ∙ ap (λ s. counted_loop (names_of ranges) first condition step (stmt_view s)) c.deref-in-For-3.ensures in
-    let whole : c.match-counted.turned ≡ turns_counts (counted_loop (names_of ranges) first condition step body) (option_counts condition) (stmt_counts (names_of behind) step) (stmt_counts (names_of behind) body) =
+    ∙ ap (λ s. counted_loop (names_of intervals) (stmt_view s) condition (stmt_view c.deref-in-For-2.result.now) (stmt_view c.deref-in-For-3.result.now)) c.deref-in-For.ensures
+    ∙ ap (λ s. counted_loop (names_of intervals) first condition (stmt_view s) (stmt_view c.deref-in-For-3.result.now)) c.deref-in-For-2.ensures
+    ∙ ap (λ s. counted_loop (names_of intervals) first condition step (stmt_view s)) c.deref-in-For-3.ensures in
+    let whole : c.match-counted.turned ≡ turns_counts (counted_loop (names_of intervals) first condition step body) (option_counts condition) (stmt_counts (names_of behind) step) (stmt_counts (names_of behind) body) =
     elim c.match-counted.branch [
-      | look_at_statement-in-Some-counted+in_ok-turned-in-Some-counted w ↦
+      | check_peeks_in_statement-in-Some-counted+in_ok-turned-in-Some-counted w ↦
           w.turned-is ∙ w.in_ok-turned-in-Some-counted.ensures.counts
           ∙ ap (λ s. repeated w.in-Some-counted.counted.turns (stmt_counts (names_of behind) (stmt_view s))) w.deref-in-Some-counted.ensures
           ∙ ap (λ l. turns_counts l (option_counts condition) (stmt_counts (names_of behind) step) (stmt_counts (names_of behind) body)) (sym (ap (option_map loop_view) w.in-Some-counted.is) ∙ told)
-      | look_at_statement-in-None-counted+in_ok-test-in-None-counted+in_ok-step-in-None-counted+in_ok-body-in-None-counted w ↦
+      | check_peeks_in_statement-in-None-counted+in_ok-test-in-None-counted+in_ok-step-in-None-counted+in_ok-body-in-None-counted w ↦
           let same : w.look_inside-in-None-counted.new.names ≡ behind = w.in_ok-step-in-None-counted.ensures.names in
           let tested : w.nothing-in-None-counted.result ≡ nothing (option_counts condition) = w.nothing-in-None-counted.ensures ∙ ap nothing w.in_ok-test-in-None-counted.ensures.counts in
           let stepped : w.nothing-in-None-counted-2.result ≡ nothing (stmt_counts (names_of behind) step) =
@@ -96,5 +96,5 @@ look_at_statement-returns-after-counted-clause-counts t c =
           ∙ ap (λ l. turns_counts l (option_counts condition) (stmt_counts (names_of behind) step) (stmt_counts (names_of behind) body)) (sym (ap (option_map loop_view) w.in-None-counted.is) ∙ told)
     ] in
     c.both-in-For.ensures
-    ∙ for_counts ranges behind first step body condition begun c.match-counted.turned counted names whole
-    ∙ ap (λ s. stmt_counts (names_of ranges) (stmt_view s)) (sym c.in-For.is)
+    ∙ for_counts intervals behind first step body condition begun c.match-counted.turned counted names whole
+    ∙ ap (λ s. stmt_counts (names_of intervals) (stmt_view s)) (sym c.in-For.is)

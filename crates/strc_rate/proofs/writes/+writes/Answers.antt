@@ -1,6 +1,6 @@
 use Rattle.std.proofs.Common.{sym, ap, ◌∙◌}
-use Rattle.strc_parse.specs.View.{stmt_view, block_view}
-use Rattle.strc_work.proofs.Blocks.{stmt_view-Block}
+use Rattle.strc_syntax.specs.View.{stmt_view, block_view}
+use Rattle.strc_syntax.proofs.Blocks.{stmt_view-Block}
 use Rattle.strc_rate.specs.Loops.{stmt_writes, stmts_write}
 use Rattle.strc_rate.proofs.writes.+writes.Goals as goal
 

@@ -1,5 +1,5 @@
 use Rattle.std.proofs.Common.{◌≡◌, drop}
-use Rattle.strc_parse.specs.View.{block_view}
+use Rattle.strc_syntax.specs.View.{block_view}
 use Rattle.strc_rate.specs.Loops.{stmts_write}
 use Rattle.strc_rate.proofs.writes.+writes.Given as goal
 

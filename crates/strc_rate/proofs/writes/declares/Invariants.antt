@@ -1,5 +1,5 @@
 use Rattle.std.proofs.Common.{◌≡◌, drop, map}
-use Rattle.strc_parse.specs.View.{variable_view}
+use Rattle.strc_syntax.specs.View.{variable_view}
 use Rattle.strc_rate.specs.Loops.{declares}
 use Rattle.strc_rate.proofs.writes.declares.Given as goal
 

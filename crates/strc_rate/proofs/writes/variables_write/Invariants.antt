@@ -1,5 +1,5 @@
 use Rattle.std.proofs.Common.{◌≡◌, drop, map}
-use Rattle.strc_parse.specs.View.{variable_view}
+use Rattle.strc_syntax.specs.View.{variable_view}
 use Rattle.strc_rate.specs.Loops.{variables_write}
 use Rattle.strc_rate.proofs.writes.variables_write.Given as goal
 

@@ -1,8 +1,8 @@
 use Rattle.std.proofs.Common.{◌≡◌, ◌<◌, ◌+◌, ◌||◌, true, length, drop, sym, ap, ◌∙◌, arith, rules}
 use Rattle.std.proofs.Math.ListN.{drop_of_length-le}
-use Rattle.strc_parse.specs.View.{stmt_view, block_view}
-use Rattle.strc_work.specs.Filters.{stmt_prints, stmts_print}
-use Rattle.strc_work.proofs.Blocks.{stmt_view-Block, block_view-drop}
+use Rattle.strc_syntax.specs.View.{stmt_view, block_view}
+use Rattle.strc_semantics.specs.Filters.{stmt_prints, stmts_print}
+use Rattle.strc_syntax.proofs.Blocks.{stmt_view-Block, block_view-drop}
 use Rattle.strc_work.proofs.bodies.+stmt_prints.Goals as goal
 
 pub returns-then-stmt_prints : goal.returns-then-stmt_prints

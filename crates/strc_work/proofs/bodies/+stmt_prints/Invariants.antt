@@ -1,6 +1,6 @@
 use Rattle.std.proofs.Common.{◌≡◌, drop}
-use Rattle.strc_parse.specs.View.{block_view}
-use Rattle.strc_work.specs.Filters.{stmts_print}
+use Rattle.strc_syntax.specs.View.{block_view}
+use Rattle.strc_semantics.specs.Filters.{stmts_print}
 use Rattle.strc_work.proofs.bodies.+stmt_prints.Given as goal
 
 abbrev pub invariant-loop-inner : goal.invariant-loop-inner

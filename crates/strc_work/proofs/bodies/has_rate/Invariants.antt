@@ -1,6 +1,6 @@
 use Rattle.std.proofs.Common.{◌≡◌, drop, map}
-use Rattle.strc_parse.specs.View.{rate_view}
-use Rattle.strc_work.specs.Filters.{has_rate}
+use Rattle.strc_syntax.specs.View.{rate_view}
+use Rattle.strc_semantics.specs.Filters.{has_rate}
 use Rattle.strc_work.proofs.bodies.has_rate.Given as goal
 
 abbrev pub invariant-loop-rate : goal.invariant-loop-rate

@@ -1,8 +1,8 @@
 use Rattle.std.proofs.Common.{Some, ◌<◌, ◌+◌, ◌∷◌, length, drop, sym, ap, ◌∙◌, arith}
-use Rattle.strc_parse.specs.View.{block_view, member_view}
-use Rattle.strc_work.specs.Filters.{prework_block, members_of}
-use Rattle.strc_work.proofs.Blocks.{member_view-Prework}
-use Rattle.strc_work.proofs.Resolved.{map-drop}
+use Rattle.strc_syntax.specs.View.{block_view, member_view}
+use Rattle.strc_semantics.specs.Filters.{prework_block, members_of}
+use Rattle.strc_syntax.proofs.Blocks.{member_view-Prework}
+use Rattle.strc_base.proofs.Lists.{map-drop}
 use Rattle.strc_work.proofs.bodies.prework_block.Goals as goal
 
 pub returns-in-Prework : goal.returns-in-Prework

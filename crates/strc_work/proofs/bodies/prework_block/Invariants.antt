@@ -1,5 +1,5 @@
 use Rattle.std.proofs.Common.{◌≡◌, drop}
-use Rattle.strc_work.specs.Filters.{prework_block, members_of}
+use Rattle.strc_semantics.specs.Filters.{prework_block, members_of}
 use Rattle.strc_work.proofs.bodies.prework_block.Given as goal
 
 abbrev pub invariant-loop-member : goal.invariant-loop-member

@@ -1,6 +1,6 @@
 use Rattle.std.proofs.Common.{◌≡◌, drop, map}
-use Rattle.strc_parse.specs.View.{rate_view}
-use Rattle.strc_work.specs.Filters.{rate_of}
+use Rattle.strc_syntax.specs.View.{rate_view}
+use Rattle.strc_semantics.specs.Filters.{rate_of}
 use Rattle.strc_work.proofs.bodies.rate_of.Given as goal
 
 abbrev pub invariant-loop-rate : goal.invariant-loop-rate

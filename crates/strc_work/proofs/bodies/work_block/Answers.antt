@@ -1,8 +1,8 @@
 use Rattle.std.proofs.Common.{◌<◌, ◌+◌, ◌∷◌, length, drop, sym, ap, ◌∙◌, arith}
-use Rattle.strc_parse.specs.View.{block_view, member_view}
-use Rattle.strc_work.specs.Filters.{work_block, members_of}
-use Rattle.strc_work.proofs.Blocks.{member_view-Work}
-use Rattle.strc_work.proofs.Resolved.{map-drop}
+use Rattle.strc_syntax.specs.View.{block_view, member_view}
+use Rattle.strc_semantics.specs.Filters.{work_block, members_of}
+use Rattle.strc_syntax.proofs.Blocks.{member_view-Work}
+use Rattle.strc_base.proofs.Lists.{map-drop}
 use Rattle.strc_work.proofs.bodies.work_block.Goals as goal
 
 pub returns-in-Work : goal.returns-in-Work

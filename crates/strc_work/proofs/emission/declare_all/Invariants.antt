@@ -1,6 +1,6 @@
 use Rattle.std.proofs.Common.{◌≡◌, drop, map}
-use Rattle.strc_parse.specs.View.{variable_view}
-use Rattle.strc_work.specs.Scoping.{with_declared}
+use Rattle.strc_syntax.specs.View.{variable_view}
+use Rattle.strc_semantics.specs.Scoping.{with_declared}
 use Rattle.strc_work.proofs.emission.declare_all.Given as goal
 
 abbrev pub invariant-loop-variable : goal.invariant-loop-variable

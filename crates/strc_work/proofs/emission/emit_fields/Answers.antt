@@ -1,11 +1,12 @@
 use Rattle.std.proofs.Common.{◌<◌, ◌+◌, length, drop, map, sym, ap, ◌∙◌, arith}
 use Rattle.std.proofs.Math.ListN.{drop_of_length-le}
-use Rattle.strc_parse.specs.View.{variable_view}
-use Rattle.strc_work.specs.Machine.{before}
+use Rattle.strc_syntax.specs.View.{variable_view}
+use Rattle.strc_machine.specs.Machine.{before}
 use Rattle.strc_work.specs.Lowering.{fields_nodes}
-use Rattle.strc_work.specs.Written.{written}
-use Rattle.strc_work.proofs.Nodes.{before_end}
-use Rattle.strc_work.proofs.Emitted.{map-drop, fields_more}
+use Rattle.strc_machine.specs.Written.{written}
+use Rattle.strc_machine.proofs.Nodes.{before_end}
+use Rattle.strc_base.proofs.Lists.{map-drop}
+use Rattle.strc_work.proofs.Emitted.{fields_more}
 use Rattle.strc_work.proofs.emission.emit_fields.Goals as goal
 
 pub loop-variable-preserved : goal.loop-variable-preserved

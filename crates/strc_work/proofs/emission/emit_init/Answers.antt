@@ -1,11 +1,11 @@
 use Rattle.std.proofs.Common.{[], ◌∷◌, sym, ap, ◌∙◌}
 use Rattle.std.proofs.lemmas.Result.{on_ok_weaker}
-use Rattle.strc_parse.specs.View.{block_view, member_view}
-use Rattle.strc_work.specs.Machine.{before}
+use Rattle.strc_syntax.specs.View.{block_view, member_view}
+use Rattle.strc_machine.specs.Machine.{before}
 use Rattle.strc_work.specs.Lowering.{stmts_nodes, inits_nodes}
-use Rattle.strc_work.specs.Written.{written}
-use Rattle.strc_work.proofs.Blocks.{member_view-Init}
-use Rattle.strc_work.proofs.Nodes.{before_end}
+use Rattle.strc_machine.specs.Written.{written}
+use Rattle.strc_syntax.proofs.Blocks.{member_view-Init}
+use Rattle.strc_machine.proofs.Nodes.{before_end}
 use Rattle.strc_work.proofs.emission.emit_init.Goals as goal
 
 pub returns-in-Init-clause-code : goal.returns-in-Init-clause-code

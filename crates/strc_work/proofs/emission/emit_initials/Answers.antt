@@ -1,12 +1,13 @@
 use Rattle.std.proofs.Common.{◌<◌, ◌+◌, length, drop, sym, ap, ◌∙◌, arith}
 use Rattle.std.proofs.Math.ListN.{drop_of_length-le}
-use Rattle.strc_parse.specs.View.{member_view}
-use Rattle.strc_work.specs.Filters.{members_of}
-use Rattle.strc_work.specs.Machine.{before}
+use Rattle.strc_syntax.specs.View.{member_view}
+use Rattle.strc_semantics.specs.Filters.{members_of}
+use Rattle.strc_machine.specs.Machine.{before}
 use Rattle.strc_work.specs.Lowering.{initials_nodes}
-use Rattle.strc_work.specs.Written.{written}
-use Rattle.strc_work.proofs.Nodes.{before_end}
-use Rattle.strc_work.proofs.Emitted.{map-drop, initials_more}
+use Rattle.strc_machine.specs.Written.{written}
+use Rattle.strc_machine.proofs.Nodes.{before_end}
+use Rattle.strc_base.proofs.Lists.{map-drop}
+use Rattle.strc_work.proofs.Emitted.{initials_more}
 use Rattle.strc_work.proofs.emission.emit_initials.Goals as goal
 
 pub loop-member-preserved : goal.loop-member-preserved

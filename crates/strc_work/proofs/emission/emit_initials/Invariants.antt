@@ -1,8 +1,8 @@
 use Rattle.std.proofs.Common.{◌≡◌, drop}
-use Rattle.strc_work.specs.Filters.{members_of}
-use Rattle.strc_work.specs.Machine.{before}
+use Rattle.strc_semantics.specs.Filters.{members_of}
+use Rattle.strc_machine.specs.Machine.{before}
 use Rattle.strc_work.specs.Lowering.{initials_nodes}
-use Rattle.strc_work.specs.Written.{written}
+use Rattle.strc_machine.specs.Written.{written}
 use Rattle.strc_work.proofs.emission.emit_initials.Given as goal
 
 abbrev pub invariant-loop-member : goal.invariant-loop-member

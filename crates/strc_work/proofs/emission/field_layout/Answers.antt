@@ -1,9 +1,9 @@
 use Rattle.std.proofs.Common.{◌≡◌, ◌+◌, ◌<◌, ◌++◌, ◌∷◌, length, drop, map, reverse, sym, ap, ◌∙◌, arith}
-use Rattle.strc_parse.specs.View.{member_view, type_view, variable_view}
-use Rattle.strc_work.specs.Filters.{members_of, sized_fields}
-use Rattle.strc_work.specs.Scoping.{with_declared}
-use Rattle.strc_work.proofs.Growth.{fields_before, no_fields}
-use Rattle.strc_work.proofs.Resolved.{map-drop}
+use Rattle.strc_syntax.specs.View.{member_view, type_view, variable_view}
+use Rattle.strc_semantics.specs.Filters.{members_of, sized_fields}
+use Rattle.strc_semantics.specs.Scoping.{with_declared}
+use Rattle.strc_semantics.proofs.Growth.{fields_before, no_fields}
+use Rattle.strc_base.proofs.Lists.{map-drop}
 use Rattle.strc_work.proofs.emission.field_layout.Goals as goal
 use Rattle.strc_work.proofs.emission.field_layout.Goals.{in-Fields+in_ok-declare_all, in_default}
 

@@ -1,5 +1,5 @@
 use Rattle.std.proofs.Common.{◌≡◌, ◌++◌, drop, reverse}
-use Rattle.strc_work.specs.Filters.{members_of, sized_fields}
+use Rattle.strc_semantics.specs.Filters.{members_of, sized_fields}
 use Rattle.strc_work.proofs.emission.field_layout.Given as goal
 
 abbrev pub invariant-loop-member : goal.invariant-loop-member

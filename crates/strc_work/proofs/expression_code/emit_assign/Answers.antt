@@ -1,10 +1,10 @@
 use Rattle.std.proofs.Common.{◌≡◌, ◌+◌, true, Some, rules}
-use Rattle.strc_parse.specs.View.{expr_view}
-use Rattle.strc_work.specs.Machine.{before}
-use Rattle.strc_work.specs.Lowering.{changes_none, operand_nodes, operand_slot}
-use Rattle.strc_work.specs.Scoping.{total, slot_of}
+use Rattle.strc_syntax.specs.View.{expr_view}
+use Rattle.strc_machine.specs.Machine.{before}
+use Rattle.strc_work.specs.Lowering.{writes_no_variable, operand_nodes, operand_slot}
+use Rattle.strc_semantics.specs.Scoping.{total, slot_of}
 use Rattle.strc_work.specs.Emission.{compound_of, old_slot, old_nodes}
-use Rattle.strc_work.specs.Written.{written}
+use Rattle.strc_machine.specs.Written.{written}
 use Rattle.strc_work.proofs.Emitted.{assigned_more, on_ok}
 use Rattle.strc_work.proofs.expression_code.emit_assign.Goals as goal
 
@@ -15,8 +15,8 @@ returns-in_ok-right-in-Some c =
     let value = expr_view c.args.value.now in
     let free = total names in
     let plain : compound_of c.args.operator ≡ Some c.in-Some.operator = search rules in
-    let left : c.in_ok-left-in-Some.left ≡ old_slot (changes_none value) (slot_of names name) free = search rules in
-    let first : written c.emit_old.new.code ≡ before (written c.args.code.now) (old_nodes (changes_none value) (slot_of names name) free) = search rules in
+    let left : c.in_ok-left-in-Some.left ≡ old_slot (writes_no_variable value) (slot_of names name) free = search rules in
+    let first : written c.emit_old.new.code ≡ before (written c.args.code.now) (old_nodes (writes_no_variable value) (slot_of names name) free) = search rules in
     let right : c.in_ok-right-in-Some.right ≡ operand_slot names true value (free + 1) = search rules in
     let second : written c.emit_operand.new.code ≡ before (written c.emit_old.new.code) (operand_nodes names true value (free + 1)) = search rules in
     on_ok c.put.result _ _ (λ last. assigned_more names name c.args.operator c.in-Some.operator value (slot_of names name) free c.in_ok-left-in-Some.left c.in_ok-right-in-Some.right (written c.args.code.now) (written c.emit_old.new.code) (written c.emit_operand.new.code) (written c.put.new.self) plain left first right second (search rules)) c.put.ensures

@@ -1,9 +1,9 @@
 use Rattle.std.proofs.Common.{◌≡◌, drop}
-use Rattle.strc_parse.specs.View.{block_view}
-use Rattle.strc_work.specs.Machine.{before}
+use Rattle.strc_syntax.specs.View.{block_view}
+use Rattle.strc_machine.specs.Machine.{before}
 use Rattle.strc_work.specs.Lowering.{stmts_nodes}
-use Rattle.strc_work.specs.Written.{written}
-use Rattle.strc_work.proofs.Growth.{StandsOn}
+use Rattle.strc_machine.specs.Written.{written}
+use Rattle.strc_semantics.proofs.Growth.{StandsOn}
 use Rattle.strc_work.proofs.statement_code.+statement.Given as goal
 
 abbrev pub invariant-emit_stmt-loop-inner : goal.invariant-emit_stmt-loop-inner

@@ -1,12 +1,12 @@
 use Rattle.std.proofs.Common.{◌<◌, ◌+◌, length, drop, sym, ap, ◌∙◌, arith}
 use Rattle.std.proofs.Math.ListN.{drop_of_length-le}
-use Rattle.strc_parse.specs.View.{stmt_view, block_view}
-use Rattle.strc_work.specs.Machine.{before}
+use Rattle.strc_syntax.specs.View.{stmt_view, block_view}
+use Rattle.strc_machine.specs.Machine.{before}
 use Rattle.strc_work.specs.Lowering.{stmts_nodes}
-use Rattle.strc_work.specs.Written.{written}
-use Rattle.strc_work.proofs.Blocks.{block_view-drop}
-use Rattle.strc_work.proofs.Growth.{stands_on_after}
-use Rattle.strc_work.proofs.Nodes.{before_end}
+use Rattle.strc_machine.specs.Written.{written}
+use Rattle.strc_syntax.proofs.Blocks.{block_view-drop}
+use Rattle.strc_semantics.proofs.Growth.{stands_on_after}
+use Rattle.strc_machine.proofs.Nodes.{before_end}
 use Rattle.strc_work.proofs.Emitted.{stmts_nodes_more}
 use Rattle.strc_work.proofs.statement_code.emit_block.Goals as goal
 

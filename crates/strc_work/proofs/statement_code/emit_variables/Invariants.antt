@@ -1,9 +1,9 @@
 use Rattle.std.proofs.Common.{◌≡◌, drop, map}
-use Rattle.strc_parse.specs.View.{variable_view}
-use Rattle.strc_work.specs.Machine.{before}
+use Rattle.strc_syntax.specs.View.{variable_view}
+use Rattle.strc_machine.specs.Machine.{before}
 use Rattle.strc_work.specs.Lowering.{variables_nodes}
-use Rattle.strc_work.specs.Scoping.{with_declared}
-use Rattle.strc_work.specs.Written.{written}
+use Rattle.strc_semantics.specs.Scoping.{with_declared}
+use Rattle.strc_machine.specs.Written.{written}
 use Rattle.strc_work.proofs.statement_code.emit_variables.Given as goal
 
 abbrev pub invariant-loop-variable : goal.invariant-loop-variable

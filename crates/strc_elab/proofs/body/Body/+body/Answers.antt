@@ -1,10 +1,10 @@
 use Rattle.std.proofs.Common.{rules, ◌≡◌, suc, true, false, length, Option, Some, Ok, Err, refl, sym, ap, ◌∙◌, subst, arith}
 use Rattle.std.specs.Option.{option_map}
-use Rattle.strc_parse.specs.Tree as tree
-use Rattle.strc_parse.specs.View.{expr_view, stmt_view, block_view}
-use Rattle.strc_work.specs.Arithmetic.{is_true}
-use Rattle.strc_work.specs.Firing as firing
-use Rattle.strc_work.specs.Firing.{turn_limit}
+use Rattle.strc_syntax.specs.Tree as tree
+use Rattle.strc_syntax.specs.View.{expr_view, stmt_view, block_view}
+use Rattle.strc_semantics.specs.Arithmetic.{is_true}
+use Rattle.strc_semantics.specs.Firing as firing
+use Rattle.strc_semantics.specs.Firing.{turn_limit}
 use Rattle.strc_elab.specs.Elaboration as spec
 use Rattle.strc_elab.specs.Elaboration.{then_do, computed, condition_given, inside, stmt_run, stmts_run}
 use Rattle.strc_elab.specs.Answering.{IsRefusal, Runs, progress_of}

@@ -1,7 +1,7 @@
 use Rattle.std.proofs.Common.{◌∙◌, sym, ap, subst, None}
 use Rattle.std.specs.Prelude.{Ok}
-use Rattle.strc_parse.specs.View.{child_view, block_view}
-use Rattle.strc_work.specs.Filters.{filter_parts}
+use Rattle.strc_syntax.specs.View.{child_view, block_view}
+use Rattle.strc_semantics.specs.Filters.{filter_parts}
 use Rattle.strc_elab.specs.Elaboration as spec
 use Rattle.strc_elab.specs.Answering.{progress_of, Runs}
 use Rattle.strc_elab.specs.Tasks.{setting_of}

@@ -1,6 +1,6 @@
 use Rattle.std.proofs.Common.{◌≡◌, map, drop}
-use Rattle.strc_parse.specs.View.{variable_view}
-use Rattle.strc_work.specs.Typing as typing
+use Rattle.strc_syntax.specs.View.{variable_view}
+use Rattle.strc_check.specs.Typing as typing
 use Rattle.strc_elab.specs.Elaboration as spec
 use Rattle.strc_elab.specs.Saying.{store_of}
 use Rattle.strc_elab.specs.Places.{place_of}

@@ -1,5 +1,5 @@
 use Rattle.std.proofs.Common.{◌≡◌, ◌<◌, length, pos, slice_index_or, sym, ap, ◌∙◌, arith, to_z, of_z, w32, to_z-of_z}
-use Rattle.strc_work.specs.Firing.{cells_named}
+use Rattle.strc_semantics.specs.Firing.{cells_named}
 use Rattle.strc_elab.proofs.Slots.{number_below, cells_at, no_cells, row_read}
 use Rattle.strc_elab.proofs.variables.Variables.cell.Goals as goal
 

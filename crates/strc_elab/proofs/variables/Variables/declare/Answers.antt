@@ -1,5 +1,5 @@
 use Rattle.std.proofs.Common.{[], ◌∷◌, ◌++◌, ap, ◌∙◌}
-use Rattle.strc_work.specs.Typing.{TypedNames}
+use Rattle.strc_check.specs.Typing.{TypedNames}
 use Rattle.strc_elab.specs.Bindings.{Bindings, with_cells}
 use Rattle.strc_elab.proofs.Slots.{bound, one_declared, kept_declared}
 use Rattle.strc_elab.proofs.variables.Variables.declare.Goals as goal

@@ -1,5 +1,5 @@
 use Rattle.std.proofs.Common.{◌≡◌, ◌<◌, length, slice_set, sym, ap, ◌∙◌, arith, to_z, of_z, w32, to_z-of_z}
-use Rattle.strc_work.specs.Firing.{with_cell}
+use Rattle.strc_semantics.specs.Firing.{with_cell}
 use Rattle.strc_elab.specs.Bindings.{Bindings, row_at}
 use Rattle.strc_elab.proofs.Slots.{bound, number_below, put_at, not_put, row_read}
 use Rattle.strc_elab.proofs.variables.Variables.set.Goals as goal

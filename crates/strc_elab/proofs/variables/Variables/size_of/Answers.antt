@@ -1,5 +1,5 @@
 use Rattle.std.proofs.Common.{rules, ◌≡◌, ◌<◌, length, vec_len, sym, ap, ◌∙◌, arith}
-use Rattle.strc_work.specs.Firing.{cells_named}
+use Rattle.strc_semantics.specs.Firing.{cells_named}
 use Rattle.strc_elab.proofs.Slots.{number_below, cells_at, no_cells, row_read}
 use Rattle.strc_elab.proofs.variables.Variables.size_of.Goals as goal
 

@@ -1,24 +1,24 @@
 use Rattle.std.proofs.Common.{◌≡◌, ◌-◌, ◌∙◌, ◌∷◌, [], ◌++◌, Ok, length, map, max, sym, refl}
 use Rattle.std.proofs.lemmas.Result.{err_from_is_err_and}
 use Rattle.std.proofs.lemmas.List.{map_push}
-use Rattle.strc_parse.specs.View.{member_view}
-use Rattle.strc_parse.specs.Grammar.{kinds}
-use Rattle.strc_parse.specs.Reading.{brace, one_taller}
-use Rattle.strc_parse.specs.Streams.{member, statement}
-use Rattle.strc_parse.proofs.Repeated.{Fails-then, brace_closes, brace_stays, repeated_on, repeated_ends, repeated_fails, repeated_over}
+use Rattle.strc_syntax.specs.View.{member_view}
+use Rattle.strc_grammar.specs.Grammar.{kinds}
+use Rattle.strc_grammar.specs.Reading.{brace, one_taller}
+use Rattle.strc_grammar.specs.Streams.{member, statement}
+use Rattle.strc_grammar.proofs.Repeated.{Fails-then, brace_closes, brace_stays, repeated_on, repeated_ends, repeated_fails, repeated_over}
 use Rattle.strc_parse.proofs.control.StatementRules.members.Goals as goal
 
-pub returns-then-is_mark : goal.returns-then-is_mark
-returns-then-is_mark g c =
+pub returns-then-is_punctuation : goal.returns-then-is_punctuation
+returns-then-is_punctuation g c =
     rw c.tail.ensures (repeated_ends brace (one_taller (member (c.args.self.now.depth - 1) (statement (c.args.self.now.depth - 1)))) (length c.args.tokens.now) c.loop-turn._turn (map member_view c.loop-turn.found.items, c.loop-turn.highest)
-    (kinds c.loop-turn.rest.now) _ c.loop-turn.invariant _ c.loop-turn-test.true (brace_closes _ (sym c.is_mark.ensures ∙ c.if-is_mark.true)))
+    (kinds c.loop-turn.rest.now) _ c.loop-turn.invariant _ c.loop-turn-test.true (brace_closes _ (sym c.is_punctuation.ensures ∙ c.if-is_punctuation.true)))
 
 pub returns-in_err-next : goal.returns-in_err-next
 unfolding one_taller
 returns-in_err-next g c =
     let p = err_from_is_err_and c.from_residual.result c.from_residual.ensures.1 in
     rw (p.1, p.2) (repeated_fails brace (one_taller (member (c.args.self.now.depth - 1) (statement (c.args.self.now.depth - 1)))) (length c.args.tokens.now) c.loop-turn._turn (map member_view c.loop-turn.found.items, c.loop-turn.highest)
-    (kinds c.loop-turn.rest.now) _ c.loop-turn.invariant c.in_err-next.field-0.0 c.loop-turn-test.true (brace_stays _ (sym c.is_mark.ensures ∙ c.if-is_mark.false))
+    (kinds c.loop-turn.rest.now) _ c.loop-turn.invariant c.in_err-next.field-0.0 c.loop-turn-test.true (brace_stays _ (sym c.is_punctuation.ensures ∙ c.if-is_punctuation.false))
     (Fails-then c.in_err-next.field-0.0 _ _ c.in_err-next.ensures))
 
 pub loop-turn-preserved : goal.loop-turn-preserved
@@ -30,7 +30,7 @@ loop-turn-preserved g c =
     let one : one_taller (member (c.args.self.now.depth - 1) (statement (c.args.self.now.depth - 1))) (front, c.loop-turn.highest) (kinds c.loop-turn.rest.now)
     ≡ Ok ((front ++ member_view next ∷ [], max c.loop-turn.highest c.in_ok-next.height), kinds c.in_ok-next.after.now) = rw c.in_ok-next.ensures refl in
     rw (e, c.max-highest.ensures) (repeated_on brace (one_taller (member (c.args.self.now.depth - 1) (statement (c.args.self.now.depth - 1)))) (length c.args.tokens.now) c.loop-turn._turn (front, c.loop-turn.highest)
-    (kinds c.loop-turn.rest.now) _ c.loop-turn.invariant _ _ c.loop-turn-test.true (brace_stays _ (sym c.is_mark.ensures ∙ c.if-is_mark.false)) one)
+    (kinds c.loop-turn.rest.now) _ c.loop-turn.invariant _ _ c.loop-turn-test.true (brace_stays _ (sym c.is_punctuation.ensures ∙ c.if-is_punctuation.false)) one)
 
 pub returns : goal.returns
 returns g c =

@@ -1,8 +1,8 @@
 use Rattle.std.proofs.Common.{◌≡◌, ◌-◌, map}
-use Rattle.strc_parse.specs.View.{member_view}
-use Rattle.strc_parse.specs.Grammar.{kinds}
-use Rattle.strc_parse.specs.Reading.{repeated, brace, one_taller}
-use Rattle.strc_parse.specs.Streams.{members, member, statement}
+use Rattle.strc_syntax.specs.View.{member_view}
+use Rattle.strc_grammar.specs.Grammar.{kinds}
+use Rattle.strc_grammar.specs.Reading.{repeated, brace, one_taller}
+use Rattle.strc_grammar.specs.Streams.{members, member, statement}
 use Rattle.strc_parse.proofs.control.StatementRules.members.Given as goal
 
 abbrev pub invariant-loop-turn : goal.invariant-loop-turn

@@ -1,8 +1,8 @@
 use Rattle.std.proofs.Common.{◌<◌, length, reverse, sym, ap, ◌∙◌, arith, Option, ℕ}
 use Rattle.std.specs.Prelude.{unwrap_or}
 use Rattle.std.proofs.lemmas.List.{length-reverse}
-use Rattle.strc_work.specs.Scoping.{size_of}
-use Rattle.strc_work.proofs.Scopes.{number_named-below}
+use Rattle.strc_semantics.specs.Scoping.{size_of}
+use Rattle.strc_base.proofs.Scopes.{number_named-below}
 use Rattle.strc_work.proofs.Layouts.{same_length, place_found, no_place}
 use Rattle.strc_work.proofs.layout.Layout.size_of.Goals as goal
 

@@ -1,5 +1,5 @@
 use Rattle.std.proofs.Common.{◌≡◌, ◌+◌, ◌-◌, ℕ, length, ap, ◌∙◌, arith}
-use Rattle.strc_work.specs.Scoping.{total}
+use Rattle.strc_semantics.specs.Scoping.{total}
 use Rattle.strc_work.proofs.Layouts.{last_total, none_total}
 use Rattle.strc_work.proofs.layout.Layout.total.Goals as goal
 

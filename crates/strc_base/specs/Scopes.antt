@@ -1,0 +1,29 @@
+-- What a scope keeps beside its names, the innermost first, so that a look-up needs no walk.
+use Rattle.std.specs.Prelude.{◌≡◌, ℕ, ◌<◌, ◌^◌, List, [], ◌∷◌, Option, length, reverse}
+use Rattle.strc_base.specs.declared.scope.Declared.{Declared}
+use Rattle.strc_base.specs.Names.{number_named}
+
+-- the names alone
+abbrev pub names_in : List Declared → List (List ℕ)
+names_in [] = []
+names_in (first ∷ rest) = first.name.items ∷ names_in rest
+
+-- the names of what stands in order of declaration, the innermost first
+unfoldable pub names_of : List Declared → List (List ℕ)
+names_of declared = names_in (reverse declared)
+
+-- whether each stands beside the slot of the variable that it hides
+abbrev pub KeepHidden : List Declared → Type 0
+KeepHidden [] = Unit {0}
+KeepHidden (first ∷ rest) = (first.hides ≡ number_named (names_in rest) first.name.items) × KeepHidden rest
+
+-- what is true of a scope: its names are few, each keeps what it hides, and the table has the slot of each name's
+-- innermost variable
+pub record KeepsSlots (seen : List Declared) (table : List ℕ → Option ℕ) : Type 0 where
+  pub few : length seen < 2 ^ 32
+  pub hidden : KeepHidden seen
+  pub innermost : (name : List ℕ) → table name ≡ number_named (names_in seen) name
+
+-- the same, as one fact to those who only use a scope
+unfoldable pub IsScope : List Declared → (List ℕ → Option ℕ) → Type 0
+IsScope seen table = KeepsSlots seen table

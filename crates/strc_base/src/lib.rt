@@ -1,0 +1,10 @@
+// Takes nothing: what the crates of the compiler share.
+// Gives the error of a refused allocation, and the names that can be seen at a place of a text,
+// each with its number.
+// The theorem to rely on: a scope's look-ups give what the list of its names gives, in expected
+// constant time.
+// Stands on strc_lex, whose names it holds.
+#![tactic(auto)]
+
+pub mod memory;
+pub mod scope;

@@ -1,0 +1,152 @@
+// The names of variables that can be seen at a place of the text.
+
+ghost use Rattle.std.specs.Prelude.{◌≡◌, ◌-◌, ◌<◌, ◌≤◌, ◌^◌, suc, [], ◌∷◌, OnOk, OnErr, IfErr};
+ghost use Rattle.std.specs.Prelude.{IsSome, Some, length, drop, take, slice_get};
+ghost use Rattle.strc_base.specs.Tables.{slot_in, IsUpdated};
+
+use crate::memory::NoMemory;
+use std::alloc::Global;
+use std::collections::HashMap;
+use std::marker::Model;
+use strc_lex::token::Name;
+
+/// A name, and the number of the variable of this name that it hides.
+#[derive(Drop)]
+struct Declared {
+    name: Vec<u8>,
+    hides: Option<u32>,
+}
+
+/// Names in the order in which they were declared, numbered from 0. Contracts see the list of the
+/// names, the innermost first. A look-up takes expected constant time.
+#[derive(Drop)]
+pub struct Scope {
+    declared: Vec<Declared>,
+    /// The number of the innermost variable of each name.
+    innermost: HashMap<Vec<u8>, u32>,
+}
+
+impl Model for Scope {
+    ghost use Rattle.std.specs.Prelude.{List, ℕ, reverse};
+
+    ghost Value = { List (List ℕ) };
+
+    ghost use Rattle.strc_base.specs.Tables.{slot_in};
+    ghost use Rattle.strc_base.specs.Scopes.{names_of, IsScope};
+
+    ghost view = { λ s. names_of s.declared.items };
+
+    ghost invariant = { λ s. IsScope (reverse s.declared.items) (slot_in s.innermost) };
+}
+
+#[tactic(auto, unfolding(crate::specs::Scopes::names_of, crate::specs::Scopes::IsScope))]
+impl Scope {
+    ghost use Rattle.strc_base.specs.Names.{has_name, number_named};
+
+    /// No names. It takes no memory.
+    pub fn new(alloc: Global) -> Scope
+        ensures { result ≡ [] }
+    {
+        Scope {
+            declared: Vec::new(alloc),
+            innermost: HashMap::new(alloc),
+        }
+    }
+
+    /// How many names can be seen.
+    pub fn len(&self) -> u32
+        ensures { result ≡ length self.now }
+    {
+        self.declared.len() as u32
+    }
+
+    /// The number of the innermost variable of this name.
+    pub fn number_of(&self, name: &Name) -> Option<u32>
+        ensures { result ≡ number_named self.now name.now }
+    {
+        self.innermost.get(name.as_bytes()).copied()
+    }
+
+    /// The name of this number.
+    pub fn name_at(&self, number: u32) -> &[u8]
+        requires { number < length self.now }
+        ensures { slice_get self.now (length self.now - suc number) ≡ Some result.now }
+    {
+        self.declared[number as usize].name.as_slice()
+    }
+
+    /// Whether one of the names is this one.
+    pub fn has(&self, name: &Name) -> bool
+        ensures { result ≡ has_name self.now name.now }
+    {
+        self.has_since(0, name)
+    }
+
+    /// Whether one of the names from this place on is this one.
+    pub fn has_since(&self, start: u32, name: &Name) -> bool
+        ensures { result ≡ has_name (take (length self.now - start) self.now) name.now }
+    {
+        match self.number_of(name) {
+            Some(slot) => slot >= start,
+            None => false,
+        }
+    }
+
+    /// One more name, inside all others.
+    pub fn declare(&mut self, name: &Name) -> Result<(), NoMemory>
+        ensures ok { OnOk result (self.new ≡ name.now ∷ self.old) }
+        ensures err { OnErr result (self.new ≡ self.old) }
+    {
+        if self.declared.len() >= u32::MAX as usize {
+            return Err(NoMemory);
+        }
+        let alloc = *self.declared.allocator();
+        let slot = self.declared.len() as u32;
+        let hides = self.innermost.get(name.as_bytes()).copied();
+        let key = name.as_bytes().to_vec(alloc)?;
+        let name = name.as_bytes().to_vec(alloc)?;
+        // What can fail comes before the change of the table.
+        self.declared.reserve(1)?;
+        put_in(&mut self.innermost, key, slot)?;
+        self.declared.push(Declared { name, hides })?;
+        Ok(())
+    }
+
+    /// Forgets the names from this place on.
+    pub fn leave(&mut self, start: u32)
+        ensures { self.new ≡ drop (length self.old - start) self.old }
+    {
+        while self.declared.len() > start as usize {
+            if let Some(last) = self.declared.pop() {
+                let Declared { name, hides } = last;
+                put_back(&mut self.innermost, name, hides);
+            }
+        }
+    }
+}
+
+/// Writes the slot of a name into a table. For want of memory the table stays as it was.
+fn put_in(table: &mut HashMap<Vec<u8>, u32>, name: Vec<u8>, slot: u32) -> Result<(), NoMemory>
+    ensures ok { OnOk result (IsUpdated (slot_in table.old) name.items (Some slot)
+        (slot_in table.new)) }
+    ensures err { OnErr result (table.new.entries ≡ table.old.entries) }
+{
+    table.insert(name, slot)?;
+    Ok(())
+}
+
+/// Writes the slot that a table had for a name before its newest one, or takes the name out. The
+/// name is there, so this cannot want memory.
+fn put_back(table: &mut HashMap<Vec<u8>, u32>, name: Vec<u8>, slot: Option<u32>)
+    requires { IsSome (slot_in table.old name.items) }
+    ensures { IsUpdated (slot_in table.old) name.items slot (slot_in table.new) }
+{
+    match slot {
+        Some(slot) => {
+            let _ = table.insert(name, slot);
+        }
+        None => {
+            table.remove(name.as_slice());
+        }
+    }
+}

@@ -1,0 +1,186 @@
+// The program `strc_cases`: runs whole programs in memory, and compares what they write with what
+// they are to write.
+// Takes the files of the folder that it runs in. A case is a text NAME.str and its words NAME.args,
+// the command first; its input NAME.in, if it has one; what it writes, NAME.out; and the status it
+// ends with, NAME.status, if that isn't 0.
+// Gives a line for each case that differs, and at the end how many do.
+// There is no theorem here; the values are those of the language's rules.
+// Stands on strc_cli, whose `command` and `execute` it calls.
+#![tactic(auto)]
+
+use std::io::ErrorKind;
+use std::process::ExitCode;
+use std::{fs, io};
+use strc_cli::device::Told;
+use strc_cli::execute::execute;
+use strc_cli::line::{Command, LineFault};
+use strc_cli::words::command;
+
+// The status of a command line that isn't understood, as of the program's.
+const WORDS: u8 = 1;
+
+// The statuses of this program where not all cases are as they are to be.
+const DIFFERENT: u8 = 1;
+
+const NO_MEMORY: u8 = 4;
+
+const FAILED: u8 = 5;
+
+/// What a program writes, and the status that it ends with.
+#[derive(Drop)]
+struct Answer {
+    output: Vec<u8>,
+    status: u8,
+}
+
+fn main(rt: HostRuntime) -> ExitCode {
+    match run_cases(&rt) {
+        Ok(true) => ExitCode::SUCCESS,
+        Ok(false) => ExitCode::from(DIFFERENT),
+        Err(error) => {
+            let _ = eprintln!(rt; "strc_cases: {error}");
+            ExitCode::from(match error.kind() {
+                ErrorKind::OutOfMemory => NO_MEMORY,
+                _ => FAILED,
+            })
+        }
+    }
+}
+
+/// Whether no case differs. An error is out of memory, or a folder or an output that fails.
+fn run_cases(rt: &HostRuntime) -> io::Result<bool> {
+    let names = case_names(rt)?;
+    let mut different: usize = 0;
+    for name in &names {
+        if !is_as_wanted(rt, name)? {
+            different = different.saturating_add(1);
+        }
+    }
+    println!(rt; "{} cases, {different} differ", names.len())?;
+    Ok(different == 0)
+}
+
+/// The names of the cases, in order, so that each run prints the same.
+fn case_names(rt: &HostRuntime) -> io::Result<Vec<String>> {
+    let mut names = Vec::new(rt.alloc());
+    for entry in fs::read_dir(rt, ".")? {
+        if let Some(name) = entry?.file_name().strip_suffix(".str") {
+            names.push(String::from_str(rt.alloc(), name)?)?;
+        }
+    }
+    names.sort()?;
+    Ok(names)
+}
+
+/// Whether a case is as its files say; a line tells the first difference. A file that can't be read
+/// is one, so that no case is passed over.
+fn is_as_wanted(rt: &HostRuntime, name: &str) -> io::Result<bool> {
+    match compare(rt, name) {
+        Err(error) if error.kind() != ErrorKind::OutOfMemory => {
+            println!(rt; "{name}: {error}")?;
+            Ok(false)
+        }
+        outcome => outcome,
+    }
+}
+
+fn compare(rt: &HostRuntime, name: &str) -> io::Result<bool> {
+    let wanted = Answer {
+        output: part(rt, name, "out")?,
+        status: wanted_status(rt, name)?,
+    };
+    let found = found_answer(rt, name)?;
+    // No case asks for more memory than there is.
+    if found.status == NO_MEMORY && wanted.status != NO_MEMORY {
+        return Err(io::Error::from(ErrorKind::OutOfMemory));
+    }
+    if found.output != wanted.output {
+        tell_lines(rt, name, &wanted.output, &found.output)?;
+        return Ok(false);
+    }
+    if found.status != wanted.status {
+        println!(rt;
+            "{name}: wanted status {}, got {}",
+            wanted.status, found.status
+        )?;
+        return Ok(false);
+    }
+    Ok(true)
+}
+
+/// Prints the first line of one text that isn't the other's. A text that ends too soon has none.
+fn tell_lines(rt: &HostRuntime, name: &str, wanted: &[u8], found: &[u8]) -> io::Result<()> {
+    let wanted = String::from_utf8_lossy(rt.alloc(), wanted)?;
+    let found = String::from_utf8_lossy(rt.alloc(), found)?;
+    let mut lines = found.split('\n');
+    for line in wanted.split('\n') {
+        let got = lines.next();
+        if got != Some(line) {
+            return println!(rt; "{name}: wanted {line:?}, got {got:?}");
+        }
+    }
+    println!(rt; "{name}: wanted no more, got {:?}", lines.next())
+}
+
+/// What the program does with the case's words and input.
+fn found_answer(rt: &HostRuntime, name: &str) -> io::Result<Answer> {
+    let alloc = rt.alloc();
+    let file = format!(in alloc; "{name}.str")?;
+    let given = String::from_utf8_lossy(alloc, &part(rt, name, "args")?)?;
+    let mut given = given.split_whitespace();
+    let mut words = vec![in alloc; "strc", given.next().unwrap_or(""), file.as_str()]?;
+    for word in given {
+        words.push(word)?;
+    }
+    match command(alloc, &words) {
+        Ok(line) => run(rt, name, &line.command),
+        Err(LineFault::Words) => Ok(Answer {
+            output: Vec::new(alloc),
+            status: WORDS,
+        }),
+        Err(LineFault::Memory) => Err(io::Error::from(ErrorKind::OutOfMemory)),
+    }
+}
+
+fn run(rt: &HostRuntime, name: &str, command: &Command) -> io::Result<Answer> {
+    let alloc = rt.alloc();
+    let text = part(rt, name, "str")?;
+    let input = part_if_there(rt, name, "in")?;
+    let mut input = Told::new(input.as_slice());
+    let mut output = Told::new(Vec::new(alloc));
+    match execute(alloc, &text, command, &mut input, &mut output) {
+        Ok(status) => Ok(Answer {
+            output: output.into_device(),
+            status: status.number(),
+        }),
+        // Devices in memory fail only where there is no more of it.
+        Err(_) => Err(io::Error::from(ErrorKind::OutOfMemory)),
+    }
+}
+
+/// The status that the case is to end with.
+fn wanted_status(rt: &HostRuntime, name: &str) -> io::Result<u8> {
+    let digits = part_if_there(rt, name, "status")?;
+    let digits = String::from_utf8_lossy(rt.alloc(), &digits)?;
+    match digits.trim() {
+        "" => Ok(0),
+        digits => match digits.parse() {
+            Ok(status) => Ok(status),
+            Err(_) => Err(io::Error::new(ErrorKind::InvalidData, "no status")),
+        },
+    }
+}
+
+/// The bytes of the case's file with this ending.
+fn part(rt: &HostRuntime, name: &str, ending: &str) -> io::Result<Vec<u8>> {
+    let path = format!(in rt.alloc(); "{name}.{ending}")?;
+    fs::read(rt, path.as_str())
+}
+
+/// The same, and no bytes where there is no such file.
+fn part_if_there(rt: &HostRuntime, name: &str, ending: &str) -> io::Result<Vec<u8>> {
+    match part(rt, name, ending) {
+        Err(error) if error.kind() == ErrorKind::NotFound => Ok(Vec::new(rt.alloc())),
+        outcome => outcome,
+    }
+}

@@ -1,0 +1,6 @@
+pub mod Numbered
+pub mod TypedGrowth
+pub mod Members
+pub mod Resolved
+pub mod Resolving
+pub mod FixedRates

@@ -1,0 +1,427 @@
+-- The rules on names and types, and the filter with its constants put in.
+use Rattle.std.specs.Prelude.{ℕ, ◌+◌, ℤ, pos, Bool, true, false, ◌==◌, ◌&&◌, ◌||◌, not, if◌then◌else◌, List, [], ◌∷◌, length, Option, Some, None, Result, Ok, Err, nat_lt}
+use Rattle.std.specs.Int.RustNames.{int_lt}
+use Rattle.strc_syntax.specs.Tree as tree
+use Rattle.strc_syntax.specs.declared.tree.ItemType.{ItemType}
+use Rattle.strc_syntax.specs.declared.tree.ItemType.TheVariants as item
+use Rattle.strc_syntax.specs.declared.tree.RateKind.{RateKind}
+use Rattle.strc_syntax.specs.declared.tree.RateKind.TheVariants as kind
+use Rattle.strc_syntax.specs.declared.tree.AssignOperator.{AssignOperator}
+use Rattle.strc_syntax.specs.declared.tree.AssignOperator.TheVariants as assign
+use Rattle.strc_syntax.specs.declared.tree.UnaryOperator.{UnaryOperator}
+use Rattle.strc_syntax.specs.declared.tree.UnaryOperator.TheVariants as unary
+use Rattle.strc_syntax.specs.declared.tree.BinaryOperator.{BinaryOperator}
+use Rattle.strc_syntax.specs.declared.tree.BinaryOperator.TheVariants as binary
+use Rattle.strc_syntax.specs.declared.tree.StepOperator.{StepOperator}
+use Rattle.strc_semantics.specs.declared.fault.Cause.{Cause}
+use Rattle.strc_semantics.specs.declared.fault.Cause.TheVariants.{Index}
+use Rattle.strc_check.specs.declared.error.LowerError.{LowerError}
+use Rattle.strc_check.specs.declared.error.LowerError.TheVariants as refused
+use Rattle.strc_check.specs.declared.types.ValueType.{ValueType}
+use Rattle.strc_check.specs.declared.types.ValueType.TheVariants.{Int, Boolean, Array}
+use Rattle.strc_base.specs.Names.{has_name, value_named}
+use Rattle.strc_semantics.specs.Filters.{Filter, work_count}
+use Rattle.strc_check.specs.Typing.{TypedNames, type_named, same_type, is_array, names_with, names_after, block_names, fields_behind}
+use Rattle.strc_semantics.specs.Constants.{constant_value}
+
+-- goes on with a result, or keeps the first refusal
+abbrev pub and_then : {A B : Type 0} → Result A LowerError → (A → Result B LowerError) → Result B LowerError
+and_then (Ok value) go = go value
+and_then (Err refusal) go = Err refusal
+
+-- goes on where a rule is kept
+abbrev pub where_kept : {A : Type 0} → Bool → Result A LowerError → Result A LowerError
+where_kept true next = next
+where_kept false next = Err refused.TypeMismatch
+
+-- where a text stands: its constants, whether it may pop and peek, push and print, and whether it is fixed before the
+-- start, so that it reads no variable
+pub record Site : Type 0 where
+  pub constants : List (List ℕ × ℤ)
+  pub pops : Bool
+  pub pushes : Bool
+  pub prints : Bool
+  pub fixed : Bool
+
+-- an expression with its constants put in, and the type of its value
+pub record Typed : Type 0 where
+  pub kind : ValueType
+  pub value : tree.Expr
+
+-- the expression, if its value has the type
+abbrev pub typed_as : ValueType → Typed → Result tree.Expr LowerError
+typed_as kind typed = where_kept (same_type typed.kind kind) (Ok typed.value)
+
+-- what a name stands for that is no variable: a constant's value
+abbrev pub constant_read : List ℕ → Option ℤ → Result Typed LowerError
+constant_read name None = Err (refused.UnknownName name)
+constant_read name (Some value) = Ok (record { kind = Int; value = tree.Number value })
+
+-- what a name stands for that is read: its innermost variable, which is no array, or else a constant
+abbrev pub read_as : Site → List ℕ → Option ValueType → Result Typed LowerError
+read_as site name (Some kind) =
+    where_kept (not site.fixed) (where_kept (not (is_array kind)) (Ok (record { kind = kind; value = tree.Read name })))
+read_as site name None = constant_read name (value_named site.constants name)
+
+abbrev pub name_resolved : Site → TypedNames → List ℕ → Result Typed LowerError
+name_resolved site names name = read_as site name (type_named names name)
+
+-- why a name that is no variable can't be written
+abbrev pub write_refused : List ℕ → Option ℤ → LowerError
+write_refused name None = refused.UnknownName name
+write_refused name (Some value) = refused.TypeMismatch
+
+-- the type of a name that is written: that of its innermost variable
+abbrev pub write_as : Site → List ℕ → Option ValueType → Result ValueType LowerError
+write_as site name (Some kind) = Ok kind
+write_as site name None = Err (write_refused name (value_named site.constants name))
+
+abbrev pub write_resolved : Site → TypedNames → List ℕ → Result ValueType LowerError
+write_resolved site names name = write_as site name (type_named names name)
+
+-- the type of an operand, and of the operator's value
+abbrev pub operand_type : UnaryOperator → ValueType
+operand_type unary.Negate = Int
+operand_type unary.Not = Boolean
+operand_type unary.Complement = Int
+
+-- the type of both operands, where the left one has this type
+abbrev pub sides_type : BinaryOperator → (left : ValueType) → ValueType
+sides_type binary.LogicalOr left = Boolean
+sides_type binary.LogicalAnd left = Boolean
+sides_type binary.Equal left = left
+sides_type binary.NotEqual left = left
+sides_type _ left = Int
+
+-- the type of an operator's value
+abbrev pub binary_type : BinaryOperator → ValueType
+binary_type binary.LogicalOr = Boolean
+binary_type binary.LogicalAnd = Boolean
+binary_type binary.Equal = Boolean
+binary_type binary.NotEqual = Boolean
+binary_type binary.Less = Boolean
+binary_type binary.LessOrEqual = Boolean
+binary_type binary.Greater = Boolean
+binary_type binary.GreaterOrEqual = Boolean
+binary_type _ = Int
+
+-- an operator before its operand
+abbrev pub unary_typed : UnaryOperator → Typed → Result Typed LowerError
+unary_typed operator operand =
+    and_then (typed_as (operand_type operator) operand) (λ operand'.
+    Ok (record { kind = operand_type operator; value = tree.Unary operator operand' }))
+
+-- an operator between its operands
+abbrev pub binary_typed : BinaryOperator → Typed → Typed → Result Typed LowerError
+binary_typed operator left right =
+    and_then (typed_as (sides_type operator left.kind) left) (λ left'.
+    and_then (typed_as (sides_type operator left.kind) right) (λ right'.
+    Ok (record { kind = binary_type operator; value = tree.Binary operator left' right' })))
+
+-- a choice between two values of one type
+abbrev pub conditional_typed : Typed → Typed → Typed → Result Typed LowerError
+conditional_typed condition chosen other =
+    and_then (typed_as Boolean condition) (λ condition'.
+    and_then (typed_as chosen.kind other) (λ other'.
+    Ok (record { kind = chosen.kind; value = tree.Conditional condition' chosen.value other' })))
+
+-- a look at an item
+abbrev pub peek_typed : (pops : Bool) → Typed → Result Typed LowerError
+peek_typed pops index =
+    where_kept pops (and_then (typed_as Int index) (λ index'. Ok (record { kind = Int; value = tree.Peek index' })))
+
+-- an expression in brackets
+abbrev pub group_typed : Typed → Typed
+group_typed inner = record { kind = inner.kind; value = tree.Group inner.value }
+
+-- a name that is stepped: a variable that holds a number
+abbrev pub step_resolved : Site → TypedNames → List ℕ → Result (List ℕ) LowerError
+step_resolved site names name =
+    where_kept (not site.fixed) (and_then (write_resolved site names name) (λ kind. where_kept (same_type kind Int) (Ok name)))
+
+-- the name of an array, of which an element is read or written
+abbrev pub array_resolved : Site → TypedNames → List ℕ → Result (List ℕ) LowerError
+array_resolved site names name =
+    where_kept (not site.fixed) (and_then (write_resolved site names name) (λ kind. where_kept (is_array kind) (Ok name)))
+
+-- an element of an array, and its step
+abbrev pub element_typed : List ℕ → Typed → Result Typed LowerError
+element_typed name index = and_then (typed_as Int index) (λ index'. Ok (record { kind = Int; value = tree.Element name index' }))
+
+abbrev pub step_element_typed : StepOperator → List ℕ → Typed → Result Typed LowerError
+step_element_typed operator name index =
+    and_then (typed_as Int index) (λ index'. Ok (record { kind = Int; value = tree.StepElement operator name index' }))
+
+-- an expression, among these names of variables
+abbrev pub expr_resolved : Site → TypedNames → tree.Expr → Result Typed LowerError
+expr_resolved site names (tree.Number value) = Ok (record { kind = Int; value = tree.Number value })
+expr_resolved site names (tree.Truth value) = Ok (record { kind = Boolean; value = tree.Truth value })
+expr_resolved site names (tree.Read name) = name_resolved site names name
+expr_resolved site names (tree.Element name index) =
+    and_then (array_resolved site names name) (λ name'.
+    and_then (expr_resolved site names index) (λ index'. element_typed name' index'))
+expr_resolved site names tree.Pop = where_kept site.pops (Ok (record { kind = Int; value = tree.Pop }))
+expr_resolved site names (tree.Peek index) = and_then (expr_resolved site names index) (λ index'. peek_typed site.pops index')
+expr_resolved site names (tree.Group inner) =
+    and_then (expr_resolved site names inner) (λ inner'. Ok (group_typed inner'))
+expr_resolved site names (tree.Unary operator operand) =
+    and_then (expr_resolved site names operand) (λ operand'. unary_typed operator operand')
+expr_resolved site names (tree.Step operator name) =
+    and_then (step_resolved site names name) (λ name'. Ok (record { kind = Int; value = tree.Step operator name' }))
+expr_resolved site names (tree.StepElement operator name index) =
+    and_then (array_resolved site names name) (λ name'.
+    and_then (expr_resolved site names index) (λ index'. step_element_typed operator name' index'))
+expr_resolved site names (tree.Binary operator left right) =
+    and_then (expr_resolved site names left) (λ left'.
+    and_then (expr_resolved site names right) (λ right'. binary_typed operator left' right'))
+expr_resolved site names (tree.Conditional condition chosen other) =
+    and_then (expr_resolved site names condition) (λ condition'.
+    and_then (expr_resolved site names chosen) (λ chosen'.
+    and_then (expr_resolved site names other) (λ other'. conditional_typed condition' chosen' other')))
+
+-- an expression of this type
+abbrev pub expr_as : Site → TypedNames → ValueType → tree.Expr → Result tree.Expr LowerError
+expr_as site names kind value = and_then (expr_resolved site names value) (λ typed. typed_as kind typed)
+
+-- an initialiser or a condition of this type, where there is one
+abbrev pub initial_resolved : Site → TypedNames → ValueType → Option tree.Expr → Result (Option tree.Expr) LowerError
+initial_resolved site names kind None = Ok None
+initial_resolved site names kind (Some value) = and_then (expr_as site names kind value) (λ value'. Ok (Some value'))
+
+-- the site of rates and of lengths
+abbrev pub rate_site : List (List ℕ × ℤ) → Site
+rate_site constants = record { constants = constants; pops = false; pushes = false; prints = false; fixed = true }
+
+-- the value of a constant expression, or its fault
+abbrev pub value_given : Result ℤ Cause → Result ℤ LowerError
+value_given (Ok value) = Ok value
+value_given (Err cause) = Err (refused.ConstFault cause)
+
+-- the number of a rate or of a length, over constants alone
+abbrev pub number_resolved : List (List ℕ × ℤ) → TypedNames → tree.Expr → Result ℤ LowerError
+number_resolved constants names value =
+    and_then (expr_as (rate_site constants) names Int value) (λ value'. value_given (constant_value value'))
+
+-- a declared type: what a name of it stands for, and how it is written, with a number as its length
+pub record ResolvedType : Type 0 where
+  pub kind : ValueType
+  pub written : tree.VariableType
+
+-- an array of this length has a cell, and at most 65536
+abbrev pub array_type : ℤ → Result ResolvedType LowerError
+array_type number =
+    if int_lt number (pos 1) || int_lt (pos 65536) number
+    then Err (refused.ConstFault Index)
+    else Ok (record { kind = Array; written = tree.Array (tree.Number number) })
+
+-- a declared type, with the constants and the names that can be seen where it stands
+abbrev pub type_resolved : List (List ℕ × ℤ) → TypedNames → tree.VariableType → Result ResolvedType LowerError
+type_resolved constants names tree.Boolean = Ok (record { kind = Boolean; written = tree.Boolean })
+type_resolved constants names tree.Int = Ok (record { kind = Int; written = tree.Int })
+type_resolved constants names (tree.Array length) = and_then (number_resolved constants names length) (λ number. array_type number)
+
+-- a variable, whose name no other one of its block has
+abbrev pub variable_resolved : Site → TypedNames → (outer : ℕ) → ValueType → tree.Variable → Result tree.Variable LowerError
+variable_resolved site names outer kind variable =
+    where_kept (not (has_name (block_names outer names) variable.name))
+    (and_then (initial_resolved site names kind variable.initial) (λ initial'.
+    Ok (record { name = variable.name; initial = initial' })))
+
+-- the variables of a declaration, each seen by those behind it
+abbrev pub variables_resolved : Site → TypedNames → (outer : ℕ) → ValueType → List tree.Variable → Result (List tree.Variable) LowerError
+variables_resolved site names outer kind [] = Ok []
+variables_resolved site names outer kind (first ∷ rest) =
+    and_then (variable_resolved site names outer kind first) (λ first'.
+    and_then (variables_resolved site (record { 0 = first.name; 1 = kind } ∷ names) outer kind rest) (λ rest'.
+    Ok (first' ∷ rest')))
+
+-- the type of what is assigned to a variable of this type
+abbrev pub assigned_type : AssignOperator → ValueType → Result ValueType LowerError
+assigned_type assign.Set kind = Ok kind
+assigned_type assign.Add kind = where_kept (same_type kind Int) (Ok kind)
+assigned_type assign.Subtract kind = where_kept (same_type kind Int) (Ok kind)
+assigned_type assign.Multiply kind = where_kept (same_type kind Int) (Ok kind)
+assigned_type assign.Divide kind = where_kept (same_type kind Int) (Ok kind)
+assigned_type assign.Remainder kind = where_kept (same_type kind Int) (Ok kind)
+
+-- an assignment to a variable
+abbrev pub assign_resolved : Site → TypedNames → List ℕ → AssignOperator → tree.Expr → Result tree.Stmt LowerError
+assign_resolved site names name operator value =
+    and_then (write_resolved site names name) (λ kind.
+    and_then (assigned_type operator kind) (λ kind'.
+    and_then (expr_as site names kind' value) (λ value'. Ok (tree.Assign name operator value'))))
+
+-- an assignment to an element
+abbrev pub element_assign_resolved : Site → TypedNames → List ℕ → (index : tree.Expr) → AssignOperator → tree.Expr → Result tree.Stmt LowerError
+element_assign_resolved site names name index operator value =
+    and_then (array_resolved site names name) (λ name'.
+    and_then (expr_as site names Int index) (λ index'.
+    and_then (expr_as site names Int value) (λ value'. Ok (tree.AssignElement name' index' operator value'))))
+
+-- a number that is given away, where that may be
+abbrev pub given_resolved : Site → TypedNames → Bool → tree.Expr → Result tree.Expr LowerError
+given_resolved site names may value = where_kept may (expr_as site names Int value)
+
+abbrev mutual
+  -- a statement, among the names that can be seen, of which so many stand outside its block
+  pub stmt_resolved : Site → TypedNames → (outer : ℕ) → tree.Stmt → Result tree.Stmt LowerError
+  stmt_resolved site names outer tree.Empty = Ok tree.Empty
+  stmt_resolved site names outer (tree.Compose statement) = Err refused.TypeMismatch
+  stmt_resolved site names outer (tree.Block body) =
+      and_then (stmts_resolved site names (length names) body) (λ body'. Ok (tree.Block body'))
+  stmt_resolved site names outer (tree.Declare kind variables) =
+      and_then (type_resolved site.constants names kind) (λ resolved.
+      and_then (variables_resolved site names outer resolved.kind variables) (λ variables'.
+      Ok (tree.Declare resolved.written variables')))
+  stmt_resolved site names outer (tree.Evaluate value) =
+      and_then (expr_resolved site names value) (λ typed. Ok (tree.Evaluate typed.value))
+  stmt_resolved site names outer (tree.Assign name operator value) = assign_resolved site names name operator value
+  stmt_resolved site names outer (tree.AssignElement name index operator value) =
+      element_assign_resolved site names name index operator value
+  stmt_resolved site names outer (tree.If condition chosen) =
+      and_then (expr_as site names Boolean condition) (λ condition'.
+      and_then (stmt_resolved site names (length names) chosen) (λ chosen'. Ok (tree.If condition' chosen')))
+  stmt_resolved site names outer (tree.IfElse condition chosen other) =
+      and_then (expr_as site names Boolean condition) (λ condition'.
+      and_then (stmt_resolved site names (length names) chosen) (λ chosen'.
+      and_then (stmt_resolved site names (length names) other) (λ other'. Ok (tree.IfElse condition' chosen' other'))))
+  stmt_resolved site names outer (tree.While condition body) =
+      and_then (expr_as site names Boolean condition) (λ condition'.
+      and_then (stmt_resolved site names (length names) body) (λ body'. Ok (tree.While condition' body')))
+  stmt_resolved site names outer (tree.For first condition step body) =
+      and_then (stmt_resolved site names (length names) first) (λ first'.
+      and_then (initial_resolved site (names_after names first) Boolean condition) (λ condition'.
+      and_then (stmt_resolved site (names_after names first) (length (names_after names first)) step) (λ step'.
+      and_then (stmt_resolved site (names_after names first) (length (names_after names first)) body) (λ body'.
+      Ok (tree.For first' condition' step' body')))))
+  stmt_resolved site names outer (tree.Push value) =
+      and_then (given_resolved site names site.pushes value) (λ value'. Ok (tree.Push value'))
+  stmt_resolved site names outer (tree.Print value) =
+      and_then (given_resolved site names site.prints value) (λ value'. Ok (tree.Print value'))
+  stmt_resolved site names outer (tree.Println value) =
+      and_then (given_resolved site names site.prints value) (λ value'. Ok (tree.Println value'))
+
+  -- the statements of a block, each among the names that are declared before it
+  pub stmts_resolved : Site → TypedNames → (outer : ℕ) → tree.Stmts → Result tree.Stmts LowerError
+  stmts_resolved site names outer tree.Done = Ok tree.Done
+  stmts_resolved site names outer (tree.Then first rest) =
+      and_then (stmt_resolved site names outer first) (λ first'.
+      and_then (stmts_resolved site (names_after names first) outer rest) (λ rest'. Ok (tree.Then first' rest')))
+
+-- whether items flow on a side
+abbrev pub carries_items : ItemType → Bool
+carries_items item.Int = true
+carries_items item.Void = false
+
+-- the sites: initialisers and `init`, as also the block of a composite stream; and bodies
+abbrev pub start_site : List (List ℕ × ℤ) → Site
+start_site constants = record { constants = constants; pops = false; pushes = false; prints = false; fixed = false }
+
+abbrev pub body_site : List (List ℕ × ℤ) → (input output : ItemType) → Site
+body_site constants input output =
+    record { constants = constants; pops = carries_items input; pushes = carries_items output; prints = true; fixed = false }
+
+-- the side of a filter that a rate speaks of
+abbrev pub side_of : (input output : ItemType) → RateKind → ItemType
+side_of input output kind.Push = output
+side_of input output kind.Pop = input
+side_of input output kind.Peek = input
+
+-- whether a rate may be declared: above 0 only where items flow
+abbrev pub rate_fits : ItemType → ItemType → RateKind → ℤ → Bool
+rate_fits input output kind number = not (int_lt (pos 0) number && not (carries_items (side_of input output kind)))
+
+-- a rate, on a side where it may be declared
+abbrev pub rate_resolved : List (List ℕ × ℤ) → (fields : TypedNames) → ItemType → ItemType → tree.Rate → Result tree.Rate LowerError
+rate_resolved constants fields input output rate =
+    and_then (number_resolved constants fields rate.rate) (λ number.
+    where_kept (rate_fits input output rate.kind number) (Ok (record { kind = rate.kind; rate = tree.Number number })))
+
+abbrev pub rates_resolved : List (List ℕ × ℤ) → (fields : TypedNames) → ItemType → ItemType → List tree.Rate → Result (List tree.Rate) LowerError
+rates_resolved constants fields input output [] = Ok []
+rates_resolved constants fields input output (first ∷ rest) =
+    and_then (rate_resolved constants fields input output first) (λ first'.
+    and_then (rates_resolved constants fields input output rest) (λ rest'. Ok (first' ∷ rest')))
+
+-- a field, whose name no earlier one has; it sees all fields
+abbrev pub field_resolved : Site → (fields : TypedNames) (before : List (List ℕ)) → ValueType → tree.Variable → Result tree.Variable LowerError
+field_resolved site fields before kind variable =
+    where_kept (not (has_name before variable.name))
+    (and_then (initial_resolved site fields kind variable.initial) (λ initial'.
+    Ok (record { name = variable.name; initial = initial' })))
+
+-- fields that are declared together, with those before them
+abbrev pub fields_resolved : Site → (fields : TypedNames) (before : List (List ℕ)) → ValueType → List tree.Variable → Result (List tree.Variable) LowerError
+fields_resolved site fields before kind [] = Ok []
+fields_resolved site fields before kind (first ∷ rest) =
+    and_then (field_resolved site fields before kind first) (λ first'.
+    and_then (fields_resolved site fields (first.name ∷ before) kind rest) (λ rest'. Ok (first' ∷ rest')))
+
+-- the names of the fields after a member
+abbrev pub fields_after : List (List ℕ) → tree.Member → List (List ℕ)
+fields_after before (tree.Fields kind variables) = names_with before variables
+fields_after before _ = before
+
+-- the block of a body or of `init`, among the fields
+abbrev pub body_resolved : Site → (fields : TypedNames) → tree.Stmts → Result tree.Stmts LowerError
+body_resolved site fields block = stmts_resolved site fields (length fields) block
+
+-- a body with its rates
+pub record Work : Type 0 where
+  pub rates : List tree.Rate
+  pub block : tree.Stmts
+
+abbrev pub work_resolved : (constants : List (List ℕ × ℤ)) (input output : ItemType) (fields : TypedNames) → Work → Result Work LowerError
+work_resolved constants input output fields work =
+    and_then (rates_resolved constants fields input output work.rates) (λ rates'.
+    and_then (body_resolved (body_site constants input output) fields work.block) (λ block'.
+    Ok (record { rates = rates'; block = block' })))
+
+-- a member, with the fields before it; it sees all fields
+abbrev pub member_resolved : (constants : List (List ℕ × ℤ)) (input output : ItemType) (fields : TypedNames) (before : List (List ℕ)) → tree.Member → Result tree.Member LowerError
+member_resolved constants input output fields before (tree.Fields kind variables) =
+    and_then (type_resolved constants fields kind) (λ resolved.
+    and_then (fields_resolved (start_site constants) fields before resolved.kind variables) (λ variables'.
+    Ok (tree.Fields resolved.written variables')))
+member_resolved constants input output fields before (tree.Init block) =
+    and_then (body_resolved (start_site constants) fields block) (λ block'. Ok (tree.Init block'))
+member_resolved constants input output fields before (tree.Prework rates block) =
+    and_then (work_resolved constants input output fields (record { rates = rates; block = block })) (λ work'.
+    Ok (tree.Prework work'.rates work'.block))
+member_resolved constants input output fields before (tree.Work rates block) =
+    and_then (work_resolved constants input output fields (record { rates = rates; block = block })) (λ work'.
+    Ok (tree.Work work'.rates work'.block))
+
+-- the members, in order of the text
+abbrev pub members_resolved : (constants : List (List ℕ × ℤ)) (input output : ItemType) (fields : TypedNames) (before : List (List ℕ)) → List tree.Member → Result (List tree.Member) LowerError
+members_resolved constants input output fields before [] = Ok []
+members_resolved constants input output fields before (first ∷ rest) =
+    and_then (member_resolved constants input output fields before first) (λ first'.
+    and_then (members_resolved constants input output fields (fields_after before first) rest) (λ rest'. Ok (first' ∷ rest')))
+
+-- how many preworks there are
+abbrev pub prework_count : List tree.Member → ℕ
+prework_count [] = 0
+prework_count (tree.Fields kind variables ∷ rest) = prework_count rest
+prework_count (tree.Init block ∷ rest) = prework_count rest
+prework_count (tree.Prework rates block ∷ rest) = 1 + prework_count rest
+prework_count (tree.Work rates block ∷ rest) = prework_count rest
+
+-- how many `init`s there are
+abbrev pub init_count : List tree.Member → ℕ
+init_count [] = 0
+init_count (tree.Fields kind variables ∷ rest) = init_count rest
+init_count (tree.Init block ∷ rest) = 1 + init_count rest
+init_count (tree.Prework rates block ∷ rest) = init_count rest
+init_count (tree.Work rates block ∷ rest) = init_count rest
+
+-- whether there is one work, and at most one prework and one `init`
+abbrev pub has_parts : List tree.Member → Bool
+has_parts members = (work_count members == 1) && (nat_lt (prework_count members) 2 && nat_lt (init_count members) 2)
+
+-- a filter with its constants put in, or the first rule that it breaks
+abbrev pub filter_resolved : List (List ℕ × ℤ) → Filter → Result Filter LowerError
+filter_resolved constants filter =
+    where_kept (has_parts filter.members)
+    (and_then (members_resolved constants filter.input filter.output (fields_behind [] filter.members) [] filter.members) (λ members'.
+    Ok (record filter { members = members' })))

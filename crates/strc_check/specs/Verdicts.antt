@@ -1,0 +1,58 @@
+-- How code answers a judgement: with what it gives, or with its refusal, or for want of memory.
+use Rattle.std.specs.Prelude.{◌≡◌, map, Result, Ok, Err, Vec}
+use Rattle.std.specs.declared.alloc.Global.{Global}
+use Rattle.strc_syntax.specs.View.{expr_view, type_view, rate_view, block_view}
+use Rattle.strc_syntax.specs.declared.tree.Stmt.{Stmt}
+use Rattle.strc_syntax.specs.declared.tree.Variable.{Variable}
+use Rattle.strc_syntax.specs.declared.tree.RateTree.{RateTree}
+use Rattle.strc_check.specs.declared.error.LowerError.{LowerError}
+use Rattle.strc_check.specs.declared.error.LowerError.TheVariants as refused
+use Rattle.strc_check.specs.declared.resolution.ResolvedWork.{ResolvedWork}
+use Rattle.strc_check.specs.declared.site.Site.{Site}
+use Rattle.strc_check.specs.declared.type_rules.ResolvedType.{ResolvedType}
+use Rattle.strc_check.specs.declared.typed.Typed.{Typed}
+use Rattle.strc_check.specs.Resolution as judged
+
+-- the judgement's refusal, if it isn't want of memory
+abbrev pub IsRefusal : {A : Type 0} → Result A LowerError → LowerError → Type 0
+IsRefusal expected (refused.UnknownName name) = expected ≡ Err (refused.UnknownName name)
+IsRefusal expected refused.TypeMismatch = expected ≡ Err refused.TypeMismatch
+IsRefusal expected (refused.ConstFault cause) = expected ≡ Err (refused.ConstFault cause)
+IsRefusal expected refused.NoMemory = Unit {0}
+
+-- the answer x is the judgement's, seen by a view
+abbrev pub IsVerdict : {X A : Type 0} → (X → A) → Result A LowerError → Result X LowerError → Type 0
+IsVerdict view expected (Ok x) = expected ≡ Ok (view x)
+IsVerdict view expected (Err refusal) = IsRefusal expected refusal
+
+-- a site as the judgement sees it
+abbrev pub site_of : Site → judged.Site
+site_of site = record {
+  constants = site.constants.now;
+  pops = site.pops;
+  pushes = site.pushes;
+  prints = site.prints;
+  fixed = site.fixed;
+}
+
+-- a typed expression as the judgement sees it
+abbrev pub typed_view : Typed → judged.Typed
+typed_view typed = record { kind = typed.kind; value = expr_view typed.value }
+
+-- a declared type as the judgement sees it
+abbrev pub declared_view : ResolvedType → judged.ResolvedType
+declared_view resolved = record { kind = resolved.kind; written = type_view resolved.written }
+
+-- a body with its rates as the judgement sees it
+abbrev pub work_view : ResolvedWork → judged.Work
+work_view work = record { rates = map rate_view work.rates.items; block = block_view work.block.items }
+
+-- a list of statements, of variables, and of rates
+abbrev pub Statements : Type 0
+Statements = Vec Stmt Global
+
+abbrev pub VariableList : Type 0
+VariableList = Vec Variable Global
+
+abbrev pub RateList : Type 0
+RateList = Vec RateTree Global

@@ -1,0 +1,20 @@
+// Takes a filter's syntax tree and the constants of its surroundings.
+// Gives the tree with the constants substituted, or the first rule that it breaks.
+// The theorem to rely on: `resolution::resolve_filter` answers what specs/Resolution says, and the
+// tree is closed.
+// Stands on strc_semantics, whose constant values it computes, on strc_syntax and strc_base.
+#![tactic(auto)]
+
+pub mod constants;
+pub mod error;
+pub mod expression_rules;
+mod parts;
+mod rates;
+pub mod resolution;
+pub mod site;
+pub mod statement_rules;
+pub mod type_rules;
+mod typed;
+pub mod typed_scope;
+pub mod types;
+mod writes;

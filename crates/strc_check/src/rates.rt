@@ -1,0 +1,88 @@
+// The rules on rates.
+
+ghost use Rattle.std.specs.Prelude.{◌≡◌, ℤ, map};
+ghost use Rattle.strc_syntax.specs.View.{expr_view, rate_view};
+ghost use Rattle.strc_check.specs.Resolution as judged;
+ghost use Rattle.strc_check.specs.Verdicts.{IsVerdict, RateList};
+
+use crate::constants::Constants;
+use crate::error::LowerError;
+use crate::typed_scope::TypedScope;
+use crate::types::ValueType;
+use crate::{expression_rules, site};
+use std::alloc::Global;
+use strc_semantics::evaluation;
+use strc_syntax::tree::{Expr, ItemType, RateKind, RateTree};
+
+/// The rates of a body.
+pub fn resolve_rates(
+    alloc: Global,
+    constants: &Constants,
+    fields: &TypedScope,
+    input: ItemType,
+    output: ItemType,
+    rates: &[RateTree],
+) -> Result<Vec<RateTree>, LowerError>
+    ensures { IsVerdict (λ (resolved : RateList). map rate_view resolved.items)
+        (judged.rates_resolved constants.now fields.now input output (map rate_view rates.now))
+        result }
+{
+    let mut resolved = Vec::new(alloc);
+    for rate in rates {
+        resolved.push(resolve_rate(alloc, constants, fields, input, output, rate)?)?;
+    }
+    Ok(resolved)
+}
+
+/// A rate, on a side where it may be declared.
+fn resolve_rate(
+    alloc: Global,
+    constants: &Constants,
+    fields: &TypedScope,
+    input: ItemType,
+    output: ItemType,
+    written: &RateTree,
+) -> Result<RateTree, LowerError>
+    ensures { IsVerdict rate_view
+        (judged.rate_resolved constants.now fields.now input output (rate_view written.now))
+        result }
+{
+    let number = resolve_number(alloc, constants, fields, &written.rate)?;
+    if !fits(input, output, written.kind, number) {
+        return Err(LowerError::TypeMismatch);
+    }
+    Ok(RateTree {
+        kind: written.kind,
+        rate: Expr::Number(number),
+    })
+}
+
+/// The number of a rate or of a length, over constants alone.
+pub fn resolve_number(
+    alloc: Global,
+    constants: &Constants,
+    names: &TypedScope,
+    value: &Expr,
+) -> Result<i32, LowerError>
+    ensures { IsVerdict (λ (number : ℤ). number)
+        (judged.number_resolved constants.now names.now (expr_view value.now))
+        result }
+{
+    let site = site::rate_site(constants);
+    let value = expression_rules::resolve_as(alloc, &site, names, ValueType::Int, value)?;
+    match evaluation::constant_value(&value) {
+        Ok(number) => Ok(number),
+        Err(cause) => Err(LowerError::ConstFault { cause }),
+    }
+}
+
+/// Whether a rate may be declared: above 0 only where items flow.
+fn fits(input: ItemType, output: ItemType, kind: RateKind, number: i32) -> bool
+    ensures { result ≡ judged.rate_fits input output kind number }
+{
+    let side = match kind {
+        RateKind::Push => output,
+        RateKind::Pop | RateKind::Peek => input,
+    };
+    number <= 0 || site::carries_items(side)
+}

@@ -1,0 +1,215 @@
+// The rules on names and types of filters. A tree that keeps them is copied with its constants put
+// in.
+
+ghost use Rattle.std.specs.Prelude.{◌≡◌, IfOk, OnOk, [], ◌∷◌, map};
+ghost use Rattle.strc_syntax.specs.View.{variable_view, member_view, rate_view, block_view};
+ghost use Rattle.strc_semantics.specs.Filters.{filter_of, filter_parts, members_of};
+ghost use Rattle.strc_check.specs.Typing as typing;
+ghost use Rattle.strc_check.specs.Resolution as judged;
+ghost use Rattle.strc_check.specs.Verdicts.{IsVerdict, site_of, work_view, VariableList};
+
+use crate::constants::Constants;
+use crate::error::LowerError;
+use crate::site::{self, Site};
+use crate::typed_scope::TypedScope;
+use crate::types::{self, ValueType};
+use crate::{expression_rules, parts, rates, statement_rules, type_rules};
+use std::alloc::Global;
+use strc_base::memory::NoMemory;
+use strc_base::scope::Scope;
+use strc_syntax::tree::{FilterTree, ItemType, Member, RateTree, Stmt, Variable, Variables};
+
+/// A body with its constants put in.
+#[derive(Drop)]
+pub struct ResolvedWork {
+    pub rates: Vec<RateTree>,
+    pub block: Vec<Stmt>,
+}
+
+/// The filter of these types and members, with its constants put in.
+pub fn resolve_filter(
+    alloc: Global,
+    input: ItemType,
+    output: ItemType,
+    members: &[Member],
+    constants: &Constants,
+) -> Result<FilterTree, LowerError>
+    ensures { IsVerdict filter_of
+        (judged.filter_resolved constants.now (filter_parts input output members.now))
+        result }
+{
+    if !parts::has_parts(members) {
+        return Err(LowerError::TypeMismatch);
+    }
+    let mut fields = typed_fields(alloc, members)?;
+    let mut before = Scope::new(alloc);
+    let mut resolved = Vec::new(alloc);
+    for member in members {
+        let member = resolve_member(
+            alloc,
+            input,
+            output,
+            constants,
+            &mut fields,
+            &mut before,
+            member,
+        )?;
+        resolved.push(member)?;
+    }
+    Ok(FilterTree {
+        input,
+        output,
+        members: resolved,
+    })
+}
+
+/// The fields with their types.
+fn typed_fields(alloc: Global, members: &[Member]) -> Result<TypedScope, NoMemory>
+    ensures { IfOk result (λ names. names ≡ typing.fields_behind [] (members_of members.now)) }
+{
+    let mut fields = TypedScope::new(alloc);
+    for member in members {
+        if let Member::Fields(declared) = member {
+            declare_typed(
+                &mut fields,
+                types::type_of(&declared.kind),
+                &declared.variables,
+            )?;
+        }
+    }
+    Ok(fields)
+}
+
+/// More variables of one type, the last one innermost.
+fn declare_typed(
+    names: &mut TypedScope,
+    kind: ValueType,
+    variables: &[Variable],
+) -> Result<(), NoMemory>
+    ensures { OnOk result (names.new ≡ typing.with_declared names.old kind
+        (map variable_view variables.now)) }
+{
+    for variable in variables {
+        names.declare(&variable.name, kind)?;
+    }
+    Ok(())
+}
+
+fn resolve_member(
+    alloc: Global,
+    input: ItemType,
+    output: ItemType,
+    constants: &Constants,
+    fields: &mut TypedScope,
+    before: &mut Scope,
+    member: &Member,
+) -> Result<Member, LowerError>
+    ensures verdict { IsVerdict member_view
+        (judged.member_resolved constants.now input output fields.old before.old
+        (member_view member.now))
+        result }
+    ensures fields { OnOk result (fields.new ≡ fields.old) }
+    ensures before { OnOk result (before.new ≡ judged.fields_after before.old
+        (member_view member.now)) }
+{
+    match member {
+        Member::Fields(declared) => {
+            let site = site::start_site(constants);
+            let resolved = type_rules::resolve_type(alloc, constants, fields, &declared.kind)?;
+            let variables = resolve_fields(
+                alloc,
+                &site,
+                fields,
+                before,
+                resolved.kind,
+                &declared.variables,
+            )?;
+            Ok(Member::Fields(Variables {
+                kind: resolved.written,
+                variables,
+            }))
+        }
+        Member::Init(block) => {
+            let site = site::start_site(constants);
+            let block = statement_rules::resolve_block(alloc, &site, fields, block)?;
+            Ok(Member::Init(block))
+        }
+        Member::Prework(rates, block) => {
+            let work = resolve_work(alloc, input, output, constants, fields, rates, block)?;
+            Ok(Member::Prework(work.rates, work.block))
+        }
+        Member::Work(rates, block) => {
+            let work = resolve_work(alloc, input, output, constants, fields, rates, block)?;
+            Ok(Member::Work(work.rates, work.block))
+        }
+    }
+}
+
+/// Fields that are declared together. They see all fields.
+fn resolve_fields(
+    alloc: Global,
+    site: &Site,
+    fields: &TypedScope,
+    before: &mut Scope,
+    kind: ValueType,
+    variables: &[Variable],
+) -> Result<Vec<Variable>, LowerError>
+    ensures verdict { IsVerdict (λ (resolved : VariableList). map variable_view resolved.items)
+        (judged.fields_resolved (site_of site.now) fields.now before.old kind
+        (map variable_view variables.now))
+        result }
+    ensures before { OnOk result
+        (before.new ≡ typing.names_with before.old (map variable_view variables.now)) }
+{
+    let mut resolved = Vec::new(alloc);
+    for variable in variables {
+        resolved.push(resolve_field(alloc, site, fields, before, kind, variable)?)?;
+    }
+    Ok(resolved)
+}
+
+/// A field, whose name no earlier one has.
+fn resolve_field(
+    alloc: Global,
+    site: &Site,
+    fields: &TypedScope,
+    before: &mut Scope,
+    kind: ValueType,
+    variable: &Variable,
+) -> Result<Variable, LowerError>
+    ensures verdict { IsVerdict variable_view
+        (judged.field_resolved (site_of site.now) fields.now before.old kind
+        (variable_view variable.now))
+        result }
+    ensures before { OnOk result (before.new ≡ variable.now.name ∷ before.old) }
+{
+    if before.has(&variable.name) {
+        return Err(LowerError::TypeMismatch);
+    }
+    let initial = expression_rules::resolve_initial(alloc, site, fields, kind, &variable.initial)?;
+    before.declare(&variable.name)?;
+    let name = variable.name.copy()?;
+    Ok(Variable { name, initial })
+}
+
+/// A body, with its rates.
+fn resolve_work(
+    alloc: Global,
+    input: ItemType,
+    output: ItemType,
+    constants: &Constants,
+    fields: &mut TypedScope,
+    rates: &[RateTree],
+    block: &[Stmt],
+) -> Result<ResolvedWork, LowerError>
+    ensures verdict { IsVerdict work_view
+        (judged.work_resolved constants.now input output fields.old
+        (record { rates = map rate_view rates.now; block = block_view block.now }))
+        result }
+    ensures fields { OnOk result (fields.new ≡ fields.old) }
+{
+    let rates = rates::resolve_rates(alloc, constants, fields, input, output, rates)?;
+    let site = site::body_site(constants, input, output);
+    let block = statement_rules::resolve_block(alloc, &site, fields, block)?;
+    Ok(ResolvedWork { rates, block })
+}

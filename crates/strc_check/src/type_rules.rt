@@ -1,0 +1,72 @@
+// The rules on declared types.
+
+ghost use Rattle.std.specs.Prelude.{◌≡◌, IfOk};
+ghost use Rattle.strc_syntax.specs.View.{type_view};
+ghost use Rattle.strc_check.specs.Typing as typing;
+ghost use Rattle.strc_check.specs.declared.types.ValueType.TheVariants.{Array};
+ghost use Rattle.strc_check.specs.Resolution as judged;
+ghost use Rattle.strc_check.specs.Verdicts.{IsVerdict, declared_view};
+
+use crate::constants::Constants;
+use crate::error::LowerError;
+use crate::rates;
+use crate::typed_scope::TypedScope;
+use crate::types::ValueType;
+use std::alloc::Global;
+use strc_semantics::fault::Cause;
+use strc_syntax::tree::{Expr, VariableType};
+
+/// How many elements an array may have.
+const LENGTH_LIMIT: i32 = 65_536;
+
+/// A declared type: what a name of it stands for, and how it is written, with a number as its
+/// length.
+#[derive(Drop)]
+pub struct ResolvedType {
+    pub kind: ValueType,
+    pub written: VariableType,
+}
+
+/// A declared type, with the constants and the names that can be seen where it stands.
+pub fn resolve_type(
+    alloc: Global,
+    constants: &Constants,
+    names: &TypedScope,
+    declared: &VariableType,
+) -> Result<ResolvedType, LowerError>
+    ensures verdict { IsVerdict declared_view
+        (judged.type_resolved constants.now names.now (type_view declared.now))
+        result }
+    ensures kind { IfOk result (λ r. r.kind ≡ typing.type_of (type_view declared.now)) }
+{
+    match declared {
+        VariableType::Boolean => Ok(ResolvedType {
+            kind: ValueType::Boolean,
+            written: VariableType::Boolean,
+        }),
+        VariableType::Int => Ok(ResolvedType {
+            kind: ValueType::Int,
+            written: VariableType::Int,
+        }),
+        VariableType::Array(length) => {
+            let number = rates::resolve_number(alloc, constants, names, length)?;
+            array_type(number)
+        }
+    }
+}
+
+/// An array of this length has a cell, and at most 65536.
+fn array_type(number: i32) -> Result<ResolvedType, LowerError>
+    ensures verdict { IsVerdict declared_view (judged.array_type number) result }
+    ensures kind { IfOk result (λ r. r.kind ≡ Array) }
+{
+    if number < 1 || number > LENGTH_LIMIT {
+        return Err(LowerError::ConstFault {
+            cause: Cause::Index,
+        });
+    }
+    Ok(ResolvedType {
+        kind: ValueType::Array,
+        written: VariableType::Array(Expr::Number(number)),
+    })
+}

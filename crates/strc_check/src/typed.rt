@@ -1,0 +1,185 @@
+// Expressions with the types of their values.
+
+ghost use Rattle.std.specs.Prelude.{◌≡◌};
+ghost use Rattle.strc_syntax.specs.View.{expr_view};
+ghost use Rattle.strc_check.specs.Resolution as judged;
+ghost use Rattle.strc_check.specs.declared.types.ValueType.TheVariants.{Int};
+ghost use Rattle.strc_check.specs.Verdicts.{IsVerdict, typed_view};
+
+use crate::error::LowerError;
+use crate::types::{self, ValueType};
+use std::alloc::Global;
+use strc_lex::token::Name;
+use strc_syntax::tree::{BinaryOperator, Expr, StepOperator, UnaryOperator};
+
+/// An expression with its constants put in, and the type of its value.
+#[derive(Drop)]
+pub struct Typed {
+    pub kind: ValueType,
+    pub value: Expr,
+}
+
+/// An expression whose value is a number.
+pub fn number(value: Expr) -> Typed
+    ensures { typed_view result ≡ record { kind = Int; value = expr_view value } }
+{
+    Typed {
+        kind: ValueType::Int,
+        value,
+    }
+}
+
+/// The expression, if its value has the type.
+pub fn typed_as(kind: ValueType, typed: Typed) -> Result<Expr, LowerError>
+    ensures { IsVerdict expr_view (judged.typed_as kind (typed_view typed)) result }
+{
+    if !types::same_type(typed.kind, kind) {
+        return Err(LowerError::TypeMismatch);
+    }
+    Ok(typed.value)
+}
+
+/// An expression in brackets.
+pub fn group(alloc: Global, inner: Typed) -> Result<Typed, LowerError>
+    ensures { IsVerdict typed_view (Ok (judged.group_typed (typed_view inner))) result }
+{
+    Ok(Typed {
+        kind: inner.kind,
+        value: Expr::Group(Box::new(alloc, inner.value)?),
+    })
+}
+
+/// A look at an item, where one may pop.
+pub fn peek(alloc: Global, pops: bool, index: Typed) -> Result<Typed, LowerError>
+    ensures { IsVerdict typed_view (judged.peek_typed pops (typed_view index)) result }
+{
+    if !pops {
+        return Err(LowerError::TypeMismatch);
+    }
+    let index = typed_as(ValueType::Int, index)?;
+    Ok(Typed {
+        kind: ValueType::Int,
+        value: Expr::Peek(Box::new(alloc, index)?),
+    })
+}
+
+/// An element of an array.
+pub fn element(alloc: Global, name: Name, index: Typed) -> Result<Typed, LowerError>
+    ensures { IsVerdict typed_view (judged.element_typed name (typed_view index)) result }
+{
+    let index = typed_as(ValueType::Int, index)?;
+    Ok(Typed {
+        kind: ValueType::Int,
+        value: Expr::Element(name, Box::new(alloc, index)?),
+    })
+}
+
+/// A step of an element.
+pub fn step_element(
+    alloc: Global,
+    operator: StepOperator,
+    name: Name,
+    index: Typed,
+) -> Result<Typed, LowerError>
+    ensures { IsVerdict typed_view (judged.step_element_typed operator name
+        (typed_view index)) result }
+{
+    let index = typed_as(ValueType::Int, index)?;
+    Ok(Typed {
+        kind: ValueType::Int,
+        value: Expr::StepElement(operator, name, Box::new(alloc, index)?),
+    })
+}
+
+/// An operator before its operand.
+pub fn unary(alloc: Global, operator: UnaryOperator, operand: Typed) -> Result<Typed, LowerError>
+    ensures { IsVerdict typed_view (judged.unary_typed operator (typed_view operand)) result }
+{
+    let kind = operand_type(operator);
+    let operand = typed_as(kind, operand)?;
+    Ok(Typed {
+        kind,
+        value: Expr::Unary(operator, Box::new(alloc, operand)?),
+    })
+}
+
+/// An operator between its operands.
+pub fn binary(
+    alloc: Global,
+    operator: BinaryOperator,
+    left: Typed,
+    right: Typed,
+) -> Result<Typed, LowerError>
+    ensures { IsVerdict typed_view
+        (judged.binary_typed operator (typed_view left) (typed_view right))
+        result }
+{
+    let sides = sides_type(operator, left.kind);
+    let left = typed_as(sides, left)?;
+    let right = typed_as(sides, right)?;
+    Ok(Typed {
+        kind: binary_type(operator),
+        value: Expr::Binary(operator, Box::new(alloc, left)?, Box::new(alloc, right)?),
+    })
+}
+
+/// A choice between two values of one type.
+pub fn conditional(
+    alloc: Global,
+    condition: Typed,
+    chosen: Typed,
+    other: Typed,
+) -> Result<Typed, LowerError>
+    ensures { IsVerdict typed_view
+        (judged.conditional_typed (typed_view condition) (typed_view chosen) (typed_view other))
+        result }
+{
+    let condition = typed_as(ValueType::Boolean, condition)?;
+    let kind = chosen.kind;
+    let other = typed_as(kind, other)?;
+    let condition = Box::new(alloc, condition)?;
+    let chosen = Box::new(alloc, chosen.value)?;
+    let other = Box::new(alloc, other)?;
+    Ok(Typed {
+        kind,
+        value: Expr::Conditional(condition, chosen, other),
+    })
+}
+
+/// The type of an operator's operand, and of its value.
+fn operand_type(operator: UnaryOperator) -> ValueType
+    ensures { result ≡ judged.operand_type operator }
+{
+    match operator {
+        UnaryOperator::Not => ValueType::Boolean,
+        UnaryOperator::Negate | UnaryOperator::Complement => ValueType::Int,
+    }
+}
+
+/// The type of both operands, where the left one has this type.
+fn sides_type(operator: BinaryOperator, left: ValueType) -> ValueType
+    ensures { result ≡ judged.sides_type operator left }
+{
+    match operator {
+        BinaryOperator::LogicalOr | BinaryOperator::LogicalAnd => ValueType::Boolean,
+        BinaryOperator::Equal | BinaryOperator::NotEqual => left,
+        _ => ValueType::Int,
+    }
+}
+
+/// The type of an operator's value.
+fn binary_type(operator: BinaryOperator) -> ValueType
+    ensures { result ≡ judged.binary_type operator }
+{
+    match operator {
+        BinaryOperator::LogicalOr
+        | BinaryOperator::LogicalAnd
+        | BinaryOperator::Equal
+        | BinaryOperator::NotEqual
+        | BinaryOperator::Less
+        | BinaryOperator::LessOrEqual
+        | BinaryOperator::Greater
+        | BinaryOperator::GreaterOrEqual => ValueType::Boolean,
+        _ => ValueType::Int,
+    }
+}

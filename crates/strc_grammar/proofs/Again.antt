@@ -1,0 +1,66 @@
+-- Reading a spelled tree again: it is read where its height is within the depth, and else nests too deep.
+use Rattle.std.proofs.Common.{◌≡◌, ℕ, suc, ◌+◌, ◌<◌, ◌≤◌, List, ◌∷◌, Result, Ok, Err, refl, arith, inl, inr}
+use Rattle.std.proofs.lemmas.Bool.{cases_lt, lt-ltb, le-ltb}
+use denote.Enum.Bare.{true_same}
+use Rattle.strc_lex.specs.contracts.token.Punctuation.{the_type as punctuation_type}
+use Rattle.strc_lex.specs.contracts.token.Keyword.{the_type as keyword_type}
+use Rattle.strc_lex.specs.declared.token.TokenKind.{TokenKind}
+use Rattle.strc_lex.specs.declared.token.TokenKind.TheVariants as token
+use Rattle.strc_lex.specs.declared.token.Keyword.{Keyword}
+use Rattle.strc_lex.specs.declared.token.Punctuation.{Punctuation}
+use Rattle.strc_grammar.specs.declared.error.Fault.{Fault}
+use Rattle.strc_grammar.specs.declared.error.Fault.TheVariants.{Nesting}
+use Rattle.strc_grammar.specs.Reading.{◌>>=◌, is_punctuation, is_keyword, expect, expect_keyword, raised}
+
+pub record Again (depth height : ℕ) {X : Type 0} (x : X) (read : Result X Fault) : Type 0 where
+  pub fits : height ≤ depth → read ≡ Ok x
+  pub over : depth < height → read ≡ Err Nesting
+
+-- a step behind a tree that was read again
+pub Again-then : (depth height next : ℕ) {X Y : Type 0} (x : X) (y : Y) (read : Result X Fault) (f : X → Result Y Fault) → Again depth height x read → height ≤ next
+    → (height ≤ depth → Again depth next y (f x)) → Again depth next y (read >>= f)
+Again-then depth height next x y read f again le then = record {
+  fits = λ h. let low : height ≤ depth = omega arith in rw (again.fits low) ((then low).fits h);
+  over = λ h. elim (cases_lt depth height) [
+    | inl lt ↦ rw (again.over lt) refl
+    | inr low ↦ rw (again.fits low) ((then low).over h)
+  ];
+}
+
+-- the same one depth below, for a part of a node
+pub Again-inside : (d height next : ℕ) {X Y : Type 0} (x : X) (y : Y) (read : Result X Fault) (f : X → Result Y Fault) → Again d height x read → height + 1 ≤ next
+    → (height ≤ d → Again (suc d) next y (f x)) → Again (suc d) next y (read >>= f)
+Again-inside d height next x y read f again le then = record {
+  fits = λ h. let low : height ≤ d = omega arith in rw (again.fits low) ((then low).fits h);
+  over = λ h. elim (cases_lt d height) [
+    | inl lt ↦ rw (again.over lt) refl
+    | inr low ↦ rw (again.fits low) ((then low).over h)
+  ];
+}
+
+-- a leaf, which any depth above 0 has
+pub Again-leaf : (d : ℕ) {X : Type 0} (x : X) (read : Result X Fault) → read ≡ Ok x → Again (suc d) 1 x read
+Again-leaf d x read e = record { fits = λ h. e; over = λ h. absurd (omega arith) }
+
+pub expect_punctuation : (wanted : Punctuation) (rest : List TokenKind) → expect wanted (token.Punctuation wanted ∷ rest) ≡ Ok rest
+unfolding expect is_punctuation
+expect_punctuation wanted rest = rw (true_same punctuation_type wanted wanted refl) refl
+
+pub expect_keyword_lem : (wanted : Keyword) (rest : List TokenKind) → expect_keyword wanted (token.Keyword wanted ∷ rest) ≡ Ok rest
+unfolding expect_keyword is_keyword
+expect_keyword_lem wanted rest = rw (true_same keyword_type wanted wanted refl) refl
+
+pub raised_low : (depth height : ℕ) → height < depth → raised depth height ≡ Ok (height + 1)
+unfolding raised
+raised_low depth height lt = rw (lt-ltb height depth lt) refl
+
+pub raised_high : (depth height : ℕ) → depth ≤ height → raised depth height ≡ Err Nesting
+unfolding raised
+raised_high depth height le = rw (le-ltb height depth le) refl
+
+-- a node above a part that was read
+pub Again-raised : (depth height : ℕ) {Y : Type 0} (y : Y) (f : ℕ → Result Y Fault) → f (height + 1) ≡ Ok y → Again depth (height + 1) y (raised depth height >>= f)
+Again-raised depth height y f e = record {
+  fits = λ h. let lt : height < depth = omega arith in rw (raised_low depth height lt) e;
+  over = λ h. let le : depth ≤ height = omega arith in rw (raised_high depth height le) refl;
+}

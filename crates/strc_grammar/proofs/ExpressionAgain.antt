@@ -1,0 +1,561 @@
+-- An expression's spelling is read again, whatever stops it.
+use Rattle.std.proofs.Common.{◌≡◌, ℕ, zero, suc, ◌+◌, ◌-◌, ◌<◌, ◌≤◌, max, Bool, true, false, eqb, List, ◌∷◌, length, Option, Some, None, Result, Ok, Err, refl, ap, subst, ◌∙◌, arith, inl, inr}
+use Rattle.std.proofs.lemmas.Bool.{cases_lt, ne_eqb, eq-eqb}
+use denote.Enum.Bare.{sameb}
+use Rattle.strc_lex.specs.contracts.token.Punctuation.{the_type as punctuation_type}
+use Rattle.strc_lex.specs.declared.token.TokenKind.{TokenKind}
+use Rattle.strc_lex.specs.declared.token.TokenKind.TheVariants as token
+use Rattle.strc_lex.specs.declared.token.Keyword.{Keyword}
+use Rattle.strc_lex.specs.declared.token.Punctuation.{Punctuation}
+use Rattle.strc_lex.specs.declared.token.Punctuation.TheVariants as punctuation
+use Rattle.strc_syntax.specs.declared.tree.UnaryOperator.{UnaryOperator}
+use Rattle.strc_syntax.specs.declared.tree.UnaryOperator.TheVariants as unary
+use Rattle.strc_syntax.specs.declared.tree.StepOperator.{StepOperator}
+use Rattle.strc_syntax.specs.declared.tree.StepOperator.TheVariants as step
+use Rattle.strc_syntax.specs.declared.tree.AssignOperator.{AssignOperator}
+use Rattle.strc_syntax.specs.declared.tree.AssignOperator.TheVariants as assign
+use Rattle.strc_syntax.specs.declared.tree.BinaryOperator.{BinaryOperator}
+use Rattle.strc_syntax.specs.declared.tree.BinaryOperator.TheVariants as binary
+use Rattle.strc_grammar.specs.declared.error.Fault.{Fault}
+use Rattle.strc_grammar.specs.declared.error.Fault.TheVariants.{Nesting}
+use Rattle.strc_syntax.specs.Tree as tree
+use Rattle.strc_grammar.specs.Grammar.{binary_punctuation, assign_punctuation, step_spelled, expr_spelled, looseness, loosest, rank, IsExpr, expr_height}
+use Rattle.strc_syntax.specs.Tree.{read_of, step_of_place}
+use Rattle.strc_grammar.specs.Reading.{◌>>=◌, raised, Below, tail, punctuation_at, is_punctuation, binary_of, of_rank, operator, step_of, step_after, closed, index, after_place, after_name, name, step_first, pop_brackets, peek_brackets, group, sign, marked, worded, operand, chain, climb, choice, loosest_binary, conditional, ranked, expression}
+use Rattle.strc_grammar.proofs.Again.{Again, Again-then, Again-inside, Again-leaf, Again-raised, expect_punctuation, raised_low, raised_high}
+
+-- what follows an expression of this rank and stops it
+pub record Stops (r : ℕ) (rest : List TokenKind) : Type 0 where
+  pub no_step : step_after rest ≡ None
+  pub no_index : is_punctuation punctuation.OpenBracket rest ≡ false
+  pub no_operator : (k : ℕ) → k ≤ r → operator k rest ≡ None
+  pub no_choice : loosest ≤ r → is_punctuation punctuation.Question rest ≡ false
+
+pub Stops-le : {r : ℕ} {rest : List TokenKind} (k : ℕ) → k ≤ r → Stops r rest → Stops k rest
+Stops-le k le stops = record {
+  no_step = stops.no_step;
+  no_index = stops.no_index;
+  no_operator = λ j h. stops.no_operator j (omega arith);
+  no_choice = λ h. stops.no_choice (omega arith);
+}
+
+-- a punctuation mark that is none of an expression's behind an operand
+Stops-punctuation : (m : Punctuation) → binary_of m ≡ None → step_of (Some m) ≡ None → sameb punctuation_type m punctuation.OpenBracket ≡ false → sameb punctuation_type m punctuation.Question ≡ false
+    → (r : ℕ) (rest : List TokenKind) → Stops r (token.Punctuation m ∷ rest)
+unfolding step_after operator punctuation_at is_punctuation
+Stops-punctuation m no_binary no_step no_index no_choice r rest =
+    record { no_step = no_step; no_index = no_index; no_operator = λ k h. rw no_binary refl; no_choice = λ h. no_choice }
+
+pub Stops-semicolon : (r : ℕ) (rest : List TokenKind) → Stops r (token.Punctuation punctuation.Semicolon ∷ rest)
+Stops-semicolon = Stops-punctuation punctuation.Semicolon refl refl refl refl
+
+pub Stops-comma : (r : ℕ) (rest : List TokenKind) → Stops r (token.Punctuation punctuation.Comma ∷ rest)
+Stops-comma = Stops-punctuation punctuation.Comma refl refl refl refl
+
+pub Stops-bracket : (r : ℕ) (rest : List TokenKind) → Stops r (token.Punctuation punctuation.CloseParen ∷ rest)
+Stops-bracket = Stops-punctuation punctuation.CloseParen refl refl refl refl
+
+pub Stops-square : (r : ℕ) (rest : List TokenKind) → Stops r (token.Punctuation punctuation.CloseBracket ∷ rest)
+Stops-square = Stops-punctuation punctuation.CloseBracket refl refl refl refl
+
+pub Stops-colon : (r : ℕ) (rest : List TokenKind) → Stops r (token.Punctuation punctuation.Colon ∷ rest)
+Stops-colon = Stops-punctuation punctuation.Colon refl refl refl refl
+
+pub Stops-brace : (r : ℕ) (rest : List TokenKind) → Stops r (token.Punctuation punctuation.OpenBrace ∷ rest)
+Stops-brace = Stops-punctuation punctuation.OpenBrace refl refl refl refl
+
+pub Stops-assign : (o : AssignOperator) (r : ℕ) (rest : List TokenKind) → Stops r (token.Punctuation (assign_punctuation o) ∷ rest)
+Stops-assign assign.Set = Stops-punctuation punctuation.Assign refl refl refl refl
+Stops-assign assign.Add = Stops-punctuation punctuation.PlusAssign refl refl refl refl
+Stops-assign assign.Subtract = Stops-punctuation punctuation.MinusAssign refl refl refl refl
+Stops-assign assign.Multiply = Stops-punctuation punctuation.StarAssign refl refl refl refl
+Stops-assign assign.Divide = Stops-punctuation punctuation.SlashAssign refl refl refl refl
+Stops-assign assign.Remainder = Stops-punctuation punctuation.PercentAssign refl refl refl refl
+
+pub Stops-keyword : (w : Keyword) (r : ℕ) (rest : List TokenKind) → Stops r (token.Keyword w ∷ rest)
+unfolding step_after operator punctuation_at is_punctuation
+Stops-keyword w r rest = record { no_step = refl; no_index = refl; no_operator = λ k h. refl; no_choice = λ h. refl }
+
+-- a question mark stops what has no tighter rank
+Stops-question : (rest : List TokenKind) → Stops loosest_binary (token.Punctuation punctuation.Question ∷ rest)
+unfolding step_after operator punctuation_at is_punctuation
+Stops-question rest = record { no_step = refl; no_index = refl; no_operator = λ k h. refl; no_choice = λ h. absurd (omega arith) }
+
+pub looseness_some : (o : BinaryOperator) → (1 ≤ looseness o) × (looseness o ≤ 10)
+looseness_some binary.LogicalOr = (omega arith, omega arith)
+looseness_some binary.LogicalAnd = (omega arith, omega arith)
+looseness_some binary.Or = (omega arith, omega arith)
+looseness_some binary.ExclusiveOr = (omega arith, omega arith)
+looseness_some binary.And = (omega arith, omega arith)
+looseness_some binary.Equal = (omega arith, omega arith)
+looseness_some binary.NotEqual = (omega arith, omega arith)
+looseness_some binary.Less = (omega arith, omega arith)
+looseness_some binary.LessOrEqual = (omega arith, omega arith)
+looseness_some binary.Greater = (omega arith, omega arith)
+looseness_some binary.GreaterOrEqual = (omega arith, omega arith)
+looseness_some binary.ShiftLeft = (omega arith, omega arith)
+looseness_some binary.ShiftRight = (omega arith, omega arith)
+looseness_some binary.Add = (omega arith, omega arith)
+looseness_some binary.Subtract = (omega arith, omega arith)
+looseness_some binary.Multiply = (omega arith, omega arith)
+looseness_some binary.Divide = (omega arith, omega arith)
+looseness_some binary.Remainder = (omega arith, omega arith)
+
+operator_punctuation : (k : ℕ) (o : BinaryOperator) (rest : List TokenKind) → operator k (token.Punctuation (binary_punctuation o) ∷ rest) ≡ of_rank k (Some o)
+unfolding operator punctuation_at
+operator_punctuation k binary.LogicalOr rest = refl
+operator_punctuation k binary.LogicalAnd rest = refl
+operator_punctuation k binary.Or rest = refl
+operator_punctuation k binary.ExclusiveOr rest = refl
+operator_punctuation k binary.And rest = refl
+operator_punctuation k binary.Equal rest = refl
+operator_punctuation k binary.NotEqual rest = refl
+operator_punctuation k binary.Less rest = refl
+operator_punctuation k binary.LessOrEqual rest = refl
+operator_punctuation k binary.Greater rest = refl
+operator_punctuation k binary.GreaterOrEqual rest = refl
+operator_punctuation k binary.ShiftLeft rest = refl
+operator_punctuation k binary.ShiftRight rest = refl
+operator_punctuation k binary.Add rest = refl
+operator_punctuation k binary.Subtract rest = refl
+operator_punctuation k binary.Multiply rest = refl
+operator_punctuation k binary.Divide rest = refl
+operator_punctuation k binary.Remainder rest = refl
+
+no_step_punctuation : (o : BinaryOperator) (rest : List TokenKind) → step_after (token.Punctuation (binary_punctuation o) ∷ rest) ≡ None
+unfolding step_after punctuation_at
+no_step_punctuation binary.LogicalOr rest = refl
+no_step_punctuation binary.LogicalAnd rest = refl
+no_step_punctuation binary.Or rest = refl
+no_step_punctuation binary.ExclusiveOr rest = refl
+no_step_punctuation binary.And rest = refl
+no_step_punctuation binary.Equal rest = refl
+no_step_punctuation binary.NotEqual rest = refl
+no_step_punctuation binary.Less rest = refl
+no_step_punctuation binary.LessOrEqual rest = refl
+no_step_punctuation binary.Greater rest = refl
+no_step_punctuation binary.GreaterOrEqual rest = refl
+no_step_punctuation binary.ShiftLeft rest = refl
+no_step_punctuation binary.ShiftRight rest = refl
+no_step_punctuation binary.Add rest = refl
+no_step_punctuation binary.Subtract rest = refl
+no_step_punctuation binary.Multiply rest = refl
+no_step_punctuation binary.Divide rest = refl
+no_step_punctuation binary.Remainder rest = refl
+
+no_index_punctuation : (o : BinaryOperator) (rest : List TokenKind) → is_punctuation punctuation.OpenBracket (token.Punctuation (binary_punctuation o) ∷ rest) ≡ false
+unfolding is_punctuation
+no_index_punctuation binary.LogicalOr rest = refl
+no_index_punctuation binary.LogicalAnd rest = refl
+no_index_punctuation binary.Or rest = refl
+no_index_punctuation binary.ExclusiveOr rest = refl
+no_index_punctuation binary.And rest = refl
+no_index_punctuation binary.Equal rest = refl
+no_index_punctuation binary.NotEqual rest = refl
+no_index_punctuation binary.Less rest = refl
+no_index_punctuation binary.LessOrEqual rest = refl
+no_index_punctuation binary.Greater rest = refl
+no_index_punctuation binary.GreaterOrEqual rest = refl
+no_index_punctuation binary.ShiftLeft rest = refl
+no_index_punctuation binary.ShiftRight rest = refl
+no_index_punctuation binary.Add rest = refl
+no_index_punctuation binary.Subtract rest = refl
+no_index_punctuation binary.Multiply rest = refl
+no_index_punctuation binary.Divide rest = refl
+no_index_punctuation binary.Remainder rest = refl
+
+of_rank_other : (k : ℕ) (o : BinaryOperator) → k < looseness o → of_rank k (Some o) ≡ None
+of_rank_other k o lt = let ne : eqb (looseness o) k ≡ false = ne_eqb (looseness o) k (λ e. absurd (omega arith)) in rw ne refl
+
+of_rank_same : (o : BinaryOperator) → of_rank (looseness o) (Some o) ≡ Some o
+of_rank_same o = let same : eqb (looseness o) (looseness o) ≡ true = eq-eqb (looseness o) (looseness o) refl in rw same refl
+
+Stops-operator : (r : ℕ) (o : BinaryOperator) (rest : List TokenKind) → r < looseness o → Stops r (token.Punctuation (binary_punctuation o) ∷ rest)
+Stops-operator r o rest lt = record {
+  no_step = no_step_punctuation o rest;
+  no_index = no_index_punctuation o rest;
+  no_operator = λ k h. operator_punctuation k o rest ∙ of_rank_other k o (omega arith);
+  no_choice = λ h. absurd (omega (arith, (looseness_some o).1));
+}
+
+pub height_some : (e : tree.Expr) → 1 ≤ expr_height e
+height_some (tree.Number value) = omega arith
+height_some (tree.Truth value) = omega arith
+height_some (tree.Read name) = omega arith
+height_some (tree.Element name at) = omega arith
+height_some tree.Pop = omega arith
+height_some (tree.Peek at) = omega arith
+height_some (tree.Group inner) = omega arith
+height_some (tree.Unary o operand) = omega arith
+height_some (tree.Step o name) = omega arith
+height_some (tree.StepElement o name at) = omega arith
+height_some (tree.Binary o left right) = omega arith
+height_some (tree.Conditional condition chosen other) = omega arith
+
+-- a tree has no more height than tokens
+pub expr_length : (e : tree.Expr) (rest : List TokenKind) → expr_height e + length rest ≤ length (expr_spelled e rest)
+expr_length (tree.Number value) rest = omega arith
+expr_length (tree.Truth value) rest = omega arith
+expr_length (tree.Read name) rest = omega arith
+expr_length (tree.Element name at) rest = omega (arith, expr_length at (token.Punctuation punctuation.CloseBracket ∷ rest))
+expr_length tree.Pop rest = omega arith
+expr_length (tree.Peek at) rest = omega (arith, expr_length at (token.Punctuation punctuation.CloseParen ∷ rest))
+expr_length (tree.Group inner) rest = omega (arith, expr_length inner (token.Punctuation punctuation.CloseParen ∷ rest))
+expr_length (tree.Unary o operand) rest = omega (arith, expr_length operand rest)
+expr_length (tree.Step step.IncrementFirst name) rest = omega arith
+expr_length (tree.Step step.DecrementFirst name) rest = omega arith
+expr_length (tree.Step step.IncrementAfter name) rest = omega arith
+expr_length (tree.Step step.DecrementAfter name) rest = omega arith
+expr_length (tree.StepElement step.IncrementFirst name at) rest = omega (arith, expr_length at (token.Punctuation punctuation.CloseBracket ∷ rest))
+expr_length (tree.StepElement step.DecrementFirst name at) rest = omega (arith, expr_length at (token.Punctuation punctuation.CloseBracket ∷ rest))
+expr_length (tree.StepElement step.IncrementAfter name at) rest = omega (arith, expr_length at (token.Punctuation punctuation.CloseBracket ∷ token.Punctuation punctuation.PlusPlus ∷ rest))
+expr_length (tree.StepElement step.DecrementAfter name at) rest = omega (arith, expr_length at (token.Punctuation punctuation.CloseBracket ∷ token.Punctuation punctuation.MinusMinus ∷ rest))
+expr_length (tree.Binary o left right) rest = omega (arith, expr_length left (token.Punctuation (binary_punctuation o) ∷ expr_spelled right rest), expr_length right rest)
+expr_length (tree.Conditional condition chosen other) rest =
+    let behind : List TokenKind = token.Punctuation punctuation.Colon ∷ expr_spelled other rest in
+    omega (arith, expr_length condition (token.Punctuation punctuation.Question ∷ expr_spelled chosen behind), expr_length chosen behind, expr_length other rest)
+
+abbrev Triple : Type 0
+Triple = tree.Expr × ℕ × List TokenKind
+
+abbrev pub found : tree.Expr → List TokenKind → Triple
+found e rest = (e, expr_height e, rest)
+
+chain_stops : (depth : ℕ) (below : Below) (r turns : ℕ) (e : tree.Expr) (h : ℕ) (rest : List TokenKind) → operator r rest ≡ None → chain depth below r turns e h rest ≡ Ok (e, h, rest)
+unfolding chain
+chain_stops depth below r zero e h rest none = refl
+chain_stops depth below r (suc turns) e h rest none = rw none refl
+
+-- what is read at a rank is read at each looser one, where it stops
+climb_on : (depth : ℕ) (below : Below) (j k : ℕ) (tokens : List TokenKind) (e : tree.Expr) (rest : List TokenKind) → j ≤ k → Stops k rest
+    → Again depth (expr_height e) (found e rest) (climb depth below j tokens) → Again depth (expr_height e) (found e rest) (climb depth below k tokens)
+unfolding climb
+climb_on depth below j zero tokens e rest le stops again =
+    let same : j ≡ 0 = omega arith in subst (λ (n : ℕ). Again depth (expr_height e) (found e rest) (climb depth below n tokens)) same again
+climb_on depth below j (suc k) tokens e rest le stops again =
+    elim (cases_lt j (suc k)) [
+      | inl lt ↦ Again-then depth (expr_height e) (expr_height e) (found e rest) (found e rest) (climb depth below k tokens) _
+          (climb_on depth below j k tokens e rest (omega arith) (Stops-le k (omega arith) stops) again) (omega arith)
+          (λ low. record { fits = λ h. chain_stops depth below (suc k) (length rest) e (expr_height e) rest (stops.no_operator (suc k) (omega arith)); over = λ h. absurd (omega arith) })
+      | inr ge ↦ let same : j ≡ suc k = omega arith in subst (λ (n : ℕ). Again depth (expr_height e) (found e rest) (climb depth below n tokens)) same again
+    ]
+
+-- read by the climb to a rank
+abbrev IsClimbed : tree.Expr → Type 0
+IsClimbed e = (d k : ℕ) (rest : List TokenKind) → rank e ≤ k → k < loosest → Stops k rest
+    → Again (suc d) (expr_height e) (found e rest) (climb (suc d) (expression d) k (expr_spelled e rest))
+
+-- read from its leftmost operand on, up to where the loop of its rank stands behind it
+record Spine (d k : ℕ) (e : tree.Expr) (rest : List TokenKind) : Type 0 where
+  turns : ℕ
+  enough : length rest ≤ turns
+  fits : expr_height e ≤ suc d → climb (suc d) (expression d) (suc k) (expr_spelled e rest) ≡ chain (suc d) (expression d) (suc k) turns e (expr_height e) rest
+  over : suc d < expr_height e → climb (suc d) (expression d) (suc k) (expr_spelled e rest) ≡ Err Nesting
+
+record Facts (e : tree.Expr) : Type 0 where
+  climbed : IsClimbed e
+  spine : (d k : ℕ) (rest : List TokenKind) → rank e ≤ suc k → suc k < loosest → Stops k rest → Spine d k e rest
+
+-- an expression of a tighter rank is the leftmost operand itself
+leaf_spine : (e : tree.Expr) → IsClimbed e → (d k : ℕ) (rest : List TokenKind) → rank e ≤ k → k < loosest → Stops k rest → Spine d k e rest
+unfolding climb
+leaf_spine e climbed d k rest le lt stops =
+    let again = climbed d k rest le lt stops in
+    record { turns = length rest; enough = omega arith; fits = λ h. rw (again.fits h) refl; over = λ h. rw (again.over h) refl }
+
+-- the facts of an expression with no operator between operands
+operand_facts : (e : tree.Expr) → rank e ≡ 0
+    → ((d : ℕ) (rest : List TokenKind) → Stops 0 rest → Again (suc d) (expr_height e) (found e rest) (operand (suc d) (expression d) (expr_spelled e rest))) → Facts e
+unfolding climb
+operand_facts e is_zero again =
+    let climbed : IsClimbed e = λ d k rest le lt stops. climb_on (suc d) (expression d) 0 k (expr_spelled e rest) e rest (omega arith) stops (again d rest (Stops-le 0 (omega arith) stops)) in
+    record { climbed = climbed; spine = λ d k rest le lt stops. leaf_spine e climbed d k rest (omega arith) (omega arith) stops }
+
+-- read at a depth, by the climb to a rank and as a whole
+record IsReadAgain (e : tree.Expr) : Type 0 where
+  climbs : (depth r : ℕ) (rest : List TokenKind) → rank e ≤ r → r < loosest → Stops r rest → Again depth (expr_height e) (found e rest) (expression depth r (expr_spelled e rest))
+  whole : (depth : ℕ) (rest : List TokenKind) → Stops loosest rest → Again depth (expr_height e) (found e rest) (expression depth loosest (expr_spelled e rest))
+
+no_depth : {X : Type 0} (e : tree.Expr) (x : X) → Again 0 (expr_height e) x (Err Nesting)
+no_depth e x = record { fits = λ h. absurd (omega (arith, height_some e)); over = λ h. refl }
+
+climbs_again : (e : tree.Expr) → Facts e → (depth r : ℕ) (rest : List TokenKind) → rank e ≤ r → r < loosest → Stops r rest
+    → Again depth (expr_height e) (found e rest) (expression depth r (expr_spelled e rest))
+unfolding expression ranked
+climbs_again e facts zero r rest le lt stops = no_depth e (found e rest)
+climbs_again e facts (suc d) r rest le lt stops =
+    let ne : eqb r loosest ≡ false = ne_eqb r loosest (λ same. absurd (omega arith)) in rw ne (facts.climbed d r rest le lt stops)
+
+whole_again : (e : tree.Expr) → rank e < loosest → Facts e → (depth : ℕ) (rest : List TokenKind) → Stops loosest rest
+    → Again depth (expr_height e) (found e rest) (expression depth loosest (expr_spelled e rest))
+unfolding expression ranked conditional
+whole_again e low facts zero rest stops = no_depth e (found e rest)
+whole_again e low facts (suc d) rest stops =
+    Again-then (suc d) (expr_height e) (expr_height e) (found e rest) (found e rest) (climb (suc d) (expression d) loosest_binary (expr_spelled e rest)) _
+    (facts.climbed d loosest_binary rest (omega arith) (omega arith) (Stops-le loosest_binary (omega arith) stops)) (omega arith)
+    (λ fits. rw (stops.no_choice (omega arith)) (record { fits = λ h. refl; over = λ h. absurd (omega arith) }))
+
+read_again : (e : tree.Expr) → rank e < loosest → Facts e → IsReadAgain e
+read_again e low facts = record { climbs = climbs_again e facts; whole = whole_again e low facts }
+
+-- the facts of a binary operation, by those of its sides
+module _ (o : BinaryOperator) (left right : tree.Expr) (left_low : rank left ≤ looseness o) (right_low : rank right < looseness o) (lefts : Facts left) (rights : IsReadAgain right) where
+  abbrev both : tree.Expr
+  both = tree.Binary o left right
+
+  -- the turn of the loop that reads the operator and the right side
+  turn_fits : (d k turns : ℕ) (rest : List TokenKind) → looseness o ≡ suc k → expr_height both ≤ suc d → Stops k rest
+      → chain (suc d) (expression d) (suc k) (suc turns) left (expr_height left) (token.Punctuation (binary_punctuation o) ∷ expr_spelled right rest)
+      ≡ chain (suc d) (expression d) (suc k) turns both (expr_height both) rest
+  unfolding chain
+  turn_fits d k turns rest at low stops =
+      let ahead : operator (suc k) (token.Punctuation (binary_punctuation o) ∷ expr_spelled right rest) ≡ Some o = operator_punctuation (suc k) o (expr_spelled right rest) ∙ subst (λ (n : ℕ). of_rank n (Some o) ≡ Some o) at (of_rank_same o) in
+      let less : suc k - 1 ≡ k = omega arith in
+      let read = (rights.climbs d k rest (omega arith) (omega (arith, looseness_some o)) stops).fits (omega arith) in
+      let up = raised_low (suc d) (max (expr_height left) (expr_height right)) (omega arith) in
+      rw (ahead, less, read, up) refl
+
+  turn_over : (d k turns : ℕ) (rest : List TokenKind) → looseness o ≡ suc k → expr_height left ≤ suc d → suc d < expr_height both → Stops k rest
+      → chain (suc d) (expression d) (suc k) (suc turns) left (expr_height left) (token.Punctuation (binary_punctuation o) ∷ expr_spelled right rest) ≡ Err Nesting
+  unfolding chain
+  turn_over d k turns rest at low high stops =
+      let ahead : operator (suc k) (token.Punctuation (binary_punctuation o) ∷ expr_spelled right rest) ≡ Some o = operator_punctuation (suc k) o (expr_spelled right rest) ∙ subst (λ (n : ℕ). of_rank n (Some o) ≡ Some o) at (of_rank_same o) in
+      let less : suc k - 1 ≡ k = omega arith in
+      let again = rights.climbs d k rest (omega arith) (omega (arith, looseness_some o)) stops in
+      elim (cases_lt d (expr_height right)) [
+        | inl deep ↦ let read = again.over deep in rw (ahead, less, read) refl
+        | inr shallow ↦
+            let read = again.fits shallow in
+            let up = raised_high (suc d) (max (expr_height left) (expr_height right)) (omega arith) in
+            rw (ahead, less, read, up) refl
+      ]
+
+  own_spine : (d k : ℕ) (rest : List TokenKind) → looseness o ≡ suc k → Stops k rest → Spine d k both rest
+  own_spine d k rest at stops =
+      let behind : List TokenKind = token.Punctuation (binary_punctuation o) ∷ expr_spelled right rest in
+      let s = lefts.spine d k behind (omega arith) (omega (arith, looseness_some o)) (Stops-operator k o (expr_spelled right rest) (omega arith)) in
+      let long : length rest + 1 ≤ length (expr_spelled right rest) = omega (arith, expr_length right rest, height_some right) in
+      let enough : 1 + length (expr_spelled right rest) ≤ s.turns = omega (arith, s.enough) in
+      let one : s.turns ≡ suc (s.turns - 1) = omega arith in
+      record {
+        turns = s.turns - 1;
+        enough = omega arith;
+        fits = λ h. s.fits (omega arith) ∙ ap (λ (n : ℕ). chain (suc d) (expression d) (suc k) n left (expr_height left) behind) one ∙ turn_fits d k (s.turns - 1) rest at h stops;
+        over = λ h. elim (cases_lt (suc d) (expr_height left)) [
+          | inl deep ↦ s.over deep
+          | inr low ↦ s.fits low ∙ ap (λ (n : ℕ). chain (suc d) (expression d) (suc k) n left (expr_height left) behind) one ∙ turn_over d k (s.turns - 1) rest at low h stops
+        ];
+      }
+
+  own_climb : (d k : ℕ) (rest : List TokenKind) → looseness o ≡ suc k → Stops (suc k) rest
+      → Again (suc d) (expr_height both) (found both rest) (climb (suc d) (expression d) (suc k) (expr_spelled both rest))
+  own_climb d k rest at stops =
+      let s = own_spine d k rest at (Stops-le k (omega arith) stops) in record {
+        fits = λ h. s.fits h ∙ chain_stops (suc d) (expression d) (suc k) s.turns both (expr_height both) rest (stops.no_operator (suc k) (omega arith));
+        over = λ h. s.over h;
+      }
+
+  binary_facts : Facts both
+  binary_facts =
+      let own : looseness o ≡ suc (looseness o - 1) = omega (arith, looseness_some o) in
+      let climbed : IsClimbed both = λ d k rest le lt stops. climb_on (suc d) (expression d) (suc (looseness o - 1)) k (expr_spelled both rest) both rest (omega arith) stops
+      (own_climb d (looseness o - 1) rest own (Stops-le (suc (looseness o - 1)) (omega arith) stops)) in
+      record {
+        climbed = climbed;
+        spine = λ d k rest le bound stops. elim (cases_lt k (looseness o)) [
+          | inl lt ↦ own_spine d k rest (omega arith) stops
+          | inr ge ↦ leaf_spine both climbed d k rest ge (omega arith) stops
+        ];
+      }
+
+-- ---- the operands
+
+-- an index with its brackets, or nothing
+abbrev pub index_spelled : Option tree.Expr → List TokenKind → List TokenKind
+index_spelled None rest = rest
+index_spelled (Some at) rest = token.Punctuation punctuation.OpenBracket ∷ expr_spelled at (token.Punctuation punctuation.CloseBracket ∷ rest)
+
+-- the height of a variable or of an element
+abbrev pub place_height : Option tree.Expr → ℕ
+place_height None = 1
+place_height (Some at) = expr_height at + 1
+
+abbrev IsIndexAgain : Option tree.Expr → Type 0
+IsIndexAgain None = Unit {0}
+IsIndexAgain (Some at) = IsReadAgain at
+
+closed_by : (e : tree.Expr) → IsReadAgain e → (d : ℕ) (m : Punctuation) (rest : List TokenKind) → Stops loosest (token.Punctuation m ∷ rest)
+    → Again d (expr_height e) (found e rest) (closed (expression d) m (expr_spelled e (token.Punctuation m ∷ rest)))
+unfolding closed
+closed_by e again d m rest stops =
+    Again-then d (expr_height e) (expr_height e) (found e (token.Punctuation m ∷ rest)) (found e rest) _ _ (again.whole d (token.Punctuation m ∷ rest) stops) (omega arith)
+    (λ low. rw (expect_punctuation m rest) (record { fits = λ h. refl; over = λ h. absurd (omega arith) }))
+
+module _ (d : ℕ) (rest : List TokenKind) where
+  -- a node above an expression in brackets
+  enclosed_again : (e : tree.Expr) → IsReadAgain e → (m : Punctuation) → Stops loosest (token.Punctuation m ∷ rest) → {Y : Type 0} (y : Y) (make : tree.Expr → ℕ → List TokenKind → Result Y Fault)
+      → make e (expr_height e + 1) rest ≡ Ok y
+      → Again (suc d) (expr_height e + 1) y (closed (expression d) m (expr_spelled e (token.Punctuation m ∷ rest)) >>= λ value. raised (suc d) value.1 >>= λ height. make value.0 height value.2)
+  enclosed_again e again m stops y make is =
+      Again-inside d (expr_height e) (expr_height e + 1) (found e rest) y _ _ (closed_by e again d m rest stops) (omega arith)
+      (λ low. Again-raised (suc d) (expr_height e) y _ is)
+
+  index_again : (at : Option tree.Expr) → IsIndexAgain at → is_punctuation punctuation.OpenBracket rest ≡ false
+      → Again (suc d) (place_height at) (at, place_height at, rest) (index (suc d) (expression d) (index_spelled at rest))
+  unfolding index is_punctuation
+  index_again None again none = rw none (Again-leaf d _ _ refl)
+  index_again (Some at) again none =
+      enclosed_again at again punctuation.CloseBracket (Stops-square loosest rest) (Some at, expr_height at + 1, rest) (λ value height after. Ok (Some value, height, after)) refl
+
+  group_again : (inner : tree.Expr) → IsReadAgain inner
+      → Again (suc d) (expr_height (tree.Group inner)) (found (tree.Group inner) rest) (group (suc d) (expression d) (expr_spelled inner (token.Punctuation punctuation.CloseParen ∷ rest)))
+  unfolding group
+  group_again inner again =
+      enclosed_again inner again punctuation.CloseParen (Stops-bracket loosest rest) (found (tree.Group inner) rest) (λ value height after. Ok (tree.Group value, height, after)) refl
+
+  peek_again : (at : tree.Expr) → IsReadAgain at
+      → Again (suc d) (expr_height (tree.Peek at)) (found (tree.Peek at) rest) (peek_brackets (suc d) (expression d) (token.Punctuation punctuation.OpenParen ∷ expr_spelled at (token.Punctuation punctuation.CloseParen ∷ rest)))
+  unfolding peek_brackets
+  peek_again at again =
+      rw (expect_punctuation punctuation.OpenParen (expr_spelled at (token.Punctuation punctuation.CloseParen ∷ rest)))
+      (enclosed_again at again punctuation.CloseParen (Stops-bracket loosest rest) (found (tree.Peek at) rest) (λ value height after. Ok (tree.Peek value, height, after)) refl)
+
+  sign_again : (o : UnaryOperator) (inner : tree.Expr) → IsReadAgain inner → rank inner ≡ 0 → Stops 0 rest
+      → Again (suc d) (expr_height (tree.Unary o inner)) (found (tree.Unary o inner) rest) (sign (suc d) (expression d) o (expr_spelled inner rest))
+  unfolding sign
+  sign_again o inner again at stops =
+      Again-inside d (expr_height inner) (expr_height inner + 1) (found inner rest) (found (tree.Unary o inner) rest) _ _
+      (again.climbs d 0 rest (omega arith) (omega arith) stops) (omega arith)
+      (λ low. Again-raised (suc d) (expr_height inner) (found (tree.Unary o inner) rest) _ refl)
+
+  pop_again : pop_brackets (token.Punctuation punctuation.OpenParen ∷ token.Punctuation punctuation.CloseParen ∷ rest) ≡ Ok (found tree.Pop rest)
+  unfolding pop_brackets
+  pop_again = rw (expect_punctuation punctuation.OpenParen (token.Punctuation punctuation.CloseParen ∷ rest), expect_punctuation punctuation.CloseParen rest) refl
+
+module _ (d : ℕ) (named : List ℕ) (at : Option tree.Expr) (again : IsIndexAgain at) (rest : List TokenKind) where
+  name_again : Stops 0 rest → Again (suc d) (place_height at) (read_of named at, place_height at, rest) (after_name (suc d) (expression d) named (index_spelled at rest))
+  unfolding after_name after_place
+  name_again stops =
+      Again-then (suc d) (place_height at) (place_height at) (at, place_height at, rest) (read_of named at, place_height at, rest) _ _ (index_again d rest at again stops.no_index) (omega arith)
+      (λ low. rw stops.no_step (record { fits = λ h. refl; over = λ h. absurd (omega arith) }))
+
+  step_after_again : (o : StepOperator) (behind : List TokenKind) → is_punctuation punctuation.OpenBracket behind ≡ false → step_after behind ≡ Some o → tail behind ≡ rest
+      → Again (suc d) (place_height at + 1) (step_of_place o named at, place_height at + 1, rest) (after_name (suc d) (expression d) named (index_spelled at behind))
+  unfolding after_name after_place
+  step_after_again o behind no_index stands is_rest =
+      Again-then (suc d) (place_height at) (place_height at + 1) (at, place_height at, behind) (step_of_place o named at, place_height at + 1, rest) _ _ (index_again d behind at again no_index) (omega arith)
+      (λ low. rw (stands, is_rest) (Again-raised (suc d) (place_height at) (step_of_place o named at, place_height at + 1, rest) _ refl))
+
+  step_first_again : (o : StepOperator) → Stops 0 rest
+      → Again (suc d) (place_height at + 1) (step_of_place o named at, place_height at + 1, rest) (step_first (suc d) (expression d) o (token.Name named ∷ index_spelled at rest))
+  unfolding step_first name
+  step_first_again o stops =
+      Again-then (suc d) (place_height at) (place_height at + 1) (at, place_height at, rest) (step_of_place o named at, place_height at + 1, rest) _ _ (index_again d rest at again stops.no_index) (omega arith)
+      (λ low. Again-raised (suc d) (place_height at) (step_of_place o named at, place_height at + 1, rest) _ refl)
+
+  step_again : (o : StepOperator) → Stops 0 rest
+      → Again (suc d) (place_height at + 1) (step_of_place o named at, place_height at + 1, rest)
+      (operand (suc d) (expression d) (step_spelled o (λ after. token.Name named ∷ index_spelled at after) rest))
+  unfolding operand marked step_after punctuation_at is_punctuation
+  step_again step.IncrementFirst stops = step_first_again step.IncrementFirst stops
+  step_again step.DecrementFirst stops = step_first_again step.DecrementFirst stops
+  step_again step.IncrementAfter stops = step_after_again step.IncrementAfter (token.Punctuation punctuation.PlusPlus ∷ rest) refl refl refl
+  step_again step.DecrementAfter stops = step_after_again step.DecrementAfter (token.Punctuation punctuation.MinusMinus ∷ rest) refl refl refl
+
+-- the height of a step is two more than the index's
+element_step : (d : ℕ) (named : List ℕ) (at : tree.Expr) → IsReadAgain at → (rest : List TokenKind) (o : StepOperator) → Stops 0 rest
+    → Again (suc d) (expr_height (tree.StepElement o named at)) (found (tree.StepElement o named at) rest)
+    (operand (suc d) (expression d) (expr_spelled (tree.StepElement o named at) rest))
+element_step d named at again rest o stops =
+    let two : expr_height at + 1 + 1 ≡ expr_height at + 2 = omega arith in
+    let read = step_again d named (Some at) again rest o stops in
+    rw two at read
+
+module _ (d : ℕ) (rest : List TokenKind) where
+  unary_again : (o : UnaryOperator) (inner : tree.Expr) → IsReadAgain inner → rank inner ≡ 0 → Stops 0 rest
+      → Again (suc d) (expr_height (tree.Unary o inner)) (found (tree.Unary o inner) rest) (operand (suc d) (expression d) (expr_spelled (tree.Unary o inner) rest))
+  unfolding operand marked
+  unary_again unary.Negate inner again at stops = sign_again d rest unary.Negate inner again at stops
+  unary_again unary.Not inner again at stops = sign_again d rest unary.Not inner again at stops
+  unary_again unary.Complement inner again at stops = sign_again d rest unary.Complement inner again at stops
+
+  truth_again : (value : Bool) → operand (suc d) (expression d) (expr_spelled (tree.Truth value) rest) ≡ Ok (found (tree.Truth value) rest)
+  unfolding operand worded
+  truth_again true = refl
+  truth_again false = refl
+
+-- ---- the choice between two
+
+module _ (condition chosen other : tree.Expr) where
+  abbrev choose : tree.Expr
+  choose = tree.Conditional condition chosen other
+
+  choice_again : IsReadAgain chosen → IsReadAgain other → (d : ℕ) (rest : List TokenKind) → Stops loosest rest
+      → Again (suc d) (expr_height choose) (found choose rest)
+      (choice (suc d) (expression d) condition (expr_height condition) (expr_spelled chosen (token.Punctuation punctuation.Colon ∷ expr_spelled other rest)))
+  unfolding choice
+  choice_again chosens others d rest stops =
+      Again-inside d (expr_height chosen) (expr_height choose) (found chosen (expr_spelled other rest)) (found choose rest) _ _
+      (closed_by chosen chosens d punctuation.Colon (expr_spelled other rest) (Stops-colon loosest (expr_spelled other rest))) (omega arith) (λ low.
+      Again-inside d (expr_height other) (expr_height choose) (found other rest) (found choose rest) _ _ (others.whole d rest stops) (omega arith) (λ both.
+      Again-raised (suc d) (max (expr_height condition) (max (expr_height chosen) (expr_height other))) (found choose rest) _ refl))
+
+  choose_whole : rank condition < loosest → Facts condition → IsReadAgain chosen → IsReadAgain other → (depth : ℕ) (rest : List TokenKind) → Stops loosest rest
+      → Again depth (expr_height choose) (found choose rest) (expression depth loosest (expr_spelled choose rest))
+  unfolding expression ranked conditional is_punctuation
+  choose_whole low facts chosens others zero rest stops = no_depth choose (found choose rest)
+  choose_whole low facts chosens others (suc d) rest stops =
+      let behind = expr_spelled chosen (token.Punctuation punctuation.Colon ∷ expr_spelled other rest) in
+      Again-then (suc d) (expr_height condition) (expr_height choose) (found condition (token.Punctuation punctuation.Question ∷ behind)) (found choose rest) _ _
+      (facts.climbed d loosest_binary (token.Punctuation punctuation.Question ∷ behind) (omega arith) (omega arith) (Stops-question behind)) (omega arith)
+      (λ fits. choice_again chosens others d rest stops)
+
+  choose_facts : Facts choose
+  choose_facts = record { climbed = λ d k rest le lt stops. absurd (omega arith); spine = λ d k rest le lt stops. absurd (omega arith) }
+
+-- ---- every expression
+
+record Known (e : tree.Expr) : Type 0 where
+  facts : Facts e
+  reads : IsReadAgain e
+
+known_facts : (e : tree.Expr) → rank e < loosest → Facts e → Known e
+known_facts e low facts = record { facts = facts; reads = read_again e low facts }
+
+known_operand : (e : tree.Expr) → rank e ≡ 0
+    → ((d : ℕ) (rest : List TokenKind) → Stops 0 rest → Again (suc d) (expr_height e) (found e rest) (operand (suc d) (expression d) (expr_spelled e rest))) → Known e
+known_operand e is_zero again = known_facts e (omega arith) (operand_facts e is_zero again)
+
+known : (e : tree.Expr) → IsExpr e → Known e
+unfolding operand worded marked
+known (tree.Number value) shape = known_operand (tree.Number value) refl (λ d rest stops. Again-leaf d _ _ refl)
+known (tree.Truth value) shape = known_operand (tree.Truth value) refl (λ d rest stops. Again-leaf d _ _ (truth_again d rest value))
+known (tree.Read named) shape = known_operand (tree.Read named) refl (λ d rest stops. name_again d named None tt rest stops)
+known (tree.Element named at) shape =
+    let inside = (known at shape).reads in known_operand (tree.Element named at) refl (λ d rest stops. name_again d named (Some at) inside rest stops)
+known tree.Pop shape = known_operand tree.Pop refl (λ d rest stops. Again-leaf d _ _ (pop_again d rest))
+known (tree.Peek at) shape = let inside = (known at shape).reads in known_operand (tree.Peek at) refl (λ d rest stops. peek_again d rest at inside)
+known (tree.Group inner) shape = let inside = (known inner shape).reads in known_operand (tree.Group inner) refl (λ d rest stops. group_again d rest inner inside)
+known (tree.Unary o inner) shape =
+    let inside = (known inner shape.1).reads in known_operand (tree.Unary o inner) refl (λ d rest stops. unary_again d rest o inner inside shape.0 stops)
+known (tree.Step o named) shape = known_operand (tree.Step o named) refl (λ d rest stops. step_again d named None tt rest o stops)
+known (tree.StepElement o named at) shape =
+    let inside = (known at shape).reads in known_operand (tree.StepElement o named at) refl (λ d rest stops. element_step d named at inside rest o stops)
+known (tree.Binary o left right) shape =
+    known_facts (tree.Binary o left right) (omega (arith, (looseness_some o).1)) (binary_facts o left right shape.0 shape.1 (known left shape.2).facts (known right shape.3).reads)
+known (tree.Conditional condition chosen other) shape = record {
+  facts = choose_facts condition chosen other;
+  reads = record {
+    climbs = λ depth r rest le lt stops. absurd (omega arith);
+    whole = choose_whole condition chosen other shape.0 (known condition shape.1).facts (known chosen shape.2).reads (known other shape.3).reads;
+  };
+}
+
+-- an expression is read again where what follows stops it
+pub expression_again : (e : tree.Expr) → IsExpr e → (depth : ℕ) (rest : List TokenKind) → Stops loosest rest
+    → Again depth (expr_height e) (found e rest) (expression depth loosest (expr_spelled e rest))
+expression_again e shape = (known e shape).reads.whole
+
+pub closed_again : (e : tree.Expr) → IsExpr e → (d : ℕ) (m : Punctuation) (rest : List TokenKind) → Stops loosest (token.Punctuation m ∷ rest)
+    → Again d (expr_height e) (found e rest) (closed (expression d) m (expr_spelled e (token.Punctuation m ∷ rest)))
+closed_again e shape = closed_by e (known e shape).reads

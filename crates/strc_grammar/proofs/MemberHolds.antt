@@ -1,0 +1,272 @@
+-- What is read as members of a filter is that, and these are its tokens: by what holds of the reader of the statements
+-- in them.
+use Rattle.std.proofs.Common.{◌≡◌, ℕ, suc, ◌+◌, ◌-◌, ◌≤◌, max, Bool, true, false, List, [], ◌∷◌, ◌++◌, length, Option, Some, None, Ok, refl, sym, ap, ◌∙◌, arith, inl, inr}
+use Rattle.std.specs.Prelude.{◌||◌}
+use Rattle.std.proofs.lemmas.Bool.{cases_Bool}
+use Rattle.std.specs.List.{AllByRecursion, list_any}
+use denote.Enum.Bare.{sameb, same_false}
+use Rattle.strc_lex.specs.declared.token.TokenKind.{TokenKind}
+use Rattle.strc_lex.specs.declared.token.TokenKind.TheVariants as token
+use Rattle.strc_lex.specs.declared.token.Keyword.{Keyword}
+use Rattle.strc_lex.specs.declared.token.Keyword.TheVariants as keyword
+use Rattle.strc_lex.specs.declared.token.Punctuation.TheVariants as punctuation
+use Rattle.strc_syntax.specs.declared.tree.RateKind.{RateKind}
+use Rattle.strc_syntax.specs.declared.tree.RateKind.TheVariants as rate
+use Rattle.strc_syntax.specs.contracts.tree.RateKind.{the_type as rate_type}
+use Rattle.strc_syntax.specs.Tree as tree
+use Rattle.strc_grammar.specs.Grammar.{declared_spelled, block_spelled, rate_keyword, rate_spelled, each_spelled, member_spelled, loosest, IsExpr, AreStmts, AreRates, IsMember, row_height, rate_height, member_height, highest}
+use Rattle.strc_grammar.specs.Reading.{◌>>=◌, Read, tail, repeated, one_taller, brace, expression, declared}
+use Rattle.strc_grammar.specs.Streams.{Inner, statements, rate_kind, has_rate, rate_of, rate_by, rate_turn, no_rate_by, no_rate, rates, braced, init, phase, fields, member, members}
+use Rattle.strc_grammar.proofs.ExpressionAgain.{expr_length}
+use Rattle.strc_grammar.proofs.SimpleAgain.{declared_length}
+use Rattle.strc_grammar.proofs.StatementAgain.{rates_length, member_length}
+use Rattle.strc_grammar.proofs.Holds.{Holds, Holds-then, Holds-on, Holds-expect, Stopped, repeated_holds, brace_is, each_spelled-push, highest-push, All-push}
+use Rattle.strc_grammar.proofs.ExpressionHolds.{ExprRead, expression_holds}
+use Rattle.strc_grammar.proofs.SimpleHolds.{DeclaredRead, declared_holds}
+use Rattle.strc_grammar.proofs.StatementHolds.{StmtRead, BodyRead, statements_holds}
+
+abbrev count : List TokenKind → ℕ
+count ts = length ts
+
+-- ---- rates
+
+or_false : (p q : Bool) → (p || q) ≡ false → (p ≡ false) × (q ≡ false)
+or_false true q e = absurd cc
+or_false false q e = (refl, e)
+
+has_none : (a : tree.Rate) (x : tree.Rate) (others : List tree.Rate) → has_rate a.kind (x ∷ others) ≡ false → (sameb rate_type x.kind a.kind ≡ false) × (has_rate a.kind others ≡ false)
+unfolding has_rate
+has_none a x others fresh = or_false (sameb rate_type x.kind a.kind) (list_any (λ r. sameb rate_type r.kind a.kind) others) fresh
+
+AreRates-push : (front : List tree.Rate) (a : tree.Rate) → AreRates front → IsExpr a.rate → has_rate a.kind front ≡ false → AreRates (front ++ a ∷ [])
+AreRates-push [] a shape is_expr fresh = (is_expr, tt, tt)
+AreRates-push (x ∷ others) a shape is_expr fresh =
+    let parts = has_none a x others fresh in (
+      shape.0,
+      All-push (λ other. x.kind ≡ other.kind → ⊥) others a shape.1 (same_false rate_type x.kind a.kind parts.0),
+      AreRates-push others a shape.2 is_expr parts.1,
+    )
+
+kind_is : (kind : RateKind) (tokens : List TokenKind) → rate_kind tokens ≡ Some kind → tokens ≡ rate_keyword kind ∷ tail tokens
+unfolding rate_kind
+kind_is kind (token.Keyword keyword.Push ∷ rest) e = let same : rate.Push ≡ kind = cc in ap (λ (k : RateKind). rate_keyword k ∷ rest) same
+kind_is kind (token.Keyword keyword.Pop ∷ rest) e = let same : rate.Pop ≡ kind = cc in ap (λ (k : RateKind). rate_keyword k ∷ rest) same
+kind_is kind (token.Keyword keyword.Peek ∷ rest) e = let same : rate.Peek ≡ kind = cc in ap (λ (k : RateKind). rate_keyword k ∷ rest) same
+kind_is kind _ e = absurd cc
+
+-- the rates so far, the height of the highest, and where the next one begins
+record RatesRead (limit : ℕ) (all : List TokenKind) (so_far : List tree.Rate × ℕ) (rest : List TokenKind) : Type 0 where
+  spelled : all ≡ each_spelled rate_spelled so_far.0 rest
+  shape : AreRates so_far.0
+  high : so_far.1 ≡ highest rate_height so_far.0
+  low : so_far.1 ≤ limit
+
+module _ (limit : ℕ) (all : List TokenKind) (so_far : List tree.Rate × ℕ) (tokens : List TokenKind) (kept : RatesRead limit all so_far tokens) (le : length tokens ≤ length all) where
+  abbrev Next : (List tree.Rate × ℕ) × List TokenKind → Type 0
+  Next x = RatesRead limit all x.0 x.1 × (length x.1 ≤ length all)
+
+  abbrev pushed : RateKind → tree.Expr × ℕ × List TokenKind → Read (List tree.Rate × ℕ)
+  pushed kind x = Ok ((so_far.0 ++ record { kind = kind; rate = x.0 } ∷ [], max so_far.1 x.1), x.2)
+
+  new_rate : (kind : RateKind) → tokens ≡ rate_keyword kind ∷ tail tokens → has_rate kind so_far.0 ≡ false → Holds Next limit all (expression limit loosest (tail tokens) >>= pushed kind)
+  new_rate kind stands fresh =
+      let one : length tokens ≡ suc (length (tail tokens)) = ap count stands in
+      Holds-then (ExprRead limit loosest (tail tokens)) Next limit all (expression limit loosest (tail tokens)) (pushed kind)
+      (Holds-on (ExprRead limit loosest (tail tokens)) (ExprRead limit loosest (tail tokens)) limit limit (tail tokens) all (expression limit loosest (tail tokens)) (omega arith) (omega arith)
+      (expression_holds limit loosest (tail tokens)) (λ x h. h)) (λ x read. (
+        record {
+          spelled = kept.spelled ∙ ap (λ (ts : List TokenKind). each_spelled rate_spelled so_far.0 ts) (stands ∙ ap (λ (ts : List TokenKind). rate_keyword kind ∷ ts) read.spelled)
+              ∙ sym (each_spelled-push rate_spelled so_far.0 (record { kind = kind; rate = x.0 }) x.2);
+          shape = AreRates-push so_far.0 (record { kind = kind; rate = x.0 }) kept.shape read.shape fresh;
+          high = omega (arith, kept.high, read.high, highest-push rate_height so_far.0 (record { kind = kind; rate = x.0 }));
+          low = omega (arith, kept.low, read.low);
+        },
+        omega (arith, ap count read.spelled, expr_length x.0 x.2),
+      ))
+
+  rate_by_holds : (o : Option RateKind) → rate_kind tokens ≡ o → Holds Next limit all (rate_by limit so_far tokens o)
+  unfolding rate_of
+  rate_by_holds None e = le
+  rate_by_holds (Some kind) e =
+      elim (cases_Bool (has_rate kind so_far.0)) [
+        | inl is ↦ rw is le
+        | inr is ↦ rw is (new_rate kind (kind_is kind tokens e) is)
+      ]
+
+  rate_turn_holds : Holds Next limit all (rate_turn limit so_far tokens)
+  unfolding rate_turn
+  rate_turn_holds = rate_by_holds (rate_kind tokens) refl
+
+no_rate_by_is : (o : Option RateKind) (tokens after : List TokenKind) → no_rate_by tokens o ≡ Some after → tokens ≡ after
+no_rate_by_is None tokens after e = cc
+no_rate_by_is (Some kind) tokens after e = absurd cc
+
+no_rate_is : (tokens after : List TokenKind) → no_rate tokens ≡ Some after → tokens ≡ after
+unfolding no_rate
+no_rate_is tokens after e = no_rate_by_is (rate_kind tokens) tokens after e
+
+rates_holds : (limit : ℕ) (tokens : List TokenKind) → Holds (λ x. RatesRead limit tokens x.0 x.1) limit tokens (rates limit tokens)
+unfolding rates
+rates_holds limit tokens =
+    Holds-on (Stopped no_rate (rate_turn limit) (RatesRead limit tokens) limit tokens) (λ x. RatesRead limit tokens x.0 x.1) limit limit tokens tokens
+    (repeated no_rate (rate_turn limit) (length tokens + 1) ([], 0) tokens) (omega arith) (omega arith)
+    (repeated_holds no_rate (rate_turn limit) (RatesRead limit tokens) limit tokens (λ s ts kept le goes. rate_turn_holds limit tokens s ts kept le) (length tokens + 1) ([], 0) tokens
+    (record { spelled = refl; shape = tt; high = refl; low = omega arith }) (omega arith))
+    (λ x stopped. record {
+      spelled = stopped.1.spelled ∙ ap (λ (ts : List TokenKind). each_spelled rate_spelled x.0.0 ts) (no_rate_is stopped.0 x.1 stopped.2);
+      shape = stopped.1.shape;
+      high = stopped.1.high;
+      low = stopped.1.low;
+    })
+
+-- ---- members
+
+-- a block with its braces, its height and what follows it
+pub record BlockRead (limit : ℕ) (tokens : List TokenKind) (x : tree.Stmts × ℕ × List TokenKind) : Type 0 where
+  pub spelled : tokens ≡ block_spelled x.0 x.2
+  pub shape : AreStmts x.0
+  pub high : x.1 ≡ row_height x.0
+  pub low : x.1 ≤ limit
+
+-- a member, the height of its highest part and what follows it
+record MemberRead (limit : ℕ) (tokens : List TokenKind) (x : tree.Member × ℕ × List TokenKind) : Type 0 where
+  spelled : tokens ≡ member_spelled x.0 x.2
+  shape : IsMember x.0
+  high : x.1 ≡ member_height x.0
+  low : x.1 ≤ limit
+
+-- rates and a block, and what follows them
+record PhaseRead (limit : ℕ) (tokens : List TokenKind) (x : (List tree.Rate × tree.Stmts) × ℕ × List TokenKind) : Type 0 where
+  spelled : tokens ≡ each_spelled rate_spelled x.0.0 (block_spelled x.0.1 x.2)
+  rated : AreRates x.0.0
+  shape : AreStmts x.0.1
+  high : x.1 ≡ max (highest rate_height x.0.0) (row_height x.0.1)
+  low : x.1 ≤ limit
+
+-- members up to a brace, the height of the highest and what follows the brace
+pub record MembersRead (limit : ℕ) (tokens : List TokenKind) (x : (List tree.Member × ℕ) × List TokenKind) : Type 0 where
+  pub spelled : tokens ≡ each_spelled member_spelled x.0.0 (token.Punctuation punctuation.CloseBrace ∷ x.1)
+  pub shape : AllByRecursion IsMember x.0.0
+  pub high : x.0.1 ≡ highest member_height x.0.0
+  pub low : x.0.1 ≤ limit
+
+-- the members so far, and where the next one begins
+record RowRead (limit : ℕ) (all : List TokenKind) (so_far : List tree.Member × ℕ) (rest : List TokenKind) : Type 0 where
+  spelled : all ≡ each_spelled member_spelled so_far.0 rest
+  shape : AllByRecursion IsMember so_far.0
+  high : so_far.1 ≡ highest member_height so_far.0
+  low : so_far.1 ≤ limit
+
+fields_holds : (limit : ℕ) (tokens : List TokenKind) → Holds (MemberRead limit tokens) limit tokens (fields limit tokens)
+unfolding fields
+fields_holds limit tokens =
+    Holds-then (DeclaredRead limit tokens) (MemberRead limit tokens) limit tokens (declared limit tokens) _ (declared_holds limit tokens) (λ x read.
+    let le : length x.2 ≤ length tokens = omega (arith, ap count read.spelled, declared_length x.0.0 x.0.1 x.2) in
+    Holds-expect (MemberRead limit tokens) limit tokens punctuation.Semicolon x.2 _ le (λ rest e. record {
+      spelled = read.spelled ∙ ap (λ (ts : List TokenKind). declared_spelled x.0.0 x.0.1 ts) e;
+      shape = (read.typed, read.shape);
+      high = read.high;
+      low = read.low;
+    }))
+
+module _ (d : ℕ) (inner : Inner) (holds : (tokens : List TokenKind) → Holds (StmtRead d tokens) (d - 1) tokens (inner tokens)) where
+  pub braced_holds : (tokens : List TokenKind) → Holds (BlockRead d tokens) (d - 1) tokens (braced inner tokens)
+  unfolding braced
+  braced_holds tokens =
+      Holds-expect (BlockRead d tokens) (d - 1) tokens punctuation.OpenBrace tokens _ (omega arith) (λ opened e.
+      let one : length tokens ≡ suc (length opened) = ap count e in
+      Holds-then (BodyRead d opened) (BlockRead d tokens) (d - 1) tokens (statements inner opened) _
+      (Holds-on (BodyRead d opened) (BodyRead d opened) (d - 1) (d - 1) opened tokens (statements inner opened) (omega arith) (omega arith) (statements_holds d inner holds opened) (λ x h. h))
+      (λ x body. record {
+        spelled = e ∙ ap (λ (ts : List TokenKind). token.Punctuation punctuation.OpenBrace ∷ ts) body.spelled;
+        shape = body.shape;
+        high = body.high;
+        low = body.low;
+      }))
+
+  init_holds : (behind : List TokenKind) → Holds (MemberRead d (token.Keyword keyword.Init ∷ behind)) (d - 1) (token.Keyword keyword.Init ∷ behind) (init inner behind)
+  unfolding init
+  init_holds behind =
+      let all : List TokenKind = token.Keyword keyword.Init ∷ behind in
+      Holds-then (BlockRead d behind) (MemberRead d all) (d - 1) all (braced inner behind) _
+      (Holds-on (BlockRead d behind) (BlockRead d behind) (d - 1) (d - 1) behind all (braced inner behind) (omega arith) (omega arith) (braced_holds behind) (λ x h. h))
+      (λ x block. record {
+        spelled = ap (λ (ts : List TokenKind). token.Keyword keyword.Init ∷ ts) block.spelled;
+        shape = block.shape;
+        high = block.high;
+        low = block.low;
+      })
+
+  phase_holds : (tokens : List TokenKind) → Holds (PhaseRead d tokens) (d - 1) tokens (phase d inner tokens)
+  unfolding phase
+  phase_holds tokens =
+      Holds-then (λ x. RatesRead d tokens x.0 x.1) (PhaseRead d tokens) (d - 1) tokens (rates d tokens) _
+      (Holds-on (λ x. RatesRead d tokens x.0 x.1) (λ x. RatesRead d tokens x.0 x.1) d (d - 1) tokens tokens (rates d tokens) (omega arith) (omega arith) (rates_holds d tokens) (λ x h. h)) (λ found rated.
+      let short : length found.1 ≤ length tokens = omega (arith, ap count rated.spelled, rates_length found.0.0 found.1) in
+      Holds-then (BlockRead d found.1) (PhaseRead d tokens) (d - 1) tokens (braced inner found.1) _
+      (Holds-on (BlockRead d found.1) (BlockRead d found.1) (d - 1) (d - 1) found.1 tokens (braced inner found.1) (omega arith) (omega arith) (braced_holds found.1) (λ x h. h))
+      (λ x block. record {
+        spelled = rated.spelled ∙ ap (λ (ts : List TokenKind). each_spelled rate_spelled found.0.0 ts) block.spelled;
+        rated = rated.shape;
+        shape = block.shape;
+        high = omega (arith, rated.high, block.high);
+        low = omega (arith, rated.low, block.low);
+      }))
+
+  -- a member made of rates and a block, behind its keyword
+  phase_member : (w : Keyword) (make : List tree.Rate → tree.Stmts → tree.Member) (behind : List TokenKind)
+      → ((rated : List tree.Rate) (block : tree.Stmts) (rest : List TokenKind) → token.Keyword w ∷ each_spelled rate_spelled rated (block_spelled block rest) ≡ member_spelled (make rated block) rest)
+      → ((rated : List tree.Rate) (block : tree.Stmts) → AreRates rated → AreStmts block → IsMember (make rated block))
+      → ((rated : List tree.Rate) (block : tree.Stmts) → member_height (make rated block) ≡ max (highest rate_height rated) (row_height block))
+      → Holds (MemberRead d (token.Keyword w ∷ behind)) (d - 1) (token.Keyword w ∷ behind) (phase d inner behind >>= λ read. Ok (make read.0.0 read.0.1, read.1, read.2))
+  phase_member w make behind spells shapes heights =
+      let all : List TokenKind = token.Keyword w ∷ behind in
+      Holds-then (PhaseRead d behind) (MemberRead d all) (d - 1) all (phase d inner behind) _
+      (Holds-on (PhaseRead d behind) (PhaseRead d behind) (d - 1) (d - 1) behind all (phase d inner behind) (omega arith) (omega arith) (phase_holds behind) (λ x h. h))
+      (λ x read. record {
+        spelled = ap (λ (ts : List TokenKind). token.Keyword w ∷ ts) read.spelled ∙ spells x.0.0 x.0.1 x.2;
+        shape = shapes x.0.0 x.0.1 read.rated read.shape;
+        high = read.high ∙ sym (heights x.0.0 x.0.1);
+        low = read.low;
+      })
+
+  fields_member : (tokens : List TokenKind) → Holds (MemberRead d tokens) (d - 1) tokens (fields d tokens)
+  fields_member tokens = Holds-on (MemberRead d tokens) (MemberRead d tokens) d (d - 1) tokens tokens (fields d tokens) (omega arith) (omega arith) (fields_holds d tokens) (λ x h. h)
+
+  member_holds : (tokens : List TokenKind) → Holds (MemberRead d tokens) (d - 1) tokens (member d inner tokens)
+  unfolding member
+  member_holds (token.Keyword keyword.Boolean ∷ rest) = fields_member (token.Keyword keyword.Boolean ∷ rest)
+  member_holds (token.Keyword keyword.Int ∷ rest) = fields_member (token.Keyword keyword.Int ∷ rest)
+  member_holds (token.Keyword keyword.Init ∷ rest) = init_holds rest
+  member_holds (token.Keyword keyword.Prework ∷ rest) = phase_member keyword.Prework tree.Prework rest (λ rated block after. refl) (λ rated block a b. (a, b)) (λ rated block. refl)
+  member_holds (token.Keyword keyword.Work ∷ rest) = phase_member keyword.Work tree.Work rest (λ rated block after. refl) (λ rated block a b. (a, b)) (λ rated block. refl)
+  member_holds _ = omega arith
+
+  turn_holds : (all : List TokenKind) (so_far : List tree.Member × ℕ) (tokens : List TokenKind) → RowRead d all so_far tokens → length tokens ≤ length all
+      → Holds (λ x. RowRead d all x.0 x.1 × (length x.1 ≤ length all)) (d - 1) all (one_taller (member d inner) so_far tokens)
+  unfolding one_taller
+  turn_holds all so_far tokens kept le =
+      Holds-then (MemberRead d tokens) (λ x. RowRead d all x.0 x.1 × (length x.1 ≤ length all)) (d - 1) all (member d inner tokens) _
+      (Holds-on (MemberRead d tokens) (MemberRead d tokens) (d - 1) (d - 1) tokens all (member d inner tokens) le (omega arith) (member_holds tokens) (λ x h. h)) (λ x read. (
+        record {
+          spelled = kept.spelled ∙ ap (λ (ts : List TokenKind). each_spelled member_spelled so_far.0 ts) read.spelled ∙ sym (each_spelled-push member_spelled so_far.0 x.0 x.2);
+          shape = All-push IsMember so_far.0 x.0 kept.shape read.shape;
+          high = omega (arith, kept.high, read.high, highest-push member_height so_far.0 x.0);
+          low = omega (arith, kept.low, read.low);
+        },
+        omega (arith, ap count read.spelled, member_length x.0 read.shape x.2),
+      ))
+
+  pub members_holds : (tokens : List TokenKind) → Holds (MembersRead d tokens) (d - 1) tokens (members d inner tokens)
+  unfolding members
+  members_holds tokens =
+      Holds-on (Stopped brace (one_taller (member d inner)) (RowRead d tokens) (d - 1) tokens) (MembersRead d tokens) (d - 1) (d - 1) tokens tokens
+      (repeated brace (one_taller (member d inner)) (length tokens) ([], 0) tokens) (omega arith) (omega arith)
+      (repeated_holds brace (one_taller (member d inner)) (RowRead d tokens) (d - 1) tokens (λ s ts kept le goes. turn_holds tokens s ts kept le) (length tokens) ([], 0) tokens
+      (record { spelled = refl; shape = tt; high = refl; low = omega arith }) (omega arith))
+      (λ x stopped. record {
+        spelled = stopped.1.spelled ∙ ap (λ (ts : List TokenKind). each_spelled member_spelled x.0.0 ts) (brace_is stopped.0 x.1 stopped.2);
+        shape = stopped.1.shape;
+        high = stopped.1.high;
+        low = stopped.1.low;
+      })

@@ -1,0 +1,275 @@
+-- What is read as a statement of the first kinds is one, and these are its tokens: by what holds of the reader of the
+-- statements in it.
+use Rattle.std.proofs.Common.{◌≡◌, ℕ, suc, ◌+◌, ◌-◌, ◌≤◌, max, Bool, true, false, List, [], ◌∷◌, length, Ok, refl, sym, ap, ◌∙◌, arith, inl, inr}
+use Rattle.std.proofs.lemmas.Bool.{cases_Bool}
+use Rattle.std.specs.List.{AllByRecursion}
+use denote.Enum.Bare.{same_true}
+use Rattle.strc_lex.specs.contracts.token.Keyword.{the_type as keyword_type}
+use Rattle.strc_lex.specs.declared.token.TokenKind.{TokenKind}
+use Rattle.strc_lex.specs.declared.token.TokenKind.TheVariants as token
+use Rattle.strc_lex.specs.declared.token.Keyword.{Keyword}
+use Rattle.strc_lex.specs.declared.token.Keyword.TheVariants as keyword
+use Rattle.strc_lex.specs.declared.token.Punctuation.TheVariants as punctuation
+use Rattle.strc_syntax.specs.Tree as tree
+use Rattle.strc_grammar.specs.Grammar.{part_spelled, bracketed_spelled, heading_spelled, stmt_spelled, row_spelled, each_spelled, highest, IsExpr, IsFirst, takes_else, IsStmt, AreStmts, expr_height, stmt_height, row_height}
+use Rattle.strc_grammar.specs.Reading.{◌>>=◌, tail, is_keyword, repeated, brace, one_taller, bracketed, argument, ended, for_heading}
+use Rattle.strc_syntax.specs.Tree.{row}
+use Rattle.strc_grammar.specs.Streams.{Inner, statements, block, other_branch, after_branch, branch, while_loop, for_loop}
+use Rattle.strc_grammar.proofs.ExpressionAgain.{expr_length}
+use Rattle.strc_grammar.proofs.SimpleAgain.{heading_length}
+use Rattle.strc_grammar.proofs.StatementAgain.{NoElse, stmt_length}
+use Rattle.strc_grammar.proofs.Holds.{Holds, Holds-then, Holds-on, Holds-raised, Stopped, repeated_holds, brace_is, each_spelled-push, highest-push, All-push}
+use Rattle.strc_grammar.proofs.SimpleHolds.{EndedRead, ended_holds, HeadingRead, heading_holds, BracketedRead, bracketed_holds, ArgumentRead, argument_holds}
+
+abbrev count : List TokenKind → ℕ
+count ts = length ts
+
+pub keyword_is : (wanted : Keyword) (tokens : List TokenKind) → is_keyword wanted tokens ≡ true → tokens ≡ token.Keyword wanted ∷ tail tokens
+unfolding is_keyword
+keyword_is wanted [] e = absurd cc
+keyword_is wanted (token.Keyword found ∷ rest) e = ap (λ (w : Keyword). token.Keyword w ∷ rest) (same_true keyword_type tt found wanted e)
+keyword_is wanted (token.Name x ∷ rest) e = absurd cc
+keyword_is wanted (token.Number n ∷ rest) e = absurd cc
+keyword_is wanted (token.StringLiteral t ∷ rest) e = absurd cc
+keyword_is wanted (token.Punctuation m ∷ rest) e = absurd cc
+
+-- A statement, its height and what follows it, read from these tokens. An `else` that it takes doesn't follow it.
+pub record StmtRead (depth : ℕ) (tokens : List TokenKind) (x : tree.Stmt × ℕ × List TokenKind) : Type 0 where
+  pub spelled : tokens ≡ stmt_spelled x.0 x.2
+  pub shape : IsStmt x.0
+  pub high : x.1 ≡ stmt_height x.0
+  pub low : x.1 ≤ depth
+  pub free : takes_else x.0 ≡ true → NoElse x.2
+
+pub StmtRead-long : {depth : ℕ} {tokens : List TokenKind} {x : tree.Stmt × ℕ × List TokenKind} → StmtRead depth tokens x → x.1 + length x.2 ≤ length tokens
+StmtRead-long {depth} {tokens} {x} read = omega (arith, stmt_length x.0 read.shape x.2, read.high, ap count read.spelled)
+
+-- ---- statements with a semicolon
+
+first_spelled : (s : tree.Stmt) → IsFirst s → (rest : List TokenKind) → part_spelled s (token.Punctuation punctuation.Semicolon ∷ rest) ≡ stmt_spelled s rest
+first_spelled tree.Empty shape rest = refl
+first_spelled (tree.Declare kind vs) shape rest = refl
+first_spelled (tree.Evaluate e) shape rest = refl
+first_spelled (tree.Assign x o e) shape rest = refl
+first_spelled (tree.AssignElement x at o e) shape rest = refl
+first_spelled _ shape rest = absurd shape
+
+first_shape : (s : tree.Stmt) → IsFirst s → IsStmt s
+first_shape tree.Empty shape = shape
+first_shape (tree.Declare kind vs) shape = shape
+first_shape (tree.Evaluate e) shape = shape
+first_shape (tree.Assign x o e) shape = shape
+first_shape (tree.AssignElement x at o e) shape = shape
+first_shape _ shape = absurd shape
+
+first_takes : (s : tree.Stmt) → IsFirst s → takes_else s ≡ false
+first_takes tree.Empty shape = refl
+first_takes (tree.Declare kind vs) shape = refl
+first_takes (tree.Evaluate e) shape = refl
+first_takes (tree.Assign x o e) shape = refl
+first_takes (tree.AssignElement x at o e) shape = refl
+first_takes _ shape = absurd shape
+
+not_both : {P : Type 0} (b : Bool) → b ≡ false → b ≡ true → P
+not_both b is_false is_true = absurd cc
+
+module _ (d : ℕ) where
+  pub ended_stmt : (tokens : List TokenKind) → Holds (StmtRead (suc d) tokens) d tokens (ended (suc d) tokens)
+  ended_stmt tokens =
+      Holds-on (EndedRead IsFirst punctuation.Semicolon (suc d) tokens) (StmtRead (suc d) tokens) d d tokens tokens (ended (suc d) tokens) (omega arith) (omega arith) (ended_holds d tokens)
+      (λ x read. record {
+        spelled = read.spelled ∙ first_spelled x.0 read.shape x.2;
+        shape = first_shape x.0 read.shape;
+        high = read.high;
+        low = read.low;
+        free = λ takes. not_both (takes_else x.0) (first_takes x.0 read.shape) takes;
+      })
+
+  pub argument_stmt : (w : Keyword) (make : tree.Expr → tree.Stmt) (behind : List TokenKind) → ((e : tree.Expr) → stmt_height (make e) ≡ expr_height e + 1) → ((e : tree.Expr) → IsExpr e → IsStmt (make e))
+      → ((e : tree.Expr) (rest : List TokenKind) → token.Keyword w ∷ bracketed_spelled e (token.Punctuation punctuation.Semicolon ∷ rest) ≡ stmt_spelled (make e) rest) → ((e : tree.Expr) → takes_else (make e) ≡ false)
+      → Holds (StmtRead (suc d) (token.Keyword w ∷ behind)) d (token.Keyword w ∷ behind) (argument (suc d) behind >>= λ x. Ok (make x.0, x.1, x.2))
+  argument_stmt w make behind heights shapes spells takes_none =
+      let all : List TokenKind = token.Keyword w ∷ behind in
+      Holds-then (ArgumentRead (suc d) behind) (StmtRead (suc d) all) d all (argument (suc d) behind) _
+      (Holds-on (ArgumentRead (suc d) behind) (ArgumentRead (suc d) behind) d d behind all (argument (suc d) behind) (omega arith) (omega arith) (argument_holds d behind) (λ x h. h))
+      (λ x read. record {
+        spelled = ap (λ (ts : List TokenKind). token.Keyword w ∷ ts) read.spelled ∙ spells x.0 x.2;
+        shape = shapes x.0 read.shape;
+        high = read.high ∙ sym (heights x.0);
+        low = read.low;
+        free = λ takes. not_both (takes_else (make x.0)) (takes_none x.0) takes;
+      })
+
+-- ---- statements in a row
+
+-- the statements of a block, the height of the highest and what follows the brace
+pub record BodyRead (depth : ℕ) (tokens : List TokenKind) (x : (List tree.Stmt × ℕ) × List TokenKind) : Type 0 where
+  pub spelled : tokens ≡ row_spelled (row x.0.0) (token.Punctuation punctuation.CloseBrace ∷ x.1)
+  pub shape : AreStmts (row x.0.0)
+  pub high : x.0.1 ≡ row_height (row x.0.0)
+  pub low : x.0.1 ≤ depth
+
+-- the statements so far, and where the next one begins
+record RowRead (depth : ℕ) (all : List TokenKind) (so_far : List tree.Stmt × ℕ) (rest : List TokenKind) : Type 0 where
+  spelled : all ≡ each_spelled stmt_spelled so_far.0 rest
+  shape : AllByRecursion IsStmt so_far.0
+  high : so_far.1 ≡ highest stmt_height so_far.0
+  low : so_far.1 ≤ depth
+
+spelled_row : (items : List tree.Stmt) (rest : List TokenKind) → each_spelled stmt_spelled items rest ≡ row_spelled (row items) rest
+spelled_row [] rest = refl
+spelled_row (s ∷ others) rest = ap (stmt_spelled s) (spelled_row others rest)
+
+shape_row : (items : List tree.Stmt) → AllByRecursion IsStmt items → AreStmts (row items)
+shape_row [] all = tt
+shape_row (s ∷ others) all = (all.0, shape_row others all.1)
+
+high_row : (items : List tree.Stmt) → highest stmt_height items ≡ row_height (row items)
+high_row [] = refl
+high_row (s ∷ others) = ap (λ (n : ℕ). max (stmt_height s) n) (high_row others)
+
+module _ (d : ℕ) (inner : Inner) (holds : (tokens : List TokenKind) → Holds (StmtRead d tokens) (d - 1) tokens (inner tokens)) where
+  turn_holds : (all : List TokenKind) (so_far : List tree.Stmt × ℕ) (tokens : List TokenKind) → RowRead d all so_far tokens → length tokens ≤ length all
+      → Holds (λ x. RowRead d all x.0 x.1 × (length x.1 ≤ length all)) (d - 1) all (one_taller inner so_far tokens)
+  unfolding one_taller
+  turn_holds all so_far tokens kept le =
+      Holds-then (StmtRead d tokens) (λ x. RowRead d all x.0 x.1 × (length x.1 ≤ length all)) (d - 1) all (inner tokens) _
+      (Holds-on (StmtRead d tokens) (StmtRead d tokens) (d - 1) (d - 1) tokens all (inner tokens) le (omega arith) (holds tokens) (λ x h. h)) (λ x read. (
+        record {
+          spelled = kept.spelled ∙ ap (λ (ts : List TokenKind). each_spelled stmt_spelled so_far.0 ts) read.spelled ∙ sym (each_spelled-push stmt_spelled so_far.0 x.0 x.2);
+          shape = All-push IsStmt so_far.0 x.0 kept.shape read.shape;
+          high = omega (arith, kept.high, read.high, highest-push stmt_height so_far.0 x.0);
+          low = omega (arith, kept.low, read.low);
+        },
+        omega (arith, StmtRead-long read),
+      ))
+
+  pub statements_holds : (tokens : List TokenKind) → Holds (BodyRead d tokens) (d - 1) tokens (statements inner tokens)
+  unfolding statements
+  statements_holds tokens =
+      Holds-on (Stopped brace (one_taller inner) (RowRead d tokens) (d - 1) tokens) (BodyRead d tokens) (d - 1) (d - 1) tokens tokens (repeated brace (one_taller inner) (length tokens) ([], 0) tokens)
+      (omega arith) (omega arith)
+      (repeated_holds brace (one_taller inner) (RowRead d tokens) (d - 1) tokens (λ s ts kept le goes. turn_holds tokens s ts kept le) (length tokens) ([], 0) tokens
+      (record { spelled = refl; shape = tt; high = refl; low = omega arith }) (omega arith))
+      (λ x stopped. record {
+        spelled = stopped.1.spelled ∙ ap (λ (ts : List TokenKind). each_spelled stmt_spelled x.0.0 ts) (brace_is stopped.0 x.1 stopped.2) ∙ spelled_row x.0.0 (token.Punctuation punctuation.CloseBrace ∷ x.1);
+        shape = shape_row x.0.0 stopped.1.shape;
+        high = stopped.1.high ∙ high_row x.0.0;
+        low = stopped.1.low;
+      })
+
+  pub block_holds : (behind : List TokenKind) → Holds (StmtRead (suc d) (token.Punctuation punctuation.OpenBrace ∷ behind)) d (token.Punctuation punctuation.OpenBrace ∷ behind) (block (suc d) inner behind)
+  unfolding block
+  block_holds behind =
+      let all : List TokenKind = token.Punctuation punctuation.OpenBrace ∷ behind in
+      Holds-then (BodyRead d behind) (StmtRead (suc d) all) d all (statements inner behind) _
+      (Holds-on (BodyRead d behind) (BodyRead d behind) (d - 1) d behind all (statements inner behind) (omega arith) (omega arith) (statements_holds behind) (λ x h. h)) (λ x body.
+      Holds-raised (StmtRead (suc d) all) d all (suc d) x.0.1 _
+      (λ lt. record {
+        spelled = ap (λ (ts : List TokenKind). token.Punctuation punctuation.OpenBrace ∷ ts) body.spelled;
+        shape = body.shape;
+        high = ap (λ (n : ℕ). n + 1) body.high;
+        low = omega arith;
+        free = λ takes. absurd cc;
+      })
+      (λ le. absurd (omega (arith, body.low))))
+
+  -- ---- branches and loops
+
+  -- a statement behind a token or more
+  further : (all tokens : List TokenKind) → length tokens + 1 ≤ length all → Holds (StmtRead d tokens) d all (inner tokens)
+  further all tokens le = Holds-on (StmtRead d tokens) (StmtRead d tokens) (d - 1) d tokens all (inner tokens) (omega arith) (omega arith) (holds tokens) (λ x h. h)
+
+  -- a condition behind its keyword
+  tested : (w : Keyword) (behind : List TokenKind) → Holds (BracketedRead d behind) d (token.Keyword w ∷ behind) (bracketed (suc d) behind)
+  tested w behind =
+      Holds-on (BracketedRead d behind) (BracketedRead d behind) d d behind (token.Keyword w ∷ behind) (bracketed (suc d) behind) (omega arith) (omega arith) (bracketed_holds d behind) (λ x h. h)
+
+  bracketed_long : {behind : List TokenKind} {x : tree.Expr × ℕ × List TokenKind} → BracketedRead d behind x → x.1 + length x.2 + 2 ≤ length behind
+  bracketed_long {behind} {x} read = omega (arith, read.high, ap count read.spelled, expr_length x.0 (token.Punctuation punctuation.CloseParen ∷ x.2))
+
+  other_holds : (all tokens : List TokenKind) (c : tree.Expr) (a : tree.Stmt) (h : ℕ) → all ≡ token.Keyword keyword.If ∷ bracketed_spelled c (stmt_spelled a (token.Keyword keyword.Else ∷ tokens)) → IsExpr c → IsStmt a
+      → takes_else a ≡ false → h ≡ max (expr_height c) (stmt_height a) → h ≤ d → length tokens + 1 ≤ length all → Holds (StmtRead (suc d) all) d all (other_branch (suc d) inner c a h tokens)
+  unfolding other_branch
+  other_holds all tokens c a h spelled is_expr is_stmt closed high low long =
+      Holds-then (StmtRead d tokens) (StmtRead (suc d) all) d all (inner tokens) _ (further all tokens long) (λ x other.
+      Holds-raised (StmtRead (suc d) all) d all (suc d) (max h x.1) _
+      (λ lt. record {
+        spelled = spelled ∙ ap (λ (ts : List TokenKind). token.Keyword keyword.If ∷ bracketed_spelled c (stmt_spelled a (token.Keyword keyword.Else ∷ ts))) other.spelled;
+        shape = (is_expr, closed, is_stmt, other.shape);
+        high = omega (arith, high, other.high);
+        low = omega arith;
+        free = other.free;
+      }) (λ le. absurd (omega (arith, other.low))))
+
+  not_taking : (a : tree.Stmt) (rest : List TokenKind) → (takes_else a ≡ true → NoElse rest) → is_keyword keyword.Else rest ≡ true → takes_else a ≡ false
+  not_taking a rest free is =
+      elim (cases_Bool (takes_else a)) [
+        | inl takes ↦ not_both (is_keyword keyword.Else rest) (free takes) is
+        | inr none ↦ none
+      ]
+
+  pub branch_holds : (behind : List TokenKind) → Holds (StmtRead (suc d) (token.Keyword keyword.If ∷ behind)) d (token.Keyword keyword.If ∷ behind) (branch (suc d) inner behind)
+  unfolding branch after_branch
+  branch_holds behind =
+      let all : List TokenKind = token.Keyword keyword.If ∷ behind in
+      let Q : tree.Stmt × ℕ × List TokenKind → Type 0 = StmtRead (suc d) all in
+      Holds-then (BracketedRead d behind) Q d all (bracketed (suc d) behind) _ (tested keyword.If behind) (λ c condition.
+      let one : c.1 + length c.2 + 2 ≤ length behind = bracketed_long condition in
+      Holds-then (StmtRead d c.2) Q d all (inner c.2) _ (further all c.2 (omega arith)) (λ a chosen.
+      let two : a.1 + length a.2 ≤ length c.2 = StmtRead-long chosen in
+      let spelled : all ≡ token.Keyword keyword.If ∷ bracketed_spelled c.0 (stmt_spelled a.0 a.2) =
+      ap (λ (ts : List TokenKind). token.Keyword keyword.If ∷ ts) (condition.spelled ∙ ap (λ (ts : List TokenKind). bracketed_spelled c.0 ts) chosen.spelled) in
+      elim (cases_Bool (is_keyword keyword.Else a.2)) [
+        | inl is ↦
+            let stands = keyword_is keyword.Else a.2 is in
+            let less : length a.2 ≡ suc (length (tail a.2)) = ap count stands in
+            let read = other_holds all (tail a.2) c.0 a.0 (max c.1 a.1) (spelled ∙ ap (λ (ts : List TokenKind). token.Keyword keyword.If ∷ bracketed_spelled c.0 (stmt_spelled a.0 ts)) stands) condition.shape chosen.shape
+            (not_taking a.0 a.2 chosen.free is) (omega (arith, condition.high, chosen.high)) (omega (arith, condition.low, chosen.low)) (omega arith) in
+            rw is read
+        | inr is ↦
+            let read = Holds-raised Q d all (suc d) (max c.1 a.1) (λ high. Ok (tree.If c.0 a.0, high, a.2))
+            (λ lt. record {
+              spelled = spelled;
+              shape = (condition.shape, chosen.shape);
+              high = omega (arith, condition.high, chosen.high);
+              low = omega arith;
+              free = λ takes. is;
+            }) (λ le. absurd (omega (arith, condition.low, chosen.low))) in
+            rw is read
+      ]))
+
+  pub while_holds : (behind : List TokenKind) → Holds (StmtRead (suc d) (token.Keyword keyword.While ∷ behind)) d (token.Keyword keyword.While ∷ behind) (while_loop (suc d) inner behind)
+  unfolding while_loop
+  while_holds behind =
+      let all : List TokenKind = token.Keyword keyword.While ∷ behind in
+      let Q : tree.Stmt × ℕ × List TokenKind → Type 0 = StmtRead (suc d) all in
+      Holds-then (BracketedRead d behind) Q d all (bracketed (suc d) behind) _ (tested keyword.While behind) (λ c condition.
+      let one : c.1 + length c.2 + 2 ≤ length behind = bracketed_long condition in
+      Holds-then (StmtRead d c.2) Q d all (inner c.2) _ (further all c.2 (omega arith)) (λ x body.
+      Holds-raised Q d all (suc d) (max c.1 x.1) _
+      (λ lt. record {
+        spelled = ap (λ (ts : List TokenKind). token.Keyword keyword.While ∷ ts) (condition.spelled ∙ ap (λ (ts : List TokenKind). bracketed_spelled c.0 ts) body.spelled);
+        shape = (condition.shape, body.shape);
+        high = omega (arith, condition.high, body.high);
+        low = omega arith;
+        free = body.free;
+      }) (λ le. absurd (omega (arith, condition.low, body.low)))))
+
+  pub for_holds : (behind : List TokenKind) → Holds (StmtRead (suc d) (token.Keyword keyword.For ∷ behind)) d (token.Keyword keyword.For ∷ behind) (for_loop (suc d) inner behind)
+  unfolding for_loop
+  for_holds behind =
+      let all : List TokenKind = token.Keyword keyword.For ∷ behind in
+      let Q : tree.Stmt × ℕ × List TokenKind → Type 0 = StmtRead (suc d) all in
+      Holds-then (HeadingRead (suc d) behind) Q d all (for_heading (suc d) behind) _
+      (Holds-on (HeadingRead (suc d) behind) (HeadingRead (suc d) behind) d d behind all (for_heading (suc d) behind) (omega arith) (omega arith) (heading_holds d behind) (λ x h. h)) (λ h heading.
+      let one : h.1 + length h.2 + 2 ≤ length behind = omega (arith, heading.high, ap count heading.spelled, heading_length h.0.0 h.0.1 h.0.2 heading.begun heading.stepped h.2) in
+      Holds-then (StmtRead d h.2) Q d all (inner h.2) _ (further all h.2 (omega arith)) (λ x body.
+      Holds-raised Q d all (suc d) (max h.1 x.1) _
+      (λ lt. record {
+        spelled = ap (λ (ts : List TokenKind). token.Keyword keyword.For ∷ ts) (heading.spelled ∙ ap (λ (ts : List TokenKind). heading_spelled h.0.0 h.0.1 h.0.2 ts) body.spelled);
+        shape = (heading.begun, heading.tested, heading.stepped, body.shape);
+        high = omega (arith, heading.high, body.high);
+        low = omega arith;
+        free = body.free;
+      }) (λ le. omega (arith, body.low))))

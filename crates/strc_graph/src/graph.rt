@@ -1,0 +1,220 @@
+// A flat graph: nodes, and the channels between their ports.
+
+ghost use Rattle.std.specs.Prelude.{◌≡◌};
+ghost use Rattle.strc_graph.specs.Graphs as graphs;
+ghost use Rattle.strc_graph.specs.NodeView.{node_view};
+
+use crate::instance::Instance;
+use std::marker::Model;
+use strc_syntax::tree::ItemType;
+
+/// A node: what fires.
+#[derive(Drop)]
+pub enum Node {
+    Filter(Instance),
+    /// What comes in goes out, item by item.
+    Identity,
+    /// It gives the program's input.
+    FileReader,
+    /// It writes each item.
+    FileWriter,
+    Splitter(Splitter),
+    /// It takes so many items of each port in turn.
+    Joiner(Vec<u32>),
+    /// It deals a round's windows of a filter to the copies.
+    Scatter(Fission),
+    /// One of several copies of a filter.
+    Copy(Instance, Fission),
+    /// It puts the copies' items in order.
+    Gather(Fission),
+}
+
+/// How a splitter deals its items.
+#[derive(Drop)]
+pub enum Splitter {
+    /// Each item to each port that carries items; whether a port does.
+    Duplicate(Vec<bool>),
+    /// So many items to each port in turn.
+    Roundrobin(Vec<u32>),
+}
+
+/// How a filter's firings in a round are dealt to copies of it.
+#[derive(Clone, Copy)]
+pub struct Fission {
+    /// How many copies there are.
+    pub ways: u32,
+    /// How often each fires in a round.
+    pub firings: u32,
+    /// How many items the filter pops.
+    pub pop: u32,
+    /// How many items it looks at.
+    pub window: u32,
+    /// How many items it pushes.
+    pub push: u32,
+}
+
+/// An input or an output port of a node.
+#[derive(Clone, Copy)]
+pub struct Port {
+    pub node: u32,
+    pub port: u32,
+}
+
+/// What leaves an output port comes to an input port, behind the items that are enqueued on it
+/// before the first firing.
+#[derive(Drop)]
+pub struct Channel {
+    pub source: Port,
+    pub target: Port,
+    pub enqueued: Vec<i32>,
+}
+
+/// A flat graph.
+#[derive(Drop)]
+pub struct Graph {
+    nodes: Vec<Node>,
+    channels: Vec<Channel>,
+    outer_loops: Vec<Option<u32>>,
+}
+
+impl Model for Graph {
+    ghost use Rattle.std.specs.Coded.{codes};
+    ghost use Rattle.strc_graph.specs.Graphs.{IsGraph};
+    ghost use Rattle.strc_graph.specs.NodeView.{GraphParts, parts_of, graph_view};
+    ghost use Rattle.strc_graph.specs.contracts.graph.Node as node;
+    ghost use Rattle.strc_graph.specs.contracts.graph.Channel as channel;
+
+    ghost Value = { GraphParts };
+
+    ghost coded = { Prim.hlevel (codes, node.the_row.coded, channel.the_row.coded) };
+
+    ghost view = { λ g. parts_of g.nodes.items g.channels.items g.outer_loops.items };
+
+    ghost invariant = { λ g. IsGraph (graph_view
+        (parts_of g.nodes.items g.channels.items g.outer_loops.items)) };
+}
+
+impl Graph {
+    ghost use Rattle.std.specs.Prelude.{◌<◌, length, Some, slice_get};
+    ghost use Rattle.strc_graph.specs.Graphs.{IsGraph};
+    ghost use Rattle.strc_graph.specs.NodeView.{parts_of, graph_view, node_names};
+
+    /// The graph of these nodes and channels, and for each node the joiner of the outermost
+    /// feedback loop that it stands in.
+    pub fn new(nodes: Vec<Node>, channels: Vec<Channel>, outer_loops: Vec<Option<u32>>) -> Graph
+        requires { IsGraph (graph_view (parts_of nodes.items channels.items outer_loops.items)) }
+        ensures { result ≡ parts_of nodes.items channels.items outer_loops.items }
+    {
+        Graph {
+            nodes,
+            channels,
+            outer_loops,
+        }
+    }
+
+    /// The nodes, in order of their numbers.
+    pub fn nodes(&self) -> &[Node]
+        ensures { result.now ≡ self.now.nodes }
+    {
+        self.nodes.as_slice()
+    }
+
+    /// The nodes, taken out of the graph.
+    pub fn into_nodes(self) -> Vec<Node>
+        ensures { result.items ≡ self.nodes }
+    {
+        let Graph {
+            nodes,
+            channels: _,
+            outer_loops: _,
+        } = self;
+        nodes
+    }
+
+    /// The channels.
+    pub fn channels(&self) -> &[Channel]
+        ensures channels { result.now ≡ self.now.channels }
+        ensures ports { IsGraph (graph_view self.now) }
+    {
+        self.channels.as_slice()
+    }
+
+    /// The name of a node: the filter's, or what kind of node it is.
+    pub fn name(&self, node: usize) -> &[u8]
+        requires { node < length self.now.nodes }
+        ensures { slice_get (node_names self.now) node ≡ Some result.now }
+    {
+        name_of(&self.nodes[node])
+    }
+
+    /// The joiner of the outermost feedback loop that a node stands in.
+    pub fn outer_loop(&self, node: usize) -> Option<u32>
+        requires { node < length self.now.nodes }
+        ensures { slice_get self.now.outer_loops node ≡ Some result }
+    {
+        self.outer_loops[node]
+    }
+}
+
+/// A node's name.
+fn name_of(node: &Node) -> &[u8]
+    ensures { result.now ≡ graphs.node_name (node_view node.now) }
+{
+    match node {
+        Node::Filter(instance) | Node::Copy(instance, _) => instance_name(instance),
+        Node::Identity => b"Identity",
+        Node::FileReader => b"FileReader",
+        Node::FileWriter => b"FileWriter",
+        Node::Splitter(_) => b"split",
+        Node::Joiner(_) => b"join",
+        Node::Scatter(_) => b"scatter",
+        Node::Gather(_) => b"gather",
+    }
+}
+
+/// The name of a filter.
+fn instance_name(instance: &Instance) -> &[u8]
+    ensures { result.now ≡ graphs.filter_name instance.now.name }
+{
+    match &instance.name {
+        Some(name) => name.as_bytes(),
+        None => b"filter",
+    }
+}
+
+/// How many input ports a node has.
+pub fn input_ports(node: &Node) -> usize
+    ensures { result ≡ graphs.input_ports (node_view node.now) }
+{
+    match node {
+        Node::Filter(instance) | Node::Copy(instance, _) => ports_of(instance.code.tree().input),
+        Node::FileReader => 0,
+        Node::Identity | Node::FileWriter | Node::Splitter(_) | Node::Scatter(_) => 1,
+        Node::Joiner(weights) => weights.len(),
+        Node::Gather(fission) => fission.ways as usize,
+    }
+}
+
+/// How many output ports a node has.
+pub fn output_ports(node: &Node) -> usize
+    ensures { result ≡ graphs.output_ports (node_view node.now) }
+{
+    match node {
+        Node::Filter(instance) | Node::Copy(instance, _) => ports_of(instance.code.tree().output),
+        Node::FileWriter => 0,
+        Node::Identity | Node::FileReader | Node::Joiner(_) | Node::Gather(_) => 1,
+        Node::Splitter(Splitter::Duplicate(carried)) => carried.len(),
+        Node::Splitter(Splitter::Roundrobin(weights)) => weights.len(),
+        Node::Scatter(fission) => fission.ways as usize,
+    }
+}
+
+/// How many ports a side of a filter has: one where it has items.
+fn ports_of(side: ItemType) -> usize
+    ensures { result ≡ graphs.ports_of side }
+{
+    match side {
+        ItemType::Int => 1,
+        ItemType::Void => 0,
+    }
+}

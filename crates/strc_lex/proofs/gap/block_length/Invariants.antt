@@ -1,7 +1,0 @@
-use Rattle.std.proofs.Common.{ℕ, ◌<◌, ◌≤◌, codes}
-use Rattle.strc_lex.specs.Gaps.{Reads}
-use Rattle.strc_lex.proofs.gap.block_length.Given as goal
-
--- no `*/` stands at the places that were passed
-abbrev pub invariant-loop-close : goal.invariant-loop-close
-invariant-loop-close l = (k : ℕ) → 2 ≤ k → k < l.close → Reads l.text k (codes "*/") → ⊥

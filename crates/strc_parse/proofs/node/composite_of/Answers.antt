@@ -1,5 +1,0 @@
-use Rattle.strc_parse.proofs.Views.{child_view_composite}
-use Rattle.strc_parse.proofs.node.composite_of.Goals as goal
-
-pub returns : goal.returns
-returns c = child_view_composite c.args.types c.args.kind c.args.block

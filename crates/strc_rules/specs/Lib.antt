@@ -1,0 +1,3 @@
+pub mod Seen
+pub mod Readers
+pub mod Held

@@ -1,0 +1,227 @@
+// Expressions, by climbing over the precedences of their operators. The rules of a depth are made
+// of the reader of the depth below, which they take as a value, so that each is proved by itself.
+
+ghost use Rattle.std.specs.Prelude.{◌≡◌, ◌+◌, ◌-◌, ◌<◌, length};
+ghost use Rattle.strc_syntax.specs.View.{expr_view};
+ghost use Rattle.strc_grammar.specs.Grammar.{kinds};
+ghost use Rattle.strc_rules.specs.Seen.{parsed};
+ghost use Rattle.strc_grammar.specs.Reading as spec;
+ghost use Rattle.strc_grammar.specs.Reading.{Gives};
+ghost use Rattle.strc_rules.specs.Readers.{ReadsExpressions};
+
+use crate::held::{before, beside, raise};
+use crate::lookahead::{is_punctuation, tail};
+use crate::operator::operator_at;
+use std::alloc::Global;
+use strc_grammar::{Fault, ReadError};
+use strc_lex::token::{Punctuation, Token};
+use strc_syntax::node::{binary_of, conditional_of};
+use strc_syntax::tree::Expr;
+
+/// The lowest precedence, which `c ? a : b` has.
+pub const LOWEST_PRECEDENCE: usize = 11;
+
+/// The lowest precedence of a binary operator.
+const LOWEST_BINARY_PRECEDENCE: usize = 10;
+
+/// The rules of expressions of at most this height, by a reader of those of one less.
+#[derive(Clone, Copy)]
+pub(crate) struct ExpressionRules<F> {
+    pub(crate) alloc: Global,
+    pub(crate) depth: usize,
+    pub(crate) reader: F,
+}
+
+/// An expression of at most this height and precedence, its height and what follows it.
+#[tactic(auto, unfolding(strc_grammar::specs::Reading::expression))]
+pub fn expression(
+    alloc: Global,
+    depth: usize,
+    rank: usize,
+    tokens: &[Token],
+) -> Result<(Expr, usize, &[Token]), ReadError>
+    ensures { Gives (parsed expr_view) result (spec.expression depth rank (kinds tokens.now)) }
+{
+    if depth == 0 {
+        return Err(ReadError::Fault(Fault::Nesting));
+    }
+    let rules = ExpressionRules {
+        alloc,
+        depth,
+        reader: expression,
+    };
+    rules.ranked(rank, tokens)
+}
+
+/// An expression of at most this height, and the punctuation that closes it.
+#[tactic(auto, unfolding(strc_grammar::specs::Reading::closed))]
+pub fn closed(
+    alloc: Global,
+    depth: usize,
+    closing: Punctuation,
+    tokens: &[Token],
+) -> Result<(Expr, usize, &[Token]), ReadError>
+    ensures { Gives (parsed expr_view) result
+        (spec.closed (spec.expression depth) closing (kinds tokens.now)) }
+{
+    let (value, height, rest) = expression(alloc, depth, LOWEST_PRECEDENCE, tokens)?;
+    let (value, rest) = before(closing, value, rest)?;
+    Ok((value, height, rest))
+}
+
+impl<
+    F: Fn(Global, usize, usize, &[Token]) -> Result<(Expr, usize, &[Token]), ReadError>,
+> ExpressionRules<F> {
+    /// An expression of at most this precedence, one depth below.
+    pub(crate) fn below<'t>(
+        &self,
+        rank: usize,
+        tokens: &'t [Token],
+    ) -> Result<(Expr, usize, &'t [Token]), ReadError>
+        requires deep { 0 < self.now.depth }
+        requires reads { ReadsExpressions (self.now.depth - 1)
+            (F.pre self.now.reader) (F.post self.now.reader) }
+        ensures { Gives (parsed expr_view) result
+            (spec.expression (self.now.depth - 1) rank (kinds tokens.now)) }
+    {
+        (self.reader)(self.alloc, self.depth - 1, rank, tokens)
+    }
+
+    /// An expression one depth below, and the punctuation that closes it.
+    #[tactic(auto, unfolding(strc_grammar::specs::Reading::closed))]
+    pub(crate) fn closed<'t>(
+        &self,
+        closing: Punctuation,
+        tokens: &'t [Token],
+    ) -> Result<(Expr, usize, &'t [Token]), ReadError>
+        requires deep { 0 < self.now.depth }
+        requires reads { ReadsExpressions (self.now.depth - 1)
+            (F.pre self.now.reader) (F.post self.now.reader) }
+        ensures { Gives (parsed expr_view) result
+            (spec.closed (spec.expression (self.now.depth - 1)) closing (kinds tokens.now)) }
+    {
+        let (value, height, rest) = self.below(LOWEST_PRECEDENCE, tokens)?;
+        let (value, rest) = before(closing, value, rest)?;
+        Ok((value, height, rest))
+    }
+
+    #[tactic(auto, unfolding(strc_grammar::specs::Reading::ranked))]
+    fn ranked<'t>(
+        &self,
+        rank: usize,
+        tokens: &'t [Token],
+    ) -> Result<(Expr, usize, &'t [Token]), ReadError>
+        requires deep { 0 < self.now.depth }
+        requires reads { ReadsExpressions (self.now.depth - 1)
+            (F.pre self.now.reader) (F.post self.now.reader) }
+        ensures { Gives (parsed expr_view) result
+            (spec.ranked self.now.depth (spec.expression (self.now.depth - 1)) rank
+            (kinds tokens.now)) }
+    {
+        if rank == LOWEST_PRECEDENCE {
+            self.conditional(tokens)
+        } else {
+            self.climb(rank, tokens)
+        }
+    }
+
+    /// `c ? a : b`, or c alone.
+    #[tactic(auto, unfolding(strc_grammar::specs::Reading::conditional))]
+    fn conditional<'t>(&self, tokens: &'t [Token]) -> Result<(Expr, usize, &'t [Token]), ReadError>
+        requires deep { 0 < self.now.depth }
+        requires reads { ReadsExpressions (self.now.depth - 1)
+            (F.pre self.now.reader) (F.post self.now.reader) }
+        ensures { Gives (parsed expr_view) result
+            (spec.conditional self.now.depth (spec.expression (self.now.depth - 1))
+            (kinds tokens.now)) }
+    {
+        let (condition, height, rest) = self.climb(LOWEST_BINARY_PRECEDENCE, tokens)?;
+        if is_punctuation(Punctuation::Question, rest) {
+            self.choice(condition, height, tail(rest))
+        } else {
+            Ok((condition, height, rest))
+        }
+    }
+
+    /// `a : b`: after the question mark.
+    #[tactic(auto, unfolding(strc_grammar::specs::Reading::choice))]
+    fn choice<'t>(
+        &self,
+        condition: Expr,
+        height: usize,
+        tokens: &'t [Token],
+    ) -> Result<(Expr, usize, &'t [Token]), ReadError>
+        requires deep { 0 < self.now.depth }
+        requires reads { ReadsExpressions (self.now.depth - 1)
+            (F.pre self.now.reader) (F.post self.now.reader) }
+        ensures { Gives (parsed expr_view) result
+            (spec.choice self.now.depth (spec.expression (self.now.depth - 1))
+            (expr_view condition) height (kinds tokens.now)) }
+    {
+        let chosen = self.closed(Punctuation::Colon, tokens);
+        let (condition, chosen) = beside(condition, chosen)?;
+        let (chosen, chosen_height, rest) = chosen;
+        let parts = (condition, chosen);
+        let (parts, other) = beside(parts, self.below(LOWEST_PRECEDENCE, rest))?;
+        let (other, other_height, rest) = other;
+        let height = height.max(chosen_height.max(other_height));
+        let (parts, height) = raise(self.depth, (parts, other), height)?;
+        let ((condition, chosen), other) = parts;
+        let whole = conditional_of(self.alloc, condition, chosen, other)?;
+        Ok((whole, height, rest))
+    }
+
+    /// An expression of at most this precedence, of operands and binary operators.
+    #[tactic(auto, unfolding(strc_grammar::specs::Reading::climb))]
+    fn climb<'t>(
+        &self,
+        rank: usize,
+        tokens: &'t [Token],
+    ) -> Result<(Expr, usize, &'t [Token]), ReadError>
+        requires deep { 0 < self.now.depth }
+        requires reads { ReadsExpressions (self.now.depth - 1)
+            (F.pre self.now.reader) (F.post self.now.reader) }
+        ensures { Gives (parsed expr_view) result
+            (spec.climb self.now.depth (spec.expression (self.now.depth - 1)) rank
+            (kinds tokens.now)) }
+    {
+        if rank == 0 {
+            return self.operand(tokens);
+        }
+        let (left, height, rest) = self.climb(rank - 1, tokens)?;
+        self.chain(rank, left, height, rest)
+    }
+
+    /// Goes on after an operand with operators of one precedence, which group to the left.
+    #[tactic(auto, unfolding(strc_grammar::specs::Reading::chain))]
+    fn chain<'t>(
+        &self,
+        rank: usize,
+        first: Expr,
+        first_height: usize,
+        tokens: &'t [Token],
+    ) -> Result<(Expr, usize, &'t [Token]), ReadError>
+        requires deep { 0 < self.now.depth }
+        requires some { 0 < rank }
+        requires reads { ReadsExpressions (self.now.depth - 1)
+            (F.pre self.now.reader) (F.post self.now.reader) }
+        ensures { Gives (parsed expr_view) result
+            (spec.chain self.now.depth (spec.expression (self.now.depth - 1)) rank
+            (length (kinds tokens.entry.now)) (expr_view first) first_height
+            (kinds tokens.entry.now)) }
+    {
+        let mut left = first;
+        let mut height = first_height;
+        let mut rest = tokens;
+        while let Some(operator) = operator_at(rank, rest) {
+            let (held, right) = beside(left, self.below(rank - 1, tail(rest)))?;
+            let (right, right_height, after) = right;
+            let (parts, higher) = raise(self.depth, (held, right), height.max(right_height))?;
+            let (held, right) = parts;
+            left = binary_of(self.alloc, operator, held, right)?;
+            height = higher;
+            rest = after;
+        }
+        Ok((left, height, rest))
+    }
+}

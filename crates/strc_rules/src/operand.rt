@@ -1,0 +1,237 @@
+// Expressions with no operator between operands.
+
+ghost use Rattle.std.specs.Prelude.{◌≡◌, ◌-◌, ◌<◌};
+ghost use Rattle.std.specs.Option.{option_map};
+ghost use Rattle.strc_syntax.specs.View.{expr_view};
+ghost use Rattle.strc_grammar.specs.Grammar.{kinds};
+ghost use Rattle.strc_rules.specs.Seen.{parsed};
+ghost use Rattle.strc_grammar.specs.Reading as spec;
+ghost use Rattle.strc_grammar.specs.Reading.{Gives};
+ghost use Rattle.strc_rules.specs.Readers.{ReadsExpressions};
+
+use crate::expression::ExpressionRules;
+use crate::held::raise;
+use crate::lookahead::{expect, is_punctuation, name, peek, tail, unexpected};
+use crate::operator::step_after;
+use std::alloc::Global;
+use strc_grammar::ReadError;
+use strc_lex::token::{Keyword, Name, Punctuation, Token, TokenKind};
+use strc_syntax::node::{group_of, peek_of, read_of, step_of, unary_of};
+use strc_syntax::tree::{Expr, StepOperator, UnaryOperator};
+
+/// `x` or `x++`, `x[i]` or `x[i]++`: after the name and its index.
+#[tactic(auto, unfolding(strc_grammar::specs::Reading::after_place))]
+fn after_place<'t>(
+    alloc: Global,
+    depth: usize,
+    name: Name,
+    index: Option<Expr>,
+    height: usize,
+    tokens: &'t [Token],
+) -> Result<(Expr, usize, &'t [Token]), ReadError>
+    ensures { Gives (parsed expr_view) result
+        (spec.after_place depth name (option_map expr_view index) height (kinds tokens.now)) }
+{
+    match step_after(tokens) {
+        None => Ok((read_of(alloc, name, index)?, height, tokens)),
+        Some(operator) => {
+            let (place, height) = raise(depth, (name, index), height)?;
+            let (name, index) = place;
+            Ok((step_of(alloc, operator, name, index)?, height, tail(tokens)))
+        }
+    }
+}
+
+/// `pop()`: after the keyword.
+#[tactic(auto, unfolding(strc_grammar::specs::Reading::pop_brackets))]
+fn pop_brackets(tokens: &[Token]) -> Result<(Expr, usize, &[Token]), ReadError>
+    ensures { Gives (parsed expr_view) result (spec.pop_brackets (kinds tokens.now)) }
+{
+    let inside = expect(Punctuation::OpenParen, tokens)?;
+    let rest = expect(Punctuation::CloseParen, inside)?;
+    Ok((Expr::Pop, 1, rest))
+}
+
+impl<
+    F: Fn(Global, usize, usize, &[Token]) -> Result<(Expr, usize, &[Token]), ReadError>,
+> ExpressionRules<F> {
+    #[tactic(auto, unfolding(strc_grammar::specs::Reading::operand))]
+    pub(crate) fn operand<'t>(
+        &self,
+        tokens: &'t [Token],
+    ) -> Result<(Expr, usize, &'t [Token]), ReadError>
+        requires deep { 0 < self.now.depth }
+        requires reads { ReadsExpressions (self.now.depth - 1)
+            (F.pre self.now.reader) (F.post self.now.reader) }
+        ensures { Gives (parsed expr_view) result
+            (spec.operand self.now.depth (spec.expression (self.now.depth - 1))
+            (kinds tokens.now)) }
+    {
+        match peek(tokens) {
+            Some(TokenKind::Number(value)) => Ok((Expr::Number(*value), 1, tail(tokens))),
+            Some(TokenKind::Name(name)) => self.after_name(name.copy()?, tail(tokens)),
+            Some(TokenKind::Keyword(keyword)) => self.worded(*keyword, tokens),
+            Some(TokenKind::Punctuation(punctuation)) => self.marked(*punctuation, tokens),
+            Some(TokenKind::StringLiteral(_)) | None => Err(unexpected(tokens)),
+        }
+    }
+
+    /// An operand that begins with this keyword.
+    #[tactic(auto, unfolding(strc_grammar::specs::Reading::worded))]
+    fn worded<'t>(
+        &self,
+        keyword: Keyword,
+        tokens: &'t [Token],
+    ) -> Result<(Expr, usize, &'t [Token]), ReadError>
+        requires deep { 0 < self.now.depth }
+        requires reads { ReadsExpressions (self.now.depth - 1)
+            (F.pre self.now.reader) (F.post self.now.reader) }
+        ensures { Gives (parsed expr_view) result
+            (spec.worded self.now.depth (spec.expression (self.now.depth - 1)) keyword
+            (kinds tokens.now)) }
+    {
+        match keyword {
+            Keyword::True => Ok((Expr::Truth(true), 1, tail(tokens))),
+            Keyword::False => Ok((Expr::Truth(false), 1, tail(tokens))),
+            Keyword::Pop => pop_brackets(tail(tokens)),
+            Keyword::Peek => self.peek_brackets(tail(tokens)),
+            _ => Err(unexpected(tokens)),
+        }
+    }
+
+    /// An operand that begins with this punctuation mark.
+    #[tactic(auto, unfolding(strc_grammar::specs::Reading::marked))]
+    fn marked<'t>(
+        &self,
+        punctuation: Punctuation,
+        tokens: &'t [Token],
+    ) -> Result<(Expr, usize, &'t [Token]), ReadError>
+        requires deep { 0 < self.now.depth }
+        requires reads { ReadsExpressions (self.now.depth - 1)
+            (F.pre self.now.reader) (F.post self.now.reader) }
+        ensures { Gives (parsed expr_view) result
+            (spec.marked self.now.depth (spec.expression (self.now.depth - 1)) punctuation
+            (kinds tokens.now)) }
+    {
+        match punctuation {
+            Punctuation::OpenParen => self.group(tail(tokens)),
+            Punctuation::Minus => self.sign(UnaryOperator::Negate, tail(tokens)),
+            Punctuation::Not => self.sign(UnaryOperator::Not, tail(tokens)),
+            Punctuation::Tilde => self.sign(UnaryOperator::Complement, tail(tokens)),
+            Punctuation::PlusPlus => self.step_first(StepOperator::IncrementFirst, tail(tokens)),
+            Punctuation::MinusMinus => self.step_first(StepOperator::DecrementFirst, tail(tokens)),
+            _ => Err(unexpected(tokens)),
+        }
+    }
+
+    /// `[i]`, if it comes next, and the height of what has the index: after the name.
+    #[tactic(auto, unfolding(strc_grammar::specs::Reading::index))]
+    fn index<'t>(
+        &self,
+        tokens: &'t [Token],
+    ) -> Result<(Option<Expr>, usize, &'t [Token]), ReadError>
+        requires deep { 0 < self.now.depth }
+        requires reads { ReadsExpressions (self.now.depth - 1)
+            (F.pre self.now.reader) (F.post self.now.reader) }
+        ensures { Gives (parsed (option_map expr_view)) result
+            (spec.index self.now.depth (spec.expression (self.now.depth - 1)) (kinds tokens.now)) }
+    {
+        if !is_punctuation(Punctuation::OpenBracket, tokens) {
+            return Ok((None, 1, tokens));
+        }
+        let (index, height, rest) = self.closed(Punctuation::CloseBracket, tail(tokens))?;
+        let (index, height) = raise(self.depth, index, height)?;
+        Ok((Some(index), height, rest))
+    }
+
+    /// A variable or an element, and the step after it: after the name.
+    #[tactic(auto, unfolding(strc_grammar::specs::Reading::after_name))]
+    fn after_name<'t>(
+        &self,
+        name: Name,
+        tokens: &'t [Token],
+    ) -> Result<(Expr, usize, &'t [Token]), ReadError>
+        requires deep { 0 < self.now.depth }
+        requires reads { ReadsExpressions (self.now.depth - 1)
+            (F.pre self.now.reader) (F.post self.now.reader) }
+        ensures { Gives (parsed expr_view) result
+            (spec.after_name self.now.depth (spec.expression (self.now.depth - 1)) name
+            (kinds tokens.now)) }
+    {
+        let (index, height, rest) = self.index(tokens)?;
+        after_place(self.alloc, self.depth, name, index, height, rest)
+    }
+
+    /// `++x` or `++x[i]`: after the punctuation.
+    #[tactic(auto, unfolding(strc_grammar::specs::Reading::step_first))]
+    fn step_first<'t>(
+        &self,
+        operator: StepOperator,
+        tokens: &'t [Token],
+    ) -> Result<(Expr, usize, &'t [Token]), ReadError>
+        requires deep { 0 < self.now.depth }
+        requires reads { ReadsExpressions (self.now.depth - 1)
+            (F.pre self.now.reader) (F.post self.now.reader) }
+        ensures { Gives (parsed expr_view) result
+            (spec.step_first self.now.depth (spec.expression (self.now.depth - 1)) operator
+            (kinds tokens.now)) }
+    {
+        let (name, rest) = name(tokens)?;
+        let (index, height, rest) = self.index(rest)?;
+        let (place, height) = raise(self.depth, (name, index), height)?;
+        let (name, index) = place;
+        Ok((step_of(self.alloc, operator, name, index)?, height, rest))
+    }
+
+    /// `peek(i)`: after the keyword.
+    #[tactic(auto, unfolding(strc_grammar::specs::Reading::peek_brackets))]
+    fn peek_brackets<'t>(
+        &self,
+        tokens: &'t [Token],
+    ) -> Result<(Expr, usize, &'t [Token]), ReadError>
+        requires deep { 0 < self.now.depth }
+        requires reads { ReadsExpressions (self.now.depth - 1)
+            (F.pre self.now.reader) (F.post self.now.reader) }
+        ensures { Gives (parsed expr_view) result
+            (spec.peek_brackets self.now.depth (spec.expression (self.now.depth - 1))
+            (kinds tokens.now)) }
+    {
+        let inside = expect(Punctuation::OpenParen, tokens)?;
+        let (index, height, rest) = self.closed(Punctuation::CloseParen, inside)?;
+        let (index, height) = raise(self.depth, index, height)?;
+        Ok((peek_of(self.alloc, index)?, height, rest))
+    }
+
+    /// `(e)`: after the bracket.
+    #[tactic(auto, unfolding(strc_grammar::specs::Reading::group))]
+    fn group<'t>(&self, tokens: &'t [Token]) -> Result<(Expr, usize, &'t [Token]), ReadError>
+        requires deep { 0 < self.now.depth }
+        requires reads { ReadsExpressions (self.now.depth - 1)
+            (F.pre self.now.reader) (F.post self.now.reader) }
+        ensures { Gives (parsed expr_view) result
+            (spec.group self.now.depth (spec.expression (self.now.depth - 1)) (kinds tokens.now)) }
+    {
+        let (inner, height, rest) = self.closed(Punctuation::CloseParen, tokens)?;
+        let (inner, height) = raise(self.depth, inner, height)?;
+        Ok((group_of(self.alloc, inner)?, height, rest))
+    }
+
+    /// `-e`: after the punctuation.
+    #[tactic(auto, unfolding(strc_grammar::specs::Reading::sign))]
+    fn sign<'t>(
+        &self,
+        operator: UnaryOperator,
+        tokens: &'t [Token],
+    ) -> Result<(Expr, usize, &'t [Token]), ReadError>
+        requires deep { 0 < self.now.depth }
+        requires reads { ReadsExpressions (self.now.depth - 1)
+            (F.pre self.now.reader) (F.post self.now.reader) }
+        ensures { Gives (parsed expr_view) result
+            (spec.sign self.now.depth (spec.expression (self.now.depth - 1)) operator
+            (kinds tokens.now)) }
+    {
+        let (inner, height, rest) = self.below(0, tokens)?;
+        let (inner, height) = raise(self.depth, inner, height)?;
+        Ok((unary_of(self.alloc, operator, inner)?, height, rest))
+    }
+}

@@ -1,0 +1,134 @@
+// Declarations of variables.
+
+ghost use Rattle.std.specs.Prelude.{◌≡◌, ◌+◌, map, [], ◌∷◌};
+ghost use Rattle.strc_syntax.specs.View.{expr_view, type_view, variable_view};
+ghost use Rattle.strc_grammar.specs.Grammar.{kinds};
+ghost use Rattle.std.specs.Option.{option_map};
+ghost use Rattle.strc_rules.specs.Seen.{parsed, parsed_all, declared_view};
+ghost use Rattle.strc_grammar.specs.Reading as spec;
+ghost use Rattle.strc_grammar.specs.Reading.{Gives};
+
+use crate::expression::{LOWEST_PRECEDENCE, closed, expression};
+use crate::held::beside;
+use crate::lookahead::{is_punctuation, name, peek, tail, unexpected};
+use std::alloc::Global;
+use strc_grammar::ReadError;
+use strc_lex::token::{Keyword, Punctuation, Token, TokenKind};
+use strc_syntax::tree::{Expr, Variable, VariableType, Variables};
+
+/// `= e`, if it comes next: the initialiser, and its height or 0.
+#[tactic(auto, unfolding(strc_grammar::specs::Reading::initial))]
+fn initial(
+    alloc: Global,
+    depth: usize,
+    tokens: &[Token],
+) -> Result<(Option<Expr>, usize, &[Token]), ReadError>
+    ensures { Gives (parsed (option_map expr_view)) result (spec.initial depth (kinds tokens.now)) }
+{
+    if !is_punctuation(Punctuation::Assign, tokens) {
+        return Ok((None, 0, tokens));
+    }
+    let (value, height, rest) = expression(alloc, depth, LOWEST_PRECEDENCE, tail(tokens))?;
+    Ok((Some(value), height, rest))
+}
+
+/// `x` or `x = e`, with the height of e or 0.
+#[tactic(auto, unfolding(strc_grammar::specs::Reading::variable))]
+fn variable(
+    alloc: Global,
+    depth: usize,
+    tokens: &[Token],
+) -> Result<(Variable, usize, &[Token]), ReadError>
+    ensures { Gives (parsed variable_view) result (spec.variable depth (kinds tokens.now)) }
+{
+    let (name, rest) = name(tokens)?;
+    let (initial, height, rest) = initial(alloc, depth, rest)?;
+    Ok((Variable { name, initial }, height, rest))
+}
+
+/// Variables with commas between them, and the height of the highest initialiser or 0.
+#[tactic(auto, unfolding(strc_grammar::specs::Reading::variables))]
+fn variables(
+    alloc: Global,
+    depth: usize,
+    tokens: &[Token],
+) -> Result<(Vec<Variable>, usize, &[Token]), ReadError>
+    ensures { Gives (parsed_all variable_view) result (spec.variables depth (kinds tokens.now)) }
+{
+    let (first, height, rest) = variable(alloc, depth, tokens)?;
+    let mut found = Vec::new(alloc);
+    found.push(first)?;
+    more_variables(alloc, depth, found, height, rest)
+}
+
+/// The same after these.
+#[tactic(auto, unfolding(strc_grammar::specs::Reading::more_variables))]
+fn more_variables<'t>(
+    alloc: Global,
+    depth: usize,
+    first: Vec<Variable>,
+    height: usize,
+    tokens: &'t [Token],
+) -> Result<(Vec<Variable>, usize, &'t [Token]), ReadError>
+    ensures { Gives (parsed_all variable_view) result
+        (spec.more_variables depth (map variable_view first.items, height)
+        (kinds tokens.entry.now)) }
+{
+    let mut found = first;
+    let mut highest = height;
+    let mut rest = tokens;
+    while is_punctuation(Punctuation::Comma, rest) {
+        let (next, height, after) = variable(alloc, depth, tail(rest))?;
+        found.push(next)?;
+        highest = highest.max(height);
+        rest = after;
+    }
+    Ok((found, highest, rest))
+}
+
+/// `int` or `int[n]`: after the keyword.
+#[tactic(auto, unfolding(strc_grammar::specs::Reading::int_type))]
+fn int_type(
+    alloc: Global,
+    depth: usize,
+    tokens: &[Token],
+) -> Result<(VariableType, usize, &[Token]), ReadError>
+    ensures { Gives (parsed type_view) result (spec.int_type depth (kinds tokens.now)) }
+{
+    if !is_punctuation(Punctuation::OpenBracket, tokens) {
+        return Ok((VariableType::Int, 0, tokens));
+    }
+    let (length, height, rest) = closed(alloc, depth, Punctuation::CloseBracket, tail(tokens))?;
+    Ok((VariableType::Array(length), height, rest))
+}
+
+/// The type of variables, and the height of its length or 0.
+#[tactic(auto, unfolding(strc_grammar::specs::Reading::variable_type))]
+fn variable_type(
+    alloc: Global,
+    depth: usize,
+    tokens: &[Token],
+) -> Result<(VariableType, usize, &[Token]), ReadError>
+    ensures { Gives (parsed type_view) result (spec.variable_type depth (kinds tokens.now)) }
+{
+    match peek(tokens) {
+        Some(TokenKind::Keyword(Keyword::Boolean)) => Ok((VariableType::Boolean, 0, tail(tokens))),
+        Some(TokenKind::Keyword(Keyword::Int)) => int_type(alloc, depth, tail(tokens)),
+        _ => Err(unexpected(tokens)),
+    }
+}
+
+/// `int x = 1, y`, and the height of the highest expression or 0. The depth is the expressions'.
+#[tactic(auto, unfolding(strc_grammar::specs::Reading::declared))]
+pub fn declared(
+    alloc: Global,
+    depth: usize,
+    tokens: &[Token],
+) -> Result<(Variables, usize, &[Token]), ReadError>
+    ensures { Gives (parsed declared_view) result (spec.declared depth (kinds tokens.now)) }
+{
+    let (kind, height, rest) = variable_type(alloc, depth, tokens)?;
+    let (kind, variables) = beside(kind, variables(alloc, depth, rest))?;
+    let (variables, highest, rest) = variables;
+    Ok((Variables { kind, variables }, height.max(highest), rest))
+}

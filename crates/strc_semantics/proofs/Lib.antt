@@ -1,0 +1,4 @@
+pub mod Wrapping
+pub mod Growth
+pub mod Turns
+pub mod ConstantValues

@@ -1,0 +1,10 @@
+-- The names of causes, as they are written.
+use Rattle.std.specs.Prelude.{ℕ, List, codes}
+use Rattle.strc_semantics.specs.declared.fault.Cause.{Cause}
+use Rattle.strc_semantics.specs.declared.fault.Cause.TheVariants.{DivZero, Index, PeekRange, Turns}
+
+abbrev pub cause_name : Cause → List ℕ
+cause_name DivZero = codes "DivZero"
+cause_name Index = codes "Index"
+cause_name PeekRange = codes "PeekRange"
+cause_name Turns = codes "Turns"

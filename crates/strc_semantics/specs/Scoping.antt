@@ -1,0 +1,55 @@
+-- Which variables can be seen behind a statement, with how many cells each has: one for a number or a truth value, and one for each element
+-- of an array.
+use Rattle.std.specs.Prelude.{ℕ, ◌+◌, pos, List, [], ◌∷◌, Bool, false, ◌||◌, Option, Some, None, unwrap_or, if◌then◌else◌, bytes_eq}
+use Rattle.strc_syntax.specs.Tree as tree
+
+-- names of variables with their cells, the innermost first
+abbrev pub Scope : Type 0
+Scope = List (List ℕ × ℕ)
+
+-- the number of an expression that is one
+abbrev pub number_in : tree.Expr → ℕ
+number_in (tree.Number (pos n)) = n
+number_in _ = 0
+
+-- how many cells a variable of a type has; the length of an array is a number: constants are put in
+abbrev pub cells_of : tree.VariableType → ℕ
+cells_of tree.Boolean = 1
+cells_of tree.Int = 1
+cells_of (tree.Array length) = number_in length
+
+-- the variables that can be seen behind a declaration, the last one innermost
+abbrev pub with_declared : Scope → (cells : ℕ) → List tree.Variable → Scope
+with_declared scope cells [] = scope
+with_declared scope cells (first ∷ rest) = with_declared (record { 0 = first.name; 1 = cells } ∷ scope) cells rest
+
+-- the variables that can be seen after a statement
+abbrev pub names_after : Scope → tree.Stmt → Scope
+names_after scope (tree.Declare kind variables) = with_declared scope (cells_of kind) variables
+names_after scope _ = scope
+
+-- how many cells variables have together
+abbrev pub total : Scope → ℕ
+total [] = 0
+total (first ∷ rest) = first.1 + total rest
+
+-- whether a variable of this name can be seen
+abbrev pub is_declared : Scope → List ℕ → Bool
+is_declared [] name = false
+is_declared (first ∷ rest) name = bytes_eq first.0 name || is_declared rest name
+
+-- the first slot of the innermost variable of a name: the cells of the variables outside it stand before its own
+abbrev pub slot_named : Scope → List ℕ → Option ℕ
+slot_named [] name = None
+slot_named (first ∷ rest) name = if bytes_eq first.0 name then Some (total rest) else slot_named rest name
+
+abbrev pub slot_of : Scope → List ℕ → ℕ
+slot_of scope name = unwrap_or (slot_named scope name) 0
+
+-- how many cells the innermost variable of a name has
+abbrev pub size_named : Scope → List ℕ → Option ℕ
+size_named [] name = None
+size_named (first ∷ rest) name = if bytes_eq first.0 name then Some first.1 else size_named rest name
+
+abbrev pub size_of : Scope → List ℕ → ℕ
+size_of scope name = unwrap_or (size_named scope name) 0

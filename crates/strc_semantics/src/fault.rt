@@ -1,0 +1,41 @@
+// How a firing can end without a result.
+
+use std::fmt;
+
+/// Why a firing faults.
+#[derive(Clone, Copy, Debug, PartialEq, Eq)]
+pub enum Cause {
+    /// A divisor is 0.
+    DivZero,
+    /// An index is outside its array.
+    Index,
+    /// An item is popped, pushed or looked at beyond the declared rate.
+    PeekRange,
+    /// The loops of one firing turn too often.
+    Turns,
+}
+
+impl fmt::Display for Cause {
+    ghost use Rattle.std.specs.Prelude.{Some};
+    ghost use Rattle.strc_semantics.specs.Causes.{cause_name};
+
+    ghost output = { λ cause. Some (cause_name cause) };
+
+    fn fmt<W: fmt::Write>(&self, f: &mut fmt::Formatter<W>) -> fmt::Result {
+        match self {
+            Cause::DivZero => write!(f, "DivZero"),
+            Cause::Index => write!(f, "Index"),
+            Cause::PeekRange => write!(f, "PeekRange"),
+            Cause::Turns => write!(f, "Turns"),
+        }
+    }
+}
+
+/// Why a firing stopped.
+#[derive(Clone, Copy, Debug, PartialEq, Eq)]
+pub enum Halt {
+    /// The program is at fault.
+    Fault(Cause),
+    /// There was no room for a printed word.
+    NoMemory,
+}

@@ -1,0 +1,8 @@
+// What a program prints.
+
+/// A printed number, and whether it ends its line.
+#[derive(Clone, Copy, PartialEq, Eq)]
+pub struct Word {
+    pub value: i32,
+    pub ends_line: bool,
+}

@@ -1,0 +1,193 @@
+// The nodes of expressions, statements and streams, made of their parts.
+
+ghost use Rattle.std.specs.Prelude.{◌≡◌, IfOk, map};
+ghost use Rattle.std.specs.Box.{box_value};
+ghost use Rattle.std.specs.Option.{option_map};
+ghost use Rattle.strc_syntax.specs.View.{expr_view, stmt_view, rate_view, member_view, child_view};
+ghost use Rattle.strc_syntax.specs.Tree.{row, chain};
+ghost use Rattle.strc_syntax.specs.Tree as tree;
+
+use crate::tree::{
+    BinaryOperator, Child, CompositeKind, Expr, Member, RateTree, StepOperator, Stmt, StreamType,
+    UnaryOperator,
+};
+use std::alloc::{AllocError, Global};
+use strc_lex::token::Name;
+
+/// `x`, or `x[i]`.
+pub fn read_of(alloc: Global, name: Name, index: Option<Expr>) -> Result<Expr, AllocError>
+    ensures { IfOk result (λ e. expr_view e ≡ tree.read_of name (option_map expr_view index)) }
+{
+    match index {
+        None => Ok(Expr::Read(name)),
+        Some(index) => Ok(Expr::Element(name, Box::new(alloc, index)?)),
+    }
+}
+
+/// `x++`, or `x[i]++`.
+pub fn step_of(
+    alloc: Global,
+    operator: StepOperator,
+    name: Name,
+    index: Option<Expr>,
+) -> Result<Expr, AllocError>
+    ensures { IfOk result (λ e. expr_view e ≡ tree.step_of_place operator name
+        (option_map expr_view index)) }
+{
+    match index {
+        None => Ok(Expr::Step(operator, name)),
+        Some(index) => Ok(Expr::StepElement(operator, name, Box::new(alloc, index)?)),
+    }
+}
+
+pub fn peek_of(alloc: Global, index: Expr) -> Result<Expr, AllocError>
+    ensures { IfOk result (λ e. expr_view e ≡ tree.Peek (expr_view index)) }
+{
+    Ok(Expr::Peek(Box::new(alloc, index)?))
+}
+
+pub fn group_of(alloc: Global, inner: Expr) -> Result<Expr, AllocError>
+    ensures { IfOk result (λ e. expr_view e ≡ tree.Group (expr_view inner)) }
+{
+    Ok(Expr::Group(Box::new(alloc, inner)?))
+}
+
+pub fn unary_of(alloc: Global, operator: UnaryOperator, operand: Expr) -> Result<Expr, AllocError>
+    ensures { IfOk result (λ e. expr_view e ≡ tree.Unary operator (expr_view operand)) }
+{
+    Ok(Expr::Unary(operator, Box::new(alloc, operand)?))
+}
+
+pub fn binary_of(
+    alloc: Global,
+    operator: BinaryOperator,
+    left: Expr,
+    right: Expr,
+) -> Result<Expr, AllocError>
+    ensures { IfOk result (λ e. expr_view e ≡ tree.Binary operator (expr_view left)
+        (expr_view right)) }
+{
+    Ok(Expr::Binary(operator, Box::new(alloc, left)?, Box::new(alloc, right)?))
+}
+
+pub fn conditional_of(
+    alloc: Global,
+    condition: Expr,
+    chosen: Expr,
+    other: Expr,
+) -> Result<Expr, AllocError>
+    ensures { IfOk result (λ e. expr_view e ≡ tree.Conditional (expr_view condition)
+        (expr_view chosen) (expr_view other)) }
+{
+    Ok(Expr::Conditional(
+        Box::new(alloc, condition)?,
+        Box::new(alloc, chosen)?,
+        Box::new(alloc, other)?,
+    ))
+}
+
+#[tactic(auto, using(crate::proofs::Views::stmt_view_block))]
+pub fn block_of(body: Vec<Stmt>) -> Stmt
+    ensures { stmt_view result ≡ tree.Block (row (map stmt_view body.items)) }
+{
+    Stmt::Block(body)
+}
+
+pub fn if_of(alloc: Global, condition: Expr, chosen: Stmt) -> Result<Stmt, AllocError>
+    ensures { IfOk result (λ s. stmt_view s ≡ tree.If (expr_view condition) (stmt_view chosen)) }
+{
+    Ok(Stmt::If(condition, Box::new(alloc, chosen)?))
+}
+
+/// The last two parts in boxes, beside the first one. It is generic, so that what is dropped where
+/// memory runs out is a call, and not the parts' own glue.
+fn boxed<A: Drop, B: Drop, C: Drop>(
+    alloc: Global,
+    first: A,
+    second: B,
+    third: C,
+) -> Result<(A, Box<B>, Box<C>), AllocError>
+    ensures { IfOk result (λ parts. (parts.0 ≡ first) × (box_value parts.1 ≡ second)
+        × (box_value parts.2 ≡ third)) }
+{
+    let second = Box::new(alloc, second)?;
+    let third = Box::new(alloc, third)?;
+    Ok((first, second, third))
+}
+
+pub fn if_else_of(
+    alloc: Global,
+    condition: Expr,
+    chosen: Stmt,
+    other: Stmt,
+) -> Result<Stmt, AllocError>
+    ensures { IfOk result (λ s. stmt_view s ≡ tree.IfElse (expr_view condition) (stmt_view chosen)
+        (stmt_view other)) }
+{
+    let (condition, chosen, other) = boxed(alloc, condition, chosen, other)?;
+    Ok(Stmt::IfElse(condition, chosen, other))
+}
+
+pub fn while_of(alloc: Global, condition: Expr, body: Stmt) -> Result<Stmt, AllocError>
+    ensures { IfOk result (λ s. stmt_view s ≡ tree.While (expr_view condition) (stmt_view body)) }
+{
+    Ok(Stmt::While(condition, Box::new(alloc, body)?))
+}
+
+pub fn for_of(
+    alloc: Global,
+    first: Stmt,
+    condition: Option<Expr>,
+    step: Stmt,
+    body: Stmt,
+) -> Result<Stmt, AllocError>
+    ensures { IfOk result (λ s. stmt_view s ≡
+        tree.For (stmt_view first) (option_map expr_view condition) (stmt_view step)
+        (stmt_view body)) }
+{
+    Ok(Stmt::For(
+        Box::new(alloc, first)?,
+        condition,
+        Box::new(alloc, step)?,
+        Box::new(alloc, body)?,
+    ))
+}
+
+#[tactic(auto, using(crate::proofs::Views::member_view_init))]
+pub fn init_of(block: Vec<Stmt>) -> Member
+    ensures { member_view result ≡ tree.Init (row (map stmt_view block.items)) }
+{
+    Member::Init(block)
+}
+
+#[tactic(auto, using(crate::proofs::Views::member_view_prework))]
+pub fn prework_of(rates: Vec<RateTree>, block: Vec<Stmt>) -> Member
+    ensures { member_view result ≡ tree.Prework (map rate_view rates.items)
+        (row (map stmt_view block.items)) }
+{
+    Member::Prework(rates, block)
+}
+
+#[tactic(auto, using(crate::proofs::Views::member_view_work))]
+pub fn work_of(rates: Vec<RateTree>, block: Vec<Stmt>) -> Member
+    ensures { member_view result ≡ tree.Work (map rate_view rates.items)
+        (row (map stmt_view block.items)) }
+{
+    Member::Work(rates, block)
+}
+
+/// A filter without a name.
+pub fn filter_of(types: StreamType, members: Vec<Member>) -> Child
+    ensures { child_view result ≡ tree.AnonymousFilter types
+        (chain (map member_view members.items)) }
+{
+    Child::Filter(types, members)
+}
+
+/// A composite stream without a name.
+pub fn composite_of(types: Option<StreamType>, kind: CompositeKind, block: Vec<Stmt>) -> Child
+    ensures { child_view result ≡ tree.AnonymousComposite types kind
+        (row (map stmt_view block.items)) }
+{
+    Child::Composite(types, kind, block)
+}

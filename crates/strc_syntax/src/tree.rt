@@ -1,0 +1,323 @@
+// The syntax tree of a program. Brackets are nodes, so that a tree has one spelling.
+
+use strc_lex::token::{Name, StringLiteral};
+
+/// A whole text: its declarations, in order.
+#[derive(Drop)]
+pub struct Program {
+    pub declarations: Vec<Decl>,
+}
+
+/// A named stream: `int->void filter Printer(int n) { .. }`.
+#[derive(Drop)]
+pub struct Decl {
+    pub name: Name,
+    /// The names of its parameters; nothing where no brackets are written.
+    pub parameters: Option<Vec<Name>>,
+    pub stream: StreamTree,
+}
+
+/// What is declared.
+#[derive(Drop)]
+pub enum StreamTree {
+    Filter(FilterTree),
+    Composite(CompositeTree),
+}
+
+/// What flows on a stream's input or output: numbers, or nothing.
+#[derive(Clone, Copy, PartialEq, Eq)]
+pub enum ItemType {
+    Int,
+    Void,
+}
+
+/// A filter without its name: its types and its members, in order.
+#[derive(Drop)]
+pub struct FilterTree {
+    pub input: ItemType,
+    pub output: ItemType,
+    pub members: Vec<Member>,
+}
+
+/// A part of a filter.
+#[cycle(tree)]
+#[derive(Drop)]
+pub enum Member {
+    /// `int x = 1, y;`
+    Fields(Variables),
+    /// `init { .. }`
+    Init(Vec<Stmt>),
+    /// `prework push 1 { .. }`: its rates, each at most once, and its block
+    Prework(Vec<RateTree>, Vec<Stmt>),
+    /// `work push 1 { .. }`
+    Work(Vec<RateTree>, Vec<Stmt>),
+}
+
+/// A rate as it is written: `push 1`.
+#[derive(Drop)]
+pub struct RateTree {
+    pub kind: RateKind,
+    pub rate: Expr,
+}
+
+/// Which rate it is.
+#[derive(Clone, Copy, PartialEq, Eq)]
+pub enum RateKind {
+    Push,
+    Pop,
+    Peek,
+}
+
+/// A pipeline, a split-join or a feedback loop without its name: its types, its kind and its block.
+#[derive(Drop)]
+pub struct CompositeTree {
+    pub types: StreamType,
+    pub kind: CompositeKind,
+    pub block: Vec<Stmt>,
+}
+
+/// What a stream takes and what it gives: `int->void`.
+#[derive(Clone, Copy, PartialEq, Eq)]
+pub struct StreamType {
+    pub input: ItemType,
+    pub output: ItemType,
+}
+
+/// How a composite stream puts its children together.
+#[derive(Clone, Copy, PartialEq, Eq)]
+pub enum CompositeKind {
+    Pipeline,
+    Splitjoin,
+    Feedbackloop,
+}
+
+/// A declaration of variables of one type: `int x = 1, y`.
+#[derive(Drop)]
+pub struct Variables {
+    pub kind: VariableType,
+    /// At least one.
+    pub variables: Vec<Variable>,
+}
+
+/// The type of variables as it is written.
+#[derive(Drop)]
+pub enum VariableType {
+    /// `boolean`
+    Boolean,
+    /// `int`
+    Int,
+    /// `int[8]`
+    Array(Expr),
+}
+
+/// A variable in a declaration: `x = 1`.
+#[derive(Drop)]
+pub struct Variable {
+    pub name: Name,
+    pub initial: Option<Expr>,
+}
+
+/// A statement.
+#[cycle(tree)]
+#[derive(Drop)]
+pub enum Stmt {
+    /// `;`
+    Empty,
+    /// `{ .. }`
+    Block(Vec<Stmt>),
+    /// `int x = 1, y;`
+    Declare(Variables),
+    /// `x++;`
+    Evaluate(Expr),
+    /// `x += 1;`
+    Assign(Name, AssignOperator, Expr),
+    /// `x[i] += 1;`
+    AssignElement(Name, Expr, AssignOperator, Expr),
+    /// `if (c) ..`
+    If(Expr, Box<Stmt>),
+    /// `if (c) .. else ..`
+    IfElse(Expr, Box<Stmt>, Box<Stmt>),
+    /// `while (c) ..`
+    While(Expr, Box<Stmt>),
+    /// `for (first; c; step) ..`. The first part is a declaration, an assignment, an expression, or
+    /// empty; the step is an assignment, an expression, or empty.
+    For(Box<Stmt>, Option<Expr>, Box<Stmt>, Box<Stmt>),
+    /// `push(x);`
+    Push(Expr),
+    /// `print(x);`
+    Print(Expr),
+    /// `println(x);`
+    Println(Expr),
+    /// A statement of a composite stream: `add A;`
+    Compose(Composition),
+}
+
+/// A statement of a composite stream.
+#[cycle(tree)]
+#[derive(Drop)]
+pub enum Composition {
+    /// `add A(1);`, `body A;` or `loop A;`
+    Child(Role, Child),
+    /// `split duplicate;` or `split roundrobin(1, 2);`
+    Split(Splitter),
+    /// `join roundrobin(1, 2);`, or without weights
+    Join(Option<Vec<Expr>>),
+    /// `enqueue 0;`
+    Enqueue(Expr),
+}
+
+/// What a child is for.
+#[derive(Clone, Copy, PartialEq, Eq)]
+pub enum Role {
+    /// `add`
+    Add,
+    /// `body`
+    Body,
+    /// `loop`
+    Loop,
+}
+
+/// A child of a composite stream.
+#[cycle(tree)]
+#[derive(Drop)]
+pub enum Child {
+    /// `A(1, 2)`, or `A` without brackets
+    Named(Name, Option<Vec<Expr>>),
+    /// `Identity<int>`, with or without `()`
+    Identity(Brackets),
+    /// `FileReader<int>("numbers")`
+    FileReader(StringLiteral),
+    /// `FileWriter<int>("numbers")`
+    FileWriter(StringLiteral),
+    /// `int->int filter { .. }`
+    Filter(StreamType, Vec<Member>),
+    /// `int->int pipeline { .. }`, or without its types
+    Composite(Option<StreamType>, CompositeKind, Vec<Stmt>),
+}
+
+/// Whether an empty pair of brackets is written.
+#[derive(Clone, Copy, PartialEq, Eq)]
+pub enum Brackets {
+    Written,
+    Missing,
+}
+
+/// How items are split.
+#[derive(Drop)]
+pub enum Splitter {
+    /// `duplicate`, with or without `()`
+    Duplicate(Brackets),
+    /// `roundrobin(1, 2)`, or without weights
+    Roundrobin(Option<Vec<Expr>>),
+}
+
+/// An expression.
+#[derive(Drop)]
+pub enum Expr {
+    /// 0 to 2147483647, or the minimum, for which 2147483648 stands.
+    Number(i32),
+    /// `true` or `false`
+    Truth(bool),
+    /// `x`
+    Read(Name),
+    /// `x[i]`
+    Element(Name, Box<Expr>),
+    /// `pop()`
+    Pop,
+    /// `peek(i)`
+    Peek(Box<Expr>),
+    /// `(e)`
+    Group(Box<Expr>),
+    /// `-e`
+    Unary(UnaryOperator, Box<Expr>),
+    /// `x++`
+    Step(StepOperator, Name),
+    /// `x[i]++`
+    StepElement(StepOperator, Name, Box<Expr>),
+    /// `a + b`
+    Binary(BinaryOperator, Box<Expr>, Box<Expr>),
+    /// `c ? a : b`
+    Conditional(Box<Expr>, Box<Expr>, Box<Expr>),
+}
+
+/// How an assignment changes its variable.
+#[derive(Clone, Copy, PartialEq, Eq)]
+pub enum AssignOperator {
+    /// `=`
+    Set,
+    /// `+=`
+    Add,
+    /// `-=`
+    Subtract,
+    /// `*=`
+    Multiply,
+    /// `/=`
+    Divide,
+    /// `%=`
+    Remainder,
+}
+
+/// An operator before its operand.
+#[derive(Clone, Copy, PartialEq, Eq)]
+pub enum UnaryOperator {
+    /// `-`
+    Negate,
+    /// `!`
+    Not,
+    /// `~`
+    Complement,
+}
+
+/// A step of a variable by one.
+#[derive(Clone, Copy, PartialEq, Eq)]
+pub enum StepOperator {
+    /// `++x`, with the new value
+    IncrementFirst,
+    /// `--x`, with the new value
+    DecrementFirst,
+    /// `x++`, with the old value
+    IncrementAfter,
+    /// `x--`, with the old value
+    DecrementAfter,
+}
+
+/// An operator between its operands, from the loosest to the tightest.
+#[derive(Clone, Copy, PartialEq, Eq)]
+pub enum BinaryOperator {
+    /// `||`
+    LogicalOr,
+    /// `&&`
+    LogicalAnd,
+    /// `|`
+    Or,
+    /// `^`
+    ExclusiveOr,
+    /// `&`
+    And,
+    /// `==`
+    Equal,
+    /// `!=`
+    NotEqual,
+    /// `<`
+    Less,
+    /// `<=`
+    LessOrEqual,
+    /// `>`
+    Greater,
+    /// `>=`
+    GreaterOrEqual,
+    /// `<<`
+    ShiftLeft,
+    /// `>>`
+    ShiftRight,
+    /// `+`
+    Add,
+    /// `-`
+    Subtract,
+    /// `*`
+    Multiply,
+    /// `/`
+    Divide,
+    /// `%`
+    Remainder,
+}

@@ -1,6 +1,0 @@
-use Rattle.std.proofs.Common.{◌≡◌, take, map}
-use Rattle.strc_parse.specs.View.{rate_view}
-use Rattle.strc_work.proofs.copies.copy_rates.Given as goal
-
-abbrev pub invariant-loop-written : goal.invariant-loop-written
-invariant-loop-written l = map rate_view l.copied.items ≡ map rate_view (take l.written-index l.rates)

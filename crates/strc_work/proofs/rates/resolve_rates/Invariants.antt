@@ -1,8 +1,0 @@
-use Rattle.std.proofs.Common.{◌≡◌, drop, map}
-use Rattle.strc_parse.specs.View.{rate_view}
-use Rattle.strc_work.specs.Resolution.{rates_resolved}
-use Rattle.strc_work.proofs.Resolved.{list_behind}
-use Rattle.strc_work.proofs.rates.resolve_rates.Given as goal
-
-abbrev pub invariant-loop-rate : goal.invariant-loop-rate
-invariant-loop-rate l = list_behind rate_view l.resolved.items (rates_resolved l.constants l.fields l.input l.output (map rate_view (drop l.rate-index l.rates))) ≡ rates_resolved l.constants l.fields l.input l.output (map rate_view l.rates)

@@ -1,8 +1,0 @@
-// What a program prints.
-
-/// A printed number, and whether it ends its line.
-#[derive(Clone, Copy, Debug, PartialEq, Eq)]
-pub struct Word {
-    pub value: i32,
-    pub ends_line: bool,
-}
