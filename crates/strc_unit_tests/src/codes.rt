@@ -25,6 +25,21 @@ fn fired(
     }
 }
 
+/// The first item that a firing of a filter with these members pushes over a window.
+fn first_push(
+    rt: &impl Abort,
+    alloc: Global,
+    members: &str,
+    window: [i32; 3],
+) -> Result<Result<i32, Halt>, Fail> {
+    let text = format!(in alloc; "int->int filter F {{ {members} }}")?;
+    let code = code(alloc, &text)?;
+    match fired(rt, alloc, &code, Body::Work, &window)? {
+        Ok(pushes) => Ok(Ok(pushes.first().copied().unwrap_or(0))),
+        Err(halt) => Ok(Err(halt)),
+    }
+}
+
 #[test]
 fn items_are_taken_and_looked_at(rt: HostRuntime) -> Result<(), Fail> {
     let alloc = rt.alloc();
@@ -50,12 +65,7 @@ fn items_are_taken_and_looked_at(rt: HostRuntime) -> Result<(), Fail> {
         (twice, [5, 9, 9], outside),
     ];
     for (members, window, want) in rows {
-        let text = format!(in alloc; "int->int filter F {{ {members} }}")?;
-        let code = code(alloc, &text)?;
-        let found = match fired(&rt, alloc, &code, Body::Work, &window)? {
-            Ok(pushes) => Ok(pushes.first().copied().unwrap_or(0)),
-            Err(halt) => Err(halt),
-        };
+        let found = first_push(&rt, alloc, members, window)?;
         assert_eq!(rt; found, want, "{members}");
     }
     Ok(())
