@@ -12,7 +12,7 @@ use Rattle.strc_syntax.specs.declared.tree.CompositeKind.TheVariants as composit
 use Rattle.strc_syntax.specs.declared.tree.Brackets.{Brackets}
 use Rattle.strc_syntax.specs.declared.tree.Brackets.TheVariants as pair
 use Rattle.strc_syntax.specs.Tree as tree
-use Rattle.strc_grammar.specs.Grammar.{expr_spelled, brackets_spelled, next_argument_spelled, listed_spelled, arguments_spelled, kind_keyword, type_keyword, stream_type_spelled, int_items_spelled, file_spelled, parameter_spelled, next_parameter_spelled, listed_parameters_spelled, parameters_spelled, loosest, IsExpr, AreArguments, expr_height, arguments_height, highest}
+use Rattle.strc_grammar.specs.Grammar.{expr_spelled, brackets_spelled, next_argument_spelled, listed_spelled, arguments_spelled, kind_keyword, type_keyword, stream_type_spelled, int_items_spelled, file_spelled, parameter_spelled, next_parameter_spelled, listed_parameters_spelled, parameters_spelled, lowest_precedence, IsExpr, AreArguments, expr_height, arguments_height, highest}
 use Rattle.strc_grammar.specs.Reading.{◌>>=◌, tail, is_punctuation, expect, text, expression, repeated, one_more, one_taller, no_comma, next_argument, more_arguments, listed_arguments, arguments, empty_brackets, name, parameter, next_parameter, more_parameters, listed_parameters, parameters, item_type, stream_type, composite_kind, int_items, bracketed_text, file}
 use Rattle.strc_grammar.proofs.ExpressionAgain.{expr_length}
 use Rattle.strc_grammar.proofs.StatementAgain.{listed_length}
@@ -56,9 +56,9 @@ module _ (depth : ℕ) (all : List TokenKind) where
   next_holds so_far tokens kept le goes =
       let stands = comma_is tokens goes in
       let one : length tokens ≡ suc (length (tail tokens)) = ap count stands in
-      Holds-then (ExprRead depth loosest (tail tokens)) (λ x. Kept x.0 x.1 × (length x.1 ≤ length all)) depth all (expression depth loosest (tail tokens)) _
-      (Holds-on (ExprRead depth loosest (tail tokens)) (ExprRead depth loosest (tail tokens)) depth depth (tail tokens) all (expression depth loosest (tail tokens)) (omega arith) (omega arith)
-      (expression_holds depth loosest (tail tokens)) (λ x h. h)) (λ x read. (
+      Holds-then (ExprRead depth lowest_precedence (tail tokens)) (λ x. Kept x.0 x.1 × (length x.1 ≤ length all)) depth all (expression depth lowest_precedence (tail tokens)) _
+      (Holds-on (ExprRead depth lowest_precedence (tail tokens)) (ExprRead depth lowest_precedence (tail tokens)) depth depth (tail tokens) all (expression depth lowest_precedence (tail tokens)) (omega arith) (omega arith)
+      (expression_holds depth lowest_precedence (tail tokens)) (λ x h. h)) (λ x read. (
         (
           record {
             spelled = kept.0.spelled ∙ ap (λ (ts : List TokenKind). listed_spelled so_far.0 ts) (stands ∙ ap (λ (ts : List TokenKind). token.Punctuation punctuation.Comma ∷ ts) read.spelled)
@@ -90,7 +90,7 @@ listed_holds depth tokens =
           let none : Q (([], 0), tokens) = record { spelled = refl; shape = tt; high = refl; low = omega arith } in
           rw is none
       | inr is ↦
-          let read = Holds-then (ExprRead depth loosest tokens) Q depth tokens (expression depth loosest tokens) (λ e. more_arguments depth (e.0 ∷ [], e.1) e.2) (expression_holds depth loosest tokens) (λ x e.
+          let read = Holds-then (ExprRead depth lowest_precedence tokens) Q depth tokens (expression depth lowest_precedence tokens) (λ e. more_arguments depth (e.0 ∷ [], e.1) e.2) (expression_holds depth lowest_precedence tokens) (λ x e.
           more_holds depth tokens (x.0 ∷ [], x.1) x.2 (record { spelled = e.spelled; shape = (e.shape, tt); high = omega (arith, e.high); low = e.low }, tt)
           (omega (arith, ap count e.spelled, expr_length x.0 x.2))) in
           rw is read

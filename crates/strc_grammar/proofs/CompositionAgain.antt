@@ -15,7 +15,7 @@ use Rattle.strc_syntax.specs.declared.tree.Role.{Role}
 use Rattle.strc_syntax.specs.declared.tree.Role.TheVariants as role
 use Rattle.strc_syntax.specs.declared.tree.Brackets.{Brackets}
 use Rattle.strc_syntax.specs.Tree as tree
-use Rattle.strc_grammar.specs.Grammar.{expr_spelled, brackets_spelled, arguments_spelled, splitter_spelled, kind_keyword, type_keyword, block_spelled, members_spelled, child_spelled, stmt_spelled, loosest, IsExpr, AreArguments, IsSplitter, IsComposition, IsChild, expr_height, arguments_height, splitter_height, row_height, members_height, composition_height, child_height, stmt_height}
+use Rattle.strc_grammar.specs.Grammar.{expr_spelled, brackets_spelled, arguments_spelled, splitter_spelled, kind_keyword, type_keyword, block_spelled, members_spelled, child_spelled, stmt_spelled, lowest_precedence, IsExpr, AreArguments, IsSplitter, IsComposition, IsChild, expr_height, arguments_height, splitter_height, row_height, members_height, composition_height, child_height, stmt_height}
 use Rattle.strc_grammar.specs.Reading.{is_keyword}
 use Rattle.strc_grammar.specs.Streams.{Inner, statement, members, named_child, identity, anonymous_filter, anonymous_composite, behind_type, typed_child, worded_child, child, child_for, weights, splitter, split, join, enqueue, composition, compose, worded_statement, shallow}
 use Rattle.strc_grammar.proofs.Again.{Again, Again-then, Again-inside, Again-raised, expect_punctuation, expect_keyword_lem}
@@ -195,7 +195,7 @@ module _ (d : ℕ) (rest : List TokenKind) where
   enqueue_again : (e : tree.Expr) → IsExpr e → Again d (expr_height e) (part (tree.Enqueue e) rest) (enqueue (suc d) (expr_spelled e (token.Punctuation punctuation.Semicolon ∷ rest)))
   unfolding enqueue
   enqueue_again e shape =
-      rw less (Again-then d (expr_height e) (expr_height e) (found e rest) (part (tree.Enqueue e) rest) _ _ (closed_again e shape d punctuation.Semicolon rest (Stops-semicolon loosest rest)) (omega arith)
+      rw less (Again-then d (expr_height e) (expr_height e) (found e rest) (part (tree.Enqueue e) rest) _ _ (closed_again e shape d punctuation.Semicolon rest (Stops-semicolon lowest_precedence rest)) (omega arith)
       (λ low. Again-done d (expr_height e) (part (tree.Enqueue e) rest) _ low refl))
 
   -- the statement, by the reading of its part at either depth

@@ -19,9 +19,9 @@ use Rattle.strc_syntax.specs.declared.tree.BinaryOperator.TheVariants as binary
 use Rattle.strc_grammar.specs.declared.error.Fault.{Fault}
 use Rattle.strc_grammar.specs.declared.error.Fault.TheVariants.{Nesting}
 use Rattle.strc_syntax.specs.Tree as tree
-use Rattle.strc_grammar.specs.Grammar.{binary_punctuation, assign_punctuation, step_spelled, expr_spelled, looseness, loosest, rank, IsExpr, expr_height}
+use Rattle.strc_grammar.specs.Grammar.{binary_punctuation, assign_punctuation, step_spelled, expr_spelled, precedence, lowest_precedence, rank, IsExpr, expr_height}
 use Rattle.strc_syntax.specs.Tree.{read_of, step_of_place}
-use Rattle.strc_grammar.specs.Reading.{◌>>=◌, raised, Below, tail, punctuation_at, is_punctuation, binary_of, of_rank, operator, step_of, step_after, closed, index, after_place, after_name, name, step_first, pop_brackets, peek_brackets, group, sign, marked, worded, operand, chain, climb, choice, loosest_binary, conditional, ranked, expression}
+use Rattle.strc_grammar.specs.Reading.{◌>>=◌, raised, Below, tail, punctuation_at, is_punctuation, binary_of, of_rank, operator, step_of, step_after, closed, index, after_place, after_name, name, step_first, pop_brackets, peek_brackets, group, sign, marked, worded, operand, chain, climb, choice, lowest_binary_precedence, conditional, ranked, expression}
 use Rattle.strc_grammar.proofs.Again.{Again, Again-then, Again-inside, Again-leaf, Again-raised, expect_punctuation, raised_low, raised_high}
 
 -- what follows an expression of this rank and stops it
@@ -29,7 +29,7 @@ pub record Stops (r : ℕ) (rest : List TokenKind) : Type 0 where
   pub no_step : step_after rest ≡ None
   pub no_index : is_punctuation punctuation.OpenBracket rest ≡ false
   pub no_operator : (k : ℕ) → k ≤ r → operator k rest ≡ None
-  pub no_choice : loosest ≤ r → is_punctuation punctuation.Question rest ≡ false
+  pub no_choice : lowest_precedence ≤ r → is_punctuation punctuation.Question rest ≡ false
 
 pub Stops-le : {r : ℕ} {rest : List TokenKind} (k : ℕ) → k ≤ r → Stops r rest → Stops k rest
 Stops-le k le stops = record {
@@ -77,29 +77,29 @@ unfolding step_after operator punctuation_at is_punctuation
 Stops-keyword w r rest = record { no_step = refl; no_index = refl; no_operator = λ k h. refl; no_choice = λ h. refl }
 
 -- a question mark stops what has no tighter rank
-Stops-question : (rest : List TokenKind) → Stops loosest_binary (token.Punctuation punctuation.Question ∷ rest)
+Stops-question : (rest : List TokenKind) → Stops lowest_binary_precedence (token.Punctuation punctuation.Question ∷ rest)
 unfolding step_after operator punctuation_at is_punctuation
 Stops-question rest = record { no_step = refl; no_index = refl; no_operator = λ k h. refl; no_choice = λ h. absurd (omega arith) }
 
-pub looseness_some : (o : BinaryOperator) → (1 ≤ looseness o) × (looseness o ≤ 10)
-looseness_some binary.LogicalOr = (omega arith, omega arith)
-looseness_some binary.LogicalAnd = (omega arith, omega arith)
-looseness_some binary.Or = (omega arith, omega arith)
-looseness_some binary.ExclusiveOr = (omega arith, omega arith)
-looseness_some binary.And = (omega arith, omega arith)
-looseness_some binary.Equal = (omega arith, omega arith)
-looseness_some binary.NotEqual = (omega arith, omega arith)
-looseness_some binary.Less = (omega arith, omega arith)
-looseness_some binary.LessOrEqual = (omega arith, omega arith)
-looseness_some binary.Greater = (omega arith, omega arith)
-looseness_some binary.GreaterOrEqual = (omega arith, omega arith)
-looseness_some binary.ShiftLeft = (omega arith, omega arith)
-looseness_some binary.ShiftRight = (omega arith, omega arith)
-looseness_some binary.Add = (omega arith, omega arith)
-looseness_some binary.Subtract = (omega arith, omega arith)
-looseness_some binary.Multiply = (omega arith, omega arith)
-looseness_some binary.Divide = (omega arith, omega arith)
-looseness_some binary.Remainder = (omega arith, omega arith)
+pub precedence_some : (o : BinaryOperator) → (1 ≤ precedence o) × (precedence o ≤ 10)
+precedence_some binary.LogicalOr = (omega arith, omega arith)
+precedence_some binary.LogicalAnd = (omega arith, omega arith)
+precedence_some binary.Or = (omega arith, omega arith)
+precedence_some binary.ExclusiveOr = (omega arith, omega arith)
+precedence_some binary.And = (omega arith, omega arith)
+precedence_some binary.Equal = (omega arith, omega arith)
+precedence_some binary.NotEqual = (omega arith, omega arith)
+precedence_some binary.Less = (omega arith, omega arith)
+precedence_some binary.LessOrEqual = (omega arith, omega arith)
+precedence_some binary.Greater = (omega arith, omega arith)
+precedence_some binary.GreaterOrEqual = (omega arith, omega arith)
+precedence_some binary.ShiftLeft = (omega arith, omega arith)
+precedence_some binary.ShiftRight = (omega arith, omega arith)
+precedence_some binary.Add = (omega arith, omega arith)
+precedence_some binary.Subtract = (omega arith, omega arith)
+precedence_some binary.Multiply = (omega arith, omega arith)
+precedence_some binary.Divide = (omega arith, omega arith)
+precedence_some binary.Remainder = (omega arith, omega arith)
 
 operator_punctuation : (k : ℕ) (o : BinaryOperator) (rest : List TokenKind) → operator k (token.Punctuation (binary_punctuation o) ∷ rest) ≡ of_rank k (Some o)
 unfolding operator punctuation_at
@@ -164,18 +164,18 @@ no_index_punctuation binary.Multiply rest = refl
 no_index_punctuation binary.Divide rest = refl
 no_index_punctuation binary.Remainder rest = refl
 
-of_rank_other : (k : ℕ) (o : BinaryOperator) → k < looseness o → of_rank k (Some o) ≡ None
-of_rank_other k o lt = let ne : eqb (looseness o) k ≡ false = ne_eqb (looseness o) k (λ e. absurd (omega arith)) in rw ne refl
+of_rank_other : (k : ℕ) (o : BinaryOperator) → k < precedence o → of_rank k (Some o) ≡ None
+of_rank_other k o lt = let ne : eqb (precedence o) k ≡ false = ne_eqb (precedence o) k (λ e. absurd (omega arith)) in rw ne refl
 
-of_rank_same : (o : BinaryOperator) → of_rank (looseness o) (Some o) ≡ Some o
-of_rank_same o = let same : eqb (looseness o) (looseness o) ≡ true = eq-eqb (looseness o) (looseness o) refl in rw same refl
+of_rank_same : (o : BinaryOperator) → of_rank (precedence o) (Some o) ≡ Some o
+of_rank_same o = let same : eqb (precedence o) (precedence o) ≡ true = eq-eqb (precedence o) (precedence o) refl in rw same refl
 
-Stops-operator : (r : ℕ) (o : BinaryOperator) (rest : List TokenKind) → r < looseness o → Stops r (token.Punctuation (binary_punctuation o) ∷ rest)
+Stops-operator : (r : ℕ) (o : BinaryOperator) (rest : List TokenKind) → r < precedence o → Stops r (token.Punctuation (binary_punctuation o) ∷ rest)
 Stops-operator r o rest lt = record {
   no_step = no_step_punctuation o rest;
   no_index = no_index_punctuation o rest;
   no_operator = λ k h. operator_punctuation k o rest ∙ of_rank_other k o (omega arith);
-  no_choice = λ h. absurd (omega (arith, (looseness_some o).1));
+  no_choice = λ h. absurd (omega (arith, (precedence_some o).1));
 }
 
 pub height_some : (e : tree.Expr) → 1 ≤ expr_height e
@@ -242,7 +242,7 @@ climb_on depth below j (suc k) tokens e rest le stops again =
 
 -- read by the climb to a rank
 abbrev IsClimbed : tree.Expr → Type 0
-IsClimbed e = (d k : ℕ) (rest : List TokenKind) → rank e ≤ k → k < loosest → Stops k rest
+IsClimbed e = (d k : ℕ) (rest : List TokenKind) → rank e ≤ k → k < lowest_precedence → Stops k rest
     → Again (suc d) (expr_height e) (found e rest) (climb (suc d) (expression d) k (expr_spelled e rest))
 
 -- read from its leftmost operand on, up to where the loop of its rank stands behind it
@@ -254,10 +254,10 @@ record Spine (d k : ℕ) (e : tree.Expr) (rest : List TokenKind) : Type 0 where
 
 record Facts (e : tree.Expr) : Type 0 where
   climbed : IsClimbed e
-  spine : (d k : ℕ) (rest : List TokenKind) → rank e ≤ suc k → suc k < loosest → Stops k rest → Spine d k e rest
+  spine : (d k : ℕ) (rest : List TokenKind) → rank e ≤ suc k → suc k < lowest_precedence → Stops k rest → Spine d k e rest
 
 -- an expression of a tighter rank is the leftmost operand itself
-leaf_spine : (e : tree.Expr) → IsClimbed e → (d k : ℕ) (rest : List TokenKind) → rank e ≤ k → k < loosest → Stops k rest → Spine d k e rest
+leaf_spine : (e : tree.Expr) → IsClimbed e → (d k : ℕ) (rest : List TokenKind) → rank e ≤ k → k < lowest_precedence → Stops k rest → Spine d k e rest
 unfolding climb
 leaf_spine e climbed d k rest le lt stops =
     let again = climbed d k rest le lt stops in
@@ -273,55 +273,55 @@ operand_facts e is_zero again =
 
 -- read at a depth, by the climb to a rank and as a whole
 record IsReadAgain (e : tree.Expr) : Type 0 where
-  climbs : (depth r : ℕ) (rest : List TokenKind) → rank e ≤ r → r < loosest → Stops r rest → Again depth (expr_height e) (found e rest) (expression depth r (expr_spelled e rest))
-  whole : (depth : ℕ) (rest : List TokenKind) → Stops loosest rest → Again depth (expr_height e) (found e rest) (expression depth loosest (expr_spelled e rest))
+  climbs : (depth r : ℕ) (rest : List TokenKind) → rank e ≤ r → r < lowest_precedence → Stops r rest → Again depth (expr_height e) (found e rest) (expression depth r (expr_spelled e rest))
+  whole : (depth : ℕ) (rest : List TokenKind) → Stops lowest_precedence rest → Again depth (expr_height e) (found e rest) (expression depth lowest_precedence (expr_spelled e rest))
 
 no_depth : {X : Type 0} (e : tree.Expr) (x : X) → Again 0 (expr_height e) x (Err Nesting)
 no_depth e x = record { fits = λ h. absurd (omega (arith, height_some e)); over = λ h. refl }
 
-climbs_again : (e : tree.Expr) → Facts e → (depth r : ℕ) (rest : List TokenKind) → rank e ≤ r → r < loosest → Stops r rest
+climbs_again : (e : tree.Expr) → Facts e → (depth r : ℕ) (rest : List TokenKind) → rank e ≤ r → r < lowest_precedence → Stops r rest
     → Again depth (expr_height e) (found e rest) (expression depth r (expr_spelled e rest))
 unfolding expression ranked
 climbs_again e facts zero r rest le lt stops = no_depth e (found e rest)
 climbs_again e facts (suc d) r rest le lt stops =
-    let ne : eqb r loosest ≡ false = ne_eqb r loosest (λ same. absurd (omega arith)) in rw ne (facts.climbed d r rest le lt stops)
+    let ne : eqb r lowest_precedence ≡ false = ne_eqb r lowest_precedence (λ same. absurd (omega arith)) in rw ne (facts.climbed d r rest le lt stops)
 
-whole_again : (e : tree.Expr) → rank e < loosest → Facts e → (depth : ℕ) (rest : List TokenKind) → Stops loosest rest
-    → Again depth (expr_height e) (found e rest) (expression depth loosest (expr_spelled e rest))
+whole_again : (e : tree.Expr) → rank e < lowest_precedence → Facts e → (depth : ℕ) (rest : List TokenKind) → Stops lowest_precedence rest
+    → Again depth (expr_height e) (found e rest) (expression depth lowest_precedence (expr_spelled e rest))
 unfolding expression ranked conditional
 whole_again e low facts zero rest stops = no_depth e (found e rest)
 whole_again e low facts (suc d) rest stops =
-    Again-then (suc d) (expr_height e) (expr_height e) (found e rest) (found e rest) (climb (suc d) (expression d) loosest_binary (expr_spelled e rest)) _
-    (facts.climbed d loosest_binary rest (omega arith) (omega arith) (Stops-le loosest_binary (omega arith) stops)) (omega arith)
+    Again-then (suc d) (expr_height e) (expr_height e) (found e rest) (found e rest) (climb (suc d) (expression d) lowest_binary_precedence (expr_spelled e rest)) _
+    (facts.climbed d lowest_binary_precedence rest (omega arith) (omega arith) (Stops-le lowest_binary_precedence (omega arith) stops)) (omega arith)
     (λ fits. rw (stops.no_choice (omega arith)) (record { fits = λ h. refl; over = λ h. absurd (omega arith) }))
 
-read_again : (e : tree.Expr) → rank e < loosest → Facts e → IsReadAgain e
+read_again : (e : tree.Expr) → rank e < lowest_precedence → Facts e → IsReadAgain e
 read_again e low facts = record { climbs = climbs_again e facts; whole = whole_again e low facts }
 
 -- the facts of a binary operation, by those of its sides
-module _ (o : BinaryOperator) (left right : tree.Expr) (left_low : rank left ≤ looseness o) (right_low : rank right < looseness o) (lefts : Facts left) (rights : IsReadAgain right) where
+module _ (o : BinaryOperator) (left right : tree.Expr) (left_low : rank left ≤ precedence o) (right_low : rank right < precedence o) (lefts : Facts left) (rights : IsReadAgain right) where
   abbrev both : tree.Expr
   both = tree.Binary o left right
 
   -- the turn of the loop that reads the operator and the right side
-  turn_fits : (d k turns : ℕ) (rest : List TokenKind) → looseness o ≡ suc k → expr_height both ≤ suc d → Stops k rest
+  turn_fits : (d k turns : ℕ) (rest : List TokenKind) → precedence o ≡ suc k → expr_height both ≤ suc d → Stops k rest
       → chain (suc d) (expression d) (suc k) (suc turns) left (expr_height left) (token.Punctuation (binary_punctuation o) ∷ expr_spelled right rest)
       ≡ chain (suc d) (expression d) (suc k) turns both (expr_height both) rest
   unfolding chain
   turn_fits d k turns rest at low stops =
       let ahead : operator (suc k) (token.Punctuation (binary_punctuation o) ∷ expr_spelled right rest) ≡ Some o = operator_punctuation (suc k) o (expr_spelled right rest) ∙ subst (λ (n : ℕ). of_rank n (Some o) ≡ Some o) at (of_rank_same o) in
       let less : suc k - 1 ≡ k = omega arith in
-      let read = (rights.climbs d k rest (omega arith) (omega (arith, looseness_some o)) stops).fits (omega arith) in
+      let read = (rights.climbs d k rest (omega arith) (omega (arith, precedence_some o)) stops).fits (omega arith) in
       let up = raised_low (suc d) (max (expr_height left) (expr_height right)) (omega arith) in
       rw (ahead, less, read, up) refl
 
-  turn_over : (d k turns : ℕ) (rest : List TokenKind) → looseness o ≡ suc k → expr_height left ≤ suc d → suc d < expr_height both → Stops k rest
+  turn_over : (d k turns : ℕ) (rest : List TokenKind) → precedence o ≡ suc k → expr_height left ≤ suc d → suc d < expr_height both → Stops k rest
       → chain (suc d) (expression d) (suc k) (suc turns) left (expr_height left) (token.Punctuation (binary_punctuation o) ∷ expr_spelled right rest) ≡ Err Nesting
   unfolding chain
   turn_over d k turns rest at low high stops =
       let ahead : operator (suc k) (token.Punctuation (binary_punctuation o) ∷ expr_spelled right rest) ≡ Some o = operator_punctuation (suc k) o (expr_spelled right rest) ∙ subst (λ (n : ℕ). of_rank n (Some o) ≡ Some o) at (of_rank_same o) in
       let less : suc k - 1 ≡ k = omega arith in
-      let again = rights.climbs d k rest (omega arith) (omega (arith, looseness_some o)) stops in
+      let again = rights.climbs d k rest (omega arith) (omega (arith, precedence_some o)) stops in
       elim (cases_lt d (expr_height right)) [
         | inl deep ↦ let read = again.over deep in rw (ahead, less, read) refl
         | inr shallow ↦
@@ -330,10 +330,10 @@ module _ (o : BinaryOperator) (left right : tree.Expr) (left_low : rank left ≤
             rw (ahead, less, read, up) refl
       ]
 
-  own_spine : (d k : ℕ) (rest : List TokenKind) → looseness o ≡ suc k → Stops k rest → Spine d k both rest
+  own_spine : (d k : ℕ) (rest : List TokenKind) → precedence o ≡ suc k → Stops k rest → Spine d k both rest
   own_spine d k rest at stops =
       let behind : List TokenKind = token.Punctuation (binary_punctuation o) ∷ expr_spelled right rest in
-      let s = lefts.spine d k behind (omega arith) (omega (arith, looseness_some o)) (Stops-operator k o (expr_spelled right rest) (omega arith)) in
+      let s = lefts.spine d k behind (omega arith) (omega (arith, precedence_some o)) (Stops-operator k o (expr_spelled right rest) (omega arith)) in
       let long : length rest + 1 ≤ length (expr_spelled right rest) = omega (arith, expr_length right rest, height_some right) in
       let enough : 1 + length (expr_spelled right rest) ≤ s.turns = omega (arith, s.enough) in
       let one : s.turns ≡ suc (s.turns - 1) = omega arith in
@@ -347,7 +347,7 @@ module _ (o : BinaryOperator) (left right : tree.Expr) (left_low : rank left ≤
         ];
       }
 
-  own_climb : (d k : ℕ) (rest : List TokenKind) → looseness o ≡ suc k → Stops (suc k) rest
+  own_climb : (d k : ℕ) (rest : List TokenKind) → precedence o ≡ suc k → Stops (suc k) rest
       → Again (suc d) (expr_height both) (found both rest) (climb (suc d) (expression d) (suc k) (expr_spelled both rest))
   own_climb d k rest at stops =
       let s = own_spine d k rest at (Stops-le k (omega arith) stops) in record {
@@ -357,12 +357,12 @@ module _ (o : BinaryOperator) (left right : tree.Expr) (left_low : rank left ≤
 
   binary_facts : Facts both
   binary_facts =
-      let own : looseness o ≡ suc (looseness o - 1) = omega (arith, looseness_some o) in
-      let climbed : IsClimbed both = λ d k rest le lt stops. climb_on (suc d) (expression d) (suc (looseness o - 1)) k (expr_spelled both rest) both rest (omega arith) stops
-      (own_climb d (looseness o - 1) rest own (Stops-le (suc (looseness o - 1)) (omega arith) stops)) in
+      let own : precedence o ≡ suc (precedence o - 1) = omega (arith, precedence_some o) in
+      let climbed : IsClimbed both = λ d k rest le lt stops. climb_on (suc d) (expression d) (suc (precedence o - 1)) k (expr_spelled both rest) both rest (omega arith) stops
+      (own_climb d (precedence o - 1) rest own (Stops-le (suc (precedence o - 1)) (omega arith) stops)) in
       record {
         climbed = climbed;
-        spine = λ d k rest le bound stops. elim (cases_lt k (looseness o)) [
+        spine = λ d k rest le bound stops. elim (cases_lt k (precedence o)) [
           | inl lt ↦ own_spine d k rest (omega arith) stops
           | inr ge ↦ leaf_spine both climbed d k rest ge (omega arith) stops
         ];
@@ -384,7 +384,7 @@ abbrev IsIndexAgain : Option tree.Expr → Type 0
 IsIndexAgain None = Unit {0}
 IsIndexAgain (Some at) = IsReadAgain at
 
-closed_by : (e : tree.Expr) → IsReadAgain e → (d : ℕ) (m : Punctuation) (rest : List TokenKind) → Stops loosest (token.Punctuation m ∷ rest)
+closed_by : (e : tree.Expr) → IsReadAgain e → (d : ℕ) (m : Punctuation) (rest : List TokenKind) → Stops lowest_precedence (token.Punctuation m ∷ rest)
     → Again d (expr_height e) (found e rest) (closed (expression d) m (expr_spelled e (token.Punctuation m ∷ rest)))
 unfolding closed
 closed_by e again d m rest stops =
@@ -393,7 +393,7 @@ closed_by e again d m rest stops =
 
 module _ (d : ℕ) (rest : List TokenKind) where
   -- a node above an expression in brackets
-  enclosed_again : (e : tree.Expr) → IsReadAgain e → (m : Punctuation) → Stops loosest (token.Punctuation m ∷ rest) → {Y : Type 0} (y : Y) (make : tree.Expr → ℕ → List TokenKind → Result Y Fault)
+  enclosed_again : (e : tree.Expr) → IsReadAgain e → (m : Punctuation) → Stops lowest_precedence (token.Punctuation m ∷ rest) → {Y : Type 0} (y : Y) (make : tree.Expr → ℕ → List TokenKind → Result Y Fault)
       → make e (expr_height e + 1) rest ≡ Ok y
       → Again (suc d) (expr_height e + 1) y (closed (expression d) m (expr_spelled e (token.Punctuation m ∷ rest)) >>= λ value. raised (suc d) value.1 >>= λ height. make value.0 height value.2)
   enclosed_again e again m stops y make is =
@@ -405,20 +405,20 @@ module _ (d : ℕ) (rest : List TokenKind) where
   unfolding index is_punctuation
   index_again None again none = rw none (Again-leaf d _ _ refl)
   index_again (Some at) again none =
-      enclosed_again at again punctuation.CloseBracket (Stops-square loosest rest) (Some at, expr_height at + 1, rest) (λ value height after. Ok (Some value, height, after)) refl
+      enclosed_again at again punctuation.CloseBracket (Stops-square lowest_precedence rest) (Some at, expr_height at + 1, rest) (λ value height after. Ok (Some value, height, after)) refl
 
   group_again : (inner : tree.Expr) → IsReadAgain inner
       → Again (suc d) (expr_height (tree.Group inner)) (found (tree.Group inner) rest) (group (suc d) (expression d) (expr_spelled inner (token.Punctuation punctuation.CloseParen ∷ rest)))
   unfolding group
   group_again inner again =
-      enclosed_again inner again punctuation.CloseParen (Stops-bracket loosest rest) (found (tree.Group inner) rest) (λ value height after. Ok (tree.Group value, height, after)) refl
+      enclosed_again inner again punctuation.CloseParen (Stops-bracket lowest_precedence rest) (found (tree.Group inner) rest) (λ value height after. Ok (tree.Group value, height, after)) refl
 
   peek_again : (at : tree.Expr) → IsReadAgain at
       → Again (suc d) (expr_height (tree.Peek at)) (found (tree.Peek at) rest) (peek_brackets (suc d) (expression d) (token.Punctuation punctuation.OpenParen ∷ expr_spelled at (token.Punctuation punctuation.CloseParen ∷ rest)))
   unfolding peek_brackets
   peek_again at again =
       rw (expect_punctuation punctuation.OpenParen (expr_spelled at (token.Punctuation punctuation.CloseParen ∷ rest)))
-      (enclosed_again at again punctuation.CloseParen (Stops-bracket loosest rest) (found (tree.Peek at) rest) (λ value height after. Ok (tree.Peek value, height, after)) refl)
+      (enclosed_again at again punctuation.CloseParen (Stops-bracket lowest_precedence rest) (found (tree.Peek at) rest) (λ value height after. Ok (tree.Peek value, height, after)) refl)
 
   sign_again : (o : UnaryOperator) (inner : tree.Expr) → IsReadAgain inner → rank inner ≡ 0 → Stops 0 rest
       → Again (suc d) (expr_height (tree.Unary o inner)) (found (tree.Unary o inner) rest) (sign (suc d) (expression d) o (expr_spelled inner rest))
@@ -490,24 +490,24 @@ module _ (condition chosen other : tree.Expr) where
   abbrev choose : tree.Expr
   choose = tree.Conditional condition chosen other
 
-  choice_again : IsReadAgain chosen → IsReadAgain other → (d : ℕ) (rest : List TokenKind) → Stops loosest rest
+  choice_again : IsReadAgain chosen → IsReadAgain other → (d : ℕ) (rest : List TokenKind) → Stops lowest_precedence rest
       → Again (suc d) (expr_height choose) (found choose rest)
       (choice (suc d) (expression d) condition (expr_height condition) (expr_spelled chosen (token.Punctuation punctuation.Colon ∷ expr_spelled other rest)))
   unfolding choice
   choice_again chosens others d rest stops =
       Again-inside d (expr_height chosen) (expr_height choose) (found chosen (expr_spelled other rest)) (found choose rest) _ _
-      (closed_by chosen chosens d punctuation.Colon (expr_spelled other rest) (Stops-colon loosest (expr_spelled other rest))) (omega arith) (λ low.
+      (closed_by chosen chosens d punctuation.Colon (expr_spelled other rest) (Stops-colon lowest_precedence (expr_spelled other rest))) (omega arith) (λ low.
       Again-inside d (expr_height other) (expr_height choose) (found other rest) (found choose rest) _ _ (others.whole d rest stops) (omega arith) (λ both.
       Again-raised (suc d) (max (expr_height condition) (max (expr_height chosen) (expr_height other))) (found choose rest) _ refl))
 
-  choose_whole : rank condition < loosest → Facts condition → IsReadAgain chosen → IsReadAgain other → (depth : ℕ) (rest : List TokenKind) → Stops loosest rest
-      → Again depth (expr_height choose) (found choose rest) (expression depth loosest (expr_spelled choose rest))
+  choose_whole : rank condition < lowest_precedence → Facts condition → IsReadAgain chosen → IsReadAgain other → (depth : ℕ) (rest : List TokenKind) → Stops lowest_precedence rest
+      → Again depth (expr_height choose) (found choose rest) (expression depth lowest_precedence (expr_spelled choose rest))
   unfolding expression ranked conditional is_punctuation
   choose_whole low facts chosens others zero rest stops = no_depth choose (found choose rest)
   choose_whole low facts chosens others (suc d) rest stops =
       let behind = expr_spelled chosen (token.Punctuation punctuation.Colon ∷ expr_spelled other rest) in
       Again-then (suc d) (expr_height condition) (expr_height choose) (found condition (token.Punctuation punctuation.Question ∷ behind)) (found choose rest) _ _
-      (facts.climbed d loosest_binary (token.Punctuation punctuation.Question ∷ behind) (omega arith) (omega arith) (Stops-question behind)) (omega arith)
+      (facts.climbed d lowest_binary_precedence (token.Punctuation punctuation.Question ∷ behind) (omega arith) (omega arith) (Stops-question behind)) (omega arith)
       (λ fits. choice_again chosens others d rest stops)
 
   choose_facts : Facts choose
@@ -519,7 +519,7 @@ record Known (e : tree.Expr) : Type 0 where
   facts : Facts e
   reads : IsReadAgain e
 
-known_facts : (e : tree.Expr) → rank e < loosest → Facts e → Known e
+known_facts : (e : tree.Expr) → rank e < lowest_precedence → Facts e → Known e
 known_facts e low facts = record { facts = facts; reads = read_again e low facts }
 
 known_operand : (e : tree.Expr) → rank e ≡ 0
@@ -542,7 +542,7 @@ known (tree.Step o named) shape = known_operand (tree.Step o named) refl (λ d r
 known (tree.StepElement o named at) shape =
     let inside = (known at shape).reads in known_operand (tree.StepElement o named at) refl (λ d rest stops. element_step d named at inside rest o stops)
 known (tree.Binary o left right) shape =
-    known_facts (tree.Binary o left right) (omega (arith, (looseness_some o).1)) (binary_facts o left right shape.0 shape.1 (known left shape.2).facts (known right shape.3).reads)
+    known_facts (tree.Binary o left right) (omega (arith, (precedence_some o).1)) (binary_facts o left right shape.0 shape.1 (known left shape.2).facts (known right shape.3).reads)
 known (tree.Conditional condition chosen other) shape = record {
   facts = choose_facts condition chosen other;
   reads = record {
@@ -552,10 +552,10 @@ known (tree.Conditional condition chosen other) shape = record {
 }
 
 -- an expression is read again where what follows stops it
-pub expression_again : (e : tree.Expr) → IsExpr e → (depth : ℕ) (rest : List TokenKind) → Stops loosest rest
-    → Again depth (expr_height e) (found e rest) (expression depth loosest (expr_spelled e rest))
+pub expression_again : (e : tree.Expr) → IsExpr e → (depth : ℕ) (rest : List TokenKind) → Stops lowest_precedence rest
+    → Again depth (expr_height e) (found e rest) (expression depth lowest_precedence (expr_spelled e rest))
 expression_again e shape = (known e shape).reads.whole
 
-pub closed_again : (e : tree.Expr) → IsExpr e → (d : ℕ) (m : Punctuation) (rest : List TokenKind) → Stops loosest (token.Punctuation m ∷ rest)
+pub closed_again : (e : tree.Expr) → IsExpr e → (d : ℕ) (m : Punctuation) (rest : List TokenKind) → Stops lowest_precedence (token.Punctuation m ∷ rest)
     → Again d (expr_height e) (found e rest) (closed (expression d) m (expr_spelled e (token.Punctuation m ∷ rest)))
 closed_again e shape = closed_by e (known e shape).reads

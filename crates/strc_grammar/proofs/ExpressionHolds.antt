@@ -15,9 +15,9 @@ use Rattle.strc_syntax.specs.declared.tree.StepOperator.TheVariants as step
 use Rattle.strc_syntax.specs.declared.tree.BinaryOperator.{BinaryOperator}
 use Rattle.strc_syntax.specs.declared.tree.BinaryOperator.TheVariants as binary
 use Rattle.strc_syntax.specs.Tree as tree
-use Rattle.strc_grammar.specs.Grammar.{unary_punctuation, binary_punctuation, step_spelled, expr_spelled, looseness, loosest, rank, IsExpr, IsOptional, expr_height}
+use Rattle.strc_grammar.specs.Grammar.{unary_punctuation, binary_punctuation, step_spelled, expr_spelled, precedence, lowest_precedence, rank, IsExpr, IsOptional, expr_height}
 use Rattle.strc_syntax.specs.Tree.{read_of, step_of_place}
-use Rattle.strc_grammar.specs.Reading.{◌>>=◌, Below, Tall, tail, punctuation_at, is_punctuation, binary_of, of_rank, operator, step_after, closed, index, after_place_by, after_place, after_name, step_first, pop_brackets, peek_brackets, group, sign, marked, worded, operand, chain_by, chain, climb, choice, loosest_binary, conditional, ranked, expression, raised}
+use Rattle.strc_grammar.specs.Reading.{◌>>=◌, Below, Tall, tail, punctuation_at, is_punctuation, binary_of, of_rank, operator, step_after, closed, index, after_place_by, after_place, after_name, step_first, pop_brackets, peek_brackets, group, sign, marked, worded, operand, chain_by, chain, climb, choice, lowest_binary_precedence, conditional, ranked, expression, raised}
 use Rattle.strc_grammar.proofs.ExpressionAgain.{expr_length, height_some, index_spelled, place_height}
 use Rattle.strc_grammar.proofs.Holds.{Holds, Holds-then, Holds-on, Holds-expect, Holds-name, Holds-raised, punctuation_is}
 
@@ -69,19 +69,19 @@ binary_is punctuation.Slash o e = let same : binary.Divide ≡ o = cc in ap bina
 binary_is punctuation.Percent o e = let same : binary.Remainder ≡ o = cc in ap binary_punctuation same
 binary_is _ o e = absurd cc
 
-of_rank_is : (r : ℕ) (found : Option BinaryOperator) (o : BinaryOperator) → of_rank r found ≡ Some o → (found ≡ Some o) × (looseness o ≡ r)
+of_rank_is : (r : ℕ) (found : Option BinaryOperator) (o : BinaryOperator) → of_rank r found ≡ Some o → (found ≡ Some o) × (precedence o ≡ r)
 of_rank_is r None o e = absurd cc
 of_rank_is r (Some found) o e =
-    elim (cases_Bool (eqb (looseness found) r)) [
+    elim (cases_Bool (eqb (precedence found) r)) [
       | inl is ↦
           let taken : cond true (Some found) None ≡ Some o = subst (λ (b : Bool). cond b (Some found) None ≡ Some o) is e in
-          let same : found ≡ o = cc in (ap Some same, ap looseness (sym same) ∙ eqb-true (looseness found) r is)
+          let same : found ≡ o = cc in (ap Some same, ap precedence (sym same) ∙ eqb-true (precedence found) r is)
       | inr is ↦
           let left : cond false (Some found) None ≡ Some o = subst (λ (b : Bool). cond b (Some found) None ≡ Some o) is e in absurd cc
     ]
 
 -- the operator that stands first is spelled there
-operator_is : (r : ℕ) (tokens : List TokenKind) (o : BinaryOperator) → operator r tokens ≡ Some o → (tokens ≡ token.Punctuation (binary_punctuation o) ∷ tail tokens) × (looseness o ≡ r)
+operator_is : (r : ℕ) (tokens : List TokenKind) (o : BinaryOperator) → operator r tokens ≡ Some o → (tokens ≡ token.Punctuation (binary_punctuation o) ∷ tail tokens) × (precedence o ≡ r)
 unfolding operator punctuation_at
 operator_is r [] o e = absurd cc
 operator_is r (token.Punctuation found ∷ rest) o e =
@@ -147,7 +147,7 @@ IsReader d below = (r : ℕ) (tokens : List TokenKind) → Holds (ExprRead d r t
 pub closed_holds : (d : ℕ) (below : Below) → IsReader d below → (m : Punctuation) (tokens : List TokenKind) → Holds (ClosedRead d m tokens) d tokens (closed below m tokens)
 unfolding closed
 closed_holds d below holds m tokens =
-    Holds-then (ExprRead d loosest tokens) (ClosedRead d m tokens) d tokens (below loosest tokens) _ (holds loosest tokens) (λ x read.
+    Holds-then (ExprRead d lowest_precedence tokens) (ClosedRead d m tokens) d tokens (below lowest_precedence tokens) _ (holds lowest_precedence tokens) (λ x read.
     Holds-expect (ClosedRead d m tokens) d tokens m x.2 _ (omega (arith, ExprRead-long read)) (λ rest e.
     record { spelled = read.spelled ∙ ap (λ (ts : List TokenKind). expr_spelled x.0 ts) e; shape = read.shape; high = read.high; low = read.low }))
 
@@ -325,7 +325,7 @@ module _ (d : ℕ) where
 
     -- the operation that a turn of the loop makes
     joined : (r : ℕ) (all tokens : List TokenKind) (left : tree.Expr) (h : ℕ) (o : BinaryOperator) (x : tree.Expr × ℕ × List TokenKind) → ExprRead (suc d) (suc r) all (left, h, tokens)
-        → tokens ≡ token.Punctuation (binary_punctuation o) ∷ tail tokens → looseness o ≡ suc r → ExprRead d r (tail tokens) x → max h x.1 < suc d
+        → tokens ≡ token.Punctuation (binary_punctuation o) ∷ tail tokens → precedence o ≡ suc r → ExprRead d r (tail tokens) x → max h x.1 < suc d
         → ExprRead (suc d) (suc r) all (tree.Binary o left x.0, max h x.1 + 1, x.2)
     joined r all tokens left h o x lefts stands at rights lt =
         let in_left : h ≡ expr_height left = lefts.high in
@@ -375,17 +375,17 @@ module _ (d : ℕ) where
 
     -- ---- the choice between two
 
-    choice_holds : (all tokens : List TokenKind) (c : tree.Expr) (h : ℕ) → all ≡ expr_spelled c (token.Punctuation punctuation.Question ∷ tokens) → IsExpr c → rank c < loosest → h ≡ expr_height c → h ≤ suc d
-        → Holds (ExprRead (suc d) loosest all) (suc d) all (choice (suc d) below c h tokens)
+    choice_holds : (all tokens : List TokenKind) (c : tree.Expr) (h : ℕ) → all ≡ expr_spelled c (token.Punctuation punctuation.Question ∷ tokens) → IsExpr c → rank c < lowest_precedence → h ≡ expr_height c → h ≤ suc d
+        → Holds (ExprRead (suc d) lowest_precedence all) (suc d) all (choice (suc d) below c h tokens)
     unfolding choice
     choice_holds all tokens c h spelled shape ranked high low =
-        let Q : tree.Expr × ℕ × List TokenKind → Type 0 = ExprRead (suc d) loosest all in
+        let Q : tree.Expr × ℕ × List TokenKind → Type 0 = ExprRead (suc d) lowest_precedence all in
         let long : h + length tokens + 1 ≤ length all = omega (arith, high, ap count spelled, expr_length c (token.Punctuation punctuation.Question ∷ tokens)) in
         Holds-then (ClosedRead d punctuation.Colon tokens) Q (suc d) all (closed below punctuation.Colon tokens) _
         (Holds-on (ClosedRead d punctuation.Colon tokens) (ClosedRead d punctuation.Colon tokens) d (suc d) tokens all (closed below punctuation.Colon tokens) (omega arith) (omega arith) (closed_holds d below holds punctuation.Colon tokens) (λ x k. k)) (λ x chosen.
         let nearer : x.1 + length x.2 + 1 ≤ length tokens = ClosedRead-long chosen in
-        Holds-then (ExprRead d loosest x.2) Q (suc d) all (below loosest x.2) _
-        (Holds-on (ExprRead d loosest x.2) (ExprRead d loosest x.2) d (suc d) x.2 all (below loosest x.2) (omega arith) (omega arith) (holds loosest x.2) (λ y k. k)) (λ y other.
+        Holds-then (ExprRead d lowest_precedence x.2) Q (suc d) all (below lowest_precedence x.2) _
+        (Holds-on (ExprRead d lowest_precedence x.2) (ExprRead d lowest_precedence x.2) d (suc d) x.2 all (below lowest_precedence x.2) (omega arith) (omega arith) (holds lowest_precedence x.2) (λ y k. k)) (λ y other.
         Holds-raised Q (suc d) all (suc d) (max h (max x.1 y.1)) _
         (λ lt. record {
           spelled = spelled ∙ ap (λ (ts : List TokenKind). expr_spelled c (token.Punctuation punctuation.Question ∷ ts)) (chosen.spelled ∙ ap (λ (ts : List TokenKind). expr_spelled x.0 (token.Punctuation punctuation.Colon ∷ ts)) other.spelled);
@@ -395,26 +395,26 @@ module _ (d : ℕ) where
           low = omega arith;
         }) (λ le. omega (arith, chosen.low, other.low))))
 
-    conditional_holds : (tokens : List TokenKind) → Holds (ExprRead (suc d) loosest tokens) (suc d) tokens (conditional (suc d) below tokens)
+    conditional_holds : (tokens : List TokenKind) → Holds (ExprRead (suc d) lowest_precedence tokens) (suc d) tokens (conditional (suc d) below tokens)
     unfolding conditional
     conditional_holds tokens =
-        Holds-then (ExprRead (suc d) loosest_binary tokens) (ExprRead (suc d) loosest tokens) (suc d) tokens (climb (suc d) below loosest_binary tokens) _ (climb_holds loosest_binary tokens) (λ x read.
+        Holds-then (ExprRead (suc d) lowest_binary_precedence tokens) (ExprRead (suc d) lowest_precedence tokens) (suc d) tokens (climb (suc d) below lowest_binary_precedence tokens) _ (climb_holds lowest_binary_precedence tokens) (λ x read.
         elim (cases_Bool (is_punctuation punctuation.Question x.2)) [
           | inl is ↦
               let spelled = read.spelled ∙ ap (λ (ts : List TokenKind). expr_spelled x.0 ts) (punctuation_is punctuation.Question x.2 is) in
               let chosen = choice_holds tokens (tail x.2) x.0 x.1 spelled read.shape (omega (arith, read.ranked)) read.high read.low in
               rw is chosen
           | inr is ↦
-              let alone : ExprRead (suc d) loosest tokens (x.0, x.1, x.2) = record { spelled = read.spelled; shape = read.shape; ranked = omega (arith, read.ranked); high = read.high; low = read.low } in
+              let alone : ExprRead (suc d) lowest_precedence tokens (x.0, x.1, x.2) = record { spelled = read.spelled; shape = read.shape; ranked = omega (arith, read.ranked); high = read.high; low = read.low } in
               rw is alone
         ])
 
     ranked_holds : (r : ℕ) (tokens : List TokenKind) → Holds (ExprRead (suc d) r tokens) (suc d) tokens (ranked (suc d) below r tokens)
     unfolding ranked
     ranked_holds r tokens =
-        elim (cases_Bool (eqb r loosest)) [
+        elim (cases_Bool (eqb r lowest_precedence)) [
           | inl is ↦
-              let whole = subst (λ (n : ℕ). Holds (ExprRead (suc d) n tokens) (suc d) tokens (conditional (suc d) below tokens)) (sym (eqb-true r loosest is)) (conditional_holds tokens) in
+              let whole = subst (λ (n : ℕ). Holds (ExprRead (suc d) n tokens) (suc d) tokens (conditional (suc d) below tokens)) (sym (eqb-true r lowest_precedence is)) (conditional_holds tokens) in
               rw is whole
           | inr is ↦ rw is (climb_holds r tokens)
         ]

@@ -13,7 +13,7 @@ use Rattle.strc_syntax.specs.declared.tree.RateKind.TheVariants as rate
 use Rattle.strc_syntax.specs.contracts.tree.RateKind.{the_type as rate_type}
 use Rattle.strc_grammar.specs.declared.error.Fault.TheVariants.{Nesting}
 use Rattle.strc_syntax.specs.Tree as tree
-use Rattle.strc_grammar.specs.Grammar.{expr_spelled, declared_spelled, row_spelled, block_spelled, rate_keyword, rate_spelled, each_spelled, member_spelled, members_spelled, loosest, IsExpr, IsVariableType, AreVariables, AreRates, IsMember, declared_height, row_height, rate_height, member_height, members_height, highest}
+use Rattle.strc_grammar.specs.Grammar.{expr_spelled, declared_spelled, row_spelled, block_spelled, rate_keyword, rate_spelled, each_spelled, member_spelled, members_spelled, lowest_precedence, IsExpr, IsVariableType, AreVariables, AreRates, IsMember, declared_height, row_height, rate_height, member_height, members_height, highest}
 use Rattle.strc_grammar.specs.Reading.{◌>>=◌, is_punctuation, repeated, brace}
 use Rattle.strc_syntax.specs.Tree.{chain}
 use Rattle.strc_grammar.specs.Streams.{rate_kind, has_rate, rate_of, rate_turn, no_rate, rates, statement, braced, init, phase, fields, member, members}
@@ -54,12 +54,12 @@ rate_stands rate.Peek rest = refl
 
 -- a rate stands before another or before the block
 abbrev Stopping : List TokenKind → Type 0
-Stopping rest = Stops loosest rest
+Stopping rest = Stops lowest_precedence rest
 
 rate_keyword_stops : (kind : RateKind) (rest : List TokenKind) → Stopping (rate_keyword kind ∷ rest)
-rate_keyword_stops rate.Push rest = Stops-keyword keyword.Push loosest rest
-rate_keyword_stops rate.Pop rest = Stops-keyword keyword.Pop loosest rest
-rate_keyword_stops rate.Peek rest = Stops-keyword keyword.Peek loosest rest
+rate_keyword_stops rate.Push rest = Stops-keyword keyword.Push lowest_precedence rest
+rate_keyword_stops rate.Pop rest = Stops-keyword keyword.Pop lowest_precedence rest
+rate_keyword_stops rate.Peek rest = Stops-keyword keyword.Peek lowest_precedence rest
 
 rates_stop : (items : List tree.Rate) (rest : List TokenKind) → Stopping rest → Stopping (each_spelled rate_spelled items rest)
 rates_stop [] rest stops = stops
@@ -137,7 +137,7 @@ module _ (d : ℕ) where
       let behind = block_spelled block rest in
       let none : max 0 (highest rate_height declared) ≡ highest rate_height declared = omega arith in
       let read = rates_on d declared shape [] 0 (all_fresh declared) (length (each_spelled rate_spelled declared behind) + 1) behind (no_rate_block block rest)
-      (Stops-brace loosest (row_spelled block (token.Punctuation punctuation.CloseBrace ∷ rest))) (omega arith) in
+      (Stops-brace lowest_precedence (row_spelled block (token.Punctuation punctuation.CloseBrace ∷ rest))) (omega arith) in
       rw none at read
 
   phase_again : (declared : List tree.Rate) (block : tree.Stmts) → AreRates declared → BlockAgain block → (rest : List TokenKind)

@@ -14,7 +14,7 @@ use Rattle.strc_syntax.specs.declared.tree.RateKind.{RateKind}
 use Rattle.strc_syntax.specs.declared.tree.RateKind.TheVariants as rate
 use Rattle.strc_syntax.specs.contracts.tree.RateKind.{the_type as rate_type}
 use Rattle.strc_syntax.specs.Tree as tree
-use Rattle.strc_grammar.specs.Grammar.{declared_spelled, block_spelled, rate_keyword, rate_spelled, each_spelled, member_spelled, loosest, IsExpr, AreStmts, AreRates, IsMember, row_height, rate_height, member_height, highest}
+use Rattle.strc_grammar.specs.Grammar.{declared_spelled, block_spelled, rate_keyword, rate_spelled, each_spelled, member_spelled, lowest_precedence, IsExpr, AreStmts, AreRates, IsMember, row_height, rate_height, member_height, highest}
 use Rattle.strc_grammar.specs.Reading.{◌>>=◌, Read, tail, repeated, one_taller, brace, expression, declared}
 use Rattle.strc_grammar.specs.Streams.{Inner, statements, rate_kind, has_rate, rate_of, rate_by, rate_turn, no_rate_by, no_rate, rates, braced, init, phase, fields, member, members}
 use Rattle.strc_grammar.proofs.ExpressionAgain.{expr_length}
@@ -68,12 +68,12 @@ module _ (limit : ℕ) (all : List TokenKind) (so_far : List tree.Rate × ℕ) (
   abbrev pushed : RateKind → tree.Expr × ℕ × List TokenKind → Read (List tree.Rate × ℕ)
   pushed kind x = Ok ((so_far.0 ++ record { kind = kind; rate = x.0 } ∷ [], max so_far.1 x.1), x.2)
 
-  new_rate : (kind : RateKind) → tokens ≡ rate_keyword kind ∷ tail tokens → has_rate kind so_far.0 ≡ false → Holds Next limit all (expression limit loosest (tail tokens) >>= pushed kind)
+  new_rate : (kind : RateKind) → tokens ≡ rate_keyword kind ∷ tail tokens → has_rate kind so_far.0 ≡ false → Holds Next limit all (expression limit lowest_precedence (tail tokens) >>= pushed kind)
   new_rate kind stands fresh =
       let one : length tokens ≡ suc (length (tail tokens)) = ap count stands in
-      Holds-then (ExprRead limit loosest (tail tokens)) Next limit all (expression limit loosest (tail tokens)) (pushed kind)
-      (Holds-on (ExprRead limit loosest (tail tokens)) (ExprRead limit loosest (tail tokens)) limit limit (tail tokens) all (expression limit loosest (tail tokens)) (omega arith) (omega arith)
-      (expression_holds limit loosest (tail tokens)) (λ x h. h)) (λ x read. (
+      Holds-then (ExprRead limit lowest_precedence (tail tokens)) Next limit all (expression limit lowest_precedence (tail tokens)) (pushed kind)
+      (Holds-on (ExprRead limit lowest_precedence (tail tokens)) (ExprRead limit lowest_precedence (tail tokens)) limit limit (tail tokens) all (expression limit lowest_precedence (tail tokens)) (omega arith) (omega arith)
+      (expression_holds limit lowest_precedence (tail tokens)) (λ x h. h)) (λ x read. (
         record {
           spelled = kept.spelled ∙ ap (λ (ts : List TokenKind). each_spelled rate_spelled so_far.0 ts) (stands ∙ ap (λ (ts : List TokenKind). rate_keyword kind ∷ ts) read.spelled)
               ∙ sym (each_spelled-push rate_spelled so_far.0 (record { kind = kind; rate = x.0 }) x.2);

@@ -14,7 +14,7 @@ use Rattle.strc_syntax.specs.declared.tree.StepOperator.TheVariants as step
 use Rattle.strc_syntax.specs.declared.tree.AssignOperator.{AssignOperator}
 use Rattle.strc_syntax.specs.declared.tree.AssignOperator.TheVariants as assign
 use Rattle.strc_syntax.specs.Tree as tree
-use Rattle.strc_grammar.specs.Grammar.{binary_punctuation, assign_punctuation, expr_spelled, each_spelled, highest, type_spelled, initial_spelled, variable_spelled, next_spelled, variables_spelled, declared_spelled, part_spelled, condition_spelled, bracketed_spelled, heading_spelled, loosest, IsExpr, IsOptional, IsVariableType, IsVariable, AreVariables, IsStep, IsFirst, expr_height, optional_height, type_height, variable_height, declared_height, stmt_height}
+use Rattle.strc_grammar.specs.Grammar.{binary_punctuation, assign_punctuation, expr_spelled, each_spelled, highest, type_spelled, initial_spelled, variable_spelled, next_spelled, variables_spelled, declared_spelled, part_spelled, condition_spelled, bracketed_spelled, heading_spelled, lowest_precedence, IsExpr, IsOptional, IsVariableType, IsVariable, AreVariables, IsStep, IsFirst, expr_height, optional_height, type_height, variable_height, declared_height, stmt_height}
 use Rattle.strc_grammar.specs.Reading.{◌>>=◌, punctuation_at, is_punctuation, is_keyword, name, brace, initial, variable, no_comma, next_variable, more_variables, variables, int_type, variable_type, declared, declare, evaluate, assign_to, assign_element, assign_at, assignment, after_value, simple, optional, part, ended, bracketed, argument, condition, last_part, behind_first, for_heading}
 use Rattle.strc_grammar.specs.Streams.{Inner, worded_statement, shallow}
 use Rattle.strc_grammar.proofs.Again.{Again, Again-then, Again-inside, Again-leaf, Again-raised, expect_punctuation}
@@ -23,21 +23,21 @@ use Rattle.strc_grammar.proofs.Lists.{TallAgain, each_taller_again}
 
 -- what follows an expression that is a statement, an initialiser or a part of a `for`
 pub record Ends (rest : List TokenKind) : Type 0 where
-  pub stops : Stops loosest rest
+  pub stops : Stops lowest_precedence rest
   pub no_assign : assign_at rest ≡ None
   pub no_initial : is_punctuation punctuation.Assign rest ≡ false
 
 pub Ends-semicolon : (rest : List TokenKind) → Ends (token.Punctuation punctuation.Semicolon ∷ rest)
 unfolding assign_at punctuation_at is_punctuation
-Ends-semicolon rest = record { stops = Stops-semicolon loosest rest; no_assign = refl; no_initial = refl }
+Ends-semicolon rest = record { stops = Stops-semicolon lowest_precedence rest; no_assign = refl; no_initial = refl }
 
 pub Ends-bracket : (rest : List TokenKind) → Ends (token.Punctuation punctuation.CloseParen ∷ rest)
 unfolding assign_at punctuation_at is_punctuation
-Ends-bracket rest = record { stops = Stops-bracket loosest rest; no_assign = refl; no_initial = refl }
+Ends-bracket rest = record { stops = Stops-bracket lowest_precedence rest; no_assign = refl; no_initial = refl }
 
 pub Ends-comma : (rest : List TokenKind) → Ends (token.Punctuation punctuation.Comma ∷ rest)
 unfolding assign_at punctuation_at is_punctuation
-Ends-comma rest = record { stops = Stops-comma loosest rest; no_assign = refl; no_initial = refl }
+Ends-comma rest = record { stops = Stops-comma lowest_precedence rest; no_assign = refl; no_initial = refl }
 
 -- the higher of two parts that were read
 pub Again-max : (d low high : ℕ) {Y : Type 0} (y : Y) (read : Result Y Fault) → low ≤ d → Again d high y read → Again d (max low high) y read
@@ -131,7 +131,7 @@ module _ (d : ℕ) where
   type_again tree.Int shape rest none = rw none (Again-done d 0 (tree.Int, 0, rest) _ (omega arith) refl)
   type_again (tree.Array size) shape rest none =
       Again-then d (expr_height size) (expr_height size) (found size rest) (tree.Array size, expr_height size, rest) _ _
-      (closed_again size shape d punctuation.CloseBracket rest (Stops-square loosest rest)) (omega arith)
+      (closed_again size shape d punctuation.CloseBracket rest (Stops-square lowest_precedence rest)) (omega arith)
       (λ low. Again-done d (expr_height size) (tree.Array size, expr_height size, rest) _ low refl)
 
   no_index_before : (vs : List tree.Variable) → AreVariables vs → (rest : List TokenKind) → is_punctuation punctuation.OpenBracket (variables_spelled vs rest) ≡ false
@@ -253,7 +253,7 @@ module _ (d : ℕ) (rest : List TokenKind) (ends : Ends rest) where
   assign_again x o e shape =
       let behind = expr_spelled e rest in
       rw less (Again-inside d 1 (expr_height e + 1) (found (tree.Read x) (token.Punctuation (assign_punctuation o) ∷ behind)) (made (tree.Assign x o e) rest) _ _
-      (expression_again (tree.Read x) tt d (token.Punctuation (assign_punctuation o) ∷ behind) (Stops-assign o loosest behind)) (omega (arith, height_some e))
+      (expression_again (tree.Read x) tt d (token.Punctuation (assign_punctuation o) ∷ behind) (Stops-assign o lowest_precedence behind)) (omega (arith, height_some e))
       (λ low. rw (assign_at_punctuation o behind) (to_again x o e shape)))
 
   assign_element_again : (x : List ℕ) (at : tree.Expr) (o : AssignOperator) (e : tree.Expr) → IsExpr at → IsExpr e
@@ -262,7 +262,7 @@ module _ (d : ℕ) (rest : List TokenKind) (ends : Ends rest) where
   assign_element_again x at o e at_shape shape =
       let behind = expr_spelled e rest in
       rw less (Again-inside d (expr_height at + 1) (max (expr_height at + 1) (expr_height e) + 1) (found (tree.Element x at) (token.Punctuation (assign_punctuation o) ∷ behind)) (made (tree.AssignElement x at o e) rest) _ _
-      (expression_again (tree.Element x at) at_shape d (token.Punctuation (assign_punctuation o) ∷ behind) (Stops-assign o loosest behind)) (omega arith)
+      (expression_again (tree.Element x at) at_shape d (token.Punctuation (assign_punctuation o) ∷ behind) (Stops-assign o lowest_precedence behind)) (omega arith)
       (λ low. rw (assign_at_punctuation o behind) (element_again x at o e shape)))
 
   simple_again : (s : tree.Stmt) → IsStep s → (s ≡ tree.Empty → ⊥) → Again (suc d) (stmt_height s) (made s rest) (simple (suc d) (part_spelled s rest))
@@ -350,7 +350,7 @@ module _ (d : ℕ) (rest : List TokenKind) where
   condition_again None shape = Again-done d 0 (None, 0, rest) _ (omega arith) refl
   condition_again (Some e) shape =
       let stays : is_punctuation punctuation.Semicolon (expr_spelled e (token.Punctuation punctuation.Semicolon ∷ rest)) ≡ false = (opens e (token.Punctuation punctuation.Semicolon ∷ rest)).no_semicolon in
-      rw stays (Again-then d (expr_height e) (expr_height e) (found e rest) (Some e, expr_height e, rest) _ _ (closed_again e shape d punctuation.Semicolon rest (Stops-semicolon loosest rest)) (omega arith)
+      rw stays (Again-then d (expr_height e) (expr_height e) (found e rest) (Some e, expr_height e, rest) _ _ (closed_again e shape d punctuation.Semicolon rest (Stops-semicolon lowest_precedence rest)) (omega arith)
       (λ low. Again-done d (expr_height e) (Some e, expr_height e, rest) _ low refl))
 
 -- the height of what stands in the brackets of a `for`
@@ -388,7 +388,7 @@ module _ (d : ℕ) (rest : List TokenKind) where
   unfolding bracketed
   bracketed_again e shape =
       let less : suc d - 1 ≡ d = omega arith in
-      rw (expect_punctuation punctuation.OpenParen (expr_spelled e (token.Punctuation punctuation.CloseParen ∷ rest)), less) (closed_again e shape d punctuation.CloseParen rest (Stops-bracket loosest rest))
+      rw (expect_punctuation punctuation.OpenParen (expr_spelled e (token.Punctuation punctuation.CloseParen ∷ rest)), less) (closed_again e shape d punctuation.CloseParen rest (Stops-bracket lowest_precedence rest))
 
 module _ (d : ℕ) (rest : List TokenKind) where
   argument_again : (e : tree.Expr) → IsExpr e → Again (suc d) (expr_height e + 1) (e, expr_height e + 1, rest) (argument (suc d) (bracketed_spelled e (token.Punctuation punctuation.Semicolon ∷ rest)))

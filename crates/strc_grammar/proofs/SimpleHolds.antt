@@ -9,7 +9,7 @@ use Rattle.strc_lex.specs.declared.token.Punctuation.TheVariants as punctuation
 use Rattle.strc_syntax.specs.declared.tree.AssignOperator.{AssignOperator}
 use Rattle.strc_syntax.specs.declared.tree.AssignOperator.TheVariants as assign
 use Rattle.strc_syntax.specs.Tree as tree
-use Rattle.strc_grammar.specs.Grammar.{assign_punctuation, expr_spelled, highest, type_spelled, initial_spelled, variable_spelled, next_spelled, variables_spelled, declared_spelled, part_spelled, condition_spelled, bracketed_spelled, heading_spelled, loosest, IsExpr, IsOptional, IsVariableType, IsVariable, AreVariables, IsStep, IsFirst, expr_height, optional_height, type_height, variable_height, declared_height, stmt_height}
+use Rattle.strc_grammar.specs.Grammar.{assign_punctuation, expr_spelled, highest, type_spelled, initial_spelled, variable_spelled, next_spelled, variables_spelled, declared_spelled, part_spelled, condition_spelled, bracketed_spelled, heading_spelled, lowest_precedence, IsExpr, IsOptional, IsVariableType, IsVariable, AreVariables, IsStep, IsFirst, expr_height, optional_height, type_height, variable_height, declared_height, stmt_height}
 use Rattle.strc_grammar.specs.Reading.{tail, punctuation_at, is_punctuation, closed, expression, one_taller, repeated, initial, variable, no_comma, next_variable, more_variables, variables, int_type, variable_type, declared, declare, evaluate, assign_to, assign_element, assign_at, assign_by, assignment, after_value_by, after_value, simple, optional, part, ended, bracketed, argument, condition, last_part, behind_first, for_heading}
 use Rattle.strc_grammar.proofs.ExpressionAgain.{expr_length}
 use Rattle.strc_grammar.proofs.SimpleAgain.{variable_length, type_length, heading_height, part_length, step_first, condition_length, stmt_height_some}
@@ -28,8 +28,8 @@ record InitialRead (depth : ℕ) (tokens : List TokenKind) (x : Option tree.Expr
   low : x.1 ≤ depth
 
 -- an expression somewhere within these tokens
-within : (d deep : ℕ) (all tokens : List TokenKind) → length tokens ≤ length all → deep + length tokens ≤ d + length all → Holds (ExprRead d loosest tokens) deep all (expression d loosest tokens)
-within d deep all tokens le room = Holds-on (ExprRead d loosest tokens) (ExprRead d loosest tokens) d deep tokens all (expression d loosest tokens) le room (expression_holds d loosest tokens) (λ x h. h)
+within : (d deep : ℕ) (all tokens : List TokenKind) → length tokens ≤ length all → deep + length tokens ≤ d + length all → Holds (ExprRead d lowest_precedence tokens) deep all (expression d lowest_precedence tokens)
+within d deep all tokens le room = Holds-on (ExprRead d lowest_precedence tokens) (ExprRead d lowest_precedence tokens) d deep tokens all (expression d lowest_precedence tokens) le room (expression_holds d lowest_precedence tokens) (λ x h. h)
 
 -- the same with the punctuation that closes it
 closed_within : (d deep : ℕ) (m : Punctuation) (all tokens : List TokenKind) → length tokens ≤ length all → deep + length tokens ≤ d + length all
@@ -45,7 +45,7 @@ initial_holds depth tokens =
       | inl is ↦
           let stands = punctuation_is punctuation.Assign tokens is in
           let one : length tokens ≡ suc (length (tail tokens)) = ap count stands in
-          let read = Holds-then (ExprRead depth loosest (tail tokens)) Q depth tokens (expression depth loosest (tail tokens)) (λ value. Ok (Some value.0, value.1, value.2))
+          let read = Holds-then (ExprRead depth lowest_precedence (tail tokens)) Q depth tokens (expression depth lowest_precedence (tail tokens)) (λ value. Ok (Some value.0, value.1, value.2))
           (within depth depth tokens (tail tokens) (omega arith) (omega arith))
           (λ x value. record {
             spelled = stands ∙ ap (λ (ts : List TokenKind). token.Punctuation punctuation.Assign ∷ ts) value.spelled;
@@ -237,8 +237,8 @@ module _ (d : ℕ) (all : List TokenKind) where
   unfolding assign_to
   assign_holds x o behind stands =
       let two : length all ≡ suc (suc (length behind)) = ap count stands in
-      let read : Holds (ExprRead d loosest behind) d all (expression (suc d - 1) loosest behind) = rw less (within d d all behind (omega arith) (omega arith)) in
-      Holds-then (ExprRead d loosest behind) IsStepRead d all (expression (suc d - 1) loosest behind) _ read (λ v value.
+      let read : Holds (ExprRead d lowest_precedence behind) d all (expression (suc d - 1) lowest_precedence behind) = rw less (within d d all behind (omega arith) (omega arith)) in
+      Holds-then (ExprRead d lowest_precedence behind) IsStepRead d all (expression (suc d - 1) lowest_precedence behind) _ read (λ v value.
       Holds-raised IsStepRead d all (suc d) v.1 _
       (λ lt. record {
         spelled = stands ∙ ap (λ (ts : List TokenKind). token.Name x ∷ token.Punctuation (assign_punctuation o) ∷ ts) value.spelled;
@@ -252,8 +252,8 @@ module _ (d : ℕ) (all : List TokenKind) where
   unfolding assign_element
   element_holds x at o behind stands shape h high low =
       let some : length behind + 1 ≤ length all = omega (arith, ap count stands, expr_length (tree.Element x at) (token.Punctuation (assign_punctuation o) ∷ behind)) in
-      let read : Holds (ExprRead d loosest behind) d all (expression (suc d - 1) loosest behind) = rw less (within d d all behind (omega arith) (omega arith)) in
-      Holds-then (ExprRead d loosest behind) IsStepRead d all (expression (suc d - 1) loosest behind) _ read (λ v value.
+      let read : Holds (ExprRead d lowest_precedence behind) d all (expression (suc d - 1) lowest_precedence behind) = rw less (within d d all behind (omega arith) (omega arith)) in
+      Holds-then (ExprRead d lowest_precedence behind) IsStepRead d all (expression (suc d - 1) lowest_precedence behind) _ read (λ v value.
       Holds-raised IsStepRead d all (suc d) (max h v.1) _
       (λ lt. record {
         spelled = stands ∙ ap (λ (ts : List TokenKind). expr_spelled (tree.Element x at) (token.Punctuation (assign_punctuation o) ∷ ts)) value.spelled;
@@ -279,8 +279,8 @@ module _ (d : ℕ) (all : List TokenKind) where
   simple_holds : Holds IsStepRead d all (simple (suc d) all)
   unfolding simple after_value
   simple_holds =
-      let read : Holds (ExprRead d loosest all) d all (expression (suc d - 1) loosest all) = rw less (within d d all all (omega arith) (omega arith)) in
-      Holds-then (ExprRead d loosest all) IsStepRead d all (expression (suc d - 1) loosest all) _ read (λ v value.
+      let read : Holds (ExprRead d lowest_precedence all) d all (expression (suc d - 1) lowest_precedence all) = rw less (within d d all all (omega arith) (omega arith)) in
+      Holds-then (ExprRead d lowest_precedence all) IsStepRead d all (expression (suc d - 1) lowest_precedence all) _ read (λ v value.
       after_value_holds v.0 v.1 v.2 value.spelled value.shape value.high value.low (assign_at v.2) refl)
 
   optional_holds : (m : Punctuation) → Holds IsStepRead d all (optional (suc d) m all)

@@ -326,35 +326,35 @@ spelling program = each_spelled declaration_spelled program []
 
 -- ---- well-shaped trees
 
--- how loosely an operator binds: the tightest has 1
-abbrev pub looseness : BinaryOperator → ℕ
-looseness binary.LogicalOr = 10
-looseness binary.LogicalAnd = 9
-looseness binary.Or = 8
-looseness binary.ExclusiveOr = 7
-looseness binary.And = 6
-looseness binary.Equal = 5
-looseness binary.NotEqual = 5
-looseness binary.Less = 4
-looseness binary.LessOrEqual = 4
-looseness binary.Greater = 4
-looseness binary.GreaterOrEqual = 4
-looseness binary.ShiftLeft = 3
-looseness binary.ShiftRight = 3
-looseness binary.Add = 2
-looseness binary.Subtract = 2
-looseness binary.Multiply = 1
-looseness binary.Divide = 1
-looseness binary.Remainder = 1
+-- the precedence of an operator: the one that binds tightest has 1
+abbrev pub precedence : BinaryOperator → ℕ
+precedence binary.LogicalOr = 10
+precedence binary.LogicalAnd = 9
+precedence binary.Or = 8
+precedence binary.ExclusiveOr = 7
+precedence binary.And = 6
+precedence binary.Equal = 5
+precedence binary.NotEqual = 5
+precedence binary.Less = 4
+precedence binary.LessOrEqual = 4
+precedence binary.Greater = 4
+precedence binary.GreaterOrEqual = 4
+precedence binary.ShiftLeft = 3
+precedence binary.ShiftRight = 3
+precedence binary.Add = 2
+precedence binary.Subtract = 2
+precedence binary.Multiply = 1
+precedence binary.Divide = 1
+precedence binary.Remainder = 1
 
--- the loosest rank, which `c ? a : b` has
-abbrev pub loosest : ℕ
-loosest = 11
+-- the lowest precedence, which `c ? a : b` has
+abbrev pub lowest_precedence : ℕ
+lowest_precedence = 11
 
--- the rank of an expression: its operator's looseness, or 0 where nothing stands between two operands
+-- the rank of an expression: its operator's precedence, or 0 where nothing stands between two operands
 abbrev pub rank : tree.Expr → ℕ
-rank (tree.Binary operator left right) = looseness operator
-rank (tree.Conditional condition chosen other) = loosest
+rank (tree.Binary operator left right) = precedence operator
+rank (tree.Conditional condition chosen other) = lowest_precedence
 rank _ = 0
 
 -- A prefix operator takes an operand; a binary one takes no looser side, and on its right no equally loose one; the
@@ -370,8 +370,8 @@ IsExpr (tree.Group inner) = IsExpr inner
 IsExpr (tree.Unary operator operand) = (rank operand ≡ 0) × IsExpr operand
 IsExpr (tree.Step operator name) = Unit {0}
 IsExpr (tree.StepElement operator name index) = IsExpr index
-IsExpr (tree.Binary operator left right) = (rank left ≤ looseness operator) × (rank right < looseness operator) × IsExpr left × IsExpr right
-IsExpr (tree.Conditional condition chosen other) = (rank condition < loosest) × IsExpr condition × IsExpr chosen × IsExpr other
+IsExpr (tree.Binary operator left right) = (rank left ≤ precedence operator) × (rank right < precedence operator) × IsExpr left × IsExpr right
+IsExpr (tree.Conditional condition chosen other) = (rank condition < lowest_precedence) × IsExpr condition × IsExpr chosen × IsExpr other
 
 abbrev pub IsOptional : Option tree.Expr → Type 0
 IsOptional None = Unit {0}

@@ -31,7 +31,7 @@ use Rattle.strc_grammar.specs.declared.error.ReadError.{ReadError}
 use Rattle.strc_grammar.specs.declared.error.ReadError.TheVariants as errors
 use Rattle.strc_syntax.specs.Tree as tree
 use Rattle.strc_syntax.specs.Tree.{read_of, step_of_place}
-use Rattle.strc_grammar.specs.Grammar.{looseness, loosest}
+use Rattle.strc_grammar.specs.Grammar.{precedence, lowest_precedence}
 
 infixl 10 ◌>>=◌
 abbrev pub ◌>>=◌ : {A B : Type 0} → Result A Fault → (A → Result B Fault) → Result B Fault
@@ -164,7 +164,7 @@ binary_by (Some found) = binary_of found
 
 abbrev pub of_rank : ℕ → Option BinaryOperator → Option BinaryOperator
 of_rank rank None = None
-of_rank rank (Some operator) = if looseness operator == rank then Some operator else None
+of_rank rank (Some operator) = if precedence operator == rank then Some operator else None
 
 -- the operator of this rank that stands first
 unfoldable pub operator : ℕ → List TokenKind → Option BinaryOperator
@@ -186,7 +186,7 @@ Below = ℕ → List TokenKind → Tall tree.Expr
 -- `e` and the punctuation that closes it
 unfoldable pub closed : Below → Punctuation → List TokenKind → Tall tree.Expr
 closed below closing tokens = do
-  value ← below loosest tokens
+  value ← below lowest_precedence tokens
   rest ← expect closing value.2
   Ok (value.0, value.1, rest)
 
@@ -296,23 +296,23 @@ climb depth below (suc rank) tokens = climb depth below rank tokens >>= λ left.
 unfoldable pub choice : ℕ → Below → tree.Expr → ℕ → List TokenKind → Tall tree.Expr
 choice depth below condition height tokens = do
   chosen ← closed below punctuation.Colon tokens
-  other ← below loosest chosen.2
+  other ← below lowest_precedence chosen.2
   high ← raised depth (max height (max chosen.1 other.1))
   Ok (tree.Conditional condition chosen.0 other.0, high, other.2)
 
--- the loosest rank of a binary operator
-abbrev pub loosest_binary : ℕ
-loosest_binary = 10
+-- the lowest precedence of a binary operator
+abbrev pub lowest_binary_precedence : ℕ
+lowest_binary_precedence = 10
 
 -- `c ? a : b`, or c alone
 unfoldable pub conditional : ℕ → Below → List TokenKind → Tall tree.Expr
 conditional depth below tokens =
-    climb depth below loosest_binary tokens
+    climb depth below lowest_binary_precedence tokens
     >>= λ read. if is_punctuation punctuation.Question read.2 then choice depth below read.0 read.1 (tail read.2) else Ok (read.0, read.1, read.2)
 
 -- an expression of at most this rank
 unfoldable pub ranked : ℕ → Below → ℕ → List TokenKind → Tall tree.Expr
-ranked depth below rank tokens = if rank == loosest then conditional depth below tokens else climb depth below rank tokens
+ranked depth below rank tokens = if rank == lowest_precedence then conditional depth below tokens else climb depth below rank tokens
 
 -- an expression of at most this height and rank
 unfoldable pub expression : ℕ → ℕ → List TokenKind → Tall tree.Expr
@@ -324,7 +324,7 @@ expression (suc depth) rank tokens = ranked (suc depth) (expression depth) rank 
 -- `= e`, if it stands there: the initialiser, its height or 0
 unfoldable pub initial : ℕ → List TokenKind → Tall (Option tree.Expr)
 initial depth tokens =
-    if is_punctuation punctuation.Assign tokens then (expression depth loosest (tail tokens) >>= λ value. Ok (Some value.0, value.1, value.2)) else Ok (None, 0, tokens)
+    if is_punctuation punctuation.Assign tokens then (expression depth lowest_precedence (tail tokens) >>= λ value. Ok (Some value.0, value.1, value.2)) else Ok (None, 0, tokens)
 
 -- `x` or `x = e`
 unfoldable pub variable : ℕ → List TokenKind → Tall tree.Variable
@@ -401,14 +401,14 @@ evaluate depth value height tokens = raised depth height >>= λ high. Ok (tree.E
 -- `x = e`: behind the operator
 unfoldable pub assign_to : ℕ → List ℕ → AssignOperator → List TokenKind → Tall tree.Stmt
 assign_to depth name operator tokens = do
-  value ← expression (depth - 1) loosest tokens
+  value ← expression (depth - 1) lowest_precedence tokens
   height ← raised depth value.1
   Ok (tree.Assign name operator value.0, height, value.2)
 
 -- `x[i] = e`: behind the operator, with the height of the element
 unfoldable pub assign_element : ℕ → List ℕ → tree.Expr → ℕ → AssignOperator → List TokenKind → Tall tree.Stmt
 assign_element depth name at height operator tokens = do
-  value ← expression (depth - 1) loosest tokens
+  value ← expression (depth - 1) lowest_precedence tokens
   high ← raised depth (max height value.1)
   Ok (tree.AssignElement name at operator value.0, high, value.2)
 
@@ -430,7 +430,7 @@ after_value depth value height tokens = after_value_by depth value height tokens
 
 -- an expression or an assignment
 unfoldable pub simple : ℕ → List TokenKind → Tall tree.Stmt
-simple depth tokens = expression (depth - 1) loosest tokens >>= λ value. after_value depth value.0 value.1 value.2
+simple depth tokens = expression (depth - 1) lowest_precedence tokens >>= λ value. after_value depth value.0 value.1 value.2
 
 -- the same, or nothing before this punctuation mark
 unfoldable pub optional : ℕ → Punctuation → List TokenKind → Tall tree.Stmt
@@ -497,7 +497,7 @@ for_heading depth tokens = do
 
 -- a further argument: at its comma
 unfoldable pub next_argument : ℕ → List TokenKind → Tall tree.Expr
-next_argument depth tokens = expression depth loosest (tail tokens)
+next_argument depth tokens = expression depth lowest_precedence (tail tokens)
 
 -- the arguments behind these
 unfoldable pub more_arguments : ℕ → List tree.Expr × ℕ → List TokenKind → Read (List tree.Expr × ℕ)
@@ -508,7 +508,7 @@ unfoldable pub listed_arguments : ℕ → List TokenKind → Read (List tree.Exp
 listed_arguments depth tokens =
     if is_punctuation punctuation.CloseParen tokens
     then Ok (([], 0), tokens)
-    else (expression depth loosest tokens >>= λ read. more_arguments depth (read.0 ∷ [], read.1) read.2)
+    else (expression depth lowest_precedence tokens >>= λ read. more_arguments depth (read.0 ∷ [], read.1) read.2)
 
 -- `(1, 2)`, if it stands there
 unfoldable pub arguments : ℕ → List TokenKind → Tall (Option (List tree.Expr))

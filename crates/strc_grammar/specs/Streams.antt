@@ -19,7 +19,7 @@ use Rattle.strc_grammar.specs.declared.error.Fault.{Fault}
 use Rattle.strc_grammar.specs.declared.error.Fault.TheVariants.{Nesting}
 use Rattle.strc_syntax.specs.Tree as tree
 use Rattle.strc_syntax.specs.Tree.{row, chain}
-use Rattle.strc_grammar.specs.Grammar.{loosest}
+use Rattle.strc_grammar.specs.Grammar.{lowest_precedence}
 use Rattle.strc_grammar.specs.Reading.{◌>>=◌, Read, Tall, first, tail, unexpected, is_keyword, expect, expect_keyword, name, raised, repeated, one_more, one_taller, brace, expression, declared, closed, ended, bracketed, argument, for_heading, arguments, empty_brackets, parameters, stream_type, composite_kind, int_items, file}
 
 -- ---- statements with others in them
@@ -96,7 +96,7 @@ has_rate kind rates = list_any (λ r. sameb rate_type r.kind kind) rates
 
 -- a rate of this kind, which the rates so far don't have: at its keyword
 unfoldable pub rate_of : ℕ → RateKind → List tree.Rate → List TokenKind → Tall tree.Expr
-rate_of limit kind so_far tokens = if has_rate kind so_far then unexpected tokens else expression limit loosest (tail tokens)
+rate_of limit kind so_far tokens = if has_rate kind so_far then unexpected tokens else expression limit lowest_precedence (tail tokens)
 
 abbrev pub rate_by : ℕ → List tree.Rate × ℕ → List TokenKind → Option RateKind → Read (List tree.Rate × ℕ)
 rate_by limit so_far tokens None = unexpected tokens

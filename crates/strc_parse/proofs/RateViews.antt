@@ -2,7 +2,7 @@
 use Rattle.std.proofs.Common.{◌≡◌, ℕ, ◌<◌, ◌≤◌, Bool, List, [], ◌∷◌, length, Some, Ok, map, refl, sym, ap, inl, inr, arith}
 use Rattle.std.proofs.lemmas.Bool.{cases_Bool}
 use Rattle.strc_lex.specs.declared.token.TokenKind.{TokenKind}
-use Rattle.strc_grammar.specs.Grammar.{loosest}
+use Rattle.strc_grammar.specs.Grammar.{lowest_precedence}
 use Rattle.strc_grammar.specs.Reading.{tail}
 use Rattle.strc_rules.proofs.Loops.{expression_within}
 use Rattle.std.specs.Prelude.{◌||◌}
@@ -30,7 +30,7 @@ unfolding rate_of
 rate_within limit kind so_far tokens value height after is =
     elim (cases_Bool (has_rate kind so_far)) [
       | inl has ↦ let refused = rw has at is in absurd cc
-      | inr fresh ↦ expression_within limit loosest (tail tokens) value height after (rw fresh at is)
+      | inr fresh ↦ expression_within limit lowest_precedence (tail tokens) value height after (rw fresh at is)
     ]
 
 past_rate : (tokens : List TokenKind) (kind : RateKind) → rate_kind tokens ≡ Some kind → length (tail tokens) < length tokens

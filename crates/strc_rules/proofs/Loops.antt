@@ -10,7 +10,7 @@ use Rattle.strc_grammar.specs.declared.error.ReadError.{ReadError}
 use Rattle.strc_grammar.specs.declared.error.ReadError.TheVariants as errors
 use Rattle.strc_syntax.specs.declared.tree.BinaryOperator.{BinaryOperator}
 use Rattle.strc_grammar.proofs.Rounds.{chain_on}
-use Rattle.strc_grammar.specs.Grammar.{loosest}
+use Rattle.strc_grammar.specs.Grammar.{lowest_precedence}
 use Rattle.strc_grammar.specs.Reading.{◌>>=◌, Fails, Read, Tall, Below, tail, punctuation_at, is_punctuation, is_keyword, expect_keyword, name, raised, repeated, operator, chain, expression, initial, variable, parameter}
 use Rattle.strc_grammar.proofs.Repeated.{repeated_on, repeated_ends, repeated_fails}
 use Rattle.strc_grammar.proofs.Holds.{Holds, punctuation_is}
@@ -93,8 +93,8 @@ initial_shrinks : (depth : ℕ) (tokens : List TokenKind) → Shrinks tokens (λ
 unfolding initial
 initial_shrinks depth tokens =
     elim (cases_Bool (is_punctuation punctuation.Assign tokens)) [
-      | inl is ↦ rw is (Shrinks-then tokens (λ x. x.2) (λ x. x.2) (expression depth loosest (tail tokens)) _
-          (Shrinks-on tokens (tail tokens) (λ x. x.2) (expression depth loosest (tail tokens)) (tail_within tokens) (read_shrinks depth loosest (tail tokens) _ refl)) (λ x. omega arith))
+      | inl is ↦ rw is (Shrinks-then tokens (λ x. x.2) (λ x. x.2) (expression depth lowest_precedence (tail tokens)) _
+          (Shrinks-on tokens (tail tokens) (λ x. x.2) (expression depth lowest_precedence (tail tokens)) (tail_within tokens) (read_shrinks depth lowest_precedence (tail tokens) _ refl)) (λ x. omega arith))
       | inr is ↦ rw is (omega arith)
     ]
 

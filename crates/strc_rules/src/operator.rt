@@ -1,16 +1,16 @@
 // The operators that tokens are.
 
 ghost use Rattle.std.specs.Prelude.{◌≡◌};
-ghost use Rattle.strc_grammar.specs.Grammar.{kinds, looseness};
+ghost use Rattle.strc_grammar.specs.Grammar.{kinds, precedence};
 ghost use Rattle.strc_grammar.specs.Reading as spec;
 
 use crate::lookahead::punctuation_at;
 use strc_lex::token::{Punctuation, Token};
 use strc_syntax::tree::{AssignOperator, BinaryOperator, StepOperator};
 
-/// How loosely an operator binds: the tightest has 1.
-fn looseness_of(operator: BinaryOperator) -> usize
-    ensures { result ≡ looseness operator }
+/// The precedence of an operator: the one that binds tightest has 1.
+fn precedence_of(operator: BinaryOperator) -> usize
+    ensures { result ≡ precedence operator }
 {
     match operator {
         BinaryOperator::LogicalOr => 10,
@@ -63,7 +63,7 @@ pub(crate) fn operator_at(rank: usize, tokens: &[Token]) -> Option<BinaryOperato
 {
     let punctuation = punctuation_at(tokens)?;
     let operator = binary_of(punctuation)?;
-    if looseness_of(operator) == rank {
+    if precedence_of(operator) == rank {
         Some(operator)
     } else {
         None

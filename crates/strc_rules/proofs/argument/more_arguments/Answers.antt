@@ -2,7 +2,7 @@ use Rattle.std.proofs.Common.{◌≡◌, ◌+◌, ◌<◌, ◌∙◌, ◌∷◌,
 use Rattle.std.proofs.lemmas.Result.{err_from_is_err_and}
 use Rattle.std.proofs.lemmas.List.{map_push}
 use Rattle.strc_syntax.specs.View.{expr_view}
-use Rattle.strc_grammar.specs.Grammar.{kinds, loosest}
+use Rattle.strc_grammar.specs.Grammar.{kinds, lowest_precedence}
 use Rattle.strc_grammar.specs.Reading.{no_comma, one_taller, next_argument, more_arguments}
 use Rattle.strc_grammar.proofs.Repeated.{Fails-then, no_comma_ends, no_comma_stays}
 use Rattle.strc_rules.proofs.Loops.{goes_on, goes_to, goes_wrong, expression_within, past_comma}
@@ -29,7 +29,7 @@ loop-alloc-preserved c =
     let comma = sym c.is_punctuation.ensures ∙ c.loop-alloc-test.true in
     let read = rw c.tail.ensures at c.in_ok-next.ensures in
     let less : length (kinds c.in_ok-next.after.now) < length (kinds c.loop-alloc.rest.now) =
-    omega (arith, past_comma _ comma, expression_within c.args.depth loosest _ _ _ _ read) in
+    omega (arith, past_comma _ comma, expression_within c.args.depth lowest_precedence _ _ _ _ read) in
     let e : map expr_view c.push.new.self.items ≡ front ++ expr_view next ∷ [] =
     rw c.in_ok-push.ensures.items (map_push _ c.loop-alloc.found.items next) in
     let one : one_taller (next_argument c.args.depth) (front, c.loop-alloc.highest) (kinds c.loop-alloc.rest.now)
@@ -41,7 +41,7 @@ pub loop-alloc-smaller : goal.loop-alloc-smaller
 loop-alloc-smaller c =
     let comma = sym c.is_punctuation.ensures ∙ c.loop-alloc-test.true in
     let read = rw c.tail.ensures at c.in_ok-next.ensures in
-    omega (arith, past_comma _ comma, expression_within c.args.depth loosest _ _ _ _ read)
+    omega (arith, past_comma _ comma, expression_within c.args.depth lowest_precedence _ _ _ _ read)
 
 pub returns : goal.returns
 returns c =
