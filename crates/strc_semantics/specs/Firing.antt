@@ -7,6 +7,7 @@ use Rattle.strc_syntax.specs.declared.tree.StepOperator.{StepOperator}
 use Rattle.strc_syntax.specs.declared.tree.StepOperator.TheVariants as step
 use Rattle.strc_syntax.specs.declared.tree.BinaryOperator.{BinaryOperator}
 use Rattle.strc_syntax.specs.declared.tree.BinaryOperator.TheVariants as binary
+use Rattle.strc_semantics.specs.declared.fault.TheConstants.{TURN_LIMIT}
 use Rattle.strc_semantics.specs.declared.fault.Cause.{Cause}
 use Rattle.strc_semantics.specs.declared.fault.Cause.TheVariants.{Index, PeekRange, Turns}
 use Rattle.strc_semantics.specs.declared.word.Word.{Word}
@@ -36,7 +37,7 @@ pub record Traffic : Type 0 where
 
 -- how many turns the loops of one firing may make
 unfoldable pub turn_limit : ℕ
-turn_limit = 1000000
+turn_limit = TURN_LIMIT
 
 -- variables with the values of their cells, the innermost first: a number or a truth value has one cell, an array one for each element
 abbrev pub Variables : Type 0

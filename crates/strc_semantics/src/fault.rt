@@ -2,6 +2,10 @@
 
 use std::fmt;
 
+/// How many turns the loops of one firing, of one start or of one elaboration may make: one more is
+/// the fault `Turns`.
+pub const TURN_LIMIT: u32 = 1_000_000;
+
 /// Why a firing faults.
 #[derive(Clone, Copy, Debug, PartialEq, Eq)]
 pub enum Cause {

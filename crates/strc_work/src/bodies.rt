@@ -6,7 +6,7 @@ ghost use Rattle.strc_syntax.specs.View.{expr_view, stmt_view, block_view, rate_
 ghost use Rattle.strc_semantics.specs.Filters as filters;
 ghost use Rattle.strc_work.specs.Lowered as lowered;
 
-use strc_machine::io::FiringLimits;
+use strc_machine::port::FiringLimits;
 use strc_semantics::body::Body;
 use strc_syntax::tree::{Expr, Member, RateKind, RateTree, Stmt};
 

@@ -16,8 +16,9 @@ use crate::state::State;
 use std::alloc::Global;
 use std::marker::Model;
 use strc_base::memory::NoMemory;
-use strc_machine::io::{FiringIo, FiringLimits};
+use strc_machine::io::FiringIo;
 use strc_machine::node::{Node, copy_node};
+use strc_machine::port::{FiringLimits, FiringPort};
 use strc_machine::window::Window;
 use strc_machine::{linearize, machine};
 use strc_semantics::body::Body;
@@ -165,27 +166,15 @@ impl Code {
         let Ok(mut slots) = Vec::from_elem(alloc, 0, self.slots) else {
             return Err(StartError::NoMemory);
         };
-        let mut tape = FiringIo {
-            popped: 0,
-            pushed: 0,
-            turns: 0,
-            buffer: Vec::new(alloc),
-        };
+        let mut io = FiringIo::new(alloc, Vec::new(alloc));
         let limits = FiringLimits {
             pops: 0,
             peek: 0,
             pushes: 0,
         };
-        let mut words = Vec::new(alloc);
         let nothing: &[i32] = &[];
-        match machine::run(
-            &self.start.flat,
-            &mut slots,
-            &mut tape,
-            &limits,
-            &nothing,
-            &mut words,
-        ) {
+        let port = FiringPort::new(limits, &nothing);
+        match machine::run(&self.start.flat, &mut slots, &mut io, &port) {
             Ok(()) => Ok(State {
                 slots,
                 fields: self.fields,
@@ -203,12 +192,7 @@ impl Code {
         let room = first.max(self.routine(Body::Work).limits.pushes);
         let buffer = Vec::from_elem(alloc, 0, room as usize)?;
         Ok(Frame {
-            tape: FiringIo {
-                popped: 0,
-                pushed: 0,
-                turns: 0,
-                buffer,
-            },
+            io: FiringIo::new(alloc, buffer),
         })
     }
 
@@ -233,17 +217,11 @@ impl Code {
         ensures frame { IsFrameOf (filters.filter_of self.now) frame.new }
     {
         let routine = self.routine(body);
-        frame.tape.popped = 0;
-        frame.tape.pushed = 0;
-        frame.tape.turns = 0;
-        machine::run(
-            &routine.flat,
-            &mut state.slots,
-            &mut frame.tape,
-            &routine.limits,
-            window,
-            words,
-        )
+        let port = FiringPort::new(routine.limits, window);
+        frame.io.begin(words);
+        let result = machine::run(&routine.flat, &mut state.slots, &mut frame.io, &port);
+        frame.io.end(words);
+        result
     }
 
     /// The filter's tree, with its constants put in: each name of a variable in it is declared.

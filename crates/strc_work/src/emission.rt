@@ -23,7 +23,7 @@ use crate::statement_code::emit_block;
 use std::alloc::Global;
 use strc_base::memory::NoMemory;
 use strc_machine::builder::Builder;
-use strc_machine::io::FiringLimits;
+use strc_machine::port::FiringLimits;
 use strc_semantics::body::Body;
 use strc_syntax::tree::{FilterTree, Member, Variable};
 
