@@ -103,7 +103,7 @@ passes_none again parser value none = go (accepts again parser value) (none_firs
     go true none = refl
     go false none = cc
 
--- the row of one use, behind those before it
+-- the row of one use, after those before it
 used_once : (rule : Rule) → rule.action ≡ Some action.Set → (value : Text) (rows : List Row) → has_row rule.id rows ≡ false
     → used rule (value ∷ []) rows
     ≡ rows ++ record { id = rule.id; values = value ∷ []; count = None; source = Some CommandLine; reading = reading_by rule } ∷ []
@@ -541,7 +541,7 @@ faultless_level shape names words has below none =
       checks = none_second fills checks (none_second settles (or_else fills checks) third);
     }
 
--- the words behind `run`, where they have no fault
+-- the words after `run`, where they have no fault
 runs : (words : List Text) → level_fault run [] nothing_held words false [] ≡ []
     → IsRun (Some (codes "run", rows_after run.rules [] words))
 runs words none =

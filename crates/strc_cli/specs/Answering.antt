@@ -7,13 +7,13 @@ use Rattle.strc_cli.specs.declared.execute.Stop.{Stop}
 use Rattle.strc_cli.specs.declared.execute.Stop.TheVariants as stop
 use Rattle.strc_cli.specs.declared.line.Command.{Command}
 use Rattle.strc_cli.specs.declared.line.Command.TheVariants as command
-use Rattle.strc_cli.specs.declared.outcome.Outcome.{Outcome}
-use Rattle.strc_cli.specs.declared.refusal.Refusal.{Refusal}
-use Rattle.strc_cli.specs.declared.refusal.Refusal.TheVariants as refusal
-use Rattle.strc_cli.specs.Answers.{are_runnable}
-use Rattle.strc_cli.specs.Pipeline.{laps, loaded}
-use Rattle.strc_cli.specs.Programs.{Accepts, IsTrueOf}
-use Rattle.strc_cli.specs.Running.{IsEnding}
+use Rattle.strc_run.specs.declared.outcome.Outcome.{Outcome}
+use Rattle.strc_run.specs.declared.refusal.Refusal.{Refusal}
+use Rattle.strc_run.specs.declared.refusal.Refusal.TheVariants as refusal
+use Rattle.strc_run.specs.Answers.{are_runnable}
+use Rattle.strc_run.specs.Pipeline.{laps, loaded}
+use Rattle.strc_run.specs.Programs.{Accepts, IsTrueOf}
+use Rattle.strc_run.specs.Running.{IsEnding}
 
 -- the name of the main stream that a command gives
 abbrev pub main_of : Command → Option (List ℕ)

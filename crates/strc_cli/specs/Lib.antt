@@ -1,14 +1,5 @@
 pub mod Answering
-pub mod Answers
-pub mod Compiling
 pub mod Lines
-pub mod Loading
 pub mod Output
-pub mod Pipeline
-pub mod Programs
-pub mod Rates
-pub mod Readiness
-pub mod Running
 pub mod Statuses
 pub mod Telling
-pub mod Verdicts

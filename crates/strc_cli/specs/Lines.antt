@@ -86,7 +86,7 @@ pub record AsksFor (words : List Text) (line : Line) : Type 0 where
   pub faultless : faults words ≡ []
   pub asked : IsLineIn (subcommand_of strc_app words) line
 
--- how a kind of error is told
+-- how a kind of error is reported
 abbrev pub fault_by : ErrorKind → LineFault
 fault_by OutOfMemory = fault.Memory
 fault_by kind = fault.Words

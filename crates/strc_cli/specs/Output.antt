@@ -4,11 +4,11 @@ use Rattle.std.specs.Fmt.{signed_decimal}
 use Rattle.strc_semantics.specs.declared.word.Word.{Word}
 use Rattle.strc_semantics.specs.declared.fault.Cause.{Cause}
 use Rattle.strc_semantics.specs.declared.fault.Cause.TheVariants as cause
-use Rattle.strc_cli.specs.declared.outcome.Outcome.{Outcome}
-use Rattle.strc_cli.specs.declared.outcome.Outcome.TheVariants as outcome
-use Rattle.strc_cli.specs.declared.outcome.Fault.{Fault}
-use Rattle.strc_cli.specs.declared.refusal.Refusal.{Refusal}
-use Rattle.strc_cli.specs.declared.refusal.Refusal.TheVariants as refusal
+use Rattle.strc_run.specs.declared.outcome.Outcome.{Outcome}
+use Rattle.strc_run.specs.declared.outcome.Outcome.TheVariants as outcome
+use Rattle.strc_run.specs.declared.outcome.Fault.{Fault}
+use Rattle.strc_run.specs.declared.refusal.Refusal.{Refusal}
+use Rattle.strc_run.specs.declared.refusal.Refusal.TheVariants as refusal
 
 -- a line feed
 abbrev pub line_end : List ℕ
@@ -51,7 +51,7 @@ abbrev pub outcome_text : Outcome → List ℕ
 outcome_text (outcome.Done words) = words_text words.items
 outcome_text (outcome.Fault fault words) = words_text words.items ++ closing words.items ++ fault_line fault
 
--- the number and the name of a refusal, with its fields, each behind its name
+-- the number and the name of a refusal, with its fields, each after its name
 abbrev pub refusal_words : Refusal → List ℕ
 refusal_words refusal.NotYet = codes "E0 NotYet"
 refusal_words (refusal.Lex at) = codes "E1 Lex" ++ codes " at " ++ decimal at

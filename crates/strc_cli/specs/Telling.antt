@@ -7,29 +7,29 @@ use Rattle.strc_cli.specs.declared.execute.Status.{Status}
 use Rattle.strc_cli.specs.declared.execute.Status.TheVariants as status
 use Rattle.strc_cli.specs.declared.execute.Stop.{Stop}
 use Rattle.strc_cli.specs.declared.execute.Stop.TheVariants as stop
-use Rattle.strc_cli.specs.declared.outcome.Outcome.{Outcome}
-use Rattle.strc_cli.specs.declared.outcome.Outcome.TheVariants as outcome
-use Rattle.strc_cli.specs.declared.refusal.Refusal.{Refusal}
-use Rattle.strc_cli.specs.declared.refusal.Refusal.TheVariants as refusal
+use Rattle.strc_run.specs.declared.outcome.Outcome.{Outcome}
+use Rattle.strc_run.specs.declared.outcome.Outcome.TheVariants as outcome
+use Rattle.strc_run.specs.declared.refusal.Refusal.{Refusal}
+use Rattle.strc_run.specs.declared.refusal.Refusal.TheVariants as refusal
 use Rattle.strc_cli.specs.Answering.{IsAnswered}
 use Rattle.strc_cli.specs.Output.{outcome_text, refusal_line, line_end}
 
 -- all that is written: what the run printed, or one line
-abbrev pub told_text : Result Outcome Stop → List ℕ
-told_text (Ok outcome) = outcome_text outcome
-told_text (Err (stop.Refused refused)) = refusal_line refused
-told_text (Err stop.NoMemory) = codes "refused S3 NoMemory" ++ line_end
+abbrev pub answer_text : Result Outcome Stop → List ℕ
+answer_text (Ok outcome) = outcome_text outcome
+answer_text (Err (stop.Refused refused)) = refusal_line refused
+answer_text (Err stop.NoMemory) = codes "refused S3 NoMemory" ++ line_end
 
 abbrev pub refusal_status : Refusal → Status
 refusal_status refusal.NoMemory = status.NoMemory
 refusal_status refused = status.Refused
 
 -- the status that belongs to what is written
-abbrev pub told_status : Result Outcome Stop → Status
-told_status (Ok (outcome.Done words)) = status.Done
-told_status (Ok (outcome.Fault fault words)) = status.Fault
-told_status (Err (stop.Refused refused)) = refusal_status refused
-told_status (Err stop.NoMemory) = status.NoMemory
+abbrev pub answer_status : Result Outcome Stop → Status
+answer_status (Ok (outcome.Done words)) = status.Done
+answer_status (Ok (outcome.Fault fault words)) = status.Fault
+answer_status (Err (stop.Refused refused)) = refusal_status refused
+answer_status (Err stop.NoMemory) = status.NoMemory
 
 -- a device from before to after: what it has taken, and whether it has failed
 pub record Device : Type 0 where
@@ -44,7 +44,7 @@ pub record Wrote (bytes : List ℕ) (before after : Device) : Type 0 where
   pub taken : Appends before.taken after.taken bytes
   pub steady : after.has_failed ≡ before.has_failed
 
--- the device failed behind a beginning of these bytes
+-- the device failed after a beginning of these bytes
 pub record FailedIn (bytes : List ℕ) (before after : Device) : Type 0 where
   pub beginning : List ℕ
   pub rest : List ℕ
@@ -66,11 +66,11 @@ Writes bytes (Err error.Memory) before after = ⊥
 
 -- how telling an answer went: written whole, with its status; or in part, for a failure of the device; or not at all
 abbrev pub TellsAnswer : Result Outcome Stop → Result Status CliError → Device → Device → Type 0
-TellsAnswer answer (Ok status) before after = (status ≡ told_status answer) × Wrote (told_text answer) before after
-TellsAnswer answer (Err error.Write) before after = FailedIn (told_text answer) before after
+TellsAnswer answer (Ok status) before after = (status ≡ answer_status answer) × Wrote (answer_text answer) before after
+TellsAnswer answer (Err error.Write) before after = FailedIn (answer_text answer) before after
 TellsAnswer answer (Err error.Read) before after = ⊥
 TellsAnswer answer (Err error.Memory) before after = WroteNothing before after
 
--- what is told is the answer for this text and command
+-- what is reported is the answer for this text and command
 abbrev pub Executes : List ℕ → Option (List ℕ) → Option ℕ → Result Status CliError → Device → Device → Type 0
 Executes text main rounds result before after = (answer : Result Outcome Stop) × IsAnswered text main rounds answer × TellsAnswer answer result before after

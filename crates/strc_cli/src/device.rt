@@ -1,4 +1,4 @@
-// Where input comes from and output goes to, with a memory of the first error.
+// Where input comes from and output is stored in, with a memory of the first error.
 
 ghost use Rattle.std.specs.Prelude.{◌≡◌, ◌<◌, ◌≤◌, ◌+◌, ◌-◌, ℕ, List, Bool, true, false, Option};
 ghost use Rattle.std.specs.Prelude.{None, length, IfOk, OnOk, OnErr};

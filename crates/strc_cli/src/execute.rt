@@ -7,15 +7,15 @@ ghost use Rattle.strc_cli.specs.Statuses.{status_number};
 ghost use Rattle.strc_cli.specs.Telling as spec;
 ghost use Rattle.strc_cli.specs.Telling.{Executes, TellsAnswer, Writes, device_of};
 
-use crate::compile::compile;
 use crate::device::{Sink, Source};
 use crate::line::Command;
-use crate::outcome::Outcome;
 use crate::output::{outcome_text, refusal_text};
-use crate::refusal::Refusal;
-use crate::runnable::are_runnable;
-use crate::runner::run;
 use std::alloc::{AllocError, Global};
+use strc_run::compile::compile;
+use strc_run::outcome::Outcome;
+use strc_run::refusal::Refusal;
+use strc_run::runnable::are_runnable;
+use strc_run::runner::run;
 
 /// How a call of `execute` went: what the program's exit status tells.
 #[derive(Clone, Copy, Debug, PartialEq, Eq)]
@@ -44,7 +44,7 @@ impl Status {
     }
 }
 
-/// Why nothing could be told.
+/// Why nothing could be reported.
 #[derive(Clone, Copy, Debug, PartialEq, Eq)]
 pub enum CliError {
     /// The input failed. Nothing was written.
@@ -73,7 +73,7 @@ pub fn execute<I: Source, O: Sink>(
     tell(alloc, &answered, output)
 }
 
-// Writes what is told of an answer.
+// Writes what is reported of an answer.
 fn tell<O: Sink>(
     alloc: Global,
     answered: &Result<Outcome, Stop>,
@@ -87,17 +87,17 @@ fn tell<O: Sink>(
         write_all(output, line)?;
         return Ok(Status::NoMemory);
     }
-    let Ok(text) = told_text(alloc, answered) else {
+    let Ok(text) = answer_text(alloc, answered) else {
         return Err(CliError::Memory);
     };
     write_all(output, &text)?;
-    Ok(told_status(answered))
+    Ok(answer_status(answered))
 }
 
-// The line that tells out of memory, which takes none.
+// The line that reports out of memory, which takes none.
 fn memory_line(answered: &Result<Outcome, Stop>) -> Option<&'static [u8]>
-    ensures { IfSome result (λ line. (line.now ≡ spec.told_text answered.now)
-        × (spec.told_status answered.now ≡ Status.NoMemory)) }
+    ensures { IfSome result (λ line. (line.now ≡ spec.answer_text answered.now)
+        × (spec.answer_status answered.now ≡ Status.NoMemory)) }
 {
     match answered {
         Err(Stop::Refused(Refusal::NoMemory)) => Some(b"refused E25 NoMemory\n"),
@@ -107,8 +107,8 @@ fn memory_line(answered: &Result<Outcome, Stop>) -> Option<&'static [u8]>
 }
 
 // The text of an answer.
-fn told_text(alloc: Global, answered: &Result<Outcome, Stop>) -> Result<Vec<u8>, AllocError>
-    ensures { IfOk result (λ text. text.items ≡ spec.told_text answered.now) }
+fn answer_text(alloc: Global, answered: &Result<Outcome, Stop>) -> Result<Vec<u8>, AllocError>
+    ensures { IfOk result (λ text. text.items ≡ spec.answer_text answered.now) }
 {
     match answered {
         Ok(outcome) => outcome_text(alloc, outcome),
@@ -118,8 +118,8 @@ fn told_text(alloc: Global, answered: &Result<Outcome, Stop>) -> Result<Vec<u8>,
 }
 
 // The status of an answer.
-fn told_status(answered: &Result<Outcome, Stop>) -> Status
-    ensures { result ≡ spec.told_status answered.now }
+fn answer_status(answered: &Result<Outcome, Stop>) -> Status
+    ensures { result ≡ spec.answer_status answered.now }
 {
     match answered {
         Ok(Outcome::Done(_)) => Status::Done,

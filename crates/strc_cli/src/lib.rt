@@ -3,23 +3,13 @@
 // refusal.
 // The theorem to rely on: `execute` reports exactly the answer of a text: an outcome of its rounds,
 // or a refusal that holds.
-// Stands on strc_lex, strc_parse, strc_elab, strc_graph, strc_rate and strc_work, on strc_dataflow,
-// whose equations the runs answer, and on clap for the command line.
+// Stands on strc_run, which compiles and runs a text, and on clap for the command line.
 #![tactic(auto)]
 
-mod compile;
 pub mod device;
 pub mod execute;
-pub mod laws;
 pub mod line;
-mod outcome;
 mod output;
 pub mod program_text;
-mod rates;
-mod ready;
-pub mod refusal;
-mod runnable;
-mod runner;
-mod start;
 mod text;
 pub mod words;

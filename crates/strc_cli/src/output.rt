@@ -3,10 +3,10 @@
 ghost use Rattle.std.specs.Prelude.{◌≡◌, ◌++◌, IfOk, OnOk, codes, decimal};
 ghost use Rattle.strc_cli.specs.Output as spec;
 
-use crate::outcome::{Fault, Outcome};
-use crate::refusal::Refusal;
 use crate::text::{push_bytes, push_integer, push_number};
 use std::alloc::{AllocError, Global};
+use strc_run::outcome::{Fault, Outcome};
+use strc_run::refusal::Refusal;
 use strc_semantics::fault::Cause;
 use strc_semantics::word::Word;
 
@@ -86,7 +86,7 @@ pub(crate) fn refusal_text(alloc: Global, refusal: &Refusal) -> Result<Vec<u8>, 
     Ok(text)
 }
 
-// The number and the name of a refusal, and its fields, each behind its name.
+// The number and the name of a refusal, and its fields, each after its name.
 fn push_refusal(text: &mut Vec<u8>, refusal: &Refusal) -> Result<(), AllocError>
     ensures { OnOk result (text.new.items ≡ text.old.items ++ spec.refusal_words refusal.now) }
 {

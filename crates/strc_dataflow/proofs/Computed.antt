@@ -4,7 +4,7 @@ use Rattle.strc_dataflow.specs.Rounds.{gives_in_round, IsBalanced, IsSupplied}
 use Rattle.strc_dataflow.specs.Node.{total, at_port_0}
 use Rattle.strc_dataflow.specs.Histories.{all_below, windows, finds, begun, after_firing, advance_if, advance, runs}
 use Rattle.strc_dataflow.specs.Flat.{items_of, arrived, runs_at, Origin.Input}
-use Rattle.strc_dataflow.specs.Streams.{source_at_0, delayed, led_by, node_layout, maybe_layout, chained_layout, beside_layout, fed_back_layout, layout, any_code, flat, chained, beside, iterate, around, back_of, turn, settled, fed_back, no_part, node_part, reader_part, maybe_part, part, solution}
+use Rattle.strc_dataflow.specs.Streams.{source_at_0, delayed, prepend, node_layout, maybe_layout, chained_layout, beside_layout, fed_back_layout, layout, any_code, flat, chained, beside, iterate, around, back_of, turn, loop_solution, fed_back, no_part, node_part, reader_part, maybe_part, part, solution}
 use Rattle.strc_dataflow.specs.Order.{raised, tally, counts_after, supply_of, supply}
 use Rattle.strc_dataflow.specs.Machine.{put, at_first, fired_once, unless_faulted, go, stop_at, or_else, first_fault}
 use Rattle.strc_dataflow.specs.Answer.{words_of, stream_runs, round_outcome, rounds, startup_outcome, whole_run}
@@ -35,7 +35,7 @@ row_from p expected valid equations run =
 
 -- What rows compute with: a proof that names it on its unfolding line computes with all definitions of the crate.
 unfoldable pub all_definitions : ℕ
-unfolding total at_port_0 all_below windows finds begun after_firing advance_if advance runs items_of arrived runs_at source_at_0 delayed led_by node_layout maybe_layout chained_layout beside_layout fed_back_layout layout any_code flat chained beside iterate around back_of turn settled fed_back no_part node_part reader_part maybe_part part solution raised tally counts_after supply_of supply put at_first fired_once unless_faulted go stop_at or_else first_fault words_of stream_runs round_outcome rounds startup_outcome whole_run span_start inputs takes looks_at gives quotient one_cycle fires example shown ready_test order_test within_test tally_test schedule_test
+unfolding total at_port_0 all_below windows finds begun after_firing advance_if advance runs items_of arrived runs_at source_at_0 delayed prepend node_layout maybe_layout chained_layout beside_layout fed_back_layout layout any_code flat chained beside iterate around back_of turn loop_solution fed_back no_part node_part reader_part maybe_part part solution raised tally counts_after supply_of supply put at_first fired_once unless_faulted go stop_at or_else first_fault words_of stream_runs round_outcome rounds startup_outcome whole_run span_start inputs takes looks_at gives quotient one_cycle fires example shown ready_test order_test within_test tally_test schedule_test
 all_definitions = 0
 
 pub minimal_row : MinimalRow

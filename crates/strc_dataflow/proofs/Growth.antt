@@ -3,7 +3,7 @@ use Rattle.std.proofs.Common.{◌≡◌, refl, sym, ap, ◌∙◌, subst, ℕ, z
 use mathlib.Core.Logic.{inl, inr, ◌⊎◌}
 use Rattle.strc_dataflow.specs.Node.{ByPort, Meaning, total, at_port_0}
 use Rattle.strc_dataflow.specs.Histories.{Run, finds, begun, advance, runs, KeepsRates}
-use Rattle.strc_dataflow.specs.Streams.{led_by, Part, chained, beside, iterate, around, back_of, turn, settled, fed_back, no_part, node_part, reader_part}
+use Rattle.strc_dataflow.specs.Streams.{prepend, Part, chained, beside, iterate, around, back_of, turn, loop_solution, fed_back, no_part, node_part, reader_part}
 use Rattle.strc_dataflow.proofs.Runs.{at_or_below, not_found, Begins, begins_itself, advance_longer, stays_faulted, pushes_grow, advance_counts, fault_pushes_nothing}
 
 total_grows : (rate : ℕ → ℕ → ℕ) (port n later : ℕ) → n ≤ later → total rate n port ≤ total rate later port
@@ -103,18 +103,18 @@ unfolding at_port_0
 at_port_0_grows xs ys b zero = b
 at_port_0_grows xs ys b (suc port) = begins_itself []
 
-led_by_grows : (xs ys : List ℤ) (xss yss : ByPort) → Begins xs ys → ((port : ℕ) → Begins (xss port) (yss port)) → (port : ℕ) → Begins (led_by xs xss port) (led_by ys yss port)
-unfolding led_by
-led_by_grows xs ys xss yss b c zero = b
-led_by_grows xs ys xss yss b c (suc port) = c port
+prepend_grows : (xs ys : List ℤ) (xss yss : ByPort) → Begins xs ys → ((port : ℕ) → Begins (xss port) (yss port)) → (port : ℕ) → Begins (prepend xs xss port) (prepend ys yss port)
+unfolding prepend
+prepend_grows xs ys xss yss b c zero = b
+prepend_grows xs ys xss yss b c (suc port) = c port
 
-led_by_bounded : (xs : List ℤ) (xss : ByPort) (n : ℕ) (ns : ℕ → ℕ) → length xs ≤ n → ((port : ℕ) → length (xss port) ≤ ns port) → (port : ℕ) → length (led_by xs xss port) ≤ led_by n ns port
-unfolding led_by
-led_by_bounded xs xss n ns b c zero = b
-led_by_bounded xs xss n ns b c (suc port) = c port
+prepend_bounded : (xs : List ℤ) (xss : ByPort) (n : ℕ) (ns : ℕ → ℕ) → length xs ≤ n → ((port : ℕ) → length (xss port) ≤ ns port) → (port : ℕ) → length (prepend xs xss port) ≤ prepend n ns port
+unfolding prepend
+prepend_bounded xs xss n ns b c zero = b
+prepend_bounded xs xss n ns b c (suc port) = c port
 
-at_port_0_bounded : (xs : List ℤ) (n : ℕ) → length xs ≤ n → (port : ℕ) → length (at_port_0 xs port) ≤ led_by n (λ p. 0) port
-unfolding led_by at_port_0
+at_port_0_bounded : (xs : List ℤ) (n : ℕ) → length xs ≤ n → (port : ℕ) → length (at_port_0 xs port) ≤ prepend n (λ p. 0) port
+unfolding prepend at_port_0
 at_port_0_bounded xs n b zero = b
 at_port_0_bounded xs n b (suc port) = omega arith
 
@@ -133,12 +133,12 @@ pub beside_steady : (a b : Part) → IsSteady a → IsSteady b → IsSteady (bes
 unfolding beside
 beside_steady a b s t = record {
   grows = λ first xs ys h.
-      led_by_grows ((a.solve first (at_port_0 (xs 0))).given 0) ((a.solve first (at_port_0 (ys 0))).given 0)
+      prepend_grows ((a.solve first (at_port_0 (xs 0))).given 0) ((a.solve first (at_port_0 (ys 0))).given 0)
       (b.solve (first + a.size) (λ port. xs (suc port))).given (b.solve (first + a.size) (λ port. ys (suc port))).given
       (s.grows first (at_port_0 (xs 0)) (at_port_0 (ys 0)) (at_port_0_grows (xs 0) (ys 0) (h 0)) 0)
       (t.grows (first + a.size) (λ port. xs (suc port)) (λ port. ys (suc port)) (λ port. h (suc port)));
   bounded = λ first lists.
-      led_by_bounded ((a.solve first (at_port_0 (lists 0))).given 0) (b.solve (first + a.size) (λ port. lists (suc port))).given (a.most first 0) (b.most (first + a.size))
+      prepend_bounded ((a.solve first (at_port_0 (lists 0))).given 0) (b.solve (first + a.size) (λ port. lists (suc port))).given (a.most first 0) (b.most (first + a.size))
       (s.bounded first (at_port_0 (lists 0)) 0) (t.bounded (first + a.size) (λ port. lists (suc port)));
 }
 
@@ -195,7 +195,7 @@ module _ (body loop : Part) (s : IsSteady body) (t : IsSteady loop) (enqueued : 
   around_grows : (first : ℕ) (xs ys : ByPort) → ((port : ℕ) → Begins (xs port) (ys port)) → (x y : List ℤ) → Begins x y → (port : ℕ) → Begins ((around body loop enqueued first xs x).given port) ((around body loop enqueued first ys y).given port)
   unfolding around
   around_grows first xs ys h x y b =
-      s.grows first (led_by (xs 0) (at_port_0 x)) (led_by (ys 0) (at_port_0 y)) (led_by_grows (xs 0) (ys 0) (at_port_0 x) (at_port_0 y) (h 0) (at_port_0_grows x y b))
+      s.grows first (prepend (xs 0) (at_port_0 x)) (prepend (ys 0) (at_port_0 y)) (prepend_grows (xs 0) (ys 0) (at_port_0 x) (at_port_0 y) (h 0) (at_port_0_grows x y b))
 
   turn_grows : (first : ℕ) (xs ys : ByPort) → ((port : ℕ) → Begins (xs port) (ys port)) → (x y : List ℤ) → Begins x y → Begins (turn body loop enqueued first xs x) (turn body loop enqueued first ys y)
   unfolding turn back_of
@@ -205,9 +205,9 @@ module _ (body loop : Part) (s : IsSteady body) (t : IsSteady loop) (enqueued : 
       (at_port_0_grows ((around body loop enqueued first xs x).given 1) ((around body loop enqueued first ys y).given 1) (around_grows first xs ys h x y b 1))
       0)
 
-  settled_grows : (first : ℕ) (xs ys : ByPort) → ((port : ℕ) → Begins (xs port) (ys port)) → Begins (settled body loop enqueued first xs) (settled body loop enqueued first ys)
-  unfolding settled
-  settled_grows first xs ys h =
+  loop_solution_grows : (first : ℕ) (xs ys : ByPort) → ((port : ℕ) → Begins (xs port) (ys port)) → Begins (loop_solution body loop enqueued first xs) (loop_solution body loop enqueued first ys)
+  unfolding loop_solution
+  loop_solution_grows first xs ys h =
       iterate_grows (turn body loop enqueued first xs) (turn body loop enqueued first ys) (turn_grows first xs ys h) (suc (length enqueued + loop.most (first + body.size) 0)) enqueued enqueued (begins_itself enqueued)
 
   turn_bounded : (first : ℕ) (lists : ByPort) (x : List ℤ) → length (turn body loop enqueued first lists x) ≤ length enqueued + loop.most (first + body.size) 0
@@ -221,20 +221,20 @@ module _ (body loop : Part) (s : IsSteady body) (t : IsSteady loop) (enqueued : 
 
   around_bounded : (first : ℕ) (lists : ByPort) (x : List ℤ) → length ((around body loop enqueued first lists x).given 0) ≤ body.most first 0
   unfolding around
-  around_bounded first lists x = s.bounded first (led_by (lists 0) (at_port_0 x)) 0
+  around_bounded first lists x = s.bounded first (prepend (lists 0) (at_port_0 x)) 0
 
   -- The list that comes back is settled.
-  pub turn-settled : (first : ℕ) (lists : ByPort) → turn body loop enqueued first lists (settled body loop enqueued first lists) ≡ settled body loop enqueued first lists
-  unfolding settled
-  turn-settled first lists =
+  pub turn-loop_solution : (first : ℕ) (lists : ByPort) → turn body loop enqueued first lists (loop_solution body loop enqueued first lists) ≡ loop_solution body loop enqueued first lists
+  unfolding loop_solution
+  turn-loop_solution first lists =
       iterate_fixed (turn body loop enqueued first lists) (turn_grows first lists lists (λ port. begins_itself (lists port))) (length enqueued + loop.most (first + body.size) 0) (turn_bounded first lists) enqueued (turn_begins first lists enqueued)
 
   pub fed_back_steady : IsSteady (fed_back body loop enqueued)
   unfolding fed_back
   fed_back_steady = record {
     grows = λ first xs ys h.
-        at_port_0_grows ((around body loop enqueued first xs (settled body loop enqueued first xs)).given 0) ((around body loop enqueued first ys (settled body loop enqueued first ys)).given 0)
-        (around_grows first xs ys h (settled body loop enqueued first xs) (settled body loop enqueued first ys) (settled_grows first xs ys h) 0);
+        at_port_0_grows ((around body loop enqueued first xs (loop_solution body loop enqueued first xs)).given 0) ((around body loop enqueued first ys (loop_solution body loop enqueued first ys)).given 0)
+        (around_grows first xs ys h (loop_solution body loop enqueued first xs) (loop_solution body loop enqueued first ys) (loop_solution_grows first xs ys h) 0);
     bounded = λ first lists.
-        at_port_0_bounded ((around body loop enqueued first lists (settled body loop enqueued first lists)).given 0) (body.most first 0) (around_bounded first lists (settled body loop enqueued first lists));
+        at_port_0_bounded ((around body loop enqueued first lists (loop_solution body loop enqueued first lists)).given 0) (body.most first 0) (around_bounded first lists (loop_solution body loop enqueued first lists));
   }

@@ -7,8 +7,8 @@ use Rattle.std.proofs.lemmas.List.{get_or_default}
 use Rattle.strc_dataflow.specs.Node.{ByPort, Meaning, at_port_0}
 use Rattle.strc_dataflow.specs.Histories.{Run, runs, KeepsRates}
 use Rattle.strc_dataflow.specs.Flat.{Origin.Input, Origin.Port, Source, Graph, items_of, arrived, runs_at, Solves}
-use Rattle.strc_dataflow.specs.Streams.{Stream, Stream.One, Stream.Reader, Stream.Pipeline, Stream.SplitJoin, Stream.FeedbackLoop, Streams, Streams.Last, Streams.More, Layout, nothing, source_at_0, delayed, led_by, node_layout, maybe_layout, chained_layout, beside_layout, fed_back_layout, layout, pipeline_layout, branch_layout, any_code, flat, Solution, Part, chained, beside, around, back_of, turn, settled, fed_back, no_part, node_part, reader_part, maybe_part, part, pipeline_part, branch_part, solution}
-use Rattle.strc_dataflow.proofs.Growth.{IsSteady, no_part_steady, chained_steady, beside_steady, node_steady, reader_steady, turn-settled, fed_back_steady}
+use Rattle.strc_dataflow.specs.Streams.{Stream, Stream.One, Stream.Reader, Stream.Pipeline, Stream.SplitJoin, Stream.FeedbackLoop, Streams, Streams.Last, Streams.More, Layout, nothing, source_at_0, delayed, prepend, node_layout, maybe_layout, chained_layout, beside_layout, fed_back_layout, layout, pipeline_layout, branch_layout, any_code, flat, Solution, Part, chained, beside, around, back_of, turn, loop_solution, fed_back, no_part, node_part, reader_part, maybe_part, part, pipeline_part, branch_part, solution}
+use Rattle.strc_dataflow.proofs.Growth.{IsSteady, no_part_steady, chained_steady, beside_steady, node_steady, reader_steady, turn-loop_solution, fed_back_steady}
 
 -- The list that no port gives.
 abbrev pub none : ByPort
@@ -143,10 +143,10 @@ module _ {Code State Cause Word : Type 0} (meaning : Meaning Code State Cause Wo
   at_port_0_comes items source e zero = e
   at_port_0_comes items source e (suc port) = refl
 
-  led_by_comes : (items : List ℤ) (lists : ByPort) (source : Source) (sources : ℕ → Source) → items ≡ arrived input now source → ((port : ℕ) → lists port ≡ arrived input now (sources port)) → (port : ℕ) → led_by items lists port ≡ arrived input now (led_by source sources port)
-  unfolding led_by
-  led_by_comes items lists source sources e f zero = e
-  led_by_comes items lists source sources e f (suc port) = f port
+  prepend_comes : (items : List ℤ) (lists : ByPort) (source : Source) (sources : ℕ → Source) → items ≡ arrived input now source → ((port : ℕ) → lists port ≡ arrived input now (sources port)) → (port : ℕ) → prepend items lists port ≡ arrived input now (prepend source sources port)
+  unfolding prepend
+  prepend_comes items lists source sources e f zero = e
+  prepend_comes items lists source sources e f (suc port) = f port
 
   delayed_comes : (enqueued items : List ℤ) (source : Source) → items ≡ arrived input now source → enqueued ++ items ≡ arrived input now (delayed enqueued source)
   unfolding arrived delayed
@@ -159,7 +159,7 @@ module _ {Code State Cause Word : Type 0} (meaning : Meaning Code State Cause Wo
     taken_size = λ first lists. length-append (a.solve first (at_port_0 (lists 0))).taken (b.solve (first + a.size) (λ port. lists (suc port))).taken ∙ sizes (s.taken_size first (at_port_0 (lists 0))) (t.taken_size (first + a.size) (λ port. lists (suc port)));
     sources_size = λ first before. length-append (l.sources first (source_at_0 (before 0))) (m.sources (first + length l.codes) (λ port. before (suc port))) ∙ sizes (s.sources_size first (source_at_0 (before 0))) (t.sources_size (first + length l.codes) (λ port. before (suc port)));
     outlet = λ first lists h.
-        led_by_comes ((a.solve first (at_port_0 (lists 0))).given 0) (b.solve (first + a.size) (λ port. lists (suc port))).given (l.outlet first 0) (m.outlet (first + length l.codes))
+        prepend_comes ((a.solve first (at_port_0 (lists 0))).given 0) (b.solve (first + a.size) (λ port. lists (suc port))).given (l.outlet first 0) (m.outlet (first + length l.codes))
         (s.outlet first (at_port_0 (lists 0)) (the_first first lists h) 0)
         (λ port. t.outlet (first + a.size) (λ p. lists (suc p)) (second first lists h) port ∙ ap (λ (n : ℕ). arrived input now (m.outlet (first + n) port)) s.size);
     fed = λ first lists before h come.
@@ -198,27 +198,27 @@ module _ {Code State Cause Word : Type 0} (meaning : Meaning Code State Cause Wo
     fed = λ first lists before h come.
         fed_append (x first lists).taken (y first lists).taken (l.sources first (sources_in first before)) (m.sources (first + length l.codes) (source_at_0 (l.outlet first 1)))
         (x_size first lists ∙ sym (s.sources_size first (sources_in first before)))
-        (x_fed first lists before h (led_by_comes (lists 0) (at_port_0 (back first lists)) (before 0) (source_at_0 (delayed enqueued (m.outlet (first + length l.codes) 0))) (come 0) (at_port_0_comes (back first lists) (delayed enqueued (m.outlet (first + length l.codes) 0)) (back_comes first lists h))))
+        (x_fed first lists before h (prepend_comes (lists 0) (at_port_0 (back first lists)) (before 0) (source_at_0 (delayed enqueued (m.outlet (first + length l.codes) 0))) (come 0) (at_port_0_comes (back first lists) (delayed enqueued (m.outlet (first + length l.codes) 0)) (back_comes first lists h))))
         (y_fed first lists h (at_port_0_comes ((x first lists).given 1) (l.outlet first 1) (x_gives first lists h 1)));
   }
     where
       back : ℕ → ByPort → List ℤ
-      back first lists = settled a b enqueued first lists
+      back first lists = loop_solution a b enqueued first lists
 
       x : ℕ → ByPort → Solution
-      x first lists = around a b enqueued first lists (settled a b enqueued first lists)
+      x first lists = around a b enqueued first lists (loop_solution a b enqueued first lists)
 
       y : ℕ → ByPort → Solution
-      y first lists = back_of a b enqueued first lists (settled a b enqueued first lists)
+      y first lists = back_of a b enqueued first lists (loop_solution a b enqueued first lists)
 
       sources_in : ℕ → (ℕ → Source) → ℕ → Source
-      sources_in first before = led_by (before 0) (source_at_0 (delayed enqueued (m.outlet (first + length l.codes) 0)))
+      sources_in first before = prepend (before 0) (source_at_0 (delayed enqueued (m.outlet (first + length l.codes) 0)))
 
       sizes : {n k : ℕ} → n ≡ length l.codes → k ≡ length m.codes → n + k ≡ length (l.codes ++ m.codes)
       sizes e f = omega (arith, e, f, length-append l.codes m.codes)
 
       x_in : ℕ → ByPort → ByPort
-      x_in first lists = led_by (lists 0) (at_port_0 (settled a b enqueued first lists))
+      x_in first lists = prepend (lists 0) (at_port_0 (loop_solution a b enqueued first lists))
 
       y_in : ℕ → ByPort → ByPort
       y_in first lists = at_port_0 ((x first lists).given 1)
@@ -241,11 +241,11 @@ module _ {Code State Cause Word : Type 0} (meaning : Meaning Code State Cause Wo
 
       back_comes : (first : ℕ) (lists : ByPort) → Stands first (l.codes ++ m.codes) ((x first lists).taken ++ (y first lists).taken) → back first lists ≡ arrived input now (delayed enqueued (m.outlet (first + length l.codes) 0))
       back_comes first lists h =
-          sym (turn-settled a b steady_a steady_b enqueued first lists)
+          sym (turn-loop_solution a b steady_a steady_b enqueued first lists)
           ∙ delayed_comes enqueued ((y first lists).given 0) (m.outlet (first + a.size) 0) (t.outlet (first + a.size) (y_in first lists) (y_stands first lists h) 0)
           ∙ ap (λ (n : ℕ). arrived input now (delayed enqueued (m.outlet (first + n) 0))) s.size
 
-      x_fed : (first : ℕ) (lists : ByPort) (before : ℕ → Source) → Stands first (l.codes ++ m.codes) ((x first lists).taken ++ (y first lists).taken) → ((port : ℕ) → led_by (lists 0) (at_port_0 (back first lists)) port ≡ arrived input now (sources_in first before port)) → Fed (x first lists).taken (l.sources first (sources_in first before))
+      x_fed : (first : ℕ) (lists : ByPort) (before : ℕ → Source) → Stands first (l.codes ++ m.codes) ((x first lists).taken ++ (y first lists).taken) → ((port : ℕ) → prepend (lists 0) (at_port_0 (back first lists)) port ≡ arrived input now (sources_in first before port)) → Fed (x first lists).taken (l.sources first (sources_in first before))
       x_fed first lists before h come = s.fed first (x_in first lists) (sources_in first before) (x_stands first lists h) come
 
       y_fed : (first : ℕ) (lists : ByPort) → Stands first (l.codes ++ m.codes) ((x first lists).taken ++ (y first lists).taken) → ((port : ℕ) → at_port_0 ((x first lists).given 1) port ≡ arrived input now (source_at_0 (l.outlet first 1) port)) → Fed (y first lists).taken (m.sources (first + length l.codes) (source_at_0 (l.outlet first 1)))

@@ -16,7 +16,7 @@ all_below zero test = true
 all_below (suc n) test = all_below n test && test n
 
 module _ {Code State Cause Word : Type 0} (meaning : Meaning Code State Cause Word) (code : Code) where
-  -- What firing n looks at in the whole inputs: its windows, behind all that earlier firings took.
+  -- What firing n looks at in the whole inputs: its windows, after all that earlier firings took.
   unfoldable pub windows : ℕ → ByPort → ByPort
   windows n inputs port =
       cond (ltb port (meaning.ports code)) (take (meaning.window code n port) (drop (total (meaning.popped code) n port) (inputs port))) []
@@ -44,7 +44,7 @@ module _ {Code State Cause Word : Type 0} (meaning : Meaning Code State Cause Wo
   unfoldable pub advance : ByPort → Run State Cause Word → Run State Cause Word
   advance inputs run = advance_if inputs run run.fault (finds run.fired inputs)
 
-  -- n firings over whole inputs; firings that find no window, or stand behind a fault, aren't done.
+  -- n firings over whole inputs; firings that find no window, or stand after a fault, aren't done.
   unfoldable pub runs : ℕ → ByPort → Run State Cause Word
   runs zero inputs = begun
   runs (suc n) inputs = advance inputs (runs n inputs)

@@ -41,14 +41,14 @@ unfoldable pub source_at_0 : Source → ℕ → Source
 source_at_0 source zero = source
 source_at_0 source (suc port) = nothing
 
--- A source behind enqueued items.
+-- A source after enqueued items.
 unfoldable pub delayed : List ℤ → Source → Source
 delayed enqueued source = record { enqueued = enqueued ++ source.enqueued; origin = source.origin }
 
 -- Port 0 of the first, and then the ports of the second from 0 on.
-unfoldable pub led_by {ℓ} : {A : Type ℓ} → A → (ℕ → A) → ℕ → A
-led_by first others zero = first
-led_by first others (suc port) = others port
+unfoldable pub prepend {ℓ} : {A : Type ℓ} → A → (ℕ → A) → ℕ → A
+prepend first others zero = first
+prepend first others (suc port) = others port
 
 module _ {Code : Type 0} where
   unfoldable pub node_layout : Code → Layout Code
@@ -76,16 +76,16 @@ module _ {Code : Type 0} where
   beside_layout a b = record {
     codes = a.codes ++ b.codes;
     sources = λ first before. a.sources first (source_at_0 (before 0)) ++ b.sources (first + length a.codes) (λ port. before (suc port));
-    outlet = λ first. led_by (a.outlet first 0) (b.outlet (first + length a.codes));
+    outlet = λ first. prepend (a.outlet first 0) (b.outlet (first + length a.codes));
   }
 
-  -- What leaves the body at port 1 comes back, through the loop and behind the enqueued items, at the body's port 1.
+  -- What leaves the body at port 1 comes back, through the loop and after the enqueued items, at the body's port 1.
   unfoldable pub fed_back_layout : Layout Code → Layout Code → List ℤ → Layout Code
   fed_back_layout body loop enqueued = record {
     codes = body.codes ++ loop.codes;
     sources = λ first before.
         let second = first + length body.codes in
-        body.sources first (led_by (before 0) (source_at_0 (delayed enqueued (loop.outlet second 0)))) ++ loop.sources second (source_at_0 (body.outlet first 1));
+        body.sources first (prepend (before 0) (source_at_0 (delayed enqueued (loop.outlet second 0)))) ++ loop.sources second (source_at_0 (body.outlet first 1));
     outlet = λ first. source_at_0 (body.outlet first 0);
   }
 
@@ -157,11 +157,11 @@ chained a b = record {
 unfoldable pub beside : Part → Part → Part
 beside a b = record {
   size = a.size + b.size;
-  most = λ first. led_by (a.most first 0) (b.most (first + a.size));
+  most = λ first. prepend (a.most first 0) (b.most (first + a.size));
   solve = λ first lists.
       let x = a.solve first (at_port_0 (lists 0)) in
       let y = b.solve (first + a.size) (λ port. lists (suc port)) in
-      record { taken = x.taken ++ y.taken; given = led_by (x.given 0) y.given };
+      record { taken = x.taken ++ y.taken; given = prepend (x.given 0) y.given };
 }
 
 -- f done n times.
@@ -172,7 +172,7 @@ iterate (suc n) f x = f (iterate n f x)
 module _ (body loop : Part) (enqueued : List ℤ) (first : ℕ) (lists : ByPort) where
   -- What the body makes of the outer input at port 0 and the list that comes back at port 1.
   unfoldable pub around : List ℤ → Solution
-  around back = body.solve first (led_by (lists 0) (at_port_0 back))
+  around back = body.solve first (prepend (lists 0) (at_port_0 back))
 
   -- What the loop makes of what leaves the body at port 1.
   unfoldable pub back_of : List ℤ → Solution
@@ -183,16 +183,16 @@ module _ (body loop : Part) (enqueued : List ℤ) (first : ℕ) (lists : ByPort)
   turn back = enqueued ++ (back_of back).given 0
 
   -- The list that comes back begins as the enqueued items and is put anew once more than it can have items, so that it grows no longer.
-  unfoldable pub settled : List ℤ
-  settled = iterate (suc (length enqueued + loop.most (first + body.size) 0)) turn enqueued
+  unfoldable pub loop_solution : List ℤ
+  loop_solution = iterate (suc (length enqueued + loop.most (first + body.size) 0)) turn enqueued
 
 unfoldable pub fed_back : Part → Part → List ℤ → Part
 fed_back body loop enqueued = record {
   size = body.size + loop.size;
-  most = λ first. led_by (body.most first 0) (λ port. 0);
+  most = λ first. prepend (body.most first 0) (λ port. 0);
   solve = λ first lists.
-      let x = around body loop enqueued first lists (settled body loop enqueued first lists) in
-      let y = back_of body loop enqueued first lists (settled body loop enqueued first lists) in
+      let x = around body loop enqueued first lists (loop_solution body loop enqueued first lists) in
+      let y = back_of body loop enqueued first lists (loop_solution body loop enqueued first lists) in
       record { taken = x.taken ++ y.taken; given = at_port_0 (x.given 0) };
 }
 

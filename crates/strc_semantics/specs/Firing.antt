@@ -98,7 +98,7 @@ item_popped (Some item) traffic = Ok (item, record traffic { popped = traffic.po
 abbrev pub popped_from : Port → Traffic → Result (ℤ × Traffic) Cause
 popped_from port traffic = item_popped (slice_get port.front traffic.popped) traffic
 
--- the item so many places behind the next one that is popped, where it is in the window
+-- the item so many places after the next one that is popped, where it is in the window
 abbrev pub item_ahead : Port → ℕ → ℤ → Option ℤ
 item_ahead port popped (pos place) = slice_get port.ahead (popped + place)
 item_ahead port popped (negsuc place) = None
@@ -311,13 +311,13 @@ abbrev pub field_values : Store → List ℤ
 field_values store = values_of store.variables
 
 -- a place without items
-abbrev pub shut : Port
-shut = record { front = []; ahead = []; room = 0 }
+abbrev pub no_io : Port
+no_io = record { front = []; ahead = []; room = 0 }
 
 -- a field gets its initialiser's value, where it has one
 abbrev pub initial_given : List ℕ → Option tree.Expr → Store → Result Store Cause
 initial_given name None store = Ok store
-initial_given name (Some initial) store = then_do (value_of shut initial store) (λ given. Ok (assigned given.1 name given.0))
+initial_given name (Some initial) store = then_do (value_of no_io initial store) (λ given. Ok (assigned given.1 name given.0))
 
 -- the initialisers of fields that are declared together, in order
 abbrev pub fields_started : List tree.Variable → Store → Result Store Cause
@@ -337,7 +337,7 @@ members_started (tree.Work rates block ∷ rest) store = members_started rest st
 abbrev pub inits_done : List tree.Member → Store → Result Store Cause
 inits_done [] store = Ok store
 inits_done (tree.Fields kind variables ∷ rest) store = inits_done rest store
-inits_done (tree.Init block ∷ rest) store = then_do (inside (stmts_done shut block) store) (inits_done rest)
+inits_done (tree.Init block ∷ rest) store = then_do (inside (stmts_done no_io block) store) (inits_done rest)
 inits_done (tree.Prework rates block ∷ rest) store = inits_done rest store
 inits_done (tree.Work rates block ∷ rest) store = inits_done rest store
 

@@ -1,4 +1,4 @@
--- Which variables can be seen behind a statement, with how many cells each has: one for a number or a truth value, and one for each element
+-- Which variables can be seen after a statement, with how many cells each has: one for a number or a truth value, and one for each element
 -- of an array.
 use Rattle.std.specs.Prelude.{ℕ, ◌+◌, pos, List, [], ◌∷◌, Bool, false, ◌||◌, Option, Some, None, unwrap_or, if◌then◌else◌, bytes_eq}
 use Rattle.strc_syntax.specs.Tree as tree
@@ -18,7 +18,7 @@ cells_of tree.Boolean = 1
 cells_of tree.Int = 1
 cells_of (tree.Array length) = number_in length
 
--- the variables that can be seen behind a declaration, the last one innermost
+-- the variables that can be seen after a declaration, the last one innermost
 abbrev pub with_declared : Scope → (cells : ℕ) → List tree.Variable → Scope
 with_declared scope cells [] = scope
 with_declared scope cells (first ∷ rest) = with_declared (record { 0 = first.name; 1 = cells } ∷ scope) cells rest

@@ -234,12 +234,12 @@ element_goes_on port name assign.Remainder index value names store slots first m
 -- an assignment to an element
 pub element_assigned : (port : Port) (name : List ℕ) (index : tree.Expr) (operator : AssignOperator) (value : tree.Expr) → RunsStmt port (tree.AssignElement name index operator value)
 element_assigned port name index operator value names store slots closed ready room =
-    let stays = writes_no_variable value in
-    let a = operand_nodes names stays index (total names) in
-    let from = operand_slot names stays index (total names) in
+    let may_alias = writes_no_variable value in
+    let a = operand_nodes names may_alias index (total names) in
+    let from = operand_slot names may_alias index (total names) in
     let b = element_nodes names name from operator value (total names + 1) in
     let room_a : nodes_room a ≤ length slots = omega (arith, nodes_room-before a b) in
     let room_b : nodes_room b ≤ length slots = omega (arith, nodes_room-before a b) in
     subst (Related (Reaches names (length slots)) (then_do (value_of port index store) (element_set port name operator value))) (sym (nodes_done-before port a b (machine_at slots store)))
-    (then_related (StandsAt names from (total names) slots) (Reaches names (length slots)) (value_of port index store) (nodes_done port a (machine_at slots store)) (element_set port name operator value) (nodes_done port b) (operand_runs port index (expr_runs port index) names stays (total names) store slots closed.1 ready room_a) (λ first m1 is stands.
+    (then_related (StandsAt names from (total names) slots) (Reaches names (length slots)) (value_of port index store) (nodes_done port a (machine_at slots store)) (element_set port name operator value) (nodes_done port b) (operand_runs port index (expr_runs port index) names may_alias (total names) store slots closed.1 ready room_a) (λ first m1 is stands.
     element_goes_on port name operator index value names store slots first m1 closed.0 closed.1 closed.2 ready room_b stands))

@@ -14,11 +14,11 @@ use Rattle.strc_semantics.specs.Scoping.{Scope, total, slot_of, size_of}
 use Rattle.strc_semantics.specs.Closed.{IsNamed, IsClosed}
 use Rattle.strc_semantics.specs.Firing.{Port, Store, then_do, cells_named, cell_in, with_cell, cell_set, place_in, tested_place, place_of, value_stepped, step_value, value_of}
 use Rattle.strc_machine.specs.Machine.{Machine, Act, before, slot_value, slot_written, inst_done, nodes_done, nodes_room}
-use Rattle.strc_work.specs.Lowering.{stands_at, one, step_amount, picked, element_step_nodes, operand_slot, operand_nodes}
+use Rattle.strc_work.specs.Lowering.{stands_at, one, step_amount, step_result, element_step_nodes, operand_slot, operand_nodes}
 use Rattle.strc_work.proofs.Variables.{scope_of, Holds, Holds-set_above, Holds-with_cell, scope_of-with_cell}
 use Rattle.strc_work.proofs.Related.{Related, then_related, nodes_done-before, then_last}
 use Rattle.strc_machine.proofs.Spelled.{nodes_room-before}
-use Rattle.strc_work.proofs.Expressions.{Arrives, StandsAt, Ready, machine_at, Runs, named_slots, named_size, named_cell, variable_runs, stays_slot, operand_runs}
+use Rattle.strc_work.proofs.Expressions.{Arrives, StandsAt, Ready, machine_at, Runs, named_slots, named_size, named_cell, variable_runs, aliased_slot, operand_runs}
 
 -- ---- places
 
@@ -44,9 +44,9 @@ same_place names name store slots index m from names_are holds named value =
     ap (place_in (size_of names name)) value ∙ ap (λ n. place_in n index) (sym (named_size names store.variables slots name names_are holds named))
 
 -- an operand stands at or below the first free slot
-pub operand_low : (port : Port) (e : tree.Expr) (names : Scope) (stays : Bool) (free : ℕ) (store : Store) (slots : List ℤ) → IsClosed names e → Ready names free store slots → operand_slot names stays e free ≤ free
-operand_low port e names stays free store slots closed ready =
-    by_place (stands_at names stays e) (λ slot is. (variable_runs port e names free slot store slots (stays_slot names stays e slot is).1 closed ready).1)
+pub operand_low : (port : Port) (e : tree.Expr) (names : Scope) (may_alias : Bool) (free : ℕ) (store : Store) (slots : List ℤ) → IsClosed names e → Ready names free store slots → operand_slot names may_alias e free ≤ free
+operand_low port e names may_alias free store slots closed ready =
+    by_place (stands_at names may_alias e) (λ slot is. (variable_runs port e names free slot store slots (aliased_slot names may_alias e slot is).1 closed ready).1)
   where
     by_place : (o : Option ℕ) → ((slot : ℕ) → o ≡ Some slot → slot < total names) → unwrap_or o free ≤ free
     by_place None below = omega arith
@@ -106,13 +106,13 @@ stepped_is step.DecrementFirst value = refl
 stepped_is step.IncrementAfter value = refl
 stepped_is step.DecrementAfter value = refl
 
-picked_is : (operator : StepOperator) (m : Machine) (first second : ℕ) (old new : ℤ) → slot_value m first ≡ old → slot_value m second ≡ new → slot_value m (picked operator first second) ≡ step_value operator old new
-picked_is step.IncrementFirst m first second old new e e' = e'
-picked_is step.DecrementFirst m first second old new e e' = e'
-picked_is step.IncrementAfter m first second old new e e' = e
-picked_is step.DecrementAfter m first second old new e e' = e
+step_result_is : (operator : StepOperator) (m : Machine) (first second : ℕ) (old new : ℤ) → slot_value m first ≡ old → slot_value m second ≡ new → slot_value m (step_result operator first second) ≡ step_value operator old new
+step_result_is step.IncrementFirst m first second old new e e' = e'
+step_result_is step.DecrementFirst m first second old new e e' = e'
+step_result_is step.IncrementAfter m first second old new e e' = e
+step_result_is step.DecrementAfter m first second old new e e' = e
 
--- the machine behind the steps that read an element, add to it and write it
+-- the machine after the steps that read an element, add to it and write it
 abbrev pub stepped_machine : (m : Machine) (f slot : ℕ) (old new : ℤ) → Machine
 stepped_machine m f slot old new = slot_written (slot_written (slot_written m f old) (f + 1) new) slot new
 
@@ -120,7 +120,7 @@ stepped_code : (port : Port) (operator : StepOperator) (base size from into f pl
 stepped_code port operator base size from into f place old new m place_is old_is new_is below low room =
     let slots = m.slots in
     let amount = step_amount operator in
-    let rest3 = one (act.Copy into (picked operator f (f + 1))) in
+    let rest3 = one (act.Copy into (step_result operator f (f + 1))) in
     let rest2 = Act (act.Store base size from (f + 1)) rest3 in
     let rest1 = Act (act.AddConst (f + 1) f amount) rest2 in
     let m1 = slot_written m f old in
@@ -149,12 +149,12 @@ stepped_code port operator base size from into f place old new m place_is old_is
     let step3 : nodes_done port rest1 m1 ≡ nodes_done port rest2 m2 = ap (λ v. adds (wrapped (v +ℤ amount))) old1 ∙ ap adds new_is in
     let step4 : nodes_done port rest2 m2 ≡ stores (Some place) = ap stores (ap (place_in size) from2 ∙ place_is) in
     let step5 : stores (Some place) ≡ nodes_done port rest3 m3 = ap (λ v. nodes_done port rest3 (slot_written m2 (base + place) v)) new2 in
-    let step6 : nodes_done port rest3 m3 ≡ copies (step_value operator old new) = ap copies (picked_is operator m3 f (f + 1) old new old3 new3) in
+    let step6 : nodes_done port rest3 m3 ≡ copies (step_value operator old new) = ap copies (step_result_is operator m3 f (f + 1) old new old3 new3) in
     step1 ∙ step2 ∙ step3 ∙ step4 ∙ step5 ∙ step6
 
 step_element_arrives : (port : Port) (operator : StepOperator) (names : Scope) (name : List ℕ) (into from free : ℕ) (before : List ℤ) (given : ℤ × Store) (m : Machine) (o : Option ℕ) → IsNamed names name → total names ≤ free → total names ≤ length before → from ≤ free → free + 1 + 1 < length before → ((place : ℕ) → o ≡ Some place → place < size_of names name) → place_in (size_of names name) (slot_value m from) ≡ o → StandsAt names from free before given m → Related (Arrives names into free before) (then_do (tested_place o) (λ place. let old = cell_in given.1 name place in let new = value_stepped operator old in Ok (step_value operator old new, cell_set given.1 name place new))) (nodes_done port (element_step_nodes operator (slot_of names name) (size_of names name) from into (free + 1)) m)
 step_element_arrives port operator names name into from free before given m None named above roomy low room below place_is stands =
-    let rest = Act (act.AddConst (free + 1 + 1) (free + 1) (step_amount operator)) (Act (act.Store (slot_of names name) (size_of names name) from (free + 1 + 1)) (one (act.Copy into (picked operator (free + 1) (free + 1 + 1))))) in
+    let rest = Act (act.AddConst (free + 1 + 1) (free + 1) (step_amount operator)) (Act (act.Store (slot_of names name) (size_of names name) from (free + 1 + 1)) (one (act.Copy into (step_result operator (free + 1) (free + 1 + 1))))) in
     let loads : Option ℕ → Result Machine Cause = λ o. then_do (then_do (tested_place o) (λ p. Ok (slot_written m (free + 1) (slot_value m (slot_of names name + p))))) (nodes_done port rest) in
     subst (Related (Arrives names into free before) (Err Index)) (sym (ap loads place_is)) refl
 step_element_arrives port operator names name into from free before given m (Some place) named above roomy low room below place_is stands =

@@ -23,11 +23,11 @@ stmts_nodes_more names names' old new first rest code scope =
     ∙ ap (λ s. before s (stmts_nodes (names_after names first) rest)) code
     ∙ before_assoc old (stmt_nodes names first) (stmts_nodes (names_after names first) rest)
 
--- the names that are left behind a statement in a scope of its own
+-- the names that are left after a statement in a scope of its own
 pub left_after : (names : Scope) (s : tree.Stmt) → drop (length (names_after names s) - length names) (names_after names s) ≡ names
 left_after names s = drop_inner names (names_after names s) (stands_on_after names names s (stands_on_itself names))
 
--- one more part behind what was written
+-- one more part after what was written
 more : (old new first rest all : Nodes) → new ≡ before old first → before first rest ≡ all → before new rest ≡ before old all
 more old new first rest all e whole = ap (λ n. before n rest) e ∙ before_assoc old first rest ∙ ap (before old) whole
 

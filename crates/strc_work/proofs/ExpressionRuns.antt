@@ -20,7 +20,7 @@ use Rattle.strc_work.specs.Lowering.{variable_slot, writes_no_variable, stands_a
 use Rattle.strc_work.proofs.Variables.{scope_of, at, Holds, Holds-set_above, Holds-assigned, scope_of-with_cell, same_slots}
 use Rattle.strc_work.proofs.Related.{Related, then_related, weaker_related, chosen_related, nodes_done-before, then_end, then_last}
 use Rattle.strc_machine.proofs.Spelled.{nodes_room-before}
-use Rattle.strc_work.proofs.Expressions.{Arrives, StandsAt, Ready, machine_at, Runs, Strict, by_operator, named_below, named_value, total-variables, variable_runs, Keeps, keeps, stays_slot, operand_runs, arrived_stands, expr_room}
+use Rattle.strc_work.proofs.Expressions.{Arrives, StandsAt, Ready, machine_at, Runs, Strict, by_operator, named_below, named_value, total-variables, variable_runs, Keeps, keeps, aliased_slot, operand_runs, arrived_stands, expr_room}
 use Rattle.strc_work.proofs.Elements.{element_runs, step_element_runs}
 
 -- a value that needs no other step
@@ -102,7 +102,7 @@ machine_is m store e = ap (λ t. record { slots = m.slots; traffic = t }) e
 -- the left operand's value is still there after the right operand's code
 pub left_stays : (port : Port) (names : Scope) (left right : tree.Expr) (free : ℕ) (store : Store) (slots : List ℤ) (first second : ℤ × Store) (m1 m2 : Machine) → IsClosed names left → Ready names free store slots → value_of port right first.1 ≡ Ok second → StandsAt names (operand_slot names (writes_no_variable right) left free) free slots first m1 → Holds second.1.variables m2.slots → ((k : ℕ) → total names ≤ k → k < free + 1 → at m2.slots k ≡ at m1.slots k) → at m2.slots (operand_slot names (writes_no_variable right) left free) ≡ first.0
 left_stays port names left right free store slots first second m1 m2 closed ready is stands holds kept =
-    by_place (stands_at names (writes_no_variable right) left) (λ slot at_slot. stays_slot names (writes_no_variable right) left slot at_slot) stands.value
+    by_place (stands_at names (writes_no_variable right) left) (λ slot at_slot. aliased_slot names (writes_no_variable right) left slot at_slot) stands.value
   where
     by_place : (o : Option ℕ) → ((slot : ℕ) → o ≡ Some slot → (writes_no_variable right ≡ true) × (variable_slot names left ≡ Some slot)) → at m1.slots (unwrap_or o free) ≡ first.0 → at m2.slots (unwrap_or o free) ≡ first.0
     by_place None place value =
@@ -119,10 +119,10 @@ left_stays port names left right free store slots first second m1 m2 closed read
 -- an operator between operands that are both evaluated
 strict_runs : (port : Port) (operator : BinaryOperator) → Strict operator → (left right : tree.Expr) → Runs port left → Runs port right → Runs port (tree.Binary operator left right)
 strict_runs port operator strict left right run_left run_right names into free store slots closed ready room =
-    let stays = writes_no_variable right in
-    let a = operand_nodes names stays left free in
+    let may_alias = writes_no_variable right in
+    let a = operand_nodes names may_alias left free in
     let b = operand_nodes names true right (free + 1) in
-    let at_left = operand_slot names stays left free in
+    let at_left = operand_slot names may_alias left free in
     let at_right = operand_slot names true right (free + 1) in
     let last = binary_step operator into at_left at_right in
     let code_is : expr_nodes names (tree.Binary operator left right) into free ≡ before a (before b (one last)) = strict.code (expr_nodes names left free (free + 1)) (expr_nodes names right free (free + 1)) (before a (before b (one last))) into free in
@@ -135,7 +135,7 @@ strict_runs port operator strict left right run_left run_right names into free s
     let goal_is : Result (ℤ × Store) Cause → Result Machine Cause → Type 0 = Related (Arrives names into free slots) in
     subst (λ n. goal_is (then_do (value_of port left store) meant_right) (nodes_done port n (machine_at slots store))) (sym code_is)
     (subst (goal_is (then_do (value_of port left store) meant_right)) (sym (nodes_done-before port a (before b (one last)) (machine_at slots store)))
-    (then_related (StandsAt names at_left free slots) (Arrives names into free slots) (value_of port left store) (nodes_done port a (machine_at slots store)) meant_right (nodes_done port (before b (one last))) (operand_runs port left run_left names stays free store slots closed.0 ready room_a) (λ first m1 is_first stands1.
+    (then_related (StandsAt names at_left free slots) (Arrives names into free slots) (value_of port left store) (nodes_done port a (machine_at slots store)) meant_right (nodes_done port (before b (one last))) (operand_runs port left run_left names may_alias free store slots closed.0 ready room_a) (λ first m1 is_first stands1.
     let size1 = stands1.size in
     let roomy = ready.roomy in
     let ready1 : Ready names (free + 1) first.1 m1.slots = record { names_are = stands1.names_are; holds = stands1.holds; above = omega arith; roomy = omega arith } in

@@ -315,9 +315,9 @@ expr_room names (tree.Conditional condition chosen other) into free closed =
     omega (arith, nodes_room-before a (Choice slot (expr_nodes names chosen into free) (expr_nodes names other into free) End), expr_room names chosen into free closed.1)
 
 -- an operand that stands in its variable's slot
-pub stays_slot : (names : Scope) (stays : Bool) (e : tree.Expr) (slot : ℕ) → stands_at names stays e ≡ Some slot → (stays ≡ true) × (variable_slot names e ≡ Some slot)
-stays_slot names true e slot is = (refl, is)
-stays_slot names false e slot is = absurd (cc)
+pub aliased_slot : (names : Scope) (may_alias : Bool) (e : tree.Expr) (slot : ℕ) → stands_at names may_alias e ≡ Some slot → (may_alias ≡ true) × (variable_slot names e ≡ Some slot)
+aliased_slot names true e slot is = (refl, is)
+aliased_slot names false e slot is = absurd (cc)
 
 -- a value that was written into a free slot stands there
 pub arrived_stands : (names : Scope) (slot : ℕ) (before : List ℤ) (given : ℤ × Store) (after : Machine) → total names ≤ slot → slot < length before → Arrives names slot (slot + 1) before given after → StandsAt names slot slot before given after
@@ -340,9 +340,9 @@ arrived_stands names slot before given after above room arrives =
     }
 
 -- an operand's code brings its value to its slot
-pub operand_runs : (port : Port) (e : tree.Expr) → Runs port e → (names : Scope) (stays : Bool) (free : ℕ) (store : Store) (slots : List ℤ) → IsClosed names e → Ready names free store slots → nodes_room (operand_nodes names stays e free) ≤ length slots → Related (StandsAt names (operand_slot names stays e free) free slots) (value_of port e store) (nodes_done port (operand_nodes names stays e free) (machine_at slots store))
-operand_runs port e run names stays free store slots closed ready room =
-    by_place (stands_at names stays e) (λ slot is. variable_runs port e names free slot store slots (stays_slot names stays e slot is).1 closed ready) room
+pub operand_runs : (port : Port) (e : tree.Expr) → Runs port e → (names : Scope) (may_alias : Bool) (free : ℕ) (store : Store) (slots : List ℤ) → IsClosed names e → Ready names free store slots → nodes_room (operand_nodes names may_alias e free) ≤ length slots → Related (StandsAt names (operand_slot names may_alias e free) free slots) (value_of port e store) (nodes_done port (operand_nodes names may_alias e free) (machine_at slots store))
+operand_runs port e run names may_alias free store slots closed ready room =
+    by_place (stands_at names may_alias e) (λ slot is. variable_runs port e names free slot store slots (aliased_slot names may_alias e slot is).1 closed ready) room
   where
     by_place : (o : Option ℕ) → ((slot : ℕ) → o ≡ Some slot → (value_of port e store ≡ Ok (at slots slot, store)) × (slot < total names)) → nodes_room (unless_there o (expr_nodes names e free (free + 1))) ≤ length slots → Related (StandsAt names (unwrap_or o free) free slots) (value_of port e store) (nodes_done port (unless_there o (expr_nodes names e free (free + 1))) (machine_at slots store))
     by_place (Some slot) stands fits =

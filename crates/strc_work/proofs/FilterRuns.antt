@@ -9,7 +9,7 @@ use Rattle.strc_semantics.specs.declared.body.Body.TheVariants as body
 use Rattle.strc_semantics.specs.Filters.{Filter, sized_all, sized_fields, work_block, prework_block, body_block}
 use Rattle.strc_semantics.specs.Scoping.{Scope, cells_of, total, slot_of}
 use Rattle.strc_semantics.specs.Closed.{IsNamed, IsClosedInitial, AreClosedFields, AreClosed, AreClosedMembers, IsClosedFilter}
-use Rattle.strc_semantics.specs.Firing.{Variables, Store, Traffic, then_do, value_of, assigned, block_left, inside, stmts_done, bound_onto, no_traffic, store_at, field_values, shut, initial_given, fields_started, members_started, inits_done, started, Fired, port_of, fired}
+use Rattle.strc_semantics.specs.Firing.{Variables, Store, Traffic, then_do, value_of, assigned, block_left, inside, stmts_done, bound_onto, no_traffic, store_at, field_values, no_io, initial_given, fields_started, members_started, inits_done, started, Fired, port_of, fired}
 use Rattle.strc_machine.specs.Machine.{Machine, nodes_done, nodes_room}
 use Rattle.strc_work.specs.Lowering.{stmts_nodes, field_scope, field_nodes, fields_nodes, initials_nodes, inits_nodes, start_nodes, body_nodes, slot_count}
 use Rattle.strc_work.proofs.Variables.{scope_of, at, Holds, values-Holds}
@@ -25,23 +25,23 @@ use Rattle.strc_work.proofs.StatementRuns.{stmt_runs, stmts_runs}
 -- ---- initialisers
 
 abbrev RunsMembers : List tree.Member → Type 0
-RunsMembers ms = (names : Scope) (store : Store) (slots : List ℤ) → AreClosedMembers names ms → Ready names (total names) store slots → nodes_room (initials_nodes names ms) ≤ length slots → Related (Reaches names (length slots)) (members_started ms store) (nodes_done shut (initials_nodes names ms) (machine_at slots store))
+RunsMembers ms = (names : Scope) (store : Store) (slots : List ℤ) → AreClosedMembers names ms → Ready names (total names) store slots → nodes_room (initials_nodes names ms) ≤ length slots → Related (Reaches names (length slots)) (members_started ms store) (nodes_done no_io (initials_nodes names ms) (machine_at slots store))
 
-field_runs : (name : List ℕ) (initial : Option tree.Expr) (names : Scope) (store : Store) (slots : List ℤ) → IsNamed names name × IsClosedInitial names initial → Ready names (total names) store slots → nodes_room (field_nodes names name initial) ≤ length slots → Related (Reaches names (length slots)) (initial_given name initial store) (nodes_done shut (field_nodes names name initial) (machine_at slots store))
+field_runs : (name : List ℕ) (initial : Option tree.Expr) (names : Scope) (store : Store) (slots : List ℤ) → IsNamed names name × IsClosedInitial names initial → Ready names (total names) store slots → nodes_room (field_nodes names name initial) ≤ length slots → Related (Reaches names (length slots)) (initial_given name initial store) (nodes_done no_io (field_nodes names name initial) (machine_at slots store))
 field_runs name None names store slots closed ready room = empty_reaches names store slots ready
 field_runs name (Some initial) names store slots closed ready room =
-    map_related (Arrives names (slot_of names name) (total names) slots) (Reaches names (length slots)) (λ given. assigned given.1 name given.0) (value_of shut initial store) (nodes_done shut (field_nodes names name (Some initial)) (machine_at slots store)) (expr_runs shut initial names (slot_of names name) (total names) store slots closed.1 ready room) (λ given m arrives. assigned_reaches names name slots given m closed.0 ready.roomy arrives)
+    map_related (Arrives names (slot_of names name) (total names) slots) (Reaches names (length slots)) (λ given. assigned given.1 name given.0) (value_of no_io initial store) (nodes_done no_io (field_nodes names name (Some initial)) (machine_at slots store)) (expr_runs no_io initial names (slot_of names name) (total names) store slots closed.1 ready room) (λ given m arrives. assigned_reaches names name slots given m closed.0 ready.roomy arrives)
 
-fields_run : (cells : ℕ) (vs : List tree.Variable) (names : Scope) (store : Store) (slots : List ℤ) → AreClosedFields names cells vs → Ready names (total names) store slots → nodes_room (fields_nodes names vs) ≤ length slots → Related (Reaches names (length slots)) (fields_started vs store) (nodes_done shut (fields_nodes names vs) (machine_at slots store))
+fields_run : (cells : ℕ) (vs : List tree.Variable) (names : Scope) (store : Store) (slots : List ℤ) → AreClosedFields names cells vs → Ready names (total names) store slots → nodes_room (fields_nodes names vs) ≤ length slots → Related (Reaches names (length slots)) (fields_started vs store) (nodes_done no_io (fields_nodes names vs) (machine_at slots store))
 fields_run cells [] names store slots closed ready room = empty_reaches names store slots ready
 fields_run cells (first ∷ rest) names store slots closed ready room =
     let a = field_nodes names first.name first.initial in
     let b = fields_nodes names rest in
     let room_a : nodes_room a ≤ length slots = omega (arith, nodes_room-before a b) in
     let room_b : nodes_room b ≤ length slots = omega (arith, nodes_room-before a b) in
-    subst (Related (Reaches names (length slots)) (then_do (initial_given first.name first.initial store) (fields_started rest))) (sym (nodes_done-before shut a b (machine_at slots store)))
-    (then_related (Reaches names (length slots)) (Reaches names (length slots)) (initial_given first.name first.initial store) (nodes_done shut a (machine_at slots store)) (fields_started rest) (nodes_done shut b) (field_runs first.name first.initial names store slots (closed.0.0, closed.0.1) ready room_a) (λ given m is reaches.
-    go_on shut b names names (length slots) (fields_started rest) (λ store' slots' same ready'. fields_run cells rest names store' slots' closed.1 ready' (omega arith)) given m reaches))
+    subst (Related (Reaches names (length slots)) (then_do (initial_given first.name first.initial store) (fields_started rest))) (sym (nodes_done-before no_io a b (machine_at slots store)))
+    (then_related (Reaches names (length slots)) (Reaches names (length slots)) (initial_given first.name first.initial store) (nodes_done no_io a (machine_at slots store)) (fields_started rest) (nodes_done no_io b) (field_runs first.name first.initial names store slots (closed.0.0, closed.0.1) ready room_a) (λ given m is reaches.
+    go_on no_io b names names (length slots) (fields_started rest) (λ store' slots' same ready'. fields_run cells rest names store' slots' closed.1 ready' (omega arith)) given m reaches))
 
 members_run : (ms : List tree.Member) → RunsMembers ms
 members_run [] names store slots closed ready room = empty_reaches names store slots ready
@@ -50,9 +50,9 @@ members_run (tree.Fields kind variables ∷ rest) names store slots closed ready
     let b = initials_nodes names rest in
     let room_a : nodes_room a ≤ length slots = omega (arith, nodes_room-before a b) in
     let room_b : nodes_room b ≤ length slots = omega (arith, nodes_room-before a b) in
-    subst (Related (Reaches names (length slots)) (then_do (fields_started variables store) (members_started rest))) (sym (nodes_done-before shut a b (machine_at slots store)))
-    (then_related (Reaches names (length slots)) (Reaches names (length slots)) (fields_started variables store) (nodes_done shut a (machine_at slots store)) (members_started rest) (nodes_done shut b) (fields_run (cells_of kind) variables names store slots closed.0 ready room_a) (λ given m is reaches.
-    go_on shut b names names (length slots) (members_started rest) (λ store' slots' same ready'. members_run rest names store' slots' closed.1 ready' (omega arith)) given m reaches))
+    subst (Related (Reaches names (length slots)) (then_do (fields_started variables store) (members_started rest))) (sym (nodes_done-before no_io a b (machine_at slots store)))
+    (then_related (Reaches names (length slots)) (Reaches names (length slots)) (fields_started variables store) (nodes_done no_io a (machine_at slots store)) (members_started rest) (nodes_done no_io b) (fields_run (cells_of kind) variables names store slots closed.0 ready room_a) (λ given m is reaches.
+    go_on no_io b names names (length slots) (members_started rest) (λ store' slots' same ready'. members_run rest names store' slots' closed.1 ready' (omega arith)) given m reaches))
 members_run (tree.Init block ∷ rest) names store slots closed ready room =
     members_run rest names store slots closed.1 ready room
 members_run (tree.Prework rates block ∷ rest) names store slots closed ready room =
@@ -63,7 +63,7 @@ members_run (tree.Work rates block ∷ rest) names store slots closed ready room
 -- ---- blocks of `init`
 
 abbrev RunsInits : List tree.Member → Type 0
-RunsInits ms = (names : Scope) (store : Store) (slots : List ℤ) → AreClosedMembers names ms → Ready names (total names) store slots → nodes_room (inits_nodes names ms) ≤ length slots → Related (Reaches names (length slots)) (inits_done ms store) (nodes_done shut (inits_nodes names ms) (machine_at slots store))
+RunsInits ms = (names : Scope) (store : Store) (slots : List ℤ) → AreClosedMembers names ms → Ready names (total names) store slots → nodes_room (inits_nodes names ms) ≤ length slots → Related (Reaches names (length slots)) (inits_done ms store) (nodes_done no_io (inits_nodes names ms) (machine_at slots store))
 
 inits_run : (ms : List tree.Member) → RunsInits ms
 inits_run [] names store slots closed ready room = empty_reaches names store slots ready
@@ -74,9 +74,9 @@ inits_run (tree.Init block ∷ rest) names store slots closed ready room =
     let b = inits_nodes names rest in
     let room_a : nodes_room a ≤ length slots = omega (arith, nodes_room-before a b) in
     let room_b : nodes_room b ≤ length slots = omega (arith, nodes_room-before a b) in
-    subst (Related (Reaches names (length slots)) (then_do (inside (stmts_done shut block) store) (inits_done rest))) (sym (nodes_done-before shut a b (machine_at slots store)))
-    (then_related (Reaches names (length slots)) (Reaches names (length slots)) (inside (stmts_done shut block) store) (nodes_done shut a (machine_at slots store)) (inits_done rest) (nodes_done shut b) (stmt_runs shut (tree.Block block) names store slots closed.0 ready room_a) (λ given m is reaches.
-    go_on shut b names names (length slots) (inits_done rest) (λ store' slots' same ready'. inits_run rest names store' slots' closed.1 ready' (omega arith)) given m reaches))
+    subst (Related (Reaches names (length slots)) (then_do (inside (stmts_done no_io block) store) (inits_done rest))) (sym (nodes_done-before no_io a b (machine_at slots store)))
+    (then_related (Reaches names (length slots)) (Reaches names (length slots)) (inside (stmts_done no_io block) store) (nodes_done no_io a (machine_at slots store)) (inits_done rest) (nodes_done no_io b) (stmt_runs no_io (tree.Block block) names store slots closed.0 ready room_a) (λ given m is reaches.
+    go_on no_io b names names (length slots) (inits_done rest) (λ store' slots' same ready'. inits_run rest names store' slots' closed.1 ready' (omega arith)) given m reaches))
 inits_run (tree.Prework rates block ∷ rest) names store slots closed ready room =
     inits_run rest names store slots closed.1 ready room
 inits_run (tree.Work rates block ∷ rest) names store slots closed ready room =
@@ -166,7 +166,7 @@ pub record IsStarted (filter : Filter) (size : ℕ) (values : List ℤ) (after :
   pub fields : values ≡ take (total (sized_fields filter.members)) after.slots
   pub same : length after.slots ≡ size
 
-pub start_runs : (filter : Filter) (size : ℕ) → IsClosedFilter filter → slot_count filter ≤ size → Related (IsStarted filter size) (started filter) (nodes_done shut (start_nodes filter) (record { slots = replicate size (pos 0); traffic = no_traffic }))
+pub start_runs : (filter : Filter) (size : ℕ) → IsClosedFilter filter → slot_count filter ≤ size → Related (IsStarted filter size) (started filter) (nodes_done no_io (start_nodes filter) (record { slots = replicate size (pos 0); traffic = no_traffic }))
 start_runs filter size closed room =
     let count = total (sized_fields filter.members) in
     let scope = field_scope filter in
@@ -183,10 +183,10 @@ start_runs filter size closed room =
     let zeros_are : length zeros ≡ count = length-replicate count (pos 0) in
     let ready = store_ready filter zeros slots closed zeros_are (λ k lt. get_or-replicate size k (pos 0) (pos 0) (omega arith) ∙ sym (get_or-replicate count k (pos 0) (pos 0) (omega arith))) fields in
     let rest : Store → Result (List ℤ) Cause = λ initialised. then_do (inits_done filter.members initialised) (λ done. Ok (field_values done)) in
-    subst (Related (IsStarted filter size) (then_do (members_started filter.members store) rest)) (sym (nodes_done-before shut a b (machine_at slots store)))
-    (then_related (Reaches scope (length slots)) (IsStarted filter size) (members_started filter.members store) (nodes_done shut a (machine_at slots store)) rest (nodes_done shut b) (members_run filter.members scope store slots closed ready room_a) (λ initialised m is reaches.
-    map_related (Reaches scope (length slots)) (IsStarted filter size) field_values (inits_done filter.members initialised) (nodes_done shut b m)
-    (go_on shut b scope scope (length slots) (inits_done filter.members) (λ store' slots' same ready'. inits_run filter.members scope store' slots' closed ready' (omega arith)) initialised m reaches) (λ given after reaches'.
+    subst (Related (IsStarted filter size) (then_do (members_started filter.members store) rest)) (sym (nodes_done-before no_io a b (machine_at slots store)))
+    (then_related (Reaches scope (length slots)) (IsStarted filter size) (members_started filter.members store) (nodes_done no_io a (machine_at slots store)) rest (nodes_done no_io b) (members_run filter.members scope store slots closed ready room_a) (λ initialised m is reaches.
+    map_related (Reaches scope (length slots)) (IsStarted filter size) field_values (inits_done filter.members initialised) (nodes_done no_io b m)
+    (go_on no_io b scope scope (length slots) (inits_done filter.members) (λ store' slots' same ready'. inits_run filter.members scope store' slots' closed ready' (omega arith)) initialised m reaches) (λ given after reaches'.
     let same = reaches'.same in
     record {
       fields = field_values-Holds filter given after.slots reaches'.names_are reaches'.holds (omega arith);

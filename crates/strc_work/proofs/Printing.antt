@@ -43,7 +43,7 @@ two_silent false false c e e' = refl
 two_silent true b c e e' = absurd (cc)
 two_silent false true c e e' = absurd (cc)
 
--- a silent one before, and nothing behind
+-- a silent one before, and nothing after
 one_of_two : (a b : Bool) → a ≡ false → a || b || false ≡ b
 one_of_two false true e = refl
 one_of_two false false e = refl
@@ -65,7 +65,7 @@ or_turned true false = refl
 or_turned false true = refl
 or_turned false false = refl
 
--- ---- code behind other code
+-- ---- code after other code
 
 nodes_print-before : (a b : Nodes) → nodes_print (before a b) ≡ nodes_print a || nodes_print b
 nodes_print-before End b = refl
@@ -172,9 +172,9 @@ expr_silent names (tree.Conditional condition chosen other) into free =
 
 -- ---- statements
 
-operand_silent : (names : Scope) (stays : Bool) (e : tree.Expr) (free : ℕ) → nodes_print (operand_nodes names stays e free) ≡ false
-operand_silent names stays e free =
-    unless_there_silent (stands_at names stays e) (expr_nodes names e free (free + 1)) (expr_silent names e free (free + 1))
+operand_silent : (names : Scope) (may_alias : Bool) (e : tree.Expr) (free : ℕ) → nodes_print (operand_nodes names may_alias e free) ≡ false
+operand_silent names may_alias e free =
+    unless_there_silent (stands_at names may_alias e) (expr_nodes names e free (free + 1)) (expr_silent names e free (free + 1))
 
 condition_silent : (names : Scope) (condition : Option tree.Expr) → nodes_print (condition_nodes names condition) ≡ false
 condition_silent names None = refl
@@ -236,9 +236,9 @@ mutual
   stmt_print names (tree.Evaluate value) closed = evaluation_silent names value
   stmt_print names (tree.Assign name operator value) closed = expr_silent names (assigned_value name operator value) (slot_of names name) (total names)
   stmt_print names (tree.AssignElement name index operator value) closed =
-      let stays = writes_no_variable value in
-      let from = operand_slot names stays index (total names) in
-      silent-before (operand_nodes names stays index (total names)) (element_nodes names name from operator value (total names + 1)) (operand_silent names stays index (total names))
+      let may_alias = writes_no_variable value in
+      let from = operand_slot names may_alias index (total names) in
+      silent-before (operand_nodes names may_alias index (total names)) (element_nodes names name from operator value (total names + 1)) (operand_silent names may_alias index (total names))
       ∙ element_silent names name from operator value (total names + 1)
   stmt_print names (tree.If condition chosen) closed =
       let b = stmt_nodes names chosen in

@@ -103,7 +103,7 @@ rest_runs port first rest run names slots given m closed room reaches =
       same = r.same ∙ same;
     }))
 
--- code behind other code, from where that leads
+-- code after other code, from where that leads
 pub go_on : (port : Port) (code : Nodes) (names names' : Scope) (size : ℕ) (does : Store → Result Store Cause) → ((store : Store) (slots : List ℤ) → length slots ≡ size → Ready names (total names) store slots → Related (Reaches names' (length slots)) (does store) (nodes_done port code (machine_at slots store))) → (given : Store) (m : Machine) → Reaches names size given m → Related (Reaches names' size) (does given) (nodes_done port code m)
 go_on port code names names' size does run given m reaches =
     let same = reaches.same in

@@ -19,7 +19,7 @@ at slots slot = get_or slots slot (pos 0)
 abbrev pub HoldsFrom : (base : ℕ) → (cells slots : List ℤ) → Type 0
 HoldsFrom base cells slots = (k : ℕ) → k < length cells → at slots (base + k) ≡ at cells k
 
--- each variable has a cell, and its cells stand in its slots, behind those of the variables outside it
+-- each variable has a cell, and its cells stand in its slots, after those of the variables outside it
 abbrev pub Holds : Variables → List ℤ → Type 0
 Holds [] slots = Unit {0}
 Holds (first ∷ rest) slots = (1 ≤ length first.1) × HoldsFrom (total (scope_of rest)) first.1 slots × Holds rest slots

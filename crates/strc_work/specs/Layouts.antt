@@ -9,7 +9,7 @@ with_cells [] places = []
 with_cells (name ∷ names) [] = []
 with_cells (name ∷ names) (place ∷ places) = record { 0 = name; 1 = place.cells } ∷ with_cells names places
 
--- as many places as names; each variable's cells stand behind those of the variables outside it, and are few
+-- as many places as names; each variable's cells stand after those of the variables outside it, and are few
 abbrev pub AreLaid : List (List ℕ) → List Place → Type 0
 AreLaid [] [] = Unit {0}
 AreLaid [] (place ∷ places) = ⊥

@@ -12,7 +12,7 @@ ghost use Rattle.strc_semantics.specs.Firing.{assigned_value};
 
 use crate::layout::{Layout, Place};
 use crate::operands::{
-    after, binary_step, compound_operator, picked, step_amount, unary_step, variable_slot,
+    after, binary_step, compound_operator, step_amount, step_result, unary_step, variable_slot,
     writes_no_variable,
 };
 use strc_base::memory::NoMemory;
@@ -55,17 +55,17 @@ pub fn emit_expr(
             BinaryOperator::LogicalOr => {
                 emit_expr(code, names, left, free, after(free)?)?;
                 let done = code.fresh();
-                let mut late = code.fresh();
-                emit_expr(&mut late, names, right, free, after(free)?)?;
-                code.put_choice(free, done, late)?;
+                let mut rhs = code.fresh();
+                emit_expr(&mut rhs, names, right, free, after(free)?)?;
+                code.put_choice(free, done, rhs)?;
                 code.put(Inst::Copy(into, free))
             }
             BinaryOperator::LogicalAnd => {
                 emit_expr(code, names, left, free, after(free)?)?;
                 let done = code.fresh();
-                let mut late = code.fresh();
-                emit_expr(&mut late, names, right, free, after(free)?)?;
-                code.put_choice(free, late, done)?;
+                let mut rhs = code.fresh();
+                emit_expr(&mut rhs, names, right, free, after(free)?)?;
+                code.put_choice(free, rhs, done)?;
                 code.put(Inst::Copy(into, free))
             }
             _ => {
@@ -97,7 +97,7 @@ pub fn emit_expr(
     }
 }
 
-/// The code that puts an expression's value into a slot, and that slot. Where it `stays`, a
+/// The code that puts an expression's value into a slot, and that slot. Where it `may_alias`, a
 /// variable's value stays in its own slot.
 #[cycle(expression)]
 #[tactic(auto, using(strc_machine::proofs::Nodes::before_end))]
@@ -105,15 +105,15 @@ pub fn emit_operand(
     code: &mut Builder,
     names: &Layout,
     value: &Expr,
-    stays: bool,
+    may_alias: bool,
     free: u32,
 ) -> Result<u32, NoMemory>
     ensures { IfOk result
-        (λ at. (at ≡ spec.operand_slot names.now stays (expr_view value.now) free)
+        (λ at. (at ≡ spec.operand_slot names.now may_alias (expr_view value.now) free)
         × (written code.new ≡ before (written code.old)
-        (spec.operand_nodes names.now stays (expr_view value.now) free))) }
+        (spec.operand_nodes names.now may_alias (expr_view value.now) free))) }
 {
-    if stays {
+    if may_alias {
         if let Some(slot) = variable_slot(names, value) {
             return Ok(slot);
         }
@@ -164,7 +164,7 @@ fn emit_element_step(
     code.put(Inst::Load(free, place.slot, place.cells, index))?;
     code.put(Inst::AddConst(new, free, step_amount(operator)))?;
     code.put(Inst::Store(place.slot, place.cells, index, new))?;
-    code.put(Inst::Copy(into, picked(operator, free, new)))
+    code.put(Inst::Copy(into, step_result(operator, free, new)))
 }
 
 /// The code of an expression whose value isn't used.
@@ -205,22 +205,27 @@ pub fn emit_assign(
     match compound_operator(operator) {
         None => emit_expr(code, names, value, into, free),
         Some(operator) => {
-            let left = emit_old(code, into, writes_no_variable(value), free)?;
+            let left = save_old_value(code, into, writes_no_variable(value), free)?;
             let right = emit_operand(code, names, value, true, after(free)?)?;
             code.put(binary_step(operator, into, left, right))
         }
     }
 }
 
-/// The code that keeps a variable's value, and its slot. Where it `stays`, it stays in its own
+/// The code that keeps a variable's value, and its slot. Where it `may_alias`, it stays in its own
 /// slot.
 #[tactic(auto, using(strc_machine::proofs::Nodes::before_end))]
-fn emit_old(code: &mut Builder, slot: u32, stays: bool, free: u32) -> Result<u32, NoMemory>
+fn save_old_value(
+    code: &mut Builder,
+    slot: u32,
+    may_alias: bool,
+    free: u32,
+) -> Result<u32, NoMemory>
     ensures { IfOk result
-        (λ at. (at ≡ old_slot stays slot free)
-        × (written code.new ≡ before (written code.old) (old_nodes stays slot free))) }
+        (λ at. (at ≡ old_slot may_alias slot free)
+        × (written code.new ≡ before (written code.old) (old_nodes may_alias slot free))) }
 {
-    if stays {
+    if may_alias {
         return Ok(slot);
     }
     code.put(Inst::Copy(free, slot))?;

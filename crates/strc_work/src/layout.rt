@@ -15,7 +15,7 @@ pub struct Place {
     pub cells: u32,
 }
 
-/// Variables in the order in which they were declared, each one's cells behind those of the ones
+/// Variables in the order in which they were declared, each one's cells after those of the ones
 /// before. Contracts see the list of the names with their numbers of cells, the innermost first. A
 /// look-up takes expected constant time.
 #[derive(Drop)]

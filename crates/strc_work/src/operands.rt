@@ -29,7 +29,7 @@ pub fn cells_of(kind: &VariableType) -> u32
     }
 }
 
-/// The slot behind a slot.
+/// The slot after a slot.
 pub fn after(slot: u32) -> Result<u32, NoMemory>
     ensures { IfOk result (λ next. next ≡ slot + 1) }
 {
@@ -110,8 +110,8 @@ pub fn zeros_step(into: u32, cells: u32) -> Inst
 }
 
 /// Which value a step has: the new one, or the old one.
-pub fn picked(operator: StepOperator, old: u32, new: u32) -> u32
-    ensures { result ≡ spec.picked operator old new }
+pub fn step_result(operator: StepOperator, old: u32, new: u32) -> u32
+    ensures { result ≡ spec.step_result operator old new }
 {
     match operator {
         StepOperator::IncrementFirst | StepOperator::DecrementFirst => new,

@@ -2,7 +2,7 @@
 
 use std::marker::Model;
 
-/// The values of a filter's fields, and room for the locals of a firing behind them. Contracts see
+/// The values of a filter's fields, and room for the locals of a firing after them. Contracts see
 /// the values, in order, and the room for both.
 #[derive(Drop)]
 pub struct State {

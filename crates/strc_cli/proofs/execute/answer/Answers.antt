@@ -1,12 +1,12 @@
 use Rattle.std.proofs.Common.{◌≡◌, ℕ, true, false, List, [], Option, subst, sym, ap, ◌∙◌, inl, inr, refl, rules}
 use Rattle.strc_elab.specs.Flattening.{nodes_of}
-use Rattle.strc_cli.specs.declared.ready.ReadyNode.{ReadyNode}
-use Rattle.strc_cli.specs.Answers.{are_runnable}
-use Rattle.strc_cli.specs.Loading.{codes_in, all_loaded_in}
-use Rattle.strc_cli.specs.Pipeline.{Loaded, laps}
-use Rattle.strc_cli.specs.Programs.{Accepts, IsTrueOf}
-use Rattle.strc_cli.specs.Running.{IsEnding}
-use Rattle.strc_cli.proofs.Readiness.{loaded_codes}
+use Rattle.strc_run.specs.declared.ready.ReadyNode.{ReadyNode}
+use Rattle.strc_run.specs.Answers.{are_runnable}
+use Rattle.strc_run.specs.Loading.{codes_in, all_loaded_in}
+use Rattle.strc_run.specs.Pipeline.{Loaded, laps}
+use Rattle.strc_run.specs.Programs.{Accepts, IsTrueOf}
+use Rattle.strc_run.specs.Running.{IsEnding}
+use Rattle.strc_run.proofs.Readiness.{loaded_codes}
 use Rattle.strc_cli.proofs.execute.answer.Goals as goal
 
 pub returns-in-Err : goal.returns-in-Err

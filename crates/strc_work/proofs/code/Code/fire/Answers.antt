@@ -3,7 +3,7 @@ use Rattle.strc_work.specs.Kept.{Kept}
 use Rattle.strc_semantics.specs.Filters.{filter_of}
 use Rattle.strc_machine.specs.Code.{code_of}
 use Rattle.strc_machine.specs.Machine.{nodes_print}
-use Rattle.strc_machine.specs.Running.{machine_of, port_within, no_io, Tells}
+use Rattle.strc_machine.specs.Running.{machine_of, port_within, fresh_io, Tells}
 use Rattle.strc_machine.specs.Flat.{node_done}
 use Rattle.strc_machine.proofs.Runs.{wants_as}
 use Rattle.strc_work.specs.Lowering.{slot_count}
@@ -34,7 +34,7 @@ returns-clause-fired g c =
     let limits = c.routine-routine.result.now.limits in
     let window = g.W.Window.items c.args.window.now in
     let words = c.args.words.now.items in
-    let io = no_io c.frame.inside.io.room words in
+    let io = fresh_io c.frame.inside.io.room words in
     let ran : Tells (node_done (port_within limits window) c.routine-routine.result.now.flat (machine_of old io)) c.run-result.result after = search rules in
     let told = subst (λ r. Tells r c.run-result.result after) (c.routine-routine.ensures.flat.does (port_within limits window) (machine_of old io)) ran in
     let answer = fire_answer tree c.args.body c.args.state.now.fields old inside.fields c.frame.inside.io.room limits window words (code_of c.routine-routine.result.now.code) c.run-result.result after closed c.routine-routine.ensures.code fields_are c.requires.state.one_for_each within enough c.routine-routine.ensures.limits told in

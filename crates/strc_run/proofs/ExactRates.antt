@@ -1,0 +1,209 @@
+-- Nodes that take and give one item where items flow: they keep their rates, and each gives what the next one takes.
+use Rattle.std.proofs.Common.{◌≡◌, refl, sym, ◌∙◌, subst, ℕ, zero, suc, ◌+◌, ◌<◌, ◌≤◌, ℤ, Bool, true, false, List, [], ◌∷◌, length, get_or, Result, Ok, Err, arith, leb-true}
+use Rattle.std.specs.Prelude.{if◌then◌else◌, ◌&&◌, ◌||◌, not, nat_le, nat_eq, Option, IfOk}
+use Rattle.strc_syntax.specs.declared.tree.ItemType.{ItemType}
+use Rattle.strc_syntax.specs.declared.tree.ItemType.TheVariants as item
+use Rattle.strc_semantics.specs.declared.fault.Cause.{Cause}
+use Rattle.strc_semantics.specs.declared.word.Word.{Word}
+use Rattle.strc_semantics.specs.declared.body.Body.TheVariants as body
+use Rattle.strc_semantics.specs.Filters as filters
+use Rattle.strc_semantics.specs.Filters.{work_rates, prework_rates, prework_block, push_rate, pop_rate, peek_rate, item_count, filter_prints}
+use Rattle.std.specs.Int.RustNames.{int_lt}
+use Rattle.strc_semantics.specs.Firing as firing
+use Rattle.strc_dataflow.specs.Node.{Fired, Fired.Fires, Fired.Faults, at_port_0}
+use Rattle.strc_dataflow.specs.Histories.{KeepsRates}
+use Rattle.strc_dataflow.specs.Pipelines.{IsMatched}
+use Rattle.strc_dataflow.proofs.Rates.{keeps_rates}
+use Rattle.strc_semantics.specs.Closed.{IsClosedFilter}
+use Rattle.strc_rate.specs.Rates as rates
+use Rattle.strc_rate.specs.Rates.{BodyRates, FilterRates, checked, work_checked, work_lacks, then_work}
+use Rattle.strc_rate.specs.Kept as kept
+use Rattle.strc_rate.specs.declared.rates.RateError.{RateError}
+use Rattle.strc_rate.specs.declared.rates.RateError.TheVariants.{RateLimit}
+use Rattle.strc_rate.proofs.KeptRates.{rates_kept}
+use Rattle.strc_graph.specs.Graphs as graphs
+use Rattle.strc_graph.specs.Graphs.{NodeCode, ports_of, input_ports, output_ports, gives_words}
+use Rattle.strc_run.specs.declared.refusal.Refusal.{Refusal}
+use Rattle.strc_run.specs.Rates.{has_prework, declared_pushes, declared_pops, filter_checked, node_checked, then_check, rates_checked}
+use Rattle.strc_run.specs.Pipeline.{rate_at_0, as_fired, node_fired, node_pops, node_pushes, node_meaning}
+use Rattle.strc_run.specs.Answers.{IsKnown, AreKnown, AreJoined, is_runnable_filter, is_runnable, are_runnable, PrintsNothing, PrintsAtMostOnce}
+use Rattle.strc_run.proofs.QuietFirings.{then_ok, firing_quiet}
+
+-- a firing gives so many items, and prints only where the node's text does
+abbrev pub GivesItems : NodeCode → firing.Fired → Type 0
+GivesItems code done = (length done.pushes ≡ node_pushes code) × (gives_words code ≡ false → done.words ≡ [])
+
+-- a node takes and gives one item where items flow, and its firings do so too
+pub record IsExact (code : NodeCode) : Type 0 where
+  pub pops : node_pops code ≡ input_ports code
+  pub pushes : node_pushes code ≡ output_ports code
+  pub gives : (fields items : List ℤ) → (0 < input_ports code → length items ≡ node_pops code) → IfOk (node_fired code fields items) (GivesItems code)
+
+-- the next node, if there is one, takes so many items
+abbrev pub TakesAll : ℕ → List NodeCode → Type 0
+TakesAll n [] = Unit {0}
+TakesAll n (next ∷ others) = n ≡ node_pops next
+
+-- each node is exact and gives what the next one takes, and at most one prints
+abbrev pub AreExact : List NodeCode → Type 0
+AreExact [] = Unit {0}
+AreExact (code ∷ others) =
+    IsExact code × TakesAll (node_pushes code) others × (gives_words code ≡ true → PrintsNothing others) × AreExact others
+
+both_first : (a b : Bool) → (a && b) ≡ true → a ≡ true
+both_first true b e = refl
+both_first false b e = e
+
+both_second : (a b : Bool) → (a && b) ≡ true → b ≡ true
+both_second true b e = e
+both_second false b e = absurd (cc)
+
+neither : (a b : Bool) → (a || b) ≡ false → (a ≡ false) × (b ≡ false)
+neither true b e = absurd (cc)
+neither false b e = (refl, e)
+
+-- a node that is checked, and those after it
+node_ok : (one next : Result (Unit {0}) Refusal) → then_check one next ≡ Ok tt → (one ≡ Ok tt) × (next ≡ Ok tt)
+node_ok (Ok tt) next e = (refl, e)
+node_ok (Err broken) next e = absurd (cc)
+
+-- the rates of a filter that is checked
+filter_ok : (node : ℕ) (one : Result FilterRates RateError) → filter_checked node one ≡ Ok tt → (found : FilterRates) × (one ≡ Ok found)
+filter_ok node (Ok found) e = (found, refl)
+filter_ok node (Err broken) e = absurd (cc)
+
+-- the work of a filter that is checked
+work_ok : (prework : Result (Option BodyRates) RateError) (work : Result BodyRates RateError) (found : FilterRates) → then_work prework work ≡ Ok found → (here : BodyRates) × (work ≡ Ok here)
+work_ok (Ok prework) (Ok here) found e = (here, refl)
+work_ok (Ok prework) (Err broken) found e = absurd (cc)
+work_ok (Err broken) work found e = absurd (cc)
+
+-- lacks no rate
+lacks_none : (past lacks : Bool) (next : Result BodyRates RateError) (here : BodyRates) → (if past || lacks then Err RateLimit else next) ≡ Ok here → lacks ≡ false
+lacks_none true lacks next here e = absurd (cc)
+lacks_none false true next here e = absurd (cc)
+lacks_none false false next here e = refl
+
+-- what is runnable
+record Settled (filter : filters.Filter) : Type 0 where
+  pub pops : declared_pops filter ≤ ports_of filter.input
+  pub pushes : declared_pushes filter ≤ ports_of filter.output
+
+runnable : (filter : filters.Filter) → is_runnable_filter filter ≡ true → Settled filter
+runnable filter e =
+    let rest = both_second (not (has_prework filter)) (not (int_lt (pop_rate (work_rates filter.members)) (peek_rate (work_rates filter.members))) && (nat_le (declared_pops filter) (ports_of filter.input) && nat_le (declared_pushes filter) (ports_of filter.output))) e in
+    let low = both_second (not (int_lt (pop_rate (work_rates filter.members)) (peek_rate (work_rates filter.members)))) (nat_le (declared_pops filter) (ports_of filter.input) && nat_le (declared_pushes filter) (ports_of filter.output)) rest in
+    record {
+      pops = leb-true (declared_pops filter) (ports_of filter.input) (both_first _ _ low);
+      pushes = leb-true (declared_pushes filter) (ports_of filter.output) (both_second (nat_le (declared_pops filter) (ports_of filter.input)) _ low);
+    }
+
+-- a rate that isn't 0 where items flow, and isn't above the highest one, is the highest one
+highest : (side : ItemType) (rate : ℤ) → rates.lacks_rate side rate ≡ false → item_count rate ≤ ports_of side → item_count rate ≡ ports_of side
+highest item.Int rate e low = by_count (item_count rate) e low
+  where
+    by_count : (count : ℕ) → nat_eq count 0 ≡ false → count ≤ 1 → count ≡ 1
+    by_count zero e low = absurd (cc)
+    by_count (suc count) e low = omega arith
+highest item.Void rate e low = omega arith
+
+also : {A : Type 0} (result : Result A Cause) (P Q : A → Type 0) → IfOk result P → IfOk result Q → IfOk result (λ a. P a × Q a)
+also (Ok a) P Q h k = (h, k)
+also (Err cause) P Q h k = tt
+
+-- what follows from a fact about the firing, if it does
+quiet_if : (result : Result firing.Fired Cause) (silent : Type 0) → (silent → IfOk result (λ done. done.words ≡ [])) → IfOk result (λ done. silent → done.words ≡ [])
+quiet_if (Ok done) silent h = h
+quiet_if (Err cause) silent h = tt
+
+-- a firing of a filter that keeps its rates
+filter_gives : (name : Option (List ℕ)) (filter : filters.Filter) → kept.KeepsRates filter → (fields items : List ℤ) → IfOk (firing.fired filter body.Work fields items) (GivesItems (graphs.Filter name filter))
+filter_gives name filter keeps fields items =
+    also (firing.fired filter body.Work fields items) (λ done. length done.pushes ≡ declared_pushes filter) (λ done. filter_prints filter ≡ false → done.words ≡ [])
+    (then_ok (kept.run_of filter body.Work fields items) _ (λ store. (store.traffic.popped ≡ declared_pops filter) × (length store.traffic.pushes ≡ declared_pushes filter)) (λ done. length done.pushes ≡ declared_pushes filter)
+    (keeps body.Work fields items) (λ store h. h.1))
+    (quiet_if (firing.fired filter body.Work fields items) (filter_prints filter ≡ false) (firing_quiet filter fields items))
+
+exact_filter : (name : Option (List ℕ)) (filter : filters.Filter) (found : FilterRates) → IsClosedFilter filter → checked filter ≡ Ok found → is_runnable_filter filter ≡ true → IsExact (graphs.Filter name filter)
+exact_filter name filter found known e fits =
+    let is = runnable filter fits in
+    let members = filter.members in
+    let work = work_ok (rates.prework_checked (prework_rates members) (prework_block members)) (work_checked filter) found e in
+    let lacking = lacks_none (not (rates.are_within_limit (work_rates members))) (work_lacks filter) _ work.0 work.1 in
+    let there = neither (rates.lacks_rate filter.input (pop_rate (work_rates members))) (rates.lacks_rate filter.output (push_rate (work_rates members))) lacking in
+    record {
+      pops = highest filter.input (pop_rate (work_rates members)) there.0 is.pops;
+      pushes = highest filter.output (push_rate (work_rates members)) there.1 is.pushes;
+      gives = λ fields items all. filter_gives name filter (subst (λ (result : Result FilterRates RateError). IfOk result (λ _. kept.KeepsRates filter)) e (rates_kept filter known)) fields items;
+    }
+
+-- a node that is checked and runnable
+exact : (node : ℕ) (code : NodeCode) → IsKnown code → node_checked node code ≡ Ok tt → is_runnable code ≡ true → IsExact code
+exact node (graphs.Filter name filter) known e fits =
+    let found = filter_ok node (checked filter) e in
+    exact_filter name filter found.0 known found.1 fits
+exact node graphs.Identity known e fits = record {
+  pops = refl;
+  pushes = refl;
+  gives = λ fields items all. (all (omega arith), λ silent. refl);
+}
+exact node code known e fits = absurd (cc)
+
+takes_all : (first next : NodeCode) (others : List NodeCode) → IsExact first → input_ports next ≡ output_ports first → AreExact (next ∷ others) → TakesAll (node_pushes first) (next ∷ others)
+takes_all first next others e joined exacts = e.pushes ∙ sym joined ∙ sym exacts.0.pops
+
+-- what the checks let through is exact, where it is runnable
+pub are_exact : (node : ℕ) (first : NodeCode) (others : List NodeCode) → AreKnown (first ∷ others) → AreJoined first others → rates_checked node (first ∷ others) ≡ Ok tt → are_runnable (first ∷ others) ≡ true → PrintsAtMostOnce (first ∷ others) → AreExact (first ∷ others)
+are_exact node first [] known joined e fits once =
+    let here = node_ok (node_checked node first) (Ok tt) e in
+    (exact node first known.0 here.0 (both_first _ _ fits), tt, once.0, tt)
+are_exact node first (next ∷ others) known joined e fits once =
+    let tested = node_ok (node_checked node first) (rates_checked (node + 1) (next ∷ others)) e in
+    let rest = are_exact (node + 1) next others known.1 joined.1 tested.1 (both_second (is_runnable first) (are_runnable (next ∷ others)) fits) once.1 in
+    let here = exact node first known.0 tested.0 (both_first (is_runnable first) (are_runnable (next ∷ others)) fits) in
+    (here, takes_all first next others here joined.0 rest, once.0, rest)
+
+-- the items that a firing gives, where it doesn't fault
+abbrev Gives : ℕ → Fired (List ℤ) Cause Word → Type 0
+Gives n (Fires next pushes words) = (port : ℕ) → length (pushes port) ≡ rate_at_0 n port
+Gives n (Faults cause) = Unit {0}
+
+at_0 : (items : List ℤ) (n : ℕ) → length items ≡ n → (port : ℕ) → length (at_port_0 items port) ≡ rate_at_0 n port
+unfolding at_port_0
+at_0 items n e zero = e
+at_0 items n e (suc port) = refl
+
+gives : (code : NodeCode) → (result : Result firing.Fired Cause) → IfOk result (GivesItems code) → Gives (node_pushes code) (as_fired result)
+gives code (Ok done) h = at_0 done.pushes (node_pushes code) h.0
+gives code (Err cause) h = tt
+
+-- an exact node keeps its rates
+pub keeps : (code : NodeCode) → IsExact code → KeepsRates node_meaning code
+keeps code e =
+    keeps_rates node_meaning code (λ fields. Unit {0})
+    (record {
+      fine_at_start = tt;
+      kept = λ number fields next seen pushes words fine whole fires. (tt, subst (Gives (node_pushes code)) fires (gives code (node_fired code fields (seen 0)) (e.gives fields (seen 0) (λ some. whole 0 some))));
+    })
+
+pub all_keep : (codes : List NodeCode) (other : NodeCode) → AreExact codes → KeepsRates node_meaning other → (node : ℕ) → KeepsRates node_meaning (get_or codes node other)
+all_keep [] other exacts h node = h
+all_keep (code ∷ codes) other exacts h zero = keeps code exacts.0
+all_keep (code ∷ codes) other exacts h (suc node) = all_keep codes other exacts.3 h node
+
+-- a node takes what the one before it gives
+takes_at : (first other : NodeCode) (others : List NodeCode) → AreExact (first ∷ others) → (node : ℕ) → node < length others → node_pops (get_or others node other) ≡ node_pushes (get_or (first ∷ others) node other)
+takes_at first other [] exacts node less = absurd (omega arith)
+takes_at first other (next ∷ others) exacts zero less = sym exacts.1
+takes_at first other (next ∷ others) exacts (suc node) less = takes_at next other others exacts.3 node (omega arith)
+
+within : (pops pushes : ℕ) → pops ≡ pushes → (port : ℕ) → rate_at_0 pops port ≤ rate_at_0 pushes port
+within pops pushes e zero = omega arith
+within pops pushes e (suc port) = omega arith
+
+pub are_matched : (first : NodeCode) (others : List NodeCode) → input_ports first ≡ 0 → AreExact (first ∷ others) → IsMatched node_meaning first others
+are_matched first others void exacts = record {
+  source = void;
+  windows = λ node number port less there. within _ _ (takes_at first first others exacts node less) port;
+  pops = λ node number port less there. within _ _ (takes_at first first others exacts node less) port;
+}

@@ -1,0 +1,12 @@
+pub mod AcceptedRuns
+pub mod ExactRates
+pub mod Exclusion
+pub mod Instances
+pub mod NodeFirings
+pub mod QuietFirings
+pub mod PipelineAnswer
+pub mod Readiness
+pub mod Refusals
+pub mod Laps
+pub mod Rounds
+pub mod StreamNodes

@@ -1,0 +1,9 @@
+pub mod Answers
+pub mod Compiling
+pub mod Loading
+pub mod Pipeline
+pub mod Programs
+pub mod Rates
+pub mod Readiness
+pub mod Running
+pub mod Verdicts

@@ -1,0 +1,48 @@
+-- The rates of filters, node by node (StreamIt specification 2.1, "Filters": the rates of `work`).
+use Rattle.std.specs.Prelude.{ℕ, ◌+◌, Bool, List, [], ◌∷◌, Result, Ok, Err, is_some}
+use Rattle.strc_semantics.specs.Filters as filters
+use Rattle.strc_semantics.specs.Filters.{work_rates, prework_block, push_rate, pop_rate, item_count}
+use Rattle.strc_graph.specs.Graphs.{NodeCode, Filter}
+use Rattle.strc_rate.specs.Rates.{FilterRates, checked}
+use Rattle.strc_rate.specs.declared.rates.RateError.{RateError}
+use Rattle.strc_rate.specs.declared.rates.RateError.TheVariants as rate
+use Rattle.strc_run.specs.declared.refusal.Refusal.{Refusal}
+use Rattle.strc_run.specs.declared.refusal.Refusal.TheVariants as refusal
+
+-- the rates of a work as they are declared
+abbrev pub declared_pushes : filters.Filter → ℕ
+declared_pushes filter = item_count (push_rate (work_rates filter.members))
+
+abbrev pub declared_pops : filters.Filter → ℕ
+declared_pops filter = item_count (pop_rate (work_rates filter.members))
+
+abbrev pub has_prework : filters.Filter → Bool
+has_prework filter = is_some (prework_block filter.members)
+
+-- a refusal of a filter's rates, with its node
+abbrev pub told_of_node : ℕ → RateError → Refusal
+told_of_node node rate.RateLimit = refusal.RateLimit node
+told_of_node node rate.RateUnknown = refusal.RateUnknown node
+told_of_node node (rate.RateMismatch declared counted) = refusal.RateMismatch node declared counted
+told_of_node node rate.PeekOutside = refusal.PeekOutside node
+told_of_node node rate.NoMemory = refusal.NoMemory
+
+-- a filter's test, with its node
+abbrev pub filter_checked : ℕ → Result FilterRates RateError → Result (Unit {0}) Refusal
+filter_checked node (Ok rates) = Ok tt
+filter_checked node (Err broken) = Err (told_of_node node broken)
+
+-- a node's test: nodes other than filters have none
+abbrev pub node_checked : ℕ → NodeCode → Result (Unit {0}) Refusal
+node_checked node (Filter name filter) = filter_checked node (checked filter)
+node_checked node _ = Ok tt
+
+-- a test, and then those after it
+abbrev pub then_check : Result (Unit {0}) Refusal → Result (Unit {0}) Refusal → Result (Unit {0}) Refusal
+then_check (Ok done) next = next
+then_check (Err refused) next = Err refused
+
+-- the rates of nodes, one by one
+abbrev pub rates_checked : ℕ → List NodeCode → Result (Unit {0}) Refusal
+rates_checked node [] = Ok tt
+rates_checked node (code ∷ codes) = then_check (node_checked node code) (rates_checked (node + 1) codes)

@@ -1,0 +1,17 @@
+// Takes a program's text.
+// Gives its main stream's nodes, ready to fire, or the first refusal; and runs them.
+// The theorem to rely on: `compile` refuses exactly where a layer does; the rounds of an accepted
+// text end as the answer of its stream's equations.
+// Stands on strc_lex, strc_parse, strc_elab, strc_graph, strc_rate and strc_work, and on
+// strc_dataflow, whose equations the runs answer.
+#![tactic(auto)]
+
+pub mod compile;
+pub mod laws;
+pub mod outcome;
+mod rates;
+pub mod ready;
+pub mod refusal;
+pub mod runnable;
+pub mod runner;
+mod start;
