@@ -16,7 +16,7 @@ use Rattle.strc_elab.specs.declared.elaborate.TheConstants.{LEVEL_LIMIT}
 use Rattle.strc_semantics.specs.Filters.{Filter}
 use Rattle.strc_semantics.specs.Arithmetic.{is_true}
 use Rattle.strc_semantics.specs.Firing as firing
-use Rattle.strc_semantics.specs.Firing.{Store, value_of, stmt_done, initial_cells, declared_in, block_left, no_traffic, shut, started, turn_limit}
+use Rattle.strc_semantics.specs.Firing.{Store, value_of, stmt_done, initial_cells, declared_in, block_left, no_traffic, no_io, started, turn_limit}
 use Rattle.strc_check.specs.Resolution.{expr_as, type_resolved, variable_resolved, stmt_resolved, filter_resolved, start_site}
 use Rattle.strc_semantics.specs.Scoping.{cells_of}
 use Rattle.strc_check.specs.Typing.{TypedNames, names_after}
@@ -88,19 +88,19 @@ pub record Progress : Type 0 where
 abbrev pub given : Place → TypedNames → ValueType → tree.Expr → Store → Result (ℤ × Store) ElabError
 given place names kind value store =
     then_do (ruled place.holder (expr_as (start_site place.constants) names kind value)) (λ value'.
-    computed (value_of shut value' store))
+    computed (value_of no_io value' store))
 
 -- an expression or an assignment as a statement; one that gives items or words away is refused here, as every text but a filter's bodies
 abbrev pub simple_done : Place → TypedNames → (outer : ℕ) → tree.Stmt → Store → Result Store ElabError
 simple_done place names outer statement store =
     then_do (ruled place.holder (stmt_resolved (start_site place.constants) names outer statement)) (λ statement'.
-    computed (stmt_done shut statement' store))
+    computed (stmt_done no_io statement' store))
 
 -- a variable of a declaration, and its variables in turn, each checked and evaluated before the next one, which sees it
 abbrev pub variable_done : Place → TypedNames → (outer : ℕ) → ValueType → (cells : ℕ) → tree.Variable → Store → Result Store ElabError
 variable_done place names outer kind cells variable store =
     then_do (ruled place.holder (variable_resolved (start_site place.constants) names outer kind variable)) (λ variable'.
-    then_do (computed (initial_cells shut cells variable'.initial store)) (λ initial.
+    then_do (computed (initial_cells no_io cells variable'.initial store)) (λ initial.
     Ok (declared_in initial.1 variable.name initial.0)))
 
 abbrev pub variables_done : Place → TypedNames → (outer : ℕ) → ValueType → (cells : ℕ) → List tree.Variable → Store → Result Store ElabError

@@ -4,7 +4,7 @@ ghost use Rattle.std.specs.Prelude.{◌≡◌};
 ghost use Rattle.strc_syntax.specs.Tree as tree;
 ghost use Rattle.strc_syntax.specs.View.{expr_view, stmt_view};
 ghost use Rattle.strc_semantics.specs.Firing as firing;
-ghost use Rattle.strc_semantics.specs.Firing.{stmt_done, shut};
+ghost use Rattle.strc_semantics.specs.Firing.{stmt_done, no_io};
 ghost use Rattle.strc_elab.specs.Saying.{store_of, Does};
 ghost use Rattle.strc_elab.specs.Simple.{IsSimple, IsPlain};
 
@@ -19,7 +19,7 @@ use strc_syntax::tree::{AssignOperator, BinaryOperator, Expr, Stmt};
 /// put in.
 pub(crate) fn do_simple(statement: &Stmt, store: &mut Store) -> Result<(), Cause>
     requires { IsSimple (stmt_view statement.now) }
-    ensures does { Does (stmt_done shut (stmt_view statement.now) (store_of store.old)) result
+    ensures does { Does (stmt_done no_io (stmt_view statement.now) (store_of store.old)) result
         (store_of store.new) }
     ensures names { store.new.variables.names ≡ store.old.variables.names }
 {
@@ -44,7 +44,7 @@ fn assign(
     expression: &Expr,
     store: &mut Store,
 ) -> Result<(), Cause>
-    ensures does { Does (stmt_done shut (tree.Assign name.now operator (expr_view expression.now))
+    ensures does { Does (stmt_done no_io (tree.Assign name.now operator (expr_view expression.now))
         (store_of store.old)) result (store_of store.new) }
     ensures names { store.new.variables.names ≡ store.old.variables.names }
 {
@@ -71,7 +71,7 @@ fn assign_element(
     expression: &Expr,
     store: &mut Store,
 ) -> Result<(), Cause>
-    ensures does { Does (firing.element_set shut name.now operator (expr_view expression.now)
+    ensures does { Does (firing.element_set no_io name.now operator (expr_view expression.now)
         (index, store_of store.old)) result (store_of store.new) }
     ensures names { store.new.variables.names ≡ store.old.variables.names }
 {
@@ -107,7 +107,7 @@ fn join_element(
     store: &mut Store,
 ) -> Result<(), Cause>
     requires { IsPlain operator }
-    ensures does { Does (firing.element_joined shut name.now operator (expr_view expression.now)
+    ensures does { Does (firing.element_joined no_io name.now operator (expr_view expression.now)
         (index, store_of store.old)) result (store_of store.new) }
     ensures names { store.new.variables.names ≡ store.old.variables.names }
 {

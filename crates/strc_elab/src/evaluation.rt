@@ -3,7 +3,7 @@
 ghost use Rattle.std.specs.Prelude.{◌≡◌, length, IfOk};
 ghost use Rattle.strc_syntax.specs.View.{expr_view};
 ghost use Rattle.strc_semantics.specs.Firing as firing;
-ghost use Rattle.strc_semantics.specs.Firing.{value_of, shut, place_in, cells_named};
+ghost use Rattle.strc_semantics.specs.Firing.{value_of, no_io, place_in, cells_named};
 ghost use Rattle.strc_elab.specs.Saying.{store_of, Evaluates};
 
 use crate::store::Store;
@@ -16,7 +16,7 @@ use strc_syntax::tree::{Expr, StepOperator};
 /// The value of an expression whose names and types are checked and whose constants are put in. A
 /// fault is that of the first part that has one, from left to right.
 pub(crate) fn value(expression: &Expr, store: &mut Store) -> Result<i32, Cause>
-    ensures says { Evaluates (value_of shut (expr_view expression.now) (store_of store.old)) result
+    ensures says { Evaluates (value_of no_io (expr_view expression.now) (store_of store.old)) result
         (store_of store.new) }
     ensures names { store.new.variables.names ≡ store.old.variables.names }
 {

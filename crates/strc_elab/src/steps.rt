@@ -6,7 +6,7 @@ ghost use Rattle.std.specs.Option.{option_map};
 ghost use Rattle.strc_syntax.specs.Tree as tree;
 ghost use Rattle.strc_syntax.specs.View.{expr_view, variable_view, type_view};
 ghost use Rattle.strc_semantics.specs.Firing as firing;
-ghost use Rattle.strc_semantics.specs.Firing.{shut};
+ghost use Rattle.strc_semantics.specs.Firing.{no_io};
 ghost use Rattle.strc_semantics.specs.Scoping as scoping;
 ghost use Rattle.strc_check.specs.Typing as typing;
 ghost use Rattle.strc_elab.specs.Elaboration as spec;
@@ -235,7 +235,7 @@ impl Place<'_> {
         store: &mut Store,
     ) -> Result<Vec<i32>, ElabError>
         ensures gives { GivesCells (spec.computed
-            (firing.initial_cells shut cells (option_map expr_view initial.now)
+            (firing.initial_cells no_io cells (option_map expr_view initial.now)
             (store_of store.old))) result (store_of store.new) }
         ensures names { store.new.variables.names ≡ store.old.variables.names }
     {
