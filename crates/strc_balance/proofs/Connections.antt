@@ -7,7 +7,7 @@ use Rattle.std.proofs.lemmas.List.{get_or-map, length-map}
 use Rattle.std.proofs.lemmas.List.Elements.{Contains-get_or}
 use Rattle.strc_balance.specs.declared.equation.Equation.{Equation}
 use Rattle.strc_balance.specs.declared.fraction.Fraction.{Fraction}
-use Rattle.strc_balance.specs.Balance.{fraction_at, start_fractions, spread, Path, Here, Along, Against, HasRates, IsConnected}
+use Rattle.strc_balance.specs.Balance.{fraction_at, start_fractions, spread, Path, Here, Along, Against, HasRates, AreConnected}
 use Rattle.strc_balance.specs.Conditions.{unit_rates, all_unit_rates, AreKnown}
 use Rattle.strc_balance.specs.Frontiers.{IsBounded}
 use Rattle.strc_balance.proofs.Spreading.{Known, Carries, propagated-known, start-known, spread-length, spread-known}
@@ -96,7 +96,7 @@ some_of None h = absurd (false≢true h)
 some_of (Some f) h = (f, refl)
 
 pub known_connected : (size : ℕ) (equations : List Equation)
-    → AreKnown (spread size (all_unit_rates equations)) → IsConnected size equations
+    → AreKnown (spread size (all_unit_rates equations)) → AreConnected size equations
 known_connected size equations known node other node_within other_within =
     let fractions = spread size (all_unit_rates equations) in
     let same = spread-length size (all_unit_rates equations) in
@@ -106,7 +106,7 @@ known_connected size equations known node other node_within other_within =
     path_join (path_back (to node node_within)) (to other other_within)
 
 pub connected_known : (size : ℕ) (equations : List Equation) → All (HasRates size) equations
-    → IsConnected size equations → AreKnown (spread size (all_unit_rates equations))
+    → AreConnected size equations → AreKnown (spread size (all_unit_rates equations))
 connected_known size equations rates connected node within =
     let units = all_unit_rates equations in
     let same = spread-length size units in

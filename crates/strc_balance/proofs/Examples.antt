@@ -1,11 +1,15 @@
 -- What the examples' counts are, by computing them.
 use Rattle.std.proofs.Common.{refl}
 use Rattle.strc_balance.specs.Divisors.{divisor, multiple, lowest_terms}
-use Rattle.strc_balance.specs.Examples.{ChangedRates, ManyItems, TooManyItems, DealtByWeights, DoubledSide}
+use Rattle.strc_balance.specs.Examples.{ChangedRates, PreworkLeftOut, ManyItems, TooManyItems, DealtByWeights, DoubledSide}
 
 pub changed_rates : ChangedRates
 unfolding divisor multiple lowest_terms
 changed_rates = refl
+
+pub prework_left_out : PreworkLeftOut
+unfolding divisor multiple lowest_terms
+prework_left_out = refl
 
 pub many_items : ManyItems
 unfolding divisor multiple lowest_terms

@@ -6,7 +6,7 @@ use Rattle.std.proofs.lemmas.List.{length-map}
 use Rattle.strc_balance.specs.declared.equation.Equation.{Equation}
 use Rattle.strc_balance.specs.declared.error.BalanceError.{BalanceError}
 use Rattle.strc_balance.specs.declared.error.BalanceError.TheVariants as refused
-use Rattle.strc_balance.specs.Balance.{count_at, IsLeast, Balances, IsWithinLimit, spread, scale_from, whole_count, whole_counts, passes, fraction_passes, is_too_large, first_unbalanced, HasRates, IsConnected}
+use Rattle.strc_balance.specs.Balance.{count_at, IsLeast, Balances, IsWithinLimit, spread, scale_from, whole_count, whole_counts, passes, fraction_passes, is_too_large, first_unbalanced, HasRates, AreConnected}
 use Rattle.strc_balance.specs.Frontiers.{ArePositive}
 use Rattle.strc_balance.specs.Verdicts.{IsVerdict, tested, judged}
 use Rattle.strc_balance.proofs.Limits.{passes-within}
@@ -84,7 +84,7 @@ unbalanced_of false counts (Some other) channel h = cc h
 -- what each answer promises
 
 pub judged-least : (size : ℕ) (equations : List Equation) → All (HasRates size) equations
-    → IsConnected size equations → (result : Result (List ℕ) BalanceError)
+    → AreConnected size equations → (result : Result (List ℕ) BalanceError)
     → IsVerdict (judged size equations) result → IfOk result (IsLeast size equations)
 judged-least size equations rates connected (Err refusal) h = tt
 judged-least size equations rates connected (Ok answer) h =
@@ -107,7 +107,7 @@ judged-large size equations rates result verdict is =
     (first_unbalanced 0 own equations) h)
 
 pub judged-inconsistent : (size : ℕ) (equations : List Equation) → All (HasRates size) equations
-    → IsConnected size equations → (result : Result (List ℕ) BalanceError)
+    → AreConnected size equations → (result : Result (List ℕ) BalanceError)
     → IsVerdict (judged size equations) result → (channel : ℕ)
     → result ≡ Err (refused.Inconsistent channel) → (counts : List ℕ)
     → ¬ Balances size equations counts

@@ -11,3 +11,4 @@ pub mod Judging
 pub mod Rated
 pub mod Examples
 pub mod Connections
+pub mod Channels

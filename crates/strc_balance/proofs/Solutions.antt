@@ -11,7 +11,7 @@ use Rattle.std.proofs.Math.Nat.{one-dvd, mul-div_cancel', eq_of_mul-eq-mul_left,
 use Rattle.strc_balance.specs.declared.equation.Equation.{Equation}
 use Rattle.strc_balance.specs.declared.fraction.Fraction.{Fraction}
 use Rattle.strc_balance.specs.Divisors.{multiple}
-use Rattle.strc_balance.specs.Balance.{count_at, IsBalanced, Balances, IsLeast, count_limit, IsWithinLimit, Fractions, fraction_at, one, start_fractions, spread, scale_from, whole_count, whole_counts, passes, fraction_passes, is_too_large, is_balanced, first_unbalanced, HasRates, IsConnected}
+use Rattle.strc_balance.specs.Balance.{count_at, IsBalanced, Balances, IsLeast, count_limit, IsWithinLimit, Fractions, fraction_at, one, start_fractions, spread, scale_from, whole_count, whole_counts, passes, fraction_passes, is_too_large, is_balanced, first_unbalanced, HasRates, AreConnected}
 use Rattle.strc_balance.proofs.Divisors.{IsLowest, lowest_terms-is, lowest_terms-same, lowest_top, lowest_bottom, multiple-left, multiple-right, multiple-least, multiple_positive}
 use Rattle.strc_balance.proofs.Spreading.{Known, Carries, propagated-known, start-known, spread-length, spread-known}
 
@@ -227,7 +227,7 @@ quotient_positive scale bottom positive divides =
     ap (λ n. bottom * n) z ∙ omega arith in omega arith)
 
 counts-positive : (size : ℕ) (equations : List Equation) → All (HasRates size) equations
-    → IsConnected size equations → (node : ℕ) → node < size
+    → AreConnected size equations → (node : ℕ) → node < size
     → 0 < count_at (whole_counts (spread size equations)) node
 counts-positive size equations rates connected node within =
     let fractions = spread size equations in
@@ -298,7 +298,7 @@ unbalanced-some number found counts (e ∷ es) is =
 
 -- where no equation fails, the counts are the least solution
 pub least_solution : (size : ℕ) (equations : List Equation) → All (HasRates size) equations
-    → IsConnected size equations → first_unbalanced 0 (whole_counts (spread size equations))
+    → AreConnected size equations → first_unbalanced 0 (whole_counts (spread size equations))
     equations ≡ None → IsLeast size equations (whole_counts (spread size equations))
 least_solution size equations rates connected none = record {
   balances = record {
@@ -321,7 +321,7 @@ times_cancel push pop x y source target times some x_is y_is balanced =
 
 -- where one fails, there is no solution
 pub no_solution : (size found : ℕ) (equations : List Equation) → All (HasRates size) equations
-    → IsConnected size equations → first_unbalanced 0 (whole_counts (spread size equations))
+    → AreConnected size equations → first_unbalanced 0 (whole_counts (spread size equations))
     equations ≡ Some found → (counts : List ℕ) → ¬ Balances size equations counts
 no_solution size found equations rates connected fails counts balances =
     let own = whole_counts (spread size equations) in

@@ -9,7 +9,7 @@ use Rattle.std.proofs.lemmas.List.Elements.{All-head, All-tail, All-contains}
 use Rattle.std.proofs.lemmas.Option.{same_Some, none-some}
 use Rattle.strc_balance.specs.declared.equation.Equation.{Equation}
 use Rattle.strc_balance.specs.declared.fraction.Fraction.{Fraction}
-use Rattle.strc_balance.specs.Balance.{Fractions, fraction_at, target_fraction, source_fraction, given_by, given, first_given, with_given, propagated, one, start_fractions, spread, Path, Here, Along, Against, HasRates, IsConnected}
+use Rattle.strc_balance.specs.Balance.{Fractions, fraction_at, target_fraction, source_fraction, given_by, given, first_given, with_given, propagated, one, start_fractions, spread, Path, Here, Along, Against, HasRates, AreConnected}
 
 -- a fact of each fraction that is known
 abbrev pub Known : (ℕ → Fraction → Type 0) → Fractions → Type 0
@@ -359,7 +359,7 @@ path-known fractions equations none (Against equation is from rest) known =
 
 -- where all nodes are connected, each has a fraction
 pub spread-known : (size : ℕ) (equations : List Equation) → All (HasRates size) equations
-    → IsConnected size equations → (node : ℕ) → node < size → IsKnown (spread size equations) node
+    → AreConnected size equations → (node : ℕ) → node < size → IsKnown (spread size equations) node
 spread-known size equations rates connected node within =
     path-known (spread size equations) equations
     (first_given-none (spread size equations) equations (spread-settled size equations rates))

@@ -148,9 +148,9 @@ pub data Path (equations : List Equation) : ℕ → ℕ → Type 0 where
   Against : {node last : ℕ} (equation : Equation) → Contains equations equation
       → equation.target ≡ node → Path equations equation.source last → Path equations node last
 
--- from each node there is a path to each other
-abbrev pub IsConnected : ℕ → List Equation → Type 0
-IsConnected size equations =
+-- from each of so many nodes there is a path to each other
+abbrev pub AreConnected : ℕ → List Equation → Type 0
+AreConnected size equations =
     (node other : ℕ) → node < size → other < size → Path equations node other
 
 -- both ends are nodes, and each end of the channel has a rate

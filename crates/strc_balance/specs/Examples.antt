@@ -24,6 +24,17 @@ filter pushes pops =
           tree.Work (declared rate.Push pushes ∷ declared rate.Pop pops ∷ []) tree.Done ∷ [];
     })
 
+-- the same with a prework that pushes and pops other numbers of items
+abbrev pub with_prework : (first_pushes first_pops pushes pops : ℕ) → NodeCode
+with_prework first_pushes first_pops pushes pops =
+    let first = declared rate.Push first_pushes ∷ declared rate.Pop first_pops ∷ [] in
+    let later = declared rate.Push pushes ∷ declared rate.Pop pops ∷ [] in
+    graphs.Filter None (record {
+      input = Int;
+      output = Int;
+      members = tree.Prework first tree.Done ∷ tree.Work later tree.Done ∷ [];
+    })
+
 -- a channel between a port of one node and a port of another
 abbrev pub channel : (source source_port target target_port : ℕ) → Channel
 channel source source_port target target_port =
@@ -61,6 +72,12 @@ split_join splitter first second joiner =
 abbrev pub ChangedRates : Type 0
 ChangedRates =
     let graph = row (filter 1 0) (filter 2 1) (filter 1 3) (filter 0 1) in
+    judged (size_of graph) (equations_of graph) ≡ Ok (3 ∷ 3 ∷ 2 ∷ 2 ∷ [])
+
+-- a prework that pushes 5 items and pops 7 changes no count
+abbrev pub PreworkLeftOut : Type 0
+PreworkLeftOut =
+    let graph = row (filter 1 0) (with_prework 5 7 2 1) (filter 1 3) (filter 0 1) in
     judged (size_of graph) (equations_of graph) ≡ Ok (3 ∷ 3 ∷ 2 ∷ 2 ∷ [])
 
 -- a thousand times a thousand items: the limit

@@ -1,9 +1,10 @@
 // How often each node of a graph fires in a round.
 
 ghost use Rattle.std.specs.Prelude.{◌≡◌, ℕ, List, Err, All, IfOk, length};
+ghost use Rattle.strc_graph.specs.Connections.{IsConnected};
 ghost use Rattle.strc_graph.specs.NodeView.{graph_view};
 ghost use Rattle.strc_balance.specs.declared.error.BalanceError.TheVariants as refused;
-ghost use Rattle.strc_balance.specs.Balance.{Balances, IsConnected, IsLeast, IsWithinLimit};
+ghost use Rattle.strc_balance.specs.Balance.{Balances, IsLeast, IsWithinLimit};
 ghost use Rattle.strc_balance.specs.Rates.{IsRated, equations_of, size_of};
 ghost use Rattle.strc_balance.specs.Verdicts.{IsVerdict, judged};
 
@@ -34,8 +35,7 @@ use strc_graph::graph::Graph;
 /// any answer.
 pub fn balance(alloc: Global, graph: &Graph) -> Result<Counts, BalanceError>
     requires rates { All IsRated (equations_of (graph_view graph.now)) }
-    requires connected { IsConnected (size_of (graph_view graph.now))
-        (equations_of (graph_view graph.now)) }
+    requires connected { IsConnected (graph_view graph.now) }
     // The counts are the least that balance, and within the limit.
     ensures least { IfOk result (λ counts. IsLeast (size_of (graph_view graph.now))
         (equations_of (graph_view graph.now)) counts) }

@@ -1,10 +1,11 @@
 // The condition of balancing a graph, as a test.
 
 ghost use Rattle.std.specs.Prelude.{◌≡◌, ◌↔◌, All, IfOk, IsTrue};
+ghost use Rattle.strc_graph.specs.Connections.{IsConnected};
 ghost use Rattle.strc_graph.specs.NodeView.{graph_view};
-ghost use Rattle.strc_balance.specs.Balance.{HasRates, IsConnected};
+ghost use Rattle.strc_balance.specs.Balance.{AreConnected, HasRates};
 ghost use Rattle.strc_balance.specs.Conditions.{AreKnown, all_unit_rates};
-ghost use Rattle.strc_balance.specs.Rates.{IsRated, equations_of, size_of};
+ghost use Rattle.strc_balance.specs.Rates.{IsRated, equations_of};
 
 use crate::equation::Equation;
 use crate::fraction::Fraction;
@@ -18,7 +19,7 @@ use strc_graph::graph::Graph;
 /// by `work`, and all nodes are connected by channels, taken without direction.
 pub fn can_balance(alloc: Global, graph: &Graph) -> Result<bool, NoMemory>
     ensures { IfOk result (λ can. IsTrue can ↔ (All IsRated (equations_of (graph_view graph.now))
-        × IsConnected (size_of (graph_view graph.now)) (equations_of (graph_view graph.now)))) }
+        × IsConnected (graph_view graph.now))) }
 {
     let nodes = graph.nodes();
     let equations = equations_of(alloc, nodes, graph.channels())?;
@@ -50,7 +51,7 @@ fn is_rated(equation: Equation) -> bool
 /// Whether all of so many nodes are connected.
 fn are_connected(alloc: Global, equations: &[Equation], size: usize) -> Result<bool, NoMemory>
     requires { All (HasRates size) equations.now }
-    ensures { IfOk result (λ connected. IsTrue connected ↔ IsConnected size equations.now) }
+    ensures { IfOk result (λ connected. IsTrue connected ↔ AreConnected size equations.now) }
 {
     let channels = with_unit_rates(alloc, equations)?;
     // With rates of 1 no fraction is too large.

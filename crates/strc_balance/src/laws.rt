@@ -1,7 +1,7 @@
 // What the counts stand on, as a law about all equations, and the counts of small graphs.
 
-ghost use Rattle.strc_balance.specs.Examples.{ChangedRates, ManyItems, TooManyItems};
-ghost use Rattle.strc_balance.specs.Examples.{DealtByWeights, DoubledSide};
+ghost use Rattle.strc_balance.specs.Examples.{ChangedRates, PreworkLeftOut, ManyItems};
+ghost use Rattle.strc_balance.specs.Examples.{TooManyItems, DealtByWeights, DoubledSide};
 ghost use Rattle.strc_balance.specs.Promises.{SpreadIsWhole};
 
 /// Fractions are given until no channel with one known end is left.
@@ -12,6 +12,11 @@ pub fn spread_is_whole()
 /// Nodes in a row whose rates differ fire so often that no items are left.
 pub fn changed_rates()
     ensures { ChangedRates }
+{}
+
+/// A filter's `prework` doesn't count.
+pub fn prework_left_out()
+    ensures { PreworkLeftOut }
 {}
 
 /// A node may fire 1,000,000 times.

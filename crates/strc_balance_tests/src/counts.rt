@@ -2,16 +2,8 @@
 
 use crate::small_graphs::Kind::{Duplicate, Gather, Identity, Join, Reader, Split, Writer};
 use crate::small_graphs::{Ends, Kind, answer, answer_of, graph_of};
-use std::alloc::Global;
 use std::test::Fail;
-use strc_check::constants::Constants;
 use strc_graph::graph::Node;
-use strc_graph::instance::Instance;
-use strc_lex::lexer::lex;
-use strc_parse::parse;
-use strc_syntax::tree::StreamTree;
-use strc_work::code::Code;
-use strc_work::lowering::lower;
 
 /// Four nodes in a row, and five.
 const ROW: [Ends; 3] = [(0, 0, 1, 0), (1, 0, 2, 0), (2, 0, 3, 0)];
@@ -162,38 +154,6 @@ fn odd_graphs(rt: HostRuntime) -> Result<(), Fail> {
     for (kinds, ends, expected) in cases {
         assert_eq!(rt; answer(&rt, alloc, kinds, ends)?.as_str(), expected);
     }
-    Ok(())
-}
-
-/// The code of the only filter of a text.
-fn code(alloc: Global, text: &str) -> Result<Code, Fail> {
-    let tokens = lex(alloc, text.as_bytes())?;
-    let program = parse(alloc, &tokens)?;
-    let [only] = program.declarations.as_slice() else {
-        return Err(Fail::from("several streams"));
-    };
-    let StreamTree::Filter(filter) = &only.stream else {
-        return Err(Fail::from("a pipeline"));
-    };
-    match lower(alloc, filter, &Constants::new(alloc)) {
-        Ok(code) => Ok(code),
-        Err(_) => Err(Fail::from("lower")),
-    }
-}
-
-/// A filter's rates are those of its `work`.
-#[test]
-fn preworks_do_not_count(rt: HostRuntime) -> Result<(), Fail> {
-    let alloc = rt.alloc();
-    let text = "int->int filter F { prework push 5 pop 7 { } work push 2 pop 3 peek 9 { } }";
-    let code = code(alloc, text)?;
-    let nodes = vec![in alloc;
-        Node::FileReader,
-        Node::Filter(Instance { name: None, code }),
-        Node::FileWriter,
-    ]?;
-    let graph = graph_of(&rt, alloc, nodes, &[(0, 0, 1, 0), (1, 0, 2, 0)])?;
-    assert_eq!(rt; answer_of(alloc, &graph)?.as_str(), "3 1 2 ");
     Ok(())
 }
 

@@ -6,6 +6,7 @@ use Rattle.strc_balance.specs.Rates.{equation_of, equations_of, size_of}
 use Rattle.strc_balance.specs.Verdicts.{IsVerdict, judged}
 use Rattle.strc_balance.proofs.Judging.{judged-least, judged-size, judged-large, judged-inconsistent}
 use Rattle.strc_balance.proofs.Rated.{graph_rates}
+use Rattle.strc_balance.proofs.Channels.{channels_connect}
 use Rattle.strc_balance.proofs.balance.balance.Goals as goal
 
 pub solve-requires-clause-rates : goal.solve-requires-clause-rates
@@ -46,7 +47,7 @@ returns-clause-least c =
     let verdict : IsVerdict (judged (size_of graph) (equations_of graph)) c.solve.result =
     subst (λ es. IsVerdict (judged (size_of graph) es) c.solve.result) same
     (subst (λ n. IsVerdict (judged n equations) c.solve.result) size c.solve.ensures.verdict) in
-    judged-least (size_of graph) (equations_of graph) rates c.requires.connected c.solve.result
+    judged-least (size_of graph) (equations_of graph) rates (channels_connect graph c.requires.connected) c.solve.result
     verdict
 
 pub returns-clause-nodes : goal.returns-clause-nodes
@@ -68,7 +69,7 @@ returns-clause-nodes c =
     let verdict : IsVerdict (judged (size_of graph) (equations_of graph)) c.solve.result =
     subst (λ es. IsVerdict (judged (size_of graph) es) c.solve.result) same
     (subst (λ n. IsVerdict (judged n equations) c.solve.result) size c.solve.ensures.verdict) in
-    let least = judged-least (size_of graph) (equations_of graph) rates c.requires.connected
+    let least = judged-least (size_of graph) (equations_of graph) rates (channels_connect graph c.requires.connected)
     c.solve.result verdict in
     subst (λ n. IfOk c.solve.result (λ counts. length counts ≡ n))
     (length-map parts.nodes node_view)
@@ -114,5 +115,5 @@ returns-clause-inconsistent c =
     let verdict : IsVerdict (judged (size_of graph) (equations_of graph)) c.solve.result =
     subst (λ es. IsVerdict (judged (size_of graph) es) c.solve.result) same
     (subst (λ n. IsVerdict (judged n equations) c.solve.result) size c.solve.ensures.verdict) in
-    judged-inconsistent (size_of graph) (equations_of graph) rates c.requires.connected
+    judged-inconsistent (size_of graph) (equations_of graph) rates (channels_connect graph c.requires.connected)
     c.solve.result verdict
