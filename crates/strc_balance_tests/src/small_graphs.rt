@@ -29,6 +29,9 @@ pub(crate) enum Kind {
 /// The node and the port that a channel leaves, and the node and the port that it comes to.
 pub(crate) type Ends = (u32, u32, u32, u32);
 
+/// A graph's nodes and channels, and the answer.
+pub(crate) type Case = (&'static [Kind], &'static [Ends], &'static str);
+
 /// A node of this kind.
 fn node_of(alloc: Global, kind: Kind) -> Result<Node, AllocError> {
     match kind {
