@@ -1,7 +1,7 @@
 // The balance equations of a graph: one for each channel.
 
 /// What a channel asks of a round: as many items pushed by its source as popped by its target.
-#[derive(Clone, Copy, Debug, PartialEq, Eq)]
+#[derive(Clone, Copy)]
 pub(crate) struct Equation {
     /// The node that pushes.
     pub source: usize,

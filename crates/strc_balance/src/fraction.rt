@@ -9,7 +9,7 @@ ghost use Rattle.strc_balance.specs.Balance.{fraction_passes};
 pub(crate) const COUNT_LIMIT: u128 = 1_000_000;
 
 /// A count as a fraction of another one, in lowest terms.
-#[derive(Clone, Copy, Debug, PartialEq, Eq)]
+#[derive(Clone, Copy)]
 pub(crate) struct Fraction {
     pub top: u32,
     pub bottom: u32,

@@ -54,8 +54,8 @@ splitter_pushes (Roundrobin weights) port = slice_index weights port
 -- fissioned filters: a scatter and a gather fire once in a round, and each copy its share
 
 -- how many items the windows of so many firings reach over
-abbrev pub span : Fission → (firings : ℕ) → ℕ
-span fission firings = firings * fission.pop + (fission.window - fission.pop)
+abbrev pub reach : Fission → (firings : ℕ) → ℕ
+reach fission firings = firings * fission.pop + (fission.window - fission.pop)
 
 -- what the firings of a round pop, of all copies together, and what they push
 abbrev pub round_pops : Fission → ℕ
@@ -81,7 +81,7 @@ window_at graphs.FileWriter firing port = rate_at_0 1 port
 window_at (graphs.Splitter splitter) firing port = rate_at_0 (splitter_pops splitter) port
 window_at (graphs.Joiner weights) firing port = slice_index weights port
 window_at (graphs.Scatter fission) firing port =
-    rate_at_0 (span fission (fission.ways * fission.firings)) port
+    rate_at_0 (reach fission (fission.ways * fission.firings)) port
 window_at (graphs.Copy name filter fission) firing port = rate_at_0 fission.window port
 window_at (graphs.Gather fission) firing port =
     at_ports fission.ways (fission.firings * fission.push) port
@@ -108,6 +108,6 @@ pushes_at graphs.FileWriter firing port = 0
 pushes_at (graphs.Splitter splitter) firing port = splitter_pushes splitter port
 pushes_at (graphs.Joiner weights) firing port = rate_at_0 (sum weights) port
 pushes_at (graphs.Scatter fission) firing port =
-    at_ports fission.ways (span fission fission.firings) port
+    at_ports fission.ways (reach fission fission.firings) port
 pushes_at (graphs.Copy name filter fission) firing port = rate_at_0 fission.push port
 pushes_at (graphs.Gather fission) firing port = rate_at_0 (round_pushes fission) port

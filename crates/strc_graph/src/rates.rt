@@ -9,8 +9,11 @@ ghost use Rattle.strc_semantics.specs.Filters as filters;
 use crate::graph::{Fission, Node, Splitter};
 use strc_semantics::body::Body;
 
-/// How many items a firing of a node looks at, at an input port; firings are numbered from 0 over
-/// the node's life, and a filter's prework is firing 0. A reader's port 0 is the program's input.
+/// How many items a firing of a node looks at, at an input port; 0 where it has no such port.
+///
+/// Firings are numbered from 0 over the node's life, and a filter's prework is firing 0. A reader's
+/// port 0 is the program's input. The number is below 2 ^ 96: weights can be as many as memory
+/// holds.
 pub fn window_at(node: &Node, firing: u64, port: usize) -> u128
     ensures window { result ≡ rates.window_at (node_view node.now) firing port }
     ensures bound { result < 2 ^ 96 }
@@ -28,7 +31,7 @@ pub fn window_at(node: &Node, firing: u64, port: usize) -> u128
     }
 }
 
-/// How many items a firing of a node takes at an input port; firings and ports as for `window_at`.
+/// How many items a firing of a node takes at an input port, as `window_at` has firings and ports.
 pub fn pops_at(node: &Node, firing: u64, port: usize) -> u128
     ensures pops { result ≡ rates.pops_at (node_view node.now) firing port }
     ensures bound { result < 2 ^ 96 }
@@ -49,7 +52,7 @@ pub fn pops_at(node: &Node, firing: u64, port: usize) -> u128
     }
 }
 
-/// How many items a firing of a node gives at an output port; firings as for `window_at`.
+/// How many items a firing of a node gives at an output port, as `window_at` has firings.
 pub fn pushes_at(node: &Node, firing: u64, port: usize) -> u128
     ensures pushes { result ≡ rates.pushes_at (node_view node.now) firing port }
     ensures bound { result < 2 ^ 96 }
@@ -158,7 +161,7 @@ fn item_count(rate: i32) -> u128
 
 /// How many items a scatter looks at: the windows of a round's firings.
 fn scatter_window(fission: Fission) -> u128
-    ensures window { result ≡ rates.span fission (fission.ways * fission.firings) }
+    ensures window { result ≡ rates.reach fission (fission.ways * fission.firings) }
     ensures bound { result < 2 ^ 96 }
 {
     let past = fission.window.saturating_sub(fission.pop);
@@ -168,7 +171,7 @@ fn scatter_window(fission: Fission) -> u128
 /// How many items a scatter gives a copy: the windows of its firings.
 fn scatter_pushes(fission: Fission, port: usize) -> u128
     ensures pushes { result ≡ rates.at_ports fission.ways
-        (rates.span fission fission.firings) port }
+        (rates.reach fission fission.firings) port }
     ensures bound { result < 2 ^ 96 }
 {
     let past = fission.window.saturating_sub(fission.pop);
