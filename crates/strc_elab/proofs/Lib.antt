@@ -17,5 +17,7 @@ pub mod Chains
 pub mod Rows
 pub mod Connections
 pub mod Links
+pub mod Layouts
+pub mod FlatGraphs
 pub mod Verdicts
 pub mod Places

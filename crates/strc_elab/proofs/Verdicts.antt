@@ -5,11 +5,13 @@ use Rattle.strc_elab.specs.declared.error.ElabError.{ElabError}
 use Rattle.strc_elab.specs.declared.error.ElabError.TheVariants as refusal
 use Rattle.strc_elab.specs.Instances.{Stream}
 use Rattle.strc_elab.specs.Types.{IsWellTyped}
+use Rattle.strc_graph.specs.Connections as channels
 use Rattle.strc_graph.specs.Graphs.{NodeCode, Graph, JoinsPorts, inputs_at, source_of, source_in}
 use Rattle.strc_elab.specs.Flattening.{nodes_of, meaning_of, IsVerdict, IsFlattened, IsConnected, IsFlat, IsBefore}
 use Rattle.strc_elab.specs.Rows.{AreLinked, links}
 use Rattle.strc_elab.proofs.Rows.{IsRowGraph, codes_of-is, meaning_is_row}
 use Rattle.strc_elab.proofs.Connections.{linked_from_connected, connected_from_linked}
+use Rattle.strc_elab.proofs.FlatGraphs.{flat_connected}
 use Rattle.strc_elab.proofs.Links.{nodes_are_single, links_ordered, links_join, links_come, links_give}
 
 -- a verdict where it is known in other words that nodes are connected
@@ -47,3 +49,12 @@ row_is_flat stream graph same channels linked typed = record {
 
     between : graph.channels ≡ links (length (nodes_of stream) - 1)
     between = channels ∙ ap (λ l. links (length l - 1)) same
+
+-- and they are connected by these channels
+pub row_is_connected : (stream : Stream) (graph : Graph) → graph.nodes ≡ nodes_of stream
+    → graph.channels ≡ links (length graph.nodes - 1) → AreLinked graph.nodes → IsWellTyped stream
+    → channels.IsConnected graph
+row_is_connected stream graph same between linked typed =
+    let row = meaning_is_row stream typed in
+    flat_connected stream graph (row_is_flat stream graph same between linked typed)
+    (connected_from_linked (meaning_of stream) (nodes_of stream) row (subst AreLinked same linked))

@@ -4,6 +4,7 @@ ghost use Rattle.std.specs.Prelude.{◌≡◌, ◌+◌, ◌-◌, ◌^◌, ◌<�
 ghost use Rattle.std.specs.Prelude.{None, IfOk, OnOk};
 ghost use Rattle.strc_elab.specs.Types.{IsWellTyped};
 ghost use Rattle.strc_elab.specs.View.{stream_view};
+ghost use Rattle.strc_graph.specs.Connections.{IsConnected};
 ghost use Rattle.strc_graph.specs.NodeView.{node_view, channel_view, graph_view, node_names};
 ghost use Rattle.strc_elab.specs.Flattening.{nodes_of, names_of, node_limit, IsFlat, IsFlattened};
 ghost use Rattle.strc_elab.specs.Rows.{AreLinked, link_at, links};
@@ -20,6 +21,8 @@ pub fn flatten(alloc: Global, stream: Stream) -> Result<Graph, ElabError>
     ensures verdict { IsWellTyped (stream_view stream) → IsFlattened (stream_view stream) result }
     ensures graph { IsWellTyped (stream_view stream)
         → IfOk result (λ graph. IsFlat (stream_view stream) (graph_view graph)) }
+    ensures connected { IsWellTyped (stream_view stream)
+        → IfOk result (λ graph. IsConnected (graph_view graph)) }
     ensures nodes { IfOk result (λ graph. map node_view graph.nodes
         ≡ nodes_of (stream_view stream)) }
     ensures names { IfOk result (λ graph. node_names graph ≡ names_of (stream_view stream)) }

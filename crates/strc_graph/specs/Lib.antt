@@ -1,2 +1,4 @@
 pub mod Graphs
 pub mod NodeView
+pub mod Rates
+pub mod Connections

@@ -1,10 +1,11 @@
 // Takes nodes and the channels between their ports.
-// Gives the flat graph of a program, and its readers.
+// Gives the flat graph of a program, its readers, and the rates of its nodes by port.
 // The theorem to rely on: a graph's channels join ports of its nodes, and its readers give what
 // went in.
-// Stands on strc_dataflow, whose flat graphs give the meaning, and on strc_work, whose codes its
-// filters hold.
+// Stands on strc_dataflow, whose flat graphs give the meaning, on strc_work, whose codes its
+// filters hold, and on strc_semantics, whose bodies they have.
 #![tactic(auto)]
 
 pub mod graph;
 pub mod instance;
+pub mod rates;

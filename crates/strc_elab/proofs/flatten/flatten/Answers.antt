@@ -7,7 +7,7 @@ use Rattle.strc_graph.specs.NodeView.{node_view, graph_view}
 use Rattle.strc_elab.specs.Flattening.{nodes_of}
 use Rattle.strc_elab.specs.Rows.{AreLinked, links}
 use Rattle.strc_elab.proofs.Views.{names_of-is, node_names-view}
-use Rattle.strc_elab.proofs.Verdicts.{row_verdict, row_is_flat}
+use Rattle.strc_elab.proofs.Verdicts.{row_verdict, row_is_flat, row_is_connected}
 use Rattle.strc_elab.proofs.flatten.flatten.Goals as goal
 use Rattle.strc_elab.proofs.flatten.flatten.Goals.{In_ok-collect}
 
@@ -29,6 +29,20 @@ returns-in_ok-row-in-Ok-clause-graph c =
     ap (λ (l : List Node). length l - 1) (sym c.in_ok-row-in-Ok.ensures.nodes) ∙ ap (λ n. n - 1) (sym (length-map graph.nodes node_view)) in
     let kept = ap (map node_view) (c.deref.ensures.value ∙ sym c.in_ok-row-in-Ok.ensures.nodes) in
     row_is_flat (stream_view c.args.stream) (graph_view graph) same (c.in_ok-row-in-Ok.ensures.channels ∙ ap links count) (subst AreLinked kept c.in-Ok.ensures.connected)
+
+pub returns-in_ok-row-in-Ok-clause-connected : goal.returns-in_ok-row-in-Ok-clause-connected
+returns-in_ok-row-in-Ok-clause-connected c =
+    let graph = c.in_ok-row-in-Ok.field-0 in
+    let same : map node_view graph.nodes ≡ nodes_of (stream_view c.args.stream) =
+    ap (map node_view) c.in_ok-row-in-Ok.ensures.nodes
+    ∙ collected (goal.at.returns-in_ok-row-in-Ok-clause-connected c).In_ok-collect in
+    let count : length c.collect.new.nodes.items - 1 ≡ length (map node_view graph.nodes) - 1 =
+    ap (λ (l : List Node). length l - 1) (sym c.in_ok-row-in-Ok.ensures.nodes)
+    ∙ ap (λ n. n - 1) (sym (length-map graph.nodes node_view)) in
+    let kept = ap (map node_view) (c.deref.ensures.value ∙ sym c.in_ok-row-in-Ok.ensures.nodes) in
+    row_is_connected (stream_view c.args.stream) (graph_view graph) same
+    (c.in_ok-row-in-Ok.ensures.channels ∙ ap links count)
+    (subst AreLinked kept c.in-Ok.ensures.connected)
 
 pub returns-in_ok-row-in-Ok-clause-names : goal.returns-in_ok-row-in-Ok-clause-names
 returns-in_ok-row-in-Ok-clause-names c =

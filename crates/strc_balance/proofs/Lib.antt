@@ -1,0 +1,14 @@
+pub mod Divisors
+pub mod Limits
+pub mod Spreading
+pub mod Solutions
+pub mod Frontiers
+pub mod Incidences
+pub mod Quantifiers
+pub mod Scales
+pub mod Turns
+pub mod Judging
+pub mod Rated
+pub mod Examples
+pub mod Connections
+pub mod Channels

@@ -1,0 +1,55 @@
+use Rattle.std.proofs.Common.{◌≡◌, ◌∙◌, ◌↔◌, true, length, map, All, IfOk, ap, sym, subst, rules}
+use Rattle.std.specs.Prelude.{IsTrue}
+use Rattle.std.proofs.lemmas.List.{length-map}
+use Rattle.strc_graph.specs.NodeView.{graph_view, node_view, channel_view}
+use Rattle.strc_balance.specs.Balance.{HasRates, AreConnected}
+use Rattle.strc_balance.specs.Rates.{IsRated, equation_of, equations_of, size_of}
+use Rattle.strc_balance.proofs.Channels.{can_be}
+use Rattle.strc_balance.proofs.Rated.{graph_rates}
+use Rattle.strc_balance.proofs.condition.can_balance.Goals as goal
+
+pub are_connected-requires : goal.are_connected-requires
+are_connected-requires c =
+    let parts = c.args.graph.now in
+    let graph = graph_view parts in
+    let nodes = c.nodes-nodes.result.now in
+    let channels = c.channels.result.now in
+    let size : length nodes ≡ size_of graph = ap length c.nodes-nodes.ensures
+    ∙ sym (length-map parts.nodes node_view) in
+    let items =
+    c.in_ok-equations.ensures.equations
+    ∙ ap (λ ns. map (equation_of (map node_view ns)) (map channel_view channels))
+    c.nodes-nodes.ensures
+    ∙ ap (λ cs. map (equation_of (map node_view parts.nodes)) (map channel_view cs))
+    c.channels.ensures.channels in
+    let yes : IsTrue true = search rules in
+    let rated : All IsRated (equations_of graph) =
+    subst (All IsRated) (c.deref.ensures.value ∙ items) (c.if-not-are_rated.ensures.0 yes) in
+    let rates = graph_rates graph c.channels.ensures.ports rated in
+    subst (λ es. All (HasRates (length nodes)) es) (sym (c.deref-2.ensures.value ∙ items))
+    (subst (λ n. All (HasRates n) (equations_of graph)) (sym size) rates)
+
+pub returns : goal.returns
+returns c =
+    let parts = c.args.graph.now in
+    let graph = graph_view parts in
+    let nodes = c.nodes-nodes.result.now in
+    let channels = c.channels.result.now in
+    let size : length nodes ≡ size_of graph = ap length c.nodes-nodes.ensures
+    ∙ sym (length-map parts.nodes node_view) in
+    let items =
+    c.in_ok-equations.ensures.equations
+    ∙ ap (λ ns. map (equation_of (map node_view ns)) (map channel_view channels))
+    c.nodes-nodes.ensures
+    ∙ ap (λ cs. map (equation_of (map node_view parts.nodes)) (map channel_view cs))
+    c.channels.ensures.channels in
+    let yes : IsTrue true = search rules in
+    let rated : All IsRated (equations_of graph) =
+    subst (All IsRated) (c.deref.ensures.value ∙ items) (c.if-not-are_rated.ensures.0 yes) in
+    let connected : IfOk c.are_connected.result
+    (λ can. IsTrue can ↔ AreConnected (size_of graph) (equations_of graph)) =
+    subst (λ n. IfOk c.are_connected.result
+    (λ can. IsTrue can ↔ AreConnected n (equations_of graph))) size
+    (subst (λ es. IfOk c.are_connected.result (λ can. IsTrue can ↔ AreConnected (length nodes) es))
+    (c.deref-2.ensures.value ∙ items) c.are_connected.ensures) in
+    can_be graph rated c.are_connected.result connected

@@ -1,0 +1,9 @@
+pub mod Divisors
+pub mod Balance
+pub mod Rates
+pub mod Frontiers
+pub mod Verdicts
+pub mod Conditions
+pub mod Promises
+pub mod Examples
+pub mod Sentences

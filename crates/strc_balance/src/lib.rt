@@ -1,0 +1,21 @@
+// Takes a flat graph.
+// Gives the least counts at which its nodes fire in one round.
+// The theorem to rely on: the counts are the least positive solution of the balance equations (Lee
+// and Messerschmitt 1987), and a refusal says that none exists within the limit, or none at all.
+// Stands on strc_graph, whose graph it takes and whose rates by port it balances, on strc_base, and
+// on strc_syntax, in whose trees the filters of its examples are written.
+#![tactic(auto)]
+
+pub mod balance;
+pub mod condition;
+pub mod counts;
+mod equation;
+pub mod error;
+mod fraction;
+mod frontier;
+mod incidence;
+pub mod laws;
+mod multiples;
+mod propagation;
+mod rates;
+mod solution;

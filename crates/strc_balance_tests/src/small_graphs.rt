@@ -1,0 +1,156 @@
+// Graphs by what their nodes are and what their channels join, and their counts as texts.
+
+ghost use Rattle.std.specs.Prelude.{◌≡◌, true, All, map};
+ghost use Rattle.strc_graph.specs.Graphs.{JoinsPorts};
+ghost use Rattle.strc_graph.specs.NodeView.{node_view, channel_view};
+
+use std::alloc::{AllocError, Global};
+use std::process::Abort;
+use strc_balance::balance::balance;
+use strc_balance::condition::can_balance;
+use strc_balance::error::BalanceError;
+use strc_graph::graph::{Channel, Fission, Graph, Node, Port, Splitter, input_ports, output_ports};
+
+/// What a node is. A port that no channel uses lets a node stand for a filter of any rates.
+#[derive(Clone, Copy)]
+pub(crate) enum Kind {
+    Reader,
+    Writer,
+    Identity,
+    /// It takes so many items at port 0 and at port 1, and gives them all.
+    Join(u32, u32),
+    /// It gives so many items at port 0 and at port 1, and takes them all.
+    Split(u32, u32),
+    /// It gives each item at both ports.
+    Duplicate,
+    Gather,
+}
+
+/// The node and the port that a channel leaves, and the node and the port that it comes to.
+pub(crate) type Ends = (u32, u32, u32, u32);
+
+/// A graph's nodes and channels, and the answer.
+pub(crate) type Case = (&'static [Kind], &'static [Ends], &'static str);
+
+/// A node of this kind.
+fn node_of(alloc: Global, kind: Kind) -> Result<Node, AllocError> {
+    match kind {
+        Kind::Reader => Ok(Node::FileReader),
+        Kind::Writer => Ok(Node::FileWriter),
+        Kind::Identity => Ok(Node::Identity),
+        Kind::Join(first, second) => Ok(Node::Joiner(vec![in alloc; first, second]?)),
+        Kind::Split(first, second) => {
+            let weights = vec![in alloc; first, second]?;
+            Ok(Node::Splitter(Splitter::Roundrobin(weights)))
+        }
+        Kind::Duplicate => {
+            let carried = vec![in alloc; true, true]?;
+            Ok(Node::Splitter(Splitter::Duplicate(carried)))
+        }
+        Kind::Gather => Ok(Node::Gather(Fission {
+            ways: 2,
+            firings: 1,
+            pop: 1,
+            window: 1,
+            push: 1,
+        })),
+    }
+}
+
+/// Whether a channel joins ports of the nodes.
+fn joins(nodes: &[Node], channel: &Channel) -> bool
+    ensures { result ≡ true → JoinsPorts (map node_view nodes.now) (channel_view channel.now) }
+{
+    let source = channel.source;
+    let target = channel.target;
+    if (source.node as usize) < nodes.len() && (target.node as usize) < nodes.len() {
+        (source.port as usize) < output_ports(&nodes[source.node as usize])
+            && (target.port as usize) < input_ports(&nodes[target.node as usize])
+    } else {
+        false
+    }
+}
+
+/// Whether each channel does.
+fn all_join(nodes: &[Node], channels: &[Channel]) -> bool
+    ensures { result ≡ true
+        → All (JoinsPorts (map node_view nodes.now)) (map channel_view channels.now) }
+{
+    for channel in channels {
+        if !joins(nodes, channel) {
+            return false;
+        }
+    }
+    true
+}
+
+/// A channel without enqueued items.
+fn channel_of(alloc: Global, ends: Ends) -> Channel {
+    let (source, source_port, target, target_port) = ends;
+    Channel {
+        source: Port {
+            node: source,
+            port: source_port,
+        },
+        target: Port {
+            node: target,
+            port: target_port,
+        },
+        enqueued: Vec::new(alloc),
+    }
+}
+
+/// The graph of these nodes and channels.
+pub(crate) fn graph_of(
+    rt: &impl Abort,
+    alloc: Global,
+    nodes: Vec<Node>,
+    ends: &[Ends],
+) -> Result<Graph, AllocError> {
+    let mut channels = Vec::new(alloc);
+    for ends in ends {
+        channels.push(channel_of(alloc, *ends))?;
+    }
+    let outer_loops = Vec::from_elem(alloc, None, nodes.len())?;
+    let all = all_join(&nodes, &channels);
+    assert!(rt; all, "a channel without a port");
+    Ok(Graph::new(nodes, channels, outer_loops))
+}
+
+/// The counts of a graph, or why there are none.
+pub(crate) fn answer_of(alloc: Global, graph: &Graph) -> Result<String, AllocError> {
+    match can_balance(alloc, graph) {
+        Ok(true) => {}
+        Ok(false) => return format!(in alloc; "outside the condition"),
+        Err(_) => return Err(AllocError),
+    }
+    match balance(alloc, graph) {
+        Ok(counts) => shown(alloc, counts.as_slice()),
+        Err(BalanceError::NoMemory) => Err(AllocError),
+        Err(error) => format!(in alloc; "{error}"),
+    }
+}
+
+/// Numbers with a space behind each.
+fn shown(alloc: Global, counts: &[u32]) -> Result<String, AllocError> {
+    let mut text = String::new(alloc);
+    for count in counts {
+        text.push_str(&format!(in alloc; "{count} ")?)?;
+    }
+    Ok(text)
+}
+
+/// The answer for the graph of these nodes and channels.
+pub(crate) fn answer(
+    rt: &impl Abort,
+    alloc: Global,
+    kinds: &[Kind],
+    ends: &[Ends],
+) -> Result<String, AllocError> {
+    let mut nodes = Vec::new(alloc);
+    for kind in kinds {
+        nodes.push(node_of(alloc, *kind)?)?;
+    }
+    let graph = graph_of(rt, alloc, nodes, ends)?;
+    answer_of(alloc, &graph)
+}
