@@ -21,3 +21,4 @@ pub mod Layouts
 pub mod FlatGraphs
 pub mod Verdicts
 pub mod Places
+pub mod OneGraph

@@ -17,3 +17,4 @@ pub mod View
 pub mod Flattening
 pub mod Rows
 pub mod Sound
+pub mod OneGraph

@@ -1,17 +1,23 @@
 -- No text is both accepted and refused: its tokens and its tree are the only ones.
-use Rattle.std.proofs.Common.{◌≡◌, ℕ, List, Option, Result, Ok, Err, ap, ◌∙◌, sym, subst, arith, inl, inr}
+use Rattle.std.proofs.Common.{◌≡◌, ℕ, List, length, map, Option, Result, Ok, Err, ap, ◌∙◌, sym, subst, arith, inl, inr}
 use Rattle.strc_lex.specs.declared.token.Token.{Token}
 use Rattle.strc_lex.proofs.Lexing.{lexes_only, stuck_lexes}
 use Rattle.strc_syntax.specs.Tree.{Declaration}
 use Rattle.strc_grammar.specs.Grammar as grammar
 use Rattle.strc_grammar.proofs.Exact.{unambiguous}
 use Rattle.strc_elab.specs.Elaboration.{elaborated}
-use Rattle.strc_elab.specs.Flattening.{nodes_of}
+use Rattle.strc_elab.specs.Flattening.{nodes_of, IsFlat}
+use Rattle.strc_elab.proofs.OneGraph.{one_graph}
+use Rattle.strc_graph.specs.Graphs.{Graph}
+use Rattle.strc_balance.specs.Rates.{equation_of}
+use Rattle.strc_balance.specs.Verdicts.{judged}
+use Rattle.strc_balance.specs.declared.error.BalanceError.{BalanceError}
+use Rattle.strc_balance.specs.declared.error.BalanceError.TheVariants as unbalanced
 use Rattle.strc_elab.specs.Instances.{Stream}
 use Rattle.strc_elab.specs.declared.error.ElabError.{ElabError}
 use Rattle.strc_run.specs.declared.refusal.Refusal.{Refusal}
 use Rattle.strc_run.specs.declared.refusal.Refusal.TheVariants as refusal
-use Rattle.strc_run.specs.Compiling.{Compiles, Breaks, CanRun, CannotRun}
+use Rattle.strc_run.specs.Compiling.{Compiles, Breaks, CanRun, CannotRun, CannotBalance, round_counts}
 use Rattle.strc_run.specs.Rates.{rates_checked}
 use Rattle.strc_run.specs.Programs.{HasTokens, IsText, Accepts, BreaksRule, IsUnreadable, AcceptedOrRefused}
 
@@ -39,6 +45,16 @@ runs_or_not stream refusal.TwoOutputs runs cannot = let one = runs.one_output in
 runs_or_not stream refusal.Disconnected runs cannot = cannot.3 runs.connected
 runs_or_not stream refused runs cannot = cannot
 
+-- a graph has counts of a round, or it has none
+balances_or_not : (counts : List ℕ) (one other : Graph) (refused : Refusal) → one.nodes ≡ other.nodes → one.channels ≡ other.channels → round_counts one ≡ Ok counts → CannotBalance other refused → ⊥
+balances_or_not counts one other refused nodes channels balances cannot =
+    by_refusal refused cannot (ap (λ l. judged (length l) (map (equation_of l) other.channels)) (sym nodes) ∙ ap (λ l. judged (length one.nodes) (map (equation_of one.nodes) l)) (sym channels) ∙ balances)
+  where
+    by_refusal : (refused : Refusal) → CannotBalance other refused → round_counts other ≡ Ok counts → ⊥
+    by_refusal refusal.CountsTooLarge cannot balances = let both : ◌≡◌ {A = Result (List ℕ) BalanceError} (Ok counts) (Err unbalanced.CountsTooLarge) = sym balances ∙ cannot in absurd (cc)
+    by_refusal (refusal.Inconsistent channel) cannot balances = let both : ◌≡◌ {A = Result (List ℕ) BalanceError} (Ok counts) (Err (unbalanced.Inconsistent channel)) = sym balances ∙ cannot in absurd (cc)
+    by_refusal refused cannot balances = cannot
+
 -- a program that means a stream breaks no rule
 compiles_or_breaks : (program : List Declaration) (main : Option (List ℕ)) (stream : Stream) (refused : Refusal) → Compiles program main stream → Breaks program main refused → ⊥
 compiles_or_breaks program main stream refused compiles (Breaks.InElaboration broken is told) = one_result (elaborated program main) stream broken compiles.elaborates is
@@ -49,6 +65,10 @@ compiles_or_breaks program main stream refused compiles (Breaks.InRates other is
     let same = same_stream (elaborated program main) stream other compiles.elaborates is in
     let both : ◌≡◌ {A = Result (Unit {0}) Refusal} (Ok tt) (Err refused) = sym compiles.rates ∙ ap (λ (s : Stream). rates_checked 0 (nodes_of s)) same ∙ broken in
     absurd (cc)
+compiles_or_breaks program main stream refused compiles (Breaks.InBalance other graph is runs rates flat cannot) =
+    let same = same_stream (elaborated program main) stream other compiles.elaborates is in
+    let one = one_graph stream compiles.graph graph compiles.flat (subst (λ (s : Stream). IsFlat s graph) (sym same) flat) in
+    balances_or_not compiles.counts compiles.graph graph refused one.0 one.1 compiles.balances cannot
 
 -- a text with an accepted program spells none that breaks a rule
 breaks_none : (text : List ℕ) (main : Option (List ℕ)) (stream : Stream) (refused : Refusal) → Accepts text main stream → BreaksRule text main refused → ⊥

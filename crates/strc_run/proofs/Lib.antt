@@ -10,3 +10,4 @@ pub mod Refusals
 pub mod Laps
 pub mod Rounds
 pub mod StreamNodes
+pub mod RatedGraphs

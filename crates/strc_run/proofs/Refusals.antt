@@ -1,20 +1,24 @@
 -- What is answered for a text holds by the definitions.
-use Rattle.std.proofs.Common.{◌≡◌, refl, sym, subst, List, ℕ, Option, Result, Ok, Err, inl, inr, Vec, Global}
+use Rattle.std.proofs.Common.{◌≡◌, refl, sym, subst, List, ℕ, Option, Result, Ok, Err, inl, inr}
 use Rattle.std.specs.Result.{IsErrAnd}
 use Rattle.strc_syntax.specs.Tree.{Declaration}
 use Rattle.strc_elab.specs.Answering as elaboration
 use Rattle.strc_elab.specs.Elaboration.{elaborated}
-use Rattle.strc_elab.specs.Flattening.{nodes_of, codes_of, meaning_of, IsConnected, IsRefused}
+use Rattle.strc_elab.specs.Flattening.{nodes_of, codes_of, meaning_of, IsConnected, IsFlat, IsRefused}
 use Rattle.strc_elab.specs.Instances.{Stream}
+use Rattle.strc_graph.specs.Graphs.{Graph}
+use Rattle.strc_balance.specs.Verdicts as balancing
+use Rattle.strc_balance.specs.declared.error.BalanceError.{BalanceError}
+use Rattle.strc_balance.specs.declared.error.BalanceError.TheVariants as unbalanced
 use Rattle.strc_elab.specs.declared.error.ElabError.{ElabError}
 use Rattle.strc_elab.specs.declared.error.ElabError.TheVariants as error
-use Rattle.strc_run.specs.declared.ready.ReadyNode.{ReadyNode}
+use Rattle.strc_run.specs.declared.plan.Plan.{Plan}
 use Rattle.strc_run.specs.declared.refusal.Refusal.{Refusal}
 use Rattle.strc_run.specs.declared.refusal.Refusal.TheVariants as refusal
-use Rattle.strc_run.specs.Compiling.{Breaks, CanRun, IsCompiled, refusal_of}
+use Rattle.strc_run.specs.Compiling.{Breaks, CanRun, IsCompiled, refusal_of, balance_refusal_of, round_counts}
 use Rattle.strc_run.specs.Programs.{IsText, IsTrueOf, IsReadRefusal}
 use Rattle.strc_run.specs.Rates.{rates_checked}
-use Rattle.strc_run.specs.Readiness.{HasNodes}
+use Rattle.strc_run.specs.Planning.{HasPlan}
 use Rattle.strc_run.specs.Verdicts.{IsRefusal}
 
 module _ (program : List Declaration) (main : Option (List ℕ)) where
@@ -38,17 +42,25 @@ module _ (program : List Declaration) (main : Option (List ℕ)) where
     rates_refused refusal.NoMemory runs e = tt
     rates_refused refused runs e = Breaks.InRates stream elaborates runs e
 
+    -- the balance's
+    pub balance_refused : (graph : Graph) (broken : BalanceError) → CanRun stream → rates_checked 0 (nodes_of stream) ≡ Ok tt → IsFlat stream graph → balancing.IsRefusal (round_counts graph) broken → IsCompiled program main (Err (balance_refusal_of broken))
+    balance_refused graph unbalanced.CountsTooLarge runs rates flat e = Breaks.InBalance stream graph elaborates runs rates flat e
+    balance_refused graph (unbalanced.Inconsistent channel) runs rates flat e = Breaks.InBalance stream graph elaborates runs rates flat e
+    balance_refused graph unbalanced.NoMemory runs rates flat e = tt
+
 -- the refusal that is reported
-pub refusal_told : (program : List Declaration) (main : Option (List ℕ)) (result : Result (Vec ReadyNode Global) Refusal) (refused : Refusal) → IsErrAnd result (λ found. found ≡ refused) → IsCompiled program main (Err refused) → IsCompiled program main result
-refusal_told program main (Ok nodes) refused told is = absurd told
+pub refusal_told : (program : List Declaration) (main : Option (List ℕ)) (result : Result Plan Refusal) (refused : Refusal) → IsErrAnd result (λ found. found ≡ refused) → IsCompiled program main (Err refused) → IsCompiled program main result
+refusal_told program main (Ok plan) refused told is = absurd told
 refusal_told program main (Err found) refused told is = subst (λ (r : Refusal). IsCompiled program main (Err r)) (sym told) is
 
 -- the answer for a program is that for its text
-pub program_answered : (text : List ℕ) (main : Option (List ℕ)) (program : List Declaration) (result : Result (Vec ReadyNode Global) Refusal) → IsText text program → IsCompiled program main result → HasNodes text main result
-program_answered text main program (Ok nodes) is_text ready = record {
-  stream = ready.stream;
-  accepted = record { program = program; is_text = is_text; compiles = ready.compiles };
-  loads = ready.loads;
+pub program_answered : (text : List ℕ) (main : Option (List ℕ)) (program : List Declaration) (result : Result Plan Refusal) → IsText text program → IsCompiled program main result → HasPlan text main result
+program_answered text main program (Ok plan) is_text planned = record {
+  stream = planned.stream;
+  accepted = record { program = program; is_text = is_text; compiles = planned.compiles };
+  nodes = planned.nodes;
+  graph = planned.graph;
+  counts = planned.counts;
 }
 program_answered text main program (Err refusal.NoMemory) is_text broken = tt
 program_answered text main program (Err refused) is_text broken = inr (program, is_text, broken)

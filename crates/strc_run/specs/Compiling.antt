@@ -1,17 +1,21 @@
--- Which stream a program runs, or the first rule that it breaks: in its elaboration, in its flat graph, in its nodes' rates.
-use Rattle.std.specs.Prelude.{◌≡◌, ℕ, List, Option, Result, Ok, Err, Vec}
-use Rattle.std.specs.declared.alloc.Global.{Global}
+-- Which stream a program runs, or the first rule that it breaks: in its elaboration, in its flat graph, in its nodes' rates, in
+-- their balance.
+use Rattle.std.specs.Prelude.{◌≡◌, ℕ, List, map, Option, Result, Ok, Err}
 use Rattle.strc_syntax.specs.Tree.{Declaration}
 use Rattle.strc_elab.specs.Elaboration.{elaborated}
-use Rattle.strc_elab.specs.Flattening.{nodes_of, codes_of, meaning_of, IsConnected, IsAccepted, IsRefused}
+use Rattle.strc_elab.specs.Flattening.{nodes_of, codes_of, meaning_of, IsConnected, IsFlat, IsAccepted, IsRefused}
 use Rattle.strc_elab.specs.Instances.{Stream}
+use Rattle.strc_graph.specs.Graphs.{Graph}
+use Rattle.strc_graph.specs.NodeView.{node_view, graph_view}
+use Rattle.strc_balance.specs.Rates.{equations_of, size_of}
+use Rattle.strc_balance.specs.Verdicts.{judged}
+use Rattle.strc_balance.specs.declared.error.BalanceError.{BalanceError}
+use Rattle.strc_balance.specs.declared.error.BalanceError.TheVariants as unbalanced
 use Rattle.strc_elab.specs.declared.error.ElabError.{ElabError}
 use Rattle.strc_elab.specs.declared.error.ElabError.TheVariants as error
-use Rattle.strc_run.specs.declared.ready.ReadyNode.{ReadyNode}
+use Rattle.strc_run.specs.declared.plan.Plan.{Plan}
 use Rattle.strc_run.specs.declared.refusal.Refusal.{Refusal}
 use Rattle.strc_run.specs.declared.refusal.Refusal.TheVariants as refusal
-use Rattle.strc_run.specs.Loading.{all_loaded_in}
-use Rattle.strc_run.specs.Pipeline.{loaded}
 use Rattle.strc_run.specs.Rates.{rates_checked}
 
 -- how a refusal of an elaboration or of a flat graph is reported
@@ -42,26 +46,53 @@ CannotRun stream refusal.TwoOutputs = IsRefused (codes_of stream) (IsConnected (
 CannotRun stream refusal.Disconnected = IsRefused (codes_of stream) (IsConnected (meaning_of stream)) error.Disconnected
 CannotRun stream refused = ⊥
 
--- the program means this stream, whose flat graph can be run, and the rates of its nodes hold
+-- the counts of a round of a graph, or why there are none
+abbrev pub round_counts : Graph → Result (List ℕ) BalanceError
+round_counts graph = judged (size_of graph) (equations_of graph)
+
+-- the program means this stream, whose flat graph can be run; the rates of its nodes hold, and its
+-- nodes fire so often in a round
 pub record Compiles (program : List Declaration) (main : Option (List ℕ)) (stream : Stream) : Type 0 where
   pub elaborates : elaborated program main ≡ Ok stream
   pub runs : CanRun stream
   pub rates : rates_checked 0 (nodes_of stream) ≡ Ok tt
+  pub graph : Graph
+  pub flat : IsFlat stream graph
+  pub counts : List ℕ
+  pub balances : round_counts graph ≡ Ok counts
+
+-- a graph has no counts of a round, for this reason
+abbrev pub CannotBalance : Graph → Refusal → Type 0
+CannotBalance graph refusal.CountsTooLarge = round_counts graph ≡ Err unbalanced.CountsTooLarge
+CannotBalance graph (refusal.Inconsistent channel) =
+    round_counts graph ≡ Err (unbalanced.Inconsistent channel)
+CannotBalance graph refused = ⊥
+
+-- how a refusal of the balance is reported
+abbrev pub balance_refusal_of : BalanceError → Refusal
+balance_refusal_of unbalanced.CountsTooLarge = refusal.CountsTooLarge
+balance_refusal_of (unbalanced.Inconsistent channel) = refusal.Inconsistent channel
+balance_refusal_of unbalanced.NoMemory = refusal.NoMemory
 
 -- the first rule that a program breaks
 pub data Breaks (program : List Declaration) (main : Option (List ℕ)) (refused : Refusal) : Type 0 where
   InElaboration : (broken : ElabError) → elaborated program main ≡ Err broken → refused ≡ refusal_of broken → Breaks program main refused
   InGraph : (stream : Stream) → elaborated program main ≡ Ok stream → CannotRun stream refused → Breaks program main refused
   InRates : (stream : Stream) → elaborated program main ≡ Ok stream → CanRun stream → rates_checked 0 (nodes_of stream) ≡ Err refused → Breaks program main refused
+  InBalance : (stream : Stream) (graph : Graph) → elaborated program main ≡ Ok stream → CanRun stream
+      → rates_checked 0 (nodes_of stream) ≡ Ok tt → IsFlat stream graph → CannotBalance graph refused
+      → Breaks program main refused
 
--- nodes are those of a stream that a program means, ready to fire
-pub record AreReady (program : List Declaration) (main : Option (List ℕ)) (nodes : List ReadyNode) : Type 0 where
+-- a plan is that of the stream that a program means
+pub record Plans (program : List Declaration) (main : Option (List ℕ)) (plan : Plan) : Type 0 where
   pub stream : Stream
   pub compiles : Compiles program main stream
-  pub loads : all_loaded_in nodes ≡ loaded (nodes_of stream)
+  pub nodes : map node_view plan.graph.nodes ≡ nodes_of stream
+  pub graph : compiles.graph ≡ graph_view plan.graph
+  pub counts : compiles.counts ≡ plan.round_counts
 
--- the answer for a program: its nodes, ready to fire, or the first rule that it breaks; out of memory says nothing of it
-abbrev pub IsCompiled : List Declaration → Option (List ℕ) → Result (Vec ReadyNode Global) Refusal → Type 0
-IsCompiled program main (Ok nodes) = AreReady program main nodes.items
+-- the answer for a program: its plan, or the first rule that it breaks; out of memory says nothing of it
+abbrev pub IsCompiled : List Declaration → Option (List ℕ) → Result Plan Refusal → Type 0
+IsCompiled program main (Ok plan) = Plans program main plan
 IsCompiled program main (Err refusal.NoMemory) = Unit {0}
 IsCompiled program main (Err refused) = Breaks program main refused

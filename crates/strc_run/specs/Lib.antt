@@ -4,6 +4,6 @@ pub mod Loading
 pub mod Pipeline
 pub mod Programs
 pub mod Rates
-pub mod Readiness
+pub mod Planning
 pub mod Running
 pub mod Verdicts

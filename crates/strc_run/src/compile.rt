@@ -1,17 +1,17 @@
-// From the text to the nodes that are run, or the first refusal.
+// From the text to the plan, or the first refusal.
 
 ghost use Rattle.std.specs.Prelude.{IfOk, IfErr};
 ghost use Rattle.std.specs.Option.{option_map};
 ghost use Rattle.strc_syntax.specs.View.{program_view};
 ghost use Rattle.strc_run.specs.Compiling.{IsCompiled};
 ghost use Rattle.strc_run.specs.Programs.{IsText, IsReadRefusal};
-ghost use Rattle.strc_run.specs.Readiness.{HasNodes};
+ghost use Rattle.strc_run.specs.Planning.{HasPlan};
 
+use crate::plan::Plan;
 use crate::rates::check_rates;
-use crate::ready::ReadyNode;
 use crate::refusal::Refusal;
-use crate::start::ready_nodes;
 use std::alloc::Global;
+use strc_balance::balance::balance;
 use strc_elab::elaborate::elaborate;
 use strc_elab::flatten::flatten;
 use strc_lex::error::LexError;
@@ -19,10 +19,10 @@ use strc_lex::lexer::lex;
 use strc_parse::{ParseError, parse};
 use strc_syntax::tree::Program;
 
-/// The nodes of the program's main stream in preorder, ready to fire; the first rule that is broken
-/// refuses it: those of its tokens, its tree, its elaboration, its flat graph, and its rates.
-pub fn compile(alloc: Global, text: &[u8], main: Option<&str>) -> Result<Vec<ReadyNode>, Refusal>
-    ensures { HasNodes text.now (option_map (λ n. n.now) main.entry) result }
+/// The plan of the program's main stream. The first rule that is broken refuses the text: those of
+/// its tokens, its tree, its elaboration, its flat graph, its rates, and its balance.
+pub fn compile(alloc: Global, text: &[u8], main: Option<&str>) -> Result<Plan, Refusal>
+    ensures { HasPlan text.now (option_map (λ n. n.now) main.entry) result }
 {
     match read_program(alloc, text) {
         Ok(program) => compile_program(alloc, &program, main),
@@ -30,18 +30,18 @@ pub fn compile(alloc: Global, text: &[u8], main: Option<&str>) -> Result<Vec<Rea
     }
 }
 
-// The nodes of a program that was read.
-fn compile_program(
-    alloc: Global,
-    program: &Program,
-    main: Option<&str>,
-) -> Result<Vec<ReadyNode>, Refusal>
+// The plan of a program that was read.
+fn compile_program(alloc: Global, program: &Program, main: Option<&str>) -> Result<Plan, Refusal>
     ensures { IsCompiled (program_view program.now) (option_map (λ n. n.now) main.entry) result }
 {
     let stream = elaborate(alloc, program, main)?;
     let graph = flatten(alloc, stream)?;
     check_rates(alloc, graph.nodes())?;
-    Ok(ready_nodes(alloc, graph.into_nodes())?)
+    let round_counts = balance(alloc, &graph)?;
+    Ok(Plan {
+        graph,
+        round_counts,
+    })
 }
 
 fn read_program(alloc: Global, text: &[u8]) -> Result<Program, Refusal>

@@ -1,16 +1,18 @@
 // Takes a program's text.
-// Gives its main stream's nodes, ready to fire, or the first refusal; and runs them.
+// Gives a plan, its main stream's flat graph with the counts of a round, or the first refusal; and
+// runs plans.
 // The theorem to rely on: `compile` refuses exactly where a layer does; the rounds of an accepted
 // text end as the answer of its stream's equations.
-// Stands on strc_lex, strc_parse, strc_elab, strc_graph, strc_rate and strc_work, and on
-// strc_dataflow, whose equations the runs answer.
+// Stands on strc_lex, strc_parse, strc_elab, strc_graph, strc_rate, strc_balance and strc_work, and
+// on strc_dataflow, whose equations the runs answer.
 #![tactic(auto)]
 
 pub mod compile;
 pub mod laws;
 pub mod outcome;
+pub mod plan;
 mod rates;
-pub mod ready;
+mod ready;
 pub mod refusal;
 pub mod runnable;
 pub mod runner;

@@ -1,10 +1,11 @@
 // Why a program isn't run.
 
 ghost use Rattle.std.specs.Prelude.{◌≡◌};
-ghost use Rattle.strc_run.specs.Compiling.{refusal_of};
+ghost use Rattle.strc_run.specs.Compiling.{refusal_of, balance_refusal_of};
 ghost use Rattle.strc_run.specs.declared.refusal.Refusal.TheVariants.{NoMemory};
 
 use std::alloc::{AllocError, AllocFailed};
+use strc_balance::error::BalanceError;
 use strc_base::memory;
 use strc_elab::error::ElabError;
 use strc_lex::token::Name;
@@ -74,6 +75,13 @@ pub enum Refusal {
     TwoOutputs,
     /// The nodes aren't all connected.
     Disconnected,
+    /// A node would fire more than 1,000,000 times in a round, or its count is a fraction of node
+    /// 0's with a part above 1,000,000.
+    CountsTooLarge,
+    /// No counts of a round balance all channels; the lowest channel that those of the spread don't.
+    Inconsistent {
+        channel: usize,
+    },
     /// Memory ran out before the run.
     NoMemory,
     /// A statement or an expression is nested deeper than 256.
@@ -100,6 +108,18 @@ impl From<ElabError> for Refusal {
             ElabError::TwoOutputs => Refusal::TwoOutputs,
             ElabError::Disconnected => Refusal::Disconnected,
             ElabError::NoMemory => Refusal::NoMemory,
+        }
+    }
+}
+
+impl From<BalanceError> for Refusal {
+    ghost from_gives = { λ e r. r ≡ balance_refusal_of e };
+
+    fn from(error: BalanceError) -> Refusal {
+        match error {
+            BalanceError::CountsTooLarge => Refusal::CountsTooLarge,
+            BalanceError::Inconsistent { channel } => Refusal::Inconsistent { channel },
+            BalanceError::NoMemory => Refusal::NoMemory,
         }
     }
 }

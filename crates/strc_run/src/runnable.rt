@@ -1,20 +1,20 @@
 // Which nodes are run so far.
 
-ghost use Rattle.std.specs.Prelude.{◌≡◌};
+ghost use Rattle.std.specs.Prelude.{◌≡◌, map};
 ghost use Rattle.strc_semantics.specs.Filters.{filter_of};
 ghost use Rattle.strc_graph.specs.Graphs as graphs;
 ghost use Rattle.strc_run.specs.Answers as spec;
-ghost use Rattle.strc_run.specs.Loading.{code_in, codes_in};
+ghost use Rattle.strc_graph.specs.NodeView.{node_view};
 
 use crate::rates::item_count;
-use crate::ready::ReadyNode;
+use strc_graph::graph::Node;
 use strc_semantics::body::Body;
 use strc_syntax::tree::ItemType;
 use strc_work::code::Code;
 
 /// Whether all nodes are run so far.
-pub fn are_runnable(nodes: &[ReadyNode]) -> bool
-    ensures { result ≡ spec.are_runnable (codes_in nodes.now) }
+pub fn are_runnable(nodes: &[Node]) -> bool
+    ensures { result ≡ spec.are_runnable (map node_view nodes.now) }
 {
     for node in nodes {
         if !is_runnable(node) {
@@ -25,12 +25,19 @@ pub fn are_runnable(nodes: &[ReadyNode]) -> bool
 }
 
 // Whether a node is: a filter that is runnable, or an identity.
-fn is_runnable(node: &ReadyNode) -> bool
-    ensures { result ≡ spec.is_runnable (code_in node.now) }
+fn is_runnable(node: &Node) -> bool
+    ensures { result ≡ spec.is_runnable (node_view node.now) }
 {
     match node {
-        ReadyNode::Filter(filter) => is_runnable_filter(&filter.instance.code),
-        ReadyNode::Identity => true,
+        Node::Filter(instance) => is_runnable_filter(&instance.code),
+        Node::Identity => true,
+        Node::FileReader
+        | Node::FileWriter
+        | Node::Splitter(_)
+        | Node::Joiner(_)
+        | Node::Scatter(_)
+        | Node::Copy(_, _)
+        | Node::Gather(_) => false,
     }
 }
 

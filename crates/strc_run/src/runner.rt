@@ -1,15 +1,19 @@
 // Runs nodes in a row, round by round.
 
-ghost use Rattle.std.specs.Prelude.{◌≡◌, ◌++◌, [], List, ℤ, Ok, Err, IfOk, MatchResult};
+ghost use Rattle.std.specs.Prelude.{◌≡◌, ◌++◌, [], List, ℤ, Ok, Err, IfOk, MatchResult, map};
+ghost use Rattle.strc_graph.specs.NodeView.{node_view};
 ghost use Rattle.strc_work.specs.Answers.{Fires};
 ghost use Rattle.strc_machine.specs.Running.{MoreWords};
 ghost use Rattle.strc_run.specs.Loading.{code_in, fields_in, all_loaded_in};
-ghost use Rattle.strc_run.specs.Pipeline.{laps, lap_from, node_fired};
+ghost use Rattle.strc_run.specs.Pipeline.{laps, lap_from, loaded, node_fired};
 ghost use Rattle.strc_run.specs.Running.{Laps, IsEnding};
 
 use crate::outcome::{Fault, Outcome};
+use crate::plan::Plan;
 use crate::ready::{ReadyFilter, ReadyNode};
+use crate::start::ready_nodes;
 use std::alloc::{AllocError, Global};
+use strc_base::memory::NoMemory;
 use strc_semantics::body::Body;
 use strc_semantics::fault::{Cause, Halt};
 use strc_semantics::word::Word;
@@ -21,8 +25,17 @@ enum Stop {
     NoMemory,
 }
 
-/// Fires each node once a round, in order. An error is out of memory.
-pub fn run(alloc: Global, nodes: &mut [ReadyNode], rounds: u32) -> Result<Outcome, AllocError>
+/// Runs so many rounds of a plan whose nodes stand in a row. An error is out of memory.
+pub fn run(alloc: Global, plan: Plan, rounds: u32) -> Result<Outcome, NoMemory>
+    ensures { IfOk result (λ outcome. IsEnding outcome
+        (laps rounds 0 (loaded (map node_view plan.graph.nodes)) [])) }
+{
+    let mut nodes = ready_nodes(alloc, plan.graph.into_nodes())?;
+    Ok(run_rounds(alloc, &mut nodes, rounds)?)
+}
+
+// Fires each node once a round, in order. An error is out of memory.
+fn run_rounds(alloc: Global, nodes: &mut [ReadyNode], rounds: u32) -> Result<Outcome, AllocError>
     ensures { IfOk result (λ outcome. IsEnding outcome
         (laps rounds 0 (all_loaded_in nodes.old) [])) }
 {

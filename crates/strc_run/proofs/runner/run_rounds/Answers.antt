@@ -2,7 +2,7 @@ use Rattle.std.proofs.Common.{[], ◌∙◌, arith}
 use Rattle.strc_run.specs.Loading.{all_loaded_in}
 use Rattle.strc_run.specs.Pipeline.{laps}
 use Rattle.strc_run.proofs.Rounds.{rounds_start, rounds_step, rounds_end, rounds_fault}
-use Rattle.strc_run.proofs.runner.run.Goals as goal
+use Rattle.strc_run.proofs.runner.run_rounds.Goals as goal
 
 pub loop-round-init : goal.loop-round-init
 loop-round-init c = rounds_start c.args.rounds (all_loaded_in c.args.nodes.now) c.new-words.result.items c.new-words.ensures.items

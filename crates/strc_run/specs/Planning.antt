@@ -1,0 +1,21 @@
+-- How a text is answered with a plan.
+use Rattle.std.specs.Prelude.{◌≡◌, ℕ, List, map, Option, Result, Ok, Err}
+use Rattle.strc_elab.specs.Flattening.{nodes_of}
+use Rattle.strc_elab.specs.Instances.{Stream}
+use Rattle.strc_graph.specs.NodeView.{node_view, graph_view}
+use Rattle.strc_run.specs.declared.plan.Plan.{Plan}
+use Rattle.strc_run.specs.declared.refusal.Refusal.{Refusal}
+use Rattle.strc_run.specs.Programs.{Accepts, IsTrueOf}
+
+-- a plan is that of an accepted text
+pub record IsPlanOf (text : List ℕ) (main : Option (List ℕ)) (plan : Plan) : Type 0 where
+  pub stream : Stream
+  pub accepted : Accepts text main stream
+  pub nodes : map node_view plan.graph.nodes ≡ nodes_of stream
+  pub graph : accepted.compiles.graph ≡ graph_view plan.graph
+  pub counts : accepted.compiles.counts ≡ plan.round_counts
+
+-- an answer is the text's plan, or the refusal that holds
+abbrev pub HasPlan : List ℕ → Option (List ℕ) → Result Plan Refusal → Type 0
+HasPlan text main (Ok plan) = IsPlanOf text main plan
+HasPlan text main (Err refused) = IsTrueOf text main refused
