@@ -1,5 +1,6 @@
 -- The nodes of a graph are connected by its channels just where its equations connect them.
-use Rattle.std.proofs.Common.{◌↔◌, Bool, Result, Ok, Err, IfOk, ◌≡◌, ℕ, ◌<◌, List, length, map, get_or, sym, ap, subst, ◌∙◌, refl, arith}
+use Rattle.std.proofs.Common.{◌↔◌, Bool, Result, Ok, Err, IfOk, ◌≡◌, ℕ, ◌<◌, List, length, get_or}
+use Rattle.std.proofs.Common.{sym, ap, subst, ◌∙◌, arith}
 use Rattle.std.specs.Prelude.{IsTrue}
 use Rattle.std.specs.List.{All, Contains}
 use Rattle.std.proofs.lemmas.List.{get_or-map, length-map}

@@ -1,5 +1,6 @@
 -- The nodes that the spread reaches are those that are connected to node 0.
-use Rattle.std.proofs.Common.{◌≡◌, ℕ, ◌<◌, true, List, length, get_or, Option, Some, None, sym, ap, subst, ◌∙◌, refl, arith}
+use Rattle.std.proofs.Common.{◌≡◌, ℕ, ◌<◌, true, List, length, get_or, Option, Some, None, sym, ap}
+use Rattle.std.proofs.Common.{subst, ◌∙◌, refl, arith}
 use Rattle.std.specs.Prelude.{is_some}
 use Rattle.std.specs.List.{All, Contains}
 use Rattle.std.proofs.lemmas.Bool.{false≢true}
@@ -7,10 +8,12 @@ use Rattle.std.proofs.lemmas.List.{get_or-map, length-map}
 use Rattle.std.proofs.lemmas.List.Elements.{Contains-get_or}
 use Rattle.strc_balance.specs.declared.equation.Equation.{Equation}
 use Rattle.strc_balance.specs.declared.fraction.Fraction.{Fraction}
-use Rattle.strc_balance.specs.Balance.{fraction_at, start_fractions, spread, Path, Here, Along, Against, HasRates, AreConnected}
+use Rattle.strc_balance.specs.Balance.{fraction_at, start_fractions, spread, Path, Here, Along}
+use Rattle.strc_balance.specs.Balance.{Against, HasRates, AreConnected}
 use Rattle.strc_balance.specs.Conditions.{unit_rates, all_unit_rates, AreKnown}
 use Rattle.strc_balance.specs.Frontiers.{IsBounded}
-use Rattle.strc_balance.proofs.Spreading.{Known, Carries, propagated-known, start-known, spread-length, spread-known}
+use Rattle.strc_balance.proofs.Spreading.{Known, Carries, propagated-known, start-known}
+use Rattle.strc_balance.proofs.Spreading.{spread-length, spread-known}
 
 -- paths
 

@@ -1,11 +1,15 @@
 -- Greatest common divisors, least common multiples and lowest terms: what their definitions compute
 -- is what their names say.
-use Rattle.std.proofs.Common.{◌≡◌, ◌≢◌, ℕ, zero, suc, ◌+◌, ◌*◌, ◌/◌, ◌%◌, ◌<◌, Bool, true, false, cond, eqb, sym, ap, subst, ◌∙◌, refl, arith}
+use Rattle.std.proofs.Common.{◌≡◌, ◌≢◌, ℕ, zero, suc, ◌+◌, ◌*◌, ◌/◌, ◌%◌, ◌<◌, Bool, true, false}
+use Rattle.std.proofs.Common.{cond, eqb, sym, ap, subst, ◌∙◌, refl, arith}
 use Rattle.std.specs.Int.{IsGcd, ◌∣◌}
 use Rattle.std.proofs.lemmas.Bool.{eqb-true, eq-eqb, false≢true}
 use Rattle.std.proofs.lemmas.Nat.{div-add-mod'}
 use Rattle.std.proofs.lemmas.Nat.Gcd.{IsGcd-from_zero, IsGcd-from_mod, IsGcd-swap, same_from_IsGcd}
-use Rattle.std.proofs.Math.Nat.{dvd-mul_left, dvd-mul_right, dvd-mul_right_of_dvd, dvd-add_iff_right, dvd_of_mul-dvd-mul_left, mul-dvd-mul_left, mul-div_cancel', eq_of_mul-eq-mul_left, mul_left_comm, mod-lt, pos_of_dvd_of_pos, mul-pos, pos_of_ne-zero}
+use Rattle.std.proofs.Math.Nat.{dvd-mul_left, dvd-mul_right, dvd-mul_right_of_dvd}
+use Rattle.std.proofs.Math.Nat.{dvd-add_iff_right, dvd_of_mul-dvd-mul_left, mul-dvd-mul_left}
+use Rattle.std.proofs.Math.Nat.{mul-div_cancel', eq_of_mul-eq-mul_left, mul_left_comm, mod-lt}
+use Rattle.std.proofs.Math.Nat.{pos_of_dvd_of_pos, mul-pos, pos_of_ne-zero}
 use Rattle.strc_balance.specs.declared.fraction.Fraction.{Fraction}
 use Rattle.strc_balance.specs.Divisors.{divisor_within, divisor, multiple, lowest_terms}
 

@@ -1,7 +1,8 @@
 -- What the examples' counts are, by computing them.
 use Rattle.std.proofs.Common.{refl}
 use Rattle.strc_balance.specs.Divisors.{divisor, multiple, lowest_terms}
-use Rattle.strc_balance.specs.Examples.{ChangedRates, PreworkLeftOut, ManyItems, TooManyItems, DealtByWeights, DoubledSide}
+use Rattle.strc_balance.specs.Examples.{ChangedRates, PreworkLeftOut, ManyItems, TooManyItems}
+use Rattle.strc_balance.specs.Examples.{DealtByWeights, DoubledSide}
 
 pub changed_rates : ChangedRates
 unfolding divisor multiple lowest_terms

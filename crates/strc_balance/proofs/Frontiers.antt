@@ -1,6 +1,8 @@
 -- A frontier that covers the channels that give a fraction: its lowest one that gives one is the
 -- first of all, and what becomes of it.
-use Rattle.std.proofs.Common.{◌≡◌, ◌≢◌, ℕ, zero, suc, ◌<◌, ◌≤◌, true, List, [], ◌∷◌, length, set, get_or, replicate, Option, Some, None, slice_get, IsPermutation, All, Contains, sym, ap, subst, ◌∙◌, refl, ◌⊎◌, inl, inr, arith}
+use Rattle.std.proofs.Common.{◌≡◌, ◌≢◌, ℕ, zero, suc, ◌<◌, ◌≤◌, true, List, [], ◌∷◌, length, set}
+use Rattle.std.proofs.Common.{get_or, replicate, Option, Some, None, slice_get, IsPermutation, All}
+use Rattle.std.proofs.Common.{Contains, sym, ap, subst, ◌∙◌, refl, ◌⊎◌, inl, inr, arith}
 use Rattle.std.specs.Option.{option_or}
 use Rattle.std.proofs.lemmas.Bool.{cases_eq, false≢true}
 use Rattle.std.proofs.lemmas.List.{get_or-set_other}
@@ -11,7 +13,8 @@ use Rattle.strc_balance.specs.declared.equation.Equation.{Equation}
 use Rattle.strc_balance.specs.declared.fraction.Fraction.{Fraction}
 use Rattle.strc_balance.specs.declared.error.BalanceError.{BalanceError}
 use Rattle.strc_balance.specs.Balance.{Fractions, fraction_at, given_by, given, first_given}
-use Rattle.strc_balance.specs.Frontiers.{found_passes, IsTooLarge, Covers, CoversApart, IsIncidence, channels_at}
+use Rattle.strc_balance.specs.Frontiers.{found_passes, IsTooLarge, Covers, CoversApart, IsIncidence}
+use Rattle.strc_balance.specs.Frontiers.{channels_at}
 use Rattle.strc_balance.proofs.Spreading.{given_by-unknown, nothing-known}
 
 option_cases : {X : Type 0} (o : Option X) → (o ≡ None) ⊎ ((x : X) × (o ≡ Some x))

@@ -1,17 +1,23 @@
 -- What the judgement is where the scale of the fractions passes the limit, and what it promises.
-use Rattle.std.proofs.Common.{◌≡◌, ℕ, zero, suc, ◌*◌, ◌/◌, ◌<◌, Bool, true, false, ◌||◌, cond, List, length, map, Option, Some, None, Result, Ok, Err, IfOk, sym, ap, subst, ◌∙◌, refl, arith}
+use Rattle.std.proofs.Common.{◌≡◌, ℕ, zero, suc, ◌*◌, ◌/◌, ◌<◌, Bool, true, false, ◌||◌, cond, List}
+use Rattle.std.proofs.Common.{length, map, Option, Some, None, Result, Ok, Err, IfOk, sym, ap}
+use Rattle.std.proofs.Common.{subst, ◌∙◌, refl, arith}
 use Rattle.std.specs.List.{All, list_any}
 use Rattle.std.proofs.lemmas.Bool.{false≢true}
 use Rattle.std.proofs.lemmas.List.{length-map}
 use Rattle.strc_balance.specs.declared.equation.Equation.{Equation}
 use Rattle.strc_balance.specs.declared.error.BalanceError.{BalanceError}
 use Rattle.strc_balance.specs.declared.error.BalanceError.TheVariants as refused
-use Rattle.strc_balance.specs.Balance.{count_at, IsLeast, Balances, IsWithinLimit, spread, scale_from, whole_count, whole_counts, passes, fraction_passes, is_too_large, first_unbalanced, HasRates, AreConnected}
+use Rattle.strc_balance.specs.Balance.{count_at, IsLeast, Balances, IsWithinLimit, spread}
+use Rattle.strc_balance.specs.Balance.{scale_from, whole_count, whole_counts, passes}
+use Rattle.strc_balance.specs.Balance.{fraction_passes, is_too_large, first_unbalanced, HasRates}
+use Rattle.strc_balance.specs.Balance.{AreConnected}
 use Rattle.strc_balance.specs.Frontiers.{ArePositive}
 use Rattle.strc_balance.specs.Verdicts.{IsVerdict, tested, judged}
 use Rattle.strc_balance.proofs.Limits.{passes-within}
 use Rattle.strc_balance.proofs.Spreading.{spread-length, spread-first}
-use Rattle.strc_balance.proofs.Solutions.{counts-at, spread-lowest, least_solution, no_solution, too_large}
+use Rattle.strc_balance.proofs.Solutions.{counts-at, spread-lowest, least_solution, no_solution}
+use Rattle.strc_balance.proofs.Solutions.{too_large}
 use Rattle.strc_balance.proofs.Quantifiers.{list_any-holds}
 
 pub spread-positive : (size : ℕ) (equations : List Equation) → All (HasRates size) equations

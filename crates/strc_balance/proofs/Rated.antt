@@ -1,11 +1,13 @@
 -- The ends of a graph's equations are its nodes.
-use Rattle.std.proofs.Common.{◌≡◌, ℕ, ◌<◌, List, [], length, get_or, sym, ap, subst, inl, inr, arith}
+use Rattle.std.proofs.Common.{◌≡◌, ℕ, ◌<◌, List, [], length, get_or, sym, ap, subst, inl, inr}
+use Rattle.std.proofs.Common.{arith}
 use Rattle.std.specs.List.{All}
 use Rattle.std.specs.Option.{option_map_or}
 use Rattle.std.proofs.lemmas.Bool.{cases_lt}
 use Rattle.std.proofs.lemmas.List.{get_or-map, length-map}
 use Rattle.std.proofs.lemmas.Option.{slice_get_past}
-use Rattle.strc_graph.specs.Graphs.{NodeCode, Channel, Graph, JoinsPorts, IsGraph, inputs_at, outputs_at, input_ports, output_ports}
+use Rattle.strc_graph.specs.Graphs.{NodeCode, Channel, Graph, JoinsPorts, IsGraph, inputs_at}
+use Rattle.strc_graph.specs.Graphs.{outputs_at, input_ports, output_ports}
 use Rattle.strc_balance.specs.Balance.{HasRates}
 use Rattle.strc_balance.specs.Rates.{IsRated, equation_of, equations_of, size_of}
 

@@ -1,19 +1,29 @@
 -- The least whole multiples of the spread's fractions are the least solution of the balance
 -- equations, where there is one.
-use Rattle.std.proofs.Common.{◌≡◌, ℕ, zero, suc, ◌*◌, ◌/◌, ◌<◌, ◌≤◌, Bool, true, false, cond, ◌||◌, ltb, List, [], ◌∷◌, length, map, get_or, Option, Some, None, sym, ap, subst, ◌∙◌, refl, ◌⊎◌, inl, inr, arith}
+use Rattle.std.proofs.Common.{◌≡◌, ℕ, zero, suc, ◌*◌, ◌/◌, ◌<◌, ◌≤◌, Bool, true, false, cond, ◌||◌}
+use Rattle.std.proofs.Common.{ltb, List, [], ◌∷◌, length, map, get_or, Option, Some, None, sym, ap}
+use Rattle.std.proofs.Common.{subst, ◌∙◌, refl, ◌⊎◌, inl, inr, arith}
 use Rattle.std.specs.List.{All, list_any}
 use Rattle.std.specs.Int.{◌∣◌}
 use Rattle.std.proofs.lemmas.Bool.{eqb-true, eq-eqb, ltb-true, false≢true, cases_lt}
 use Rattle.std.proofs.lemmas.List.{length-map, get_or_past}
 use Rattle.std.proofs.lemmas.Nat.Gcd.{dvd_refl, dvd_trans, le_of_dvd}
 use Rattle.std.proofs.lemmas.Option.{same_Some, none-some}
-use Rattle.std.proofs.Math.Nat.{one-dvd, mul-div_cancel', eq_of_mul-eq-mul_left, mul-pos, pos_of_ne-zero, mul-le-mul_right}
+use Rattle.std.proofs.Math.Nat.{one-dvd, mul-div_cancel', eq_of_mul-eq-mul_left, mul-pos}
+use Rattle.std.proofs.Math.Nat.{pos_of_ne-zero, mul-le-mul_right}
 use Rattle.strc_balance.specs.declared.equation.Equation.{Equation}
 use Rattle.strc_balance.specs.declared.fraction.Fraction.{Fraction}
 use Rattle.strc_balance.specs.Divisors.{multiple}
-use Rattle.strc_balance.specs.Balance.{count_at, IsBalanced, Balances, IsLeast, count_limit, IsWithinLimit, Fractions, fraction_at, one, start_fractions, spread, scale_from, whole_count, whole_counts, passes, fraction_passes, is_too_large, is_balanced, first_unbalanced, HasRates, AreConnected}
-use Rattle.strc_balance.proofs.Divisors.{IsLowest, lowest_terms-is, lowest_terms-same, lowest_top, lowest_bottom, multiple-left, multiple-right, multiple-least, multiple_positive}
-use Rattle.strc_balance.proofs.Spreading.{Known, Carries, propagated-known, start-known, spread-length, spread-known}
+use Rattle.strc_balance.specs.Balance.{count_at, IsBalanced, Balances, IsLeast, count_limit}
+use Rattle.strc_balance.specs.Balance.{IsWithinLimit, Fractions, fraction_at, one, start_fractions}
+use Rattle.strc_balance.specs.Balance.{spread, scale_from, whole_count, whole_counts, passes}
+use Rattle.strc_balance.specs.Balance.{fraction_passes, is_too_large, is_balanced, first_unbalanced}
+use Rattle.strc_balance.specs.Balance.{HasRates, AreConnected}
+use Rattle.strc_balance.proofs.Divisors.{IsLowest, lowest_terms-is, lowest_terms-same, lowest_top}
+use Rattle.strc_balance.proofs.Divisors.{lowest_bottom, multiple-left, multiple-right}
+use Rattle.strc_balance.proofs.Divisors.{multiple-least, multiple_positive}
+use Rattle.strc_balance.proofs.Spreading.{Known, Carries, propagated-known, start-known}
+use Rattle.strc_balance.proofs.Spreading.{spread-length, spread-known}
 
 -- fractions in lowest terms
 

@@ -1,15 +1,21 @@
 -- What is known of each fraction that is given, that a fraction stays, and that each node has one
 -- when no equation gives another.
-use Rattle.std.proofs.Common.{◌≡◌, ℕ, zero, suc, ◌<◌, ◌≤◌, List, [], ◌∷◌, length, set, get_or, replicate, Option, Some, None, sym, ap, subst, ◌∙◌, refl, ◌⊎◌, inl, inr, arith}
+use Rattle.std.proofs.Common.{◌≡◌, ℕ, zero, suc, ◌<◌, ◌≤◌, List, [], ◌∷◌, length, set, get_or}
+use Rattle.std.proofs.Common.{replicate, Option, Some, None, sym, ap, subst, ◌∙◌, refl, ◌⊎◌, inl}
+use Rattle.std.proofs.Common.{inr, arith}
 use Rattle.std.specs.List.{All}
 use Rattle.std.specs.Option.{option_or}
 use Rattle.std.proofs.lemmas.Bool.{cases_eq, cases_lt}
-use Rattle.std.proofs.lemmas.List.{get_or-set_same, get_or-set_other, set_past, get_or_past, length-set, length-replicate, get_or-replicate}
+use Rattle.std.proofs.lemmas.List.{get_or-set_same, get_or-set_other, set_past, get_or_past}
+use Rattle.std.proofs.lemmas.List.{length-set, length-replicate, get_or-replicate}
 use Rattle.std.proofs.lemmas.List.Elements.{All-head, All-tail, All-contains}
 use Rattle.std.proofs.lemmas.Option.{same_Some, none-some}
 use Rattle.strc_balance.specs.declared.equation.Equation.{Equation}
 use Rattle.strc_balance.specs.declared.fraction.Fraction.{Fraction}
-use Rattle.strc_balance.specs.Balance.{Fractions, fraction_at, target_fraction, source_fraction, given_by, given, first_given, with_given, propagated, one, start_fractions, spread, Path, Here, Along, Against, HasRates, AreConnected}
+use Rattle.strc_balance.specs.Balance.{Fractions, fraction_at, target_fraction, source_fraction}
+use Rattle.strc_balance.specs.Balance.{given_by, given, first_given, with_given, propagated, one}
+use Rattle.strc_balance.specs.Balance.{start_fractions, spread, Path, Here, Along, Against}
+use Rattle.strc_balance.specs.Balance.{HasRates, AreConnected}
 
 -- a fact of each fraction that is known
 abbrev pub Known : (ℕ → Fraction → Type 0) → Fractions → Type 0

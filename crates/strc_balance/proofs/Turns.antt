@@ -1,5 +1,7 @@
 -- The spread, turn by turn: what is left to do from the fractions that are known gives the whole.
-use Rattle.std.proofs.Common.{◌≡◌, ℕ, zero, suc, ◌+◌, ◌-◌, ◌<◌, true, false, List, [], ◌++◌, length, get_or, set, replicate, Option, Some, None, IsPermutation, All, Contains, sym, ap, subst, ◌∙◌, refl, ◌⊎◌, inl, inr, arith}
+use Rattle.std.proofs.Common.{◌≡◌, ℕ, zero, suc, ◌+◌, ◌-◌, ◌<◌, true, false, List, [], ◌++◌, length}
+use Rattle.std.proofs.Common.{get_or, set, replicate, Option, Some, None, IsPermutation, All}
+use Rattle.std.proofs.Common.{Contains, sym, ap, subst, ◌∙◌, refl, ◌⊎◌, inl, inr, arith}
 use Rattle.std.specs.List.{list_any}
 use Rattle.std.proofs.lemmas.Bool.{false≢true}
 use Rattle.std.proofs.lemmas.List.{length-set, get_or-set_same}
@@ -7,11 +9,15 @@ use Rattle.std.proofs.lemmas.List.Elements.{All-append, Contains-append_left, Co
 use Rattle.std.proofs.lemmas.List.Sorted.{All-permutation, Contains-permutation}
 use Rattle.strc_balance.specs.declared.equation.Equation.{Equation}
 use Rattle.strc_balance.specs.declared.fraction.Fraction.{Fraction}
-use Rattle.strc_balance.specs.Balance.{Fractions, fraction_at, first_given, with_given, propagated, one, start_fractions, spread, fraction_passes, HasRates}
-use Rattle.strc_balance.specs.Frontiers.{Covers, CoversApart, IsIncidence, channels_at, found_passes}
+use Rattle.strc_balance.specs.Balance.{Fractions, fraction_at, first_given, with_given, propagated}
+use Rattle.strc_balance.specs.Balance.{one, start_fractions, spread, fraction_passes, HasRates}
+use Rattle.strc_balance.specs.Frontiers.{Covers, CoversApart, IsIncidence, channels_at}
+use Rattle.strc_balance.specs.Frontiers.{found_passes}
 use Rattle.strc_balance.proofs.Divisors.{IsLowest}
 use Rattle.strc_balance.proofs.Limits.{parts_within}
-use Rattle.strc_balance.proofs.Spreading.{Known, Known-set, first_given-known, first_given-within, propagated-stays, propagated-done, propagated-length, start-known, start-length}
+use Rattle.strc_balance.proofs.Spreading.{Known, Known-set, first_given-known, first_given-within}
+use Rattle.strc_balance.proofs.Spreading.{propagated-stays, propagated-done, propagated-length}
+use Rattle.strc_balance.proofs.Spreading.{start-known, start-length}
 use Rattle.strc_balance.proofs.Solutions.{one-lowest, lowest_carries}
 use Rattle.strc_balance.proofs.Frontiers.{Covers-learnt, CoversApart-start}
 use Rattle.strc_balance.proofs.Quantifiers.{list_any-set, list_any-holds}

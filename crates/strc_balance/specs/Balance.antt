@@ -1,6 +1,9 @@
 -- The balance equations of nodes that fire at fixed rates, their least solution, and how it is
 -- found (Lee and Messerschmitt 1987).
-use Rattle.std.specs.Prelude.{◌≡◌, ℕ, zero, suc, ◌*◌, ◌/◌, ◌<◌, ◌≤◌, ◌==◌, nat_lt, Bool, false, ◌||◌, List, [], ◌∷◌, map, length, replicate, All, Contains, slice_index, slice_index_or, slice_set, Option, Some, None, if◌then◌else◌}
+use Rattle.std.specs.Prelude.{◌≡◌, ℕ, zero, suc, ◌*◌, ◌/◌, ◌<◌, ◌≤◌, ◌==◌, nat_lt, Bool, false}
+use Rattle.std.specs.Prelude.{◌||◌, List, [], ◌∷◌, map, length, replicate, All, Contains}
+use Rattle.std.specs.Prelude.{slice_index, slice_index_or, slice_set, Option, Some, None}
+use Rattle.std.specs.Prelude.{if◌then◌else◌}
 use Rattle.std.specs.List.{list_any}
 use Rattle.std.specs.Option.{option_or}
 use Rattle.strc_balance.specs.declared.fraction.TheConstants.{COUNT_LIMIT}
@@ -65,7 +68,8 @@ given_by _ _ equation = None
 
 abbrev pub given : Fractions → Equation → Option (ℕ × Fraction)
 given fractions equation =
-    given_by (fraction_at fractions equation.source) (fraction_at fractions equation.target) equation
+    given_by (fraction_at fractions equation.source) (fraction_at fractions equation.target)
+    equation
 
 -- the first one of which one end is known
 abbrev pub first_given : Fractions → List Equation → Option (ℕ × Fraction)
@@ -130,7 +134,8 @@ is_too_large fractions =
 -- whether an equation holds
 abbrev pub is_balanced : List ℕ → Equation → Bool
 is_balanced counts equation =
-    equation.push * count_at counts equation.source == equation.pop * count_at counts equation.target
+    equation.push * count_at counts equation.source
+    == equation.pop * count_at counts equation.target
 
 -- the first equation that doesn't hold, counted from a number
 abbrev pub first_unbalanced : ℕ → List ℕ → List Equation → Option ℕ

@@ -1,5 +1,5 @@
 -- Small graphs, and their counts.
-use Rattle.std.specs.Prelude.{◌≡◌, ℕ, ◌+◌, pos, true, List, [], ◌∷◌, None, Ok, Err}
+use Rattle.std.specs.Prelude.{◌≡◌, ℕ, ◌+◌, pos, true, [], ◌∷◌, None, Ok, Err}
 use Rattle.strc_syntax.specs.Tree as tree
 use Rattle.strc_syntax.specs.declared.tree.ItemType.TheVariants.{Int}
 use Rattle.strc_syntax.specs.declared.tree.RateKind.{RateKind}

@@ -1,6 +1,7 @@
 -- Which channels can give a fraction next: all of them stand in a frontier, and each in the lists
 -- of its two ends.
-use Rattle.std.specs.Prelude.{◌≡◌, ◌≢◌, ℕ, ◌^◌, ◌<◌, Bool, true, false, List, [], Contains, slice_get, slice_index_or, Option, Some, None}
+use Rattle.std.specs.Prelude.{◌≡◌, ◌≢◌, ℕ, ◌^◌, ◌<◌, Bool, true, false, List, [], Contains}
+use Rattle.std.specs.Prelude.{slice_get, slice_index_or, Option, Some, None}
 use Rattle.strc_balance.specs.declared.equation.Equation.{Equation}
 use Rattle.strc_balance.specs.declared.fraction.Fraction.{Fraction}
 use Rattle.strc_balance.specs.declared.error.BalanceError.{BalanceError}

@@ -1,5 +1,6 @@
 -- The balance equations of a graph, by the rates of `work` (Lee and Messerschmitt 1987).
-use Rattle.std.specs.Prelude.{ℕ, ◌<◌, Bool, true, false, List, map, length, slice_get, if◌then◌else◌}
+use Rattle.std.specs.Prelude.{ℕ, ◌<◌, Bool, true, false, List, map, length, slice_get}
+use Rattle.std.specs.Prelude.{if◌then◌else◌}
 use Rattle.std.specs.Option.{option_map_or}
 use Rattle.strc_graph.specs.Graphs as graphs
 use Rattle.strc_graph.specs.Graphs.{NodeCode, Channel, Graph}

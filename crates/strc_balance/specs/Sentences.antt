@@ -1,7 +1,8 @@
 -- What a person reads where a graph has no counts.
 use Rattle.std.specs.Prelude.{ℕ, List, ◌++◌, codes, decimal}
 use Rattle.strc_balance.specs.declared.error.BalanceError.{BalanceError}
-use Rattle.strc_balance.specs.declared.error.BalanceError.TheVariants.{CountsTooLarge, Inconsistent, NoMemory}
+use Rattle.strc_balance.specs.declared.error.BalanceError.TheVariants.{CountsTooLarge, Inconsistent}
+use Rattle.strc_balance.specs.declared.error.BalanceError.TheVariants.{NoMemory}
 
 abbrev pub balance_sentence : BalanceError → List ℕ
 balance_sentence CountsTooLarge = codes "a node would fire too often in a round"

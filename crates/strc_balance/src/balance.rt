@@ -25,8 +25,8 @@ use strc_graph::graph::Graph;
 /// then the least whole multiples are taken. Each count is from 1 to 1,000,000.
 ///
 /// Both ends of each channel need a rate of at least 1 by `work`, and all nodes must be connected
-/// by channels, taken without direction. So there are no scatters, copies and gathers, which have
-/// no rate by `work`.
+/// by channels, taken without direction. So no channel has an end at a scatter, a copy or a gather,
+/// which have no rate by `work`.
 ///
 /// `CountsTooLarge` comes where a fraction in lowest terms has a part above 1,000,000 or a count is
 /// above 1,000,000, even where the counts balance no channel; then no counts within that limit

@@ -38,15 +38,9 @@ fn node_of(alloc: Global, kind: Kind) -> Result<Node, AllocError> {
         Kind::Reader => Ok(Node::FileReader),
         Kind::Writer => Ok(Node::FileWriter),
         Kind::Identity => Ok(Node::Identity),
-        Kind::Join(first, second) => Ok(Node::Joiner(vec![in alloc; first, second]?)),
-        Kind::Split(first, second) => {
-            let weights = vec![in alloc; first, second]?;
-            Ok(Node::Splitter(Splitter::Roundrobin(weights)))
-        }
-        Kind::Duplicate => {
-            let carried = vec![in alloc; true, true]?;
-            Ok(Node::Splitter(Splitter::Duplicate(carried)))
-        }
+        Kind::Join(first, second) => joiner(alloc, first, second),
+        Kind::Split(first, second) => splitter(alloc, first, second),
+        Kind::Duplicate => duplicate(alloc),
         Kind::Gather => Ok(Node::Gather(Fission {
             ways: 2,
             firings: 1,
@@ -55,6 +49,20 @@ fn node_of(alloc: Global, kind: Kind) -> Result<Node, AllocError> {
             push: 1,
         })),
     }
+}
+
+fn joiner(alloc: Global, first: u32, second: u32) -> Result<Node, AllocError> {
+    Ok(Node::Joiner(Vec::from_slice(alloc, &[first, second])?))
+}
+
+fn splitter(alloc: Global, first: u32, second: u32) -> Result<Node, AllocError> {
+    let weights = Vec::from_slice(alloc, &[first, second])?;
+    Ok(Node::Splitter(Splitter::Roundrobin(weights)))
+}
+
+fn duplicate(alloc: Global) -> Result<Node, AllocError> {
+    let carried = Vec::from_elem(alloc, true, 2)?;
+    Ok(Node::Splitter(Splitter::Duplicate(carried)))
 }
 
 /// Whether a channel joins ports of the nodes.
@@ -86,15 +94,14 @@ fn all_join(nodes: &[Node], channels: &[Channel]) -> bool
 
 /// A channel without enqueued items.
 fn channel_of(alloc: Global, ends: Ends) -> Channel {
-    let (source, source_port, target, target_port) = ends;
     Channel {
         source: Port {
-            node: source,
-            port: source_port,
+            node: ends.0,
+            port: ends.1,
         },
         target: Port {
-            node: target,
-            port: target_port,
+            node: ends.2,
+            port: ends.3,
         },
         enqueued: Vec::new(alloc),
     }

@@ -1,5 +1,6 @@
 -- The flat graph of a stream whose nodes are connected is connected by its channels.
-use Rattle.std.proofs.Common.{◌≡◌, ℕ, suc, ◌<◌, Bool, true, false, ◌&&◌, cond, nat_eq, List, [], ◌∷◌, length, get_or, sym, ap, subst, ◌∙◌, refl, inl, inr, arith}
+use Rattle.std.proofs.Common.{◌≡◌, ℕ, suc, ◌<◌, Bool, true, false, ◌&&◌, cond, nat_eq, List, []}
+use Rattle.std.proofs.Common.{◌∷◌, length, get_or, sym, ap, subst, ◌∙◌, refl, inl, inr, arith}
 use Rattle.std.specs.List.{Contains}
 use Rattle.std.specs.Option.{option_map_or}
 use Rattle.std.proofs.lemmas.Bool.{eqb-true, cases_lt}
@@ -10,7 +11,8 @@ use Rattle.strc_dataflow.specs.Flat as flat
 use Rattle.strc_dataflow.specs.Streams as trees
 use Rattle.strc_dataflow.specs.Streams.{nothing}
 use Rattle.strc_elab.specs.Instances.{Stream}
-use Rattle.strc_graph.specs.Graphs.{NodeCode, Channel, Graph, input_ports, inputs_at, ends_at, source_of, source_in}
+use Rattle.strc_graph.specs.Graphs.{NodeCode, Channel, Graph, input_ports, inputs_at, ends_at}
+use Rattle.strc_graph.specs.Graphs.{source_of, source_in}
 use Rattle.strc_graph.specs.Connections as channels
 use Rattle.strc_elab.specs.Flattening as flattening
 use Rattle.strc_elab.specs.Flattening.{IsFlat, Feeds, meaning_of, codes_of, tree_of}

@@ -2,7 +2,10 @@
 use Rattle.std.proofs.Common.{◌≡◌, ℕ, ◌+◌, List, ◌++◌, length, Option, Some, None, refl, arith}
 use Rattle.std.proofs.lemmas.List.{length-append}
 use Rattle.strc_dataflow.specs.Flat.{Source}
-use Rattle.strc_dataflow.specs.Streams.{Stream, Streams, One, Reader, Pipeline, SplitJoin, FeedbackLoop, Last, More, Layout, layout, pipeline_layout, branch_layout, node_layout, maybe_layout, chained_layout, beside_layout, fed_back_layout, source_at_0}
+use Rattle.strc_dataflow.specs.Streams.{Stream, Streams, One, Reader, Pipeline, SplitJoin}
+use Rattle.strc_dataflow.specs.Streams.{FeedbackLoop, Last, More, Layout, layout, pipeline_layout}
+use Rattle.strc_dataflow.specs.Streams.{branch_layout, node_layout, maybe_layout, chained_layout}
+use Rattle.strc_dataflow.specs.Streams.{beside_layout, fed_back_layout, source_at_0}
 
 abbrev HasSources : {Code : Type 0} → Layout Code → Type 0
 HasSources l = (first : ℕ) (before : ℕ → Source) → length (l.sources first before) ≡ length l.codes

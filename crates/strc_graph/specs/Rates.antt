@@ -1,11 +1,13 @@
 -- How many items a firing of a node looks at, takes and gives at each of its ports (Lee and
 -- Messerschmitt 1987; StreamIt specification 2.1, "Filters" and "Split-joins"). The firings of a
 -- node are numbered from 0 over its whole life. A port that a node doesn't have has the rate 0.
-use Rattle.std.specs.Prelude.{ℕ, zero, suc, ◌+◌, ◌-◌, ◌*◌, ◌%◌, ◌==◌, nat_lt, false, List, sum, slice_index, slice_index_or, if◌then◌else◌}
+use Rattle.std.specs.Prelude.{ℕ, zero, suc, ◌+◌, ◌-◌, ◌*◌, ◌%◌, ◌==◌, nat_lt, false, List, sum}
+use Rattle.std.specs.Prelude.{slice_index, slice_index_or, if◌then◌else◌}
 use Rattle.strc_syntax.specs.Tree as tree
 use Rattle.strc_semantics.specs.declared.body.Body.{Body}
 use Rattle.strc_semantics.specs.declared.body.Body.TheVariants as body
-use Rattle.strc_semantics.specs.Filters.{Filter, body_rates, push_rate, pop_rate, item_count, window_size}
+use Rattle.strc_semantics.specs.Filters.{Filter, body_rates, push_rate, pop_rate, item_count}
+use Rattle.strc_semantics.specs.Filters.{window_size}
 use Rattle.strc_graph.specs.declared.graph.Fission.{Fission}
 use Rattle.strc_graph.specs.Graphs as graphs
 use Rattle.strc_graph.specs.Graphs.{NodeCode, SplitterCode, Duplicate, Roundrobin}

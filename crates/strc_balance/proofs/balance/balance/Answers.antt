@@ -4,7 +4,8 @@ use Rattle.strc_graph.specs.NodeView.{graph_view, node_view, channel_view}
 use Rattle.strc_balance.specs.Balance.{HasRates}
 use Rattle.strc_balance.specs.Rates.{equation_of, equations_of, size_of}
 use Rattle.strc_balance.specs.Verdicts.{IsVerdict, judged}
-use Rattle.strc_balance.proofs.Judging.{judged-least, judged-size, judged-large, judged-inconsistent}
+use Rattle.strc_balance.proofs.Judging.{judged-least, judged-size, judged-large}
+use Rattle.strc_balance.proofs.Judging.{judged-inconsistent}
 use Rattle.strc_balance.proofs.Rated.{graph_rates}
 use Rattle.strc_balance.proofs.Channels.{channels_connect}
 use Rattle.strc_balance.proofs.balance.balance.Goals as goal
@@ -47,7 +48,8 @@ returns-clause-least c =
     let verdict : IsVerdict (judged (size_of graph) (equations_of graph)) c.solve.result =
     subst (λ es. IsVerdict (judged (size_of graph) es) c.solve.result) same
     (subst (λ n. IsVerdict (judged n equations) c.solve.result) size c.solve.ensures.verdict) in
-    judged-least (size_of graph) (equations_of graph) rates (channels_connect graph c.requires.connected) c.solve.result
+    judged-least (size_of graph) (equations_of graph) rates
+    (channels_connect graph c.requires.connected) c.solve.result
     verdict
 
 pub returns-clause-nodes : goal.returns-clause-nodes
@@ -69,7 +71,8 @@ returns-clause-nodes c =
     let verdict : IsVerdict (judged (size_of graph) (equations_of graph)) c.solve.result =
     subst (λ es. IsVerdict (judged (size_of graph) es) c.solve.result) same
     (subst (λ n. IsVerdict (judged n equations) c.solve.result) size c.solve.ensures.verdict) in
-    let least = judged-least (size_of graph) (equations_of graph) rates (channels_connect graph c.requires.connected)
+    let least = judged-least (size_of graph) (equations_of graph) rates
+    (channels_connect graph c.requires.connected)
     c.solve.result verdict in
     subst (λ n. IfOk c.solve.result (λ counts. length counts ≡ n))
     (length-map parts.nodes node_view)
@@ -115,5 +118,6 @@ returns-clause-inconsistent c =
     let verdict : IsVerdict (judged (size_of graph) (equations_of graph)) c.solve.result =
     subst (λ es. IsVerdict (judged (size_of graph) es) c.solve.result) same
     (subst (λ n. IsVerdict (judged n equations) c.solve.result) size c.solve.ensures.verdict) in
-    judged-inconsistent (size_of graph) (equations_of graph) rates (channels_connect graph c.requires.connected)
+    judged-inconsistent (size_of graph) (equations_of graph) rates
+    (channels_connect graph c.requires.connected)
     c.solve.result verdict

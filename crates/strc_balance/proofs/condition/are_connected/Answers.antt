@@ -2,7 +2,8 @@ use Rattle.std.proofs.Common.{All, ap, ◌∙◌, sym, subst}
 use Rattle.strc_balance.specs.Balance.{HasRates, spread}
 use Rattle.strc_balance.specs.Conditions.{AreKnown}
 use Rattle.strc_balance.specs.Frontiers.{IsBounded}
-use Rattle.strc_balance.proofs.Connections.{unit-rates, unit-bounds, known_connected, connected_known}
+use Rattle.strc_balance.proofs.Connections.{unit-rates, unit-bounds, known_connected}
+use Rattle.strc_balance.proofs.Connections.{connected_known}
 use Rattle.strc_balance.proofs.condition.are_connected.Goals as goal
 
 pub spread-requires-clause-rates : goal.spread-requires-clause-rates

@@ -3,7 +3,8 @@ use Rattle.strc_balance.specs.Divisors.{multiple}
 use Rattle.strc_balance.specs.Balance as spec
 use Rattle.strc_balance.proofs.Scales.{scale_more, scale-passes, multiple-positive}
 use Rattle.strc_balance.proofs.multiples.scale_of.Goals as goal
-use Rattle.strc_balance.proofs.multiples.scale_of.Goals.{in-Some+else-scale-gt-COUNT_LIMIT, in_default}
+use Rattle.strc_balance.proofs.multiples.scale_of.Goals.{in-Some+else-scale-gt-COUNT_LIMIT}
+use Rattle.strc_balance.proofs.multiples.scale_of.Goals.{in_default}
 
 pub returns-then-scale-gt-COUNT_LIMIT-clause-passes :
     goal.returns-then-scale-gt-COUNT_LIMIT-clause-passes

@@ -3,7 +3,8 @@ use Rattle.std.proofs.lemmas.List.Sorted.{length_permutation}
 use Rattle.std.proofs.lemmas.Option.{slice_get-get_or}
 use Rattle.strc_balance.specs.declared.equation.Equation.{Equation}
 use Rattle.strc_balance.specs.Frontiers.{Covers}
-use Rattle.strc_balance.proofs.Frontiers.{first_given-empty, first_given-taken, first_given-passes, Covers-skipped, CoversApart-taken, All-taken}
+use Rattle.strc_balance.proofs.Frontiers.{first_given-empty, first_given-taken, first_given-passes}
+use Rattle.strc_balance.proofs.Frontiers.{Covers-skipped, CoversApart-taken, All-taken}
 use Rattle.strc_balance.proofs.propagation.next_given.Goals as goal
 
 abbrev nothing : Equation

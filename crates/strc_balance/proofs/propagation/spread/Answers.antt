@@ -1,10 +1,12 @@
-use Rattle.std.proofs.Common.{◌≡◌, ℕ, ◌<◌, ◌++◌, [], false, length, All, IfSome, Some, IsPermutation, sym, ap, subst, ◌∙◌, refl, arith}
+use Rattle.std.proofs.Common.{◌≡◌, ℕ, ◌<◌, ◌++◌, [], false, length, All, IfSome, Some}
+use Rattle.std.proofs.Common.{IsPermutation, sym, ap, subst, ◌∙◌, refl, arith}
 use Rattle.std.specs.List.{list_any}
 use Rattle.strc_balance.specs.declared.fraction.Fraction.{Fraction}
 use Rattle.strc_balance.specs.Balance as spec
 use Rattle.strc_balance.specs.Frontiers.{IsLargeOrMemory, CoversApart, found_passes}
 use Rattle.strc_balance.proofs.Spreading.{first_given-within}
-use Rattle.strc_balance.proofs.Turns.{IsSpreading, spreading_start, spreading_next, spreading_done, spreading_large}
+use Rattle.strc_balance.proofs.Turns.{IsSpreading, spreading_start, spreading_next, spreading_done}
+use Rattle.strc_balance.proofs.Turns.{spreading_large}
 use Rattle.strc_balance.proofs.propagation.spread.Goals as goal
 
 pub loop-turn-init : goal.loop-turn-init

@@ -1,7 +1,8 @@
 use Rattle.std.proofs.Common.{◌≡◌, ◌∙◌, length, map, slice_index_or, ap, sym, subst}
 use Rattle.strc_balance.specs.Balance.{HasRates, passes, scale_from, whole_count}
 use Rattle.strc_balance.specs.Frontiers.{ArePositive}
-use Rattle.strc_balance.proofs.Judging.{spread-positive, counts-length, scale_too_large, judged-too_large}
+use Rattle.strc_balance.proofs.Judging.{spread-positive, counts-length, scale_too_large}
+use Rattle.strc_balance.proofs.Judging.{judged-too_large}
 use Rattle.strc_balance.proofs.solution.solve.Goals as goal
 
 pub scale_of-requires : goal.scale_of-requires

@@ -14,11 +14,13 @@ loop-channel-preserved c =
     let short : i < length channels = omega arith in
     let here : JoinsPorts nodes (channel_view channel) = c.joins.ensures c.if-not-joins.false in
     subst (All (JoinsPorts nodes)) (sym (map_more channel_view channels i channel short))
-    (All-push (JoinsPorts nodes) (map channel_view (take i channels)) _ c.loop-channel.invariant (subst (λ x. JoinsPorts nodes (channel_view x)) c.channel-item.is here))
+    (All-push (JoinsPorts nodes) (map channel_view (take i channels)) _ c.loop-channel.invariant
+    (subst (λ x. JoinsPorts nodes (channel_view x)) c.channel-item.is here))
 
 pub returns : goal.returns
 returns c passed =
     let channels = c.args.channels.now in
     let i = c.loop-channel.channel-index in
     let all : length channels ≤ i = omega arith in
-    subst (All (JoinsPorts (map node_view c.args.nodes.now))) (ap (map channel_view) (take_all i channels all)) c.loop-channel.invariant
+    subst (All (JoinsPorts (map node_view c.args.nodes.now)))
+    (ap (map channel_view) (take_all i channels all)) c.loop-channel.invariant

@@ -1,4 +1,5 @@
-use Rattle.std.proofs.Common.{◌∷◌, ◌++◌, [], take, get_or, ap, sym, subst, ◌∙◌, append_assoc, IsPermutation, arith}
+use Rattle.std.proofs.Common.{◌∷◌, ◌++◌, [], take, get_or, ap, sym, subst, ◌∙◌, append_assoc}
+use Rattle.std.proofs.Common.{IsPermutation, arith}
 use Rattle.std.proofs.lemmas.List.{take_more}
 use Rattle.std.proofs.lemmas.List.Sorted.{IsPermutation-push_more}
 use Rattle.strc_balance.proofs.frontier.Frontier.add_all.Goals as goal
