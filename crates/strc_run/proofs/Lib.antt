@@ -11,3 +11,4 @@ pub mod Laps
 pub mod Rounds
 pub mod StreamNodes
 pub mod RatedGraphs
+pub mod Starts

@@ -1,5 +1,5 @@
 -- In a flat graph of checked instances, both ends of each channel have a rate.
-use Rattle.std.proofs.Common.{◌≡◌, ℕ, zero, suc, ◌+◌, ◌<◌, ℤ, Bool, true, false, List, [], ◌∷◌, length, get_or, refl, sym, subst, ap, ◌∙◌, Result, Ok, Err, arith}
+use Rattle.std.proofs.Common.{◌≡◌, ℕ, zero, suc, ◌+◌, ◌<◌, ℤ, false, List, [], ◌∷◌, length, get_or, refl, sym, subst, Ok, arith}
 use Rattle.std.specs.Prelude.{All, nat_eq, Option, Some, None, slice_get}
 use Rattle.std.specs.List.{AllByRecursion}
 use Rattle.std.specs.Option.{option_map_or}
@@ -12,9 +12,8 @@ use Rattle.strc_rate.specs.Rates as rates
 use Rattle.strc_rate.specs.Rates.{checked, work_checked, work_lacks}
 use Rattle.strc_graph.specs.Graphs as graphs
 use Rattle.strc_graph.specs.Graphs.{NodeCode, Channel, Graph, JoinsPorts, ports_of, input_ports, output_ports, inputs_at, outputs_at}
-use Rattle.strc_balance.specs.Rates.{IsRated, equation_of, equations_of, pops_by_work, pushes_by_work, pop_of, push_of}
+use Rattle.strc_balance.specs.Rates.{IsRated, equation_of, equations_of, pops_by_work, pushes_by_work}
 use Rattle.strc_elab.specs.Sound.{IsInstance}
-use Rattle.strc_run.specs.declared.refusal.Refusal.{Refusal}
 use Rattle.strc_run.specs.Rates.{node_checked, rates_checked}
 use Rattle.strc_run.proofs.ExactRates.{neither, node_ok, filter_ok, work_ok, lacks_none}
 

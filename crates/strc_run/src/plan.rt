@@ -1,9 +1,6 @@
 // What a text is compiled to.
 
-ghost use Rattle.std.specs.Prelude.{map};
-ghost use Rattle.std.specs.List.{AllByRecursion};
-ghost use Rattle.strc_graph.specs.NodeView.{node_view};
-ghost use Rattle.strc_run.specs.Loading.{CanStart};
+ghost use Rattle.std.specs.Prelude.{◌≡◌, length};
 
 use strc_balance::counts::Counts;
 use strc_graph::graph::Graph;
@@ -13,6 +10,6 @@ use strc_graph::graph::Graph;
 pub struct Plan {
     pub graph: Graph,
     pub round_counts: Counts,
-    /// Each node starts without a fault.
-    ghost starts: { AllByRecursion CanStart (map node_view graph.nodes) },
+    /// There is a count for each node.
+    ghost counted: { length round_counts ≡ length graph.nodes },
 }

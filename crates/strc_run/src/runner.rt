@@ -1,10 +1,11 @@
 // Runs nodes in a row, round by round.
 
 ghost use Rattle.std.specs.Prelude.{◌≡◌, ◌++◌, [], List, ℤ, Ok, Err, IfOk, MatchResult, map};
+ghost use Rattle.std.specs.List.{AllByRecursion};
 ghost use Rattle.strc_graph.specs.NodeView.{node_view};
 ghost use Rattle.strc_work.specs.Answers.{Fires};
 ghost use Rattle.strc_machine.specs.Running.{MoreWords};
-ghost use Rattle.strc_run.specs.Loading.{code_in, fields_in, all_loaded_in};
+ghost use Rattle.strc_run.specs.Loading.{CanStart, code_in, fields_in, all_loaded_in};
 ghost use Rattle.strc_run.specs.Pipeline.{laps, lap_from, loaded, node_fired};
 ghost use Rattle.strc_run.specs.Running.{Laps, IsEnding};
 
@@ -25,8 +26,10 @@ enum Stop {
     NoMemory,
 }
 
-/// Runs so many rounds of a plan whose nodes stand in a row. An error is out of memory.
+/// Runs so many rounds of a plan whose nodes stand in a row and start without a fault. An error is
+/// out of memory.
 pub fn run(alloc: Global, plan: Plan, rounds: u32) -> Result<Outcome, NoMemory>
+    requires { AllByRecursion CanStart (map node_view plan.graph.nodes) }
     ensures { IfOk result (λ outcome. IsEnding outcome
         (laps rounds 0 (loaded (map node_view plan.graph.nodes)) [])) }
 {

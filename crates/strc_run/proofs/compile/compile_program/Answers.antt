@@ -7,10 +7,8 @@ use Rattle.strc_graph.specs.NodeView.{node_view, graph_view}
 use Rattle.strc_elab.specs.Flattening.{IsFlat}
 use Rattle.strc_elab.specs.Sound.{IsInstance}
 use Rattle.strc_run.specs.Compiling.{refusal_of, balance_refusal_of}
-use Rattle.strc_run.specs.Loading.{CanStart}
 use Rattle.strc_run.specs.Rates.{rates_checked}
 use Rattle.strc_run.specs.Verdicts.{IsRefusal}
-use Rattle.strc_run.proofs.Instances.{all_start}
 use Rattle.strc_run.proofs.Refusals.{elaboration_refused, graph_refused, rates_refused, balance_refused, refusal_told}
 use Rattle.strc_run.proofs.RatedGraphs.{graph_is_rated}
 use Rattle.strc_elab.proofs.Soundness.{elaborated_is_sound}
