@@ -8,3 +8,4 @@
 
 pub mod memory;
 pub mod scope;
+pub mod scope_map;
