@@ -1,4 +1,4 @@
-use Rattle.std.proofs.Common.{length, reverse, sym, ap, ◌∙◌}
+use Rattle.std.proofs.Common.{reverse, sym, ap, ◌∙◌}
 use Rattle.std.proofs.lemmas.List.{length-reverse}
 use Rattle.strc_base.specs.Names.{number_named, plain_names}
 use Rattle.strc_base.proofs.ScopeMaps.{plain-with_values}
