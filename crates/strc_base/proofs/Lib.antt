@@ -2,3 +2,4 @@ pub mod Lists
 pub mod Tables
 pub mod Scopes
 pub mod Numbered
+pub mod ScopeMaps

@@ -6,7 +6,7 @@ use Rattle.strc_syntax.specs.declared.tree.BinaryOperator.{BinaryOperator}
 use Rattle.strc_check.specs.declared.types.ValueType.{ValueType}
 use Rattle.strc_check.specs.declared.types.ValueType.TheVariants.{Boolean}
 use Rattle.strc_base.specs.Names.{value_named}
-use Rattle.strc_check.specs.Typing.{TypedNames, type_named, same_type}
+use Rattle.strc_check.specs.Typing.{TypedNames, same_type}
 use Rattle.strc_semantics.specs.Constants.{IsConstant}
 use Rattle.strc_check.specs.Resolution.{Typed, and_then, typed_as, read_as, constant_read, operand_type, sides_type, binary_type, unary_typed, binary_typed, conditional_typed, peek_typed, group_typed, expr_resolved, expr_as, rate_site}
 use Rattle.strc_check.proofs.Resolving.{Gives, then_gives, any_gives, kept_gives}
@@ -45,7 +45,7 @@ conditional_constant condition chosen other hc ht ho =
 constant_gives : (constants : List (List ℕ × ℤ)) (fields : TypedNames) (e : tree.Expr) → Gives IsConstantTyped (expr_resolved (rate_site constants) fields e)
 constant_gives constants fields (tree.Number value) = tt
 constant_gives constants fields (tree.Truth value) = tt
-constant_gives constants fields (tree.Read name) = read_gives constants name (type_named fields name)
+constant_gives constants fields (tree.Read name) = read_gives constants name (value_named fields name)
 constant_gives constants fields (tree.Element name index) = tt
 constant_gives constants fields tree.Pop = tt
 constant_gives constants fields (tree.Peek index) =

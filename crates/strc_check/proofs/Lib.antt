@@ -1,4 +1,3 @@
-pub mod Numbered
 pub mod TypedGrowth
 pub mod Members
 pub mod Resolved

@@ -1,5 +1,5 @@
 -- The judgement of a block or of members, from what is judged so far and what is left.
-use Rattle.std.proofs.Common.{◌≡◌, ℕ, suc, ◌+◌, ◌<◌, List, [], ◌∷◌, ◌++◌, length, drop, map, get_or, Result, Ok, Err, refl, sym, ap, ◌∙◌, add-one, drop-cons}
+use Rattle.std.proofs.Common.{◌≡◌, ℕ, ◌+◌, List, [], ◌∷◌, ◌++◌, map, Result, Ok, Err, refl, sym, ap, ◌∙◌}
 use Rattle.strc_syntax.specs.Tree as tree
 use Rattle.strc_syntax.specs.View.{stmt_view, block_view}
 use Rattle.strc_syntax.specs.declared.tree.Stmt.{Stmt}
@@ -8,7 +8,6 @@ use Rattle.strc_check.specs.declared.error.LowerError.TheVariants as refused
 use Rattle.strc_check.specs.Resolution as judged
 use Rattle.strc_check.specs.Typing.{TypedNames, names_after}
 use Rattle.strc_check.specs.Verdicts.{IsRefusal}
-use Rattle.strc_base.proofs.Lists.{map-drop}
 
 -- the statements of a list before others
 abbrev pub block_onto : List Stmt → tree.Stmts → tree.Stmts

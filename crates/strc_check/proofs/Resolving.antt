@@ -12,14 +12,15 @@ use Rattle.strc_syntax.specs.declared.tree.BinaryOperator.{BinaryOperator}
 use Rattle.strc_check.specs.declared.error.LowerError.{LowerError}
 use Rattle.strc_semantics.specs.declared.fault.Cause.TheVariants.{Index}
 use Rattle.strc_check.specs.declared.error.LowerError.TheVariants as refused
+use Rattle.strc_check.specs.declared.type_rules.TheConstants.{LENGTH_LIMIT}
 use Rattle.strc_check.specs.declared.types.ValueType.{ValueType}
 use Rattle.strc_check.specs.declared.types.ValueType.TheVariants.{Int, Boolean, Array}
-use Rattle.strc_base.specs.Names.{has_name, value_named}
+use Rattle.strc_base.specs.Names.{has_name, value_named, plain_names}
 use Rattle.strc_semantics.specs.Filters.{Filter, declared_names, field_names, sized_all, sized_fields}
 use Rattle.strc_semantics.specs.Scoping as plain
 use Rattle.strc_semantics.specs.Scoping.{Scope, cells_of, is_declared}
 use Rattle.strc_check.specs.Typing as typing
-use Rattle.strc_check.specs.Typing.{TypedNames, plain_names, sized_names, type_named, same_type, is_array, type_of, names_with, block_names, fields_behind}
+use Rattle.strc_check.specs.Typing.{TypedNames, same_type, is_array, type_of, names_with, block_names, fields_behind}
 use Rattle.strc_check.specs.Resolution.{Site, Typed, ResolvedType, Work, and_then, where_kept, typed_as, type_resolved, array_type, number_resolved, read_as, write_as, write_resolved, array_resolved, element_typed, step_element_typed, constant_read, operand_type, sides_type, binary_type, unary_typed, binary_typed, conditional_typed, peek_typed, group_typed, step_resolved, expr_resolved, expr_as, initial_resolved, variable_resolved, variables_resolved, assigned_type, element_assign_resolved, given_resolved, stmt_resolved, stmts_resolved, start_site, body_site, rates_resolved, field_resolved, fields_resolved, fields_after, body_resolved, work_resolved, member_resolved, members_resolved, has_parts, filter_resolved}
 use Rattle.strc_semantics.specs.Closed.{IsNamed, IsClosed, IsClosedInitial, FitsInitial, AreClosedVariables, AreClosedFields, IsClosedStmt, AreClosed, IsClosedMember, AreClosedMembers, IsClosedFilter}
 use Rattle.strc_base.proofs.Scopes.{bytes_eq_same}
@@ -44,19 +45,19 @@ kept_gives Q false next h = tt
 
 -- a scope whose names are these
 abbrev pub Sees : Scope → TypedNames → Type 0
-Sees scope names = sized_names scope ≡ plain_names names
+Sees scope names = plain_names scope ≡ plain_names names
 
 -- whether a name is declared depends on the names alone
-declared_by_name : (scope : Scope) (name : List ℕ) → is_declared scope name ≡ has_name (sized_names scope) name
+declared_by_name : (scope : Scope) (name : List ℕ) → is_declared scope name ≡ has_name (plain_names scope) name
 declared_by_name [] name = refl
 declared_by_name (first ∷ rest) name = ap (λ t. bytes_eq first.0 name || t) (declared_by_name rest name)
 
-named_in : (scope : Scope) (names : List (List ℕ)) (name : List ℕ) → sized_names scope ≡ names → has_name names name ≡ true → IsNamed scope name
+named_in : (scope : Scope) (names : List (List ℕ)) (name : List ℕ) → plain_names scope ≡ names → has_name names name ≡ true → IsNamed scope name
 named_in scope names name sees there = declared_by_name scope name ∙ ap (λ l. has_name l name) sees ∙ there
 
 -- a variable inside others
 sees_more : (scope : Scope) (names : TypedNames) (name name' : List ℕ) (cells : ℕ) (kind : ValueType) → name' ≡ name → Sees scope names → Sees (record { 0 = name'; 1 = cells } ∷ scope) (record { 0 = name; 1 = kind } ∷ names)
-sees_more scope names name name' cells kind same sees = ap (λ n. n ∷ sized_names scope) same ∙ ap (λ l. name ∷ l) sees
+sees_more scope names name name' cells kind same sees = ap (λ n. n ∷ plain_names scope) same ∙ ap (λ l. name ∷ l) sees
 
 -- the names alone behind a declaration
 pub plain_declared : (names : TypedNames) (kind : ValueType) (variables : List tree.Variable) → plain_names (typing.with_declared names kind variables) ≡ names_with (plain_names names) variables
@@ -64,15 +65,15 @@ plain_declared names kind [] = refl
 plain_declared names kind (first ∷ rest) = plain_declared (record { 0 = first.name; 1 = kind } ∷ names) kind rest
 
 -- a name that has a type is there
-typed_name : (names : TypedNames) (name : List ℕ) (kind : ValueType) → type_named names name ≡ Some kind → has_name (plain_names names) name ≡ true
+typed_name : (names : TypedNames) (name : List ℕ) (kind : ValueType) → value_named names name ≡ Some kind → has_name (plain_names names) name ≡ true
 typed_name [] name kind e = cc
 typed_name (first ∷ rest) name kind e = by_value (bytes_eq first.0 name) e (typed_name rest name kind)
   where
-    by_value : (t : Bool) → cond t (Some first.1) (type_named rest name) ≡ Some kind → (type_named rest name ≡ Some kind → has_name (plain_names rest) name ≡ true) → t || has_name (plain_names rest) name ≡ true
+    by_value : (t : Bool) → cond t (Some first.1) (value_named rest name) ≡ Some kind → (value_named rest name ≡ Some kind → has_name (plain_names rest) name ≡ true) → t || has_name (plain_names rest) name ≡ true
     by_value true e inner = refl
     by_value false e inner = inner e
 
-named_of_type : (scope : Scope) (names : TypedNames) (name : List ℕ) (kind : ValueType) → Sees scope names → type_named names name ≡ Some kind → IsNamed scope name
+named_of_type : (scope : Scope) (names : TypedNames) (name : List ℕ) (kind : ValueType) → Sees scope names → value_named names name ≡ Some kind → IsNamed scope name
 named_of_type scope names name kind sees e = named_in scope (plain_names names) name sees (typed_name names name kind e)
 
 -- a typed expression is closed
@@ -83,14 +84,14 @@ constant_gives : (scope : Scope) (name : List ℕ) (o : Option ℤ) → Gives (I
 constant_gives scope name None = tt
 constant_gives scope name (Some value) = tt
 
-name_gives : (site : Site) (scope : Scope) (names : TypedNames) (name : List ℕ) (o : Option ValueType) → Sees scope names → type_named names name ≡ o → Gives (IsClosedTyped scope) (read_as site name o)
+name_gives : (site : Site) (scope : Scope) (names : TypedNames) (name : List ℕ) (o : Option ValueType) → Sees scope names → value_named names name ≡ o → Gives (IsClosedTyped scope) (read_as site name o)
 name_gives site scope names name (Some kind) sees e =
     let read : Result Typed LowerError = Ok (record { kind = kind; value = tree.Read name }) in
     kept_gives (IsClosedTyped scope) (not site.fixed) (where_kept (not (is_array kind)) read)
     (kept_gives (IsClosedTyped scope) (not (is_array kind)) read (named_of_type scope names name kind sees e))
 name_gives site scope names name None sees e = constant_gives scope name (value_named site.constants name)
 
-write_gives : (site : Site) (scope : Scope) (names : TypedNames) (name : List ℕ) (o : Option ValueType) → Sees scope names → type_named names name ≡ o → Gives (λ (kind : ValueType). IsNamed scope name) (write_as site name o)
+write_gives : (site : Site) (scope : Scope) (names : TypedNames) (name : List ℕ) (o : Option ValueType) → Sees scope names → value_named names name ≡ o → Gives (λ (kind : ValueType). IsNamed scope name) (write_as site name o)
 write_gives site scope names name (Some kind) sees e = named_of_type scope names name kind sees e
 write_gives site scope names name None sees e = tt
 
@@ -98,7 +99,7 @@ write_gives site scope names name None sees e = tt
 written_gives : (site : Site) (scope : Scope) (names : TypedNames) (name : List ℕ) (rule : ValueType → Bool) → Sees scope names → Gives (IsNamed scope) (where_kept (not site.fixed) (and_then (write_resolved site names name) (λ kind. where_kept (rule kind) (Ok name))))
 written_gives site scope names name rule sees =
     kept_gives (IsNamed scope) (not site.fixed) (and_then (write_resolved site names name) (λ kind. where_kept (rule kind) (Ok name)))
-    (then_gives (λ (kind : ValueType). IsNamed scope name) (IsNamed scope) (write_resolved site names name) (λ kind. where_kept (rule kind) (Ok name)) (write_gives site scope names name (type_named names name) sees refl) (λ kind h.
+    (then_gives (λ (kind : ValueType). IsNamed scope name) (IsNamed scope) (write_resolved site names name) (λ kind. where_kept (rule kind) (Ok name)) (write_gives site scope names name (value_named names name) sees refl) (λ kind h.
     kept_gives (IsNamed scope) (rule kind) (Ok name) h))
 
 step_gives : (site : Site) (scope : Scope) (names : TypedNames) (name : List ℕ) → Sees scope names → Gives (IsNamed scope) (step_resolved site names name)
@@ -149,7 +150,7 @@ expr_gives site scope names (tree.Element name index) sees =
 expr_gives site scope names (tree.StepElement operator name index) sees =
     then_gives (IsNamed scope) (IsClosedTyped scope) (array_resolved site names name) (λ n. and_then (expr_resolved site names index) (λ i. step_element_typed operator n i)) (array_gives site scope names name sees) (λ n h.
     then_gives (IsClosedTyped scope) (IsClosedTyped scope) (expr_resolved site names index) (λ i. step_element_typed operator n i) (expr_gives site scope names index sees) (λ i h'. step_element_gives scope operator n i h h'))
-expr_gives site scope names (tree.Read name) sees = name_gives site scope names name (type_named names name) sees refl
+expr_gives site scope names (tree.Read name) sees = name_gives site scope names name (value_named names name) sees refl
 expr_gives site scope names tree.Pop sees = kept_gives (IsClosedTyped scope) site.pops (Ok (record { kind = Int; value = tree.Pop })) tt
 expr_gives site scope names (tree.Peek index) sees =
     then_gives (IsClosedTyped scope) (IsClosedTyped scope) (expr_resolved site names index) (λ i. peek_typed site.pops i) (expr_gives site scope names index sees) (λ i h. peek_gives scope site.pops i h)
@@ -213,7 +214,7 @@ FitsDeclared kind resolved = FitsType resolved.kind (cells_of resolved.written) 
 array_fits : (length : tree.Expr) (number : ℤ) → Gives (FitsDeclared (tree.Array length)) (array_type number)
 array_fits length (negsuc n) = tt
 array_fits length (pos zero) = tt
-array_fits length (pos (suc n)) = by_test (int_lt (pos (suc n)) (pos 1) || int_lt (pos 65536) (pos (suc n)))
+array_fits length (pos (suc n)) = by_test (int_lt (pos (suc n)) (pos 1) || int_lt LENGTH_LIMIT (pos (suc n)))
   where
     by_test : (t : Bool) → Gives (FitsDeclared (tree.Array length)) (cond t (Err (refused.ConstFault Index)) (Ok (record { kind = Array; written = tree.Array (tree.Number (pos (suc n))) })))
     by_test true = tt
@@ -287,7 +288,7 @@ mutual
       then_gives (IsClosedTyped scope) (IsLike scope names (tree.Evaluate value)) (expr_resolved site names value) (λ typed. Ok (tree.Evaluate typed.value)) (expr_gives site scope names value sees) (λ typed h. (h, sees))
   stmt_gives site scope names outer (tree.Assign name operator value) sees =
       let like = IsLike scope names (tree.Assign name operator value) in
-      then_gives (λ (kind : ValueType). IsNamed scope name) like (write_resolved site names name) (λ kind. and_then (assigned_type operator kind) (λ kind'. and_then (expr_as site names kind' value) (λ v. Ok (tree.Assign name operator v)))) (write_gives site scope names name (type_named names name) sees refl) (λ kind h.
+      then_gives (λ (kind : ValueType). IsNamed scope name) like (write_resolved site names name) (λ kind. and_then (assigned_type operator kind) (λ kind'. and_then (expr_as site names kind' value) (λ v. Ok (tree.Assign name operator v)))) (write_gives site scope names name (value_named names name) sees refl) (λ kind h.
       any_gives like (assigned_type operator kind) (λ kind'. and_then (expr_as site names kind' value) (λ v. Ok (tree.Assign name operator v))) (λ kind'.
       then_gives (IsClosed scope) like (expr_as site names kind' value) (λ v. Ok (tree.Assign name operator v)) (expr_as_gives site scope names kind' value sees) (λ v h'. ((h, h'), sees))))
   stmt_gives site scope names outer (tree.AssignElement name index operator value) sees = element_assign_gives site scope names name index operator value sees
@@ -406,25 +407,25 @@ namesakes_give site fields before kind (first ∷ rest) =
         (any_gives same initial (λ i. Ok (record { name = first.name; initial = i })) (λ i. refl))
 
 -- the names alone of fields with their cells
-sized_names-all : (cells : ℕ) (variables : List tree.Variable) → sized_names (sized_all cells variables) ≡ declared_names variables
+sized_names-all : (cells : ℕ) (variables : List tree.Variable) → plain_names (sized_all cells variables) ≡ declared_names variables
 sized_names-all cells [] = refl
 sized_names-all cells (first ∷ rest) = ap (λ l. first.name ∷ l) (sized_names-all cells rest)
 
-sized_names-append : (a b : Scope) → sized_names (a ++ b) ≡ sized_names a ++ sized_names b
+sized_names-append : (a b : Scope) → plain_names (a ++ b) ≡ plain_names a ++ plain_names b
 sized_names-append [] b = refl
 sized_names-append (first ∷ rest) b = ap (λ l. first.0 ∷ l) (sized_names-append rest b)
 
-sized_names-reverse : (scope : Scope) → sized_names (reverse scope) ≡ reverse (sized_names scope)
+sized_names-reverse : (scope : Scope) → plain_names (reverse scope) ≡ reverse (plain_names scope)
 sized_names-reverse [] = refl
 sized_names-reverse (first ∷ rest) =
-    ap sized_names (reverse-append (first ∷ []) rest)
+    ap plain_names (reverse-append (first ∷ []) rest)
     ∙ sized_names-append (reverse rest) (first ∷ [])
     ∙ ap (λ l. l ++ first.0 ∷ []) (sized_names-reverse rest)
-    ∙ sym (reverse-append (first.0 ∷ []) (sized_names rest))
+    ∙ sym (reverse-append (first.0 ∷ []) (plain_names rest))
 
 -- members whose fields have the names of other ones'
 abbrev pub HaveFields : List tree.Member → List tree.Member → Type 0
-HaveFields ms ms' = sized_names (sized_fields ms') ≡ field_names ms
+HaveFields ms ms' = plain_names (sized_fields ms') ≡ field_names ms
 
 abbrev HasFields : tree.Member → tree.Member → Type 0
 HasFields m m' = (rest rest' : List tree.Member) → HaveFields rest rest' → HaveFields (m ∷ rest) (m' ∷ rest')
@@ -436,7 +437,7 @@ member_fields constants input output fields before (tree.Fields kind variables) 
     any_gives has (type_resolved constants fields kind) (λ t. and_then (fields_resolved site fields before t.kind variables) (λ v. Ok (tree.Fields t.written v))) (λ t.
     then_gives (AreNamesakes variables) has (fields_resolved site fields before t.kind variables) (λ v. Ok (tree.Fields t.written v)) (namesakes_give site fields before t.kind variables) (λ v h rest rest' same.
     sized_names-append (sized_all (cells_of t.written) v) (sized_fields rest')
-    ∙ ap (λ l. l ++ sized_names (sized_fields rest')) (sized_names-all (cells_of t.written) v ∙ h)
+    ∙ ap (λ l. l ++ plain_names (sized_fields rest')) (sized_names-all (cells_of t.written) v ∙ h)
     ∙ ap (λ l. declared_names variables ++ l) same))
 member_fields constants input output fields before (tree.Init block) =
     any_gives (HasFields (tree.Init block)) (body_resolved (start_site constants) fields block) (λ b. Ok (tree.Init b)) (λ b rest rest' same. same)
@@ -527,7 +528,7 @@ pub resolved_closed : (constants : List (List ℕ × ℤ)) (filter filter' : Fil
 resolved_closed constants filter filter' e = (subst (Gives (IsLikeFilter filter)) e (filter_gives constants filter)).0
 
 -- and its fields have the names of the text's, in order
-pub resolved_fields : (constants : List (List ℕ × ℤ)) (filter filter' : Filter) → filter_resolved constants filter ≡ Ok filter' → sized_names (sized_fields filter'.members) ≡ field_names filter.members
+pub resolved_fields : (constants : List (List ℕ × ℤ)) (filter filter' : Filter) → filter_resolved constants filter ≡ Ok filter' → plain_names (sized_fields filter'.members) ≡ field_names filter.members
 resolved_fields constants filter filter' e = (subst (Gives (IsLikeFilter filter)) e (filter_gives constants filter)).1
 
 -- and its types

@@ -17,11 +17,12 @@ use Rattle.strc_semantics.specs.declared.fault.Cause.{Cause}
 use Rattle.strc_semantics.specs.declared.fault.Cause.TheVariants.{Index}
 use Rattle.strc_check.specs.declared.error.LowerError.{LowerError}
 use Rattle.strc_check.specs.declared.error.LowerError.TheVariants as refused
+use Rattle.strc_check.specs.declared.type_rules.TheConstants.{LENGTH_LIMIT}
 use Rattle.strc_check.specs.declared.types.ValueType.{ValueType}
 use Rattle.strc_check.specs.declared.types.ValueType.TheVariants.{Int, Boolean, Array}
 use Rattle.strc_base.specs.Names.{has_name, value_named}
 use Rattle.strc_semantics.specs.Filters.{Filter, work_count}
-use Rattle.strc_check.specs.Typing.{TypedNames, type_named, same_type, is_array, names_with, names_after, block_names, fields_behind}
+use Rattle.strc_check.specs.Typing.{TypedNames, same_type, is_array, names_with, names_after, block_names, fields_behind}
 use Rattle.strc_semantics.specs.Constants.{constant_value}
 
 -- goes on with a result, or keeps the first refusal
@@ -64,7 +65,7 @@ read_as site name (Some kind) =
 read_as site name None = constant_read name (value_named site.constants name)
 
 abbrev pub name_resolved : Site → TypedNames → List ℕ → Result Typed LowerError
-name_resolved site names name = read_as site name (type_named names name)
+name_resolved site names name = read_as site name (value_named names name)
 
 -- why a name that is no variable can't be written
 abbrev pub write_refused : List ℕ → Option ℤ → LowerError
@@ -77,7 +78,7 @@ write_as site name (Some kind) = Ok kind
 write_as site name None = Err (write_refused name (value_named site.constants name))
 
 abbrev pub write_resolved : Site → TypedNames → List ℕ → Result ValueType LowerError
-write_resolved site names name = write_as site name (type_named names name)
+write_resolved site names name = write_as site name (value_named names name)
 
 -- the type of an operand, and of the operator's value
 abbrev pub operand_type : UnaryOperator → ValueType
@@ -207,10 +208,10 @@ pub record ResolvedType : Type 0 where
   pub kind : ValueType
   pub written : tree.VariableType
 
--- an array of this length has a cell, and at most 65536
+-- an array of this length has a cell, and no more than an array may have
 abbrev pub array_type : ℤ → Result ResolvedType LowerError
 array_type number =
-    if int_lt number (pos 1) || int_lt (pos 65536) number
+    if int_lt number (pos 1) || int_lt LENGTH_LIMIT number
     then Err (refused.ConstFault Index)
     else Ok (record { kind = Array; written = tree.Array (tree.Number number) })
 

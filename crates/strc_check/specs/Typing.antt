@@ -1,32 +1,13 @@
 -- Names of variables with their types.
-use Rattle.std.specs.Prelude.{ℕ, ◌-◌, Bool, true, false, List, [], ◌∷◌, length, map, take, Option, Some, None, if◌then◌else◌, bytes_eq}
+use Rattle.std.specs.Prelude.{ℕ, ◌-◌, Bool, true, false, List, [], ◌∷◌, length, take}
 use Rattle.strc_syntax.specs.Tree as tree
-use Rattle.strc_semantics.specs.Scoping.{Scope}
+use Rattle.strc_base.specs.Names.{plain_names}
 use Rattle.strc_check.specs.declared.types.ValueType.{ValueType}
 use Rattle.strc_check.specs.declared.types.ValueType.TheVariants.{Int, Boolean, Array}
 
 -- the names that can be seen, each with its type, the innermost first
 abbrev pub TypedNames : Type 0
 TypedNames = List (List ℕ × ValueType)
-
--- the names alone
-abbrev pub plain_names : TypedNames → List (List ℕ)
-plain_names names = map (λ (variable : List ℕ × ValueType). variable.0) names
-
--- the names alone of variables with their cells
-abbrev pub sized_names : Scope → List (List ℕ)
-sized_names scope = map (λ (variable : List ℕ × ℕ). variable.0) scope
-
--- the type of the innermost variable of a name
-abbrev pub type_named : TypedNames → List ℕ → Option ValueType
-type_named [] name = None
-type_named (first ∷ rest) name = if bytes_eq first.0 name then Some first.1 else type_named rest name
-
--- names beside their types
-abbrev pub with_types : List (List ℕ) → List ValueType → TypedNames
-with_types [] kinds = []
-with_types (name ∷ names) [] = []
-with_types (name ∷ names) (kind ∷ kinds) = record { 0 = name; 1 = kind } ∷ with_types names kinds
 
 -- whether two values have one type; the name of an array stands for no value
 abbrev pub same_type : ValueType → ValueType → Bool

@@ -55,7 +55,10 @@ pub fn resolve_type(
     }
 }
 
-/// An array of this length has a cell, and at most 65536.
+/// An array of this length has a cell, and at most as many as an array may have.
+///
+/// # Errors
+/// `ConstFault` by `Index` where the length is below 1 or above the limit.
 fn array_type(number: i32) -> Result<ResolvedType, LowerError>
     ensures verdict { IsVerdict declared_view (judged.array_type number) result }
     ensures kind { IfOk result (λ r. r.kind ≡ Array) }

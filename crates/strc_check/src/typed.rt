@@ -10,6 +10,7 @@ use crate::error::LowerError;
 use crate::types::{self, ValueType};
 use std::alloc::Global;
 use strc_lex::token::Name;
+use strc_syntax::node;
 use strc_syntax::tree::{BinaryOperator, Expr, StepOperator, UnaryOperator};
 
 /// An expression with its constants put in, and the type of its value.
@@ -119,7 +120,7 @@ pub fn binary(
     let right = typed_as(sides, right)?;
     Ok(Typed {
         kind: binary_type(operator),
-        value: Expr::Binary(operator, Box::new(alloc, left)?, Box::new(alloc, right)?),
+        value: node::binary_of(alloc, operator, left, right)?,
     })
 }
 
@@ -137,12 +138,9 @@ pub fn conditional(
     let condition = typed_as(ValueType::Boolean, condition)?;
     let kind = chosen.kind;
     let other = typed_as(kind, other)?;
-    let condition = Box::new(alloc, condition)?;
-    let chosen = Box::new(alloc, chosen.value)?;
-    let other = Box::new(alloc, other)?;
     Ok(Typed {
         kind,
-        value: Expr::Conditional(condition, chosen, other),
+        value: node::conditional_of(alloc, condition, chosen.value, other)?,
     })
 }
 

@@ -4,8 +4,8 @@ use Rattle.std.proofs.Math.Seq.{drop-cons}
 use Rattle.std.proofs.Math.ListN.{drop_of_length-le}
 use Rattle.std.specs.Prelude.{bytes_eq}
 use Rattle.std.proofs.lemmas.Slice.Eq.{bytes_eq-Decides}
-use Rattle.strc_base.specs.Names.{has_name}
-use Rattle.strc_check.specs.Typing.{TypedNames, plain_names}
+use Rattle.strc_base.specs.Names.{has_name, plain_names}
+use Rattle.strc_check.specs.Typing.{TypedNames}
 use Rattle.strc_elab.specs.Texts.{is_doubled}
 
 -- whether one of these names is an earlier one, or stands twice among them

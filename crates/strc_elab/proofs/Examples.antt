@@ -7,7 +7,7 @@ use Rattle.strc_semantics.specs.Firing as firing
 use Rattle.strc_semantics.specs.Firing.{turn_limit}
 use Rattle.strc_check.specs.Typing.{TypedNames}
 use Rattle.strc_semantics.specs.declared.fault.Cause.TheVariants.{Turns}
-use Rattle.strc_elab.specs.Elaboration.{Setting, Progress, then_do, computed, condition_given, inside, looped, stmt_run, stmts_run, stream_made, begun, pipeline_made, level_limit, filter_limit}
+use Rattle.strc_elab.specs.Elaboration.{Setting, Progress, then_do, computed, condition_given, inside, looped, stmt_run, stmts_run, stream_made, initial_progress, pipeline_made, level_limit, filter_limit}
 use Rattle.strc_elab.specs.Instances.{Stream}
 use Rattle.strc_elab.specs.Examples.{RecursionRow, EndlessRow, LoopRow, EndlessLoopRow, endless_loop, both_added, block}
 use Rattle.strc_elab.specs.declared.error.ElabError.{ElabError}
@@ -58,4 +58,4 @@ main_after first =
 
 pub endless_loop_is : EndlessLoopRow
 unfolding level_limit
-endless_loop_is = ap main_after (turns_run_out (suc turn_limit) main_setting [] (begun (record { turns = 0; filters = 0 })))
+endless_loop_is = ap main_after (turns_run_out (suc turn_limit) main_setting [] (initial_progress (record { turns = 0; filters = 0 })))

@@ -9,6 +9,7 @@ use Rattle.strc_elab.specs.Answering.{IsRefusal}
 use Rattle.strc_elab.specs.declared.error.ElabError.{ElabError}
 use Rattle.strc_elab.specs.declared.error.ElabError.TheVariants as refused
 use Rattle.strc_elab.proofs.Refusals.{refused_same, first_refused, second_refused}
+use Rattle.strc_elab.specs.declared.body.TheConstants.{TURN_LIMIT}
 use Rattle.strc_elab.proofs.Turns.{turn_limit_is}
 
 -- what a loop tests, and what it repeats
@@ -27,11 +28,15 @@ abbrev turn_of : (fuel : ℕ) → Test → Step → ℤ × Progress → Result P
 turn_of fuel test body tested = cond (is_true tested.0) (then_do (turned tested.1) (λ turning. then_do (body turning) (looped fuel test body))) (Ok tested.1)
 
 -- how the whole loop goes on from a round
-whole_is : (test : Test) (body : Step) (round : ℕ) (p : Progress) (whole : Result Progress ElabError) → round < 1000001 → Leads test body round p whole → whole ≡ then_do (test p) (turn_of (turn_limit - round) test body)
+whole_is : (test : Test) (body : Step) (round : ℕ) (p : Progress)
+    (whole : Result Progress ElabError) → round < TURN_LIMIT + 1 → Leads test body round p whole
+    → whole ≡ then_do (test p) (turn_of (turn_limit - round) test body)
 whole_is test body round p whole below leads =
     let enough : suc (turn_limit - round) + round ≡ suc turn_limit = omega (arith, turn_limit_is, below) in sym (leads (suc (turn_limit - round)) enough)
 
-whole_turns : (test : Test) (body : Step) (round : ℕ) (p tested : Progress) (value : ℤ) (whole : Result Progress ElabError) → round < 1000001 → Leads test body round p whole → test p ≡ Ok (value, tested) → is_true value ≡ true
+whole_turns : (test : Test) (body : Step) (round : ℕ) (p tested : Progress) (value : ℤ)
+    (whole : Result Progress ElabError) → round < TURN_LIMIT + 1 → Leads test body round p whole
+    → test p ≡ Ok (value, tested) → is_true value ≡ true
     → whole ≡ then_do (turned tested) (λ turning. then_do (body turning) (looped (turn_limit - round) test body))
 whole_turns test body round p tested value whole below leads is holds =
     whole_is test body round p whole below leads ∙ ap (λ r. then_do r (turn_of (turn_limit - round) test body)) is
@@ -42,19 +47,25 @@ turned_done tested store turn =
     let after : firing.Store → Result Progress ElabError = λ s. Ok (record tested { store = s }) in ap (λ r. then_do r after) turn
 
 -- a condition that is refused
-pub test_refused : (test : Test) (body : Step) (round : ℕ) (p : Progress) (whole : Result Progress ElabError) (e : ElabError) → round < 1000001 → Leads test body round p whole → IsRefusal (test p) e → IsRefusal whole e
+pub test_refused : (test : Test) (body : Step) (round : ℕ) (p : Progress)
+    (whole : Result Progress ElabError) (e : ElabError) → round < TURN_LIMIT + 1
+    → Leads test body round p whole → IsRefusal (test p) e → IsRefusal whole e
 test_refused test body round p whole e below leads h =
     let go = turn_of (turn_limit - round) test body in
     refused_same (then_do (test p) go) whole e (whole_is test body round p whole below leads) (first_refused (test p) go e h)
 
 -- a condition that doesn't hold
-pub loop_ends : (test : Test) (body : Step) (round : ℕ) (p tested : Progress) (value : ℤ) (whole : Result Progress ElabError) → round < 1000001 → Leads test body round p whole → test p ≡ Ok (value, tested) → is_true value ≡ false → whole ≡ Ok tested
+pub loop_ends : (test : Test) (body : Step) (round : ℕ) (p tested : Progress) (value : ℤ)
+    (whole : Result Progress ElabError) → round < TURN_LIMIT + 1 → Leads test body round p whole
+    → test p ≡ Ok (value, tested) → is_true value ≡ false → whole ≡ Ok tested
 loop_ends test body round p tested value whole below leads is ends =
     whole_is test body round p whole below leads ∙ ap (λ r. then_do r (turn_of (turn_limit - round) test body)) is
     ∙ ap (λ b. cond b (then_do (turned tested) (λ turning. then_do (body turning) (looped (turn_limit - round) test body))) (Ok tested)) ends
 
 -- a turn that is refused
-pub turn_refused : (test : Test) (body : Step) (round : ℕ) (p tested : Progress) (value : ℤ) (whole : Result Progress ElabError) (e : ElabError) → round < 1000001 → Leads test body round p whole → test p ≡ Ok (value, tested) → is_true value ≡ true
+pub turn_refused : (test : Test) (body : Step) (round : ℕ) (p tested : Progress) (value : ℤ)
+    (whole : Result Progress ElabError) (e : ElabError) → round < TURN_LIMIT + 1
+    → Leads test body round p whole → test p ≡ Ok (value, tested) → is_true value ≡ true
     → IsRefusal (computed (firing.turned tested.store)) e → IsRefusal whole e
 turn_refused test body round p tested value whole e below leads is holds h =
     let go : Step = λ turning. then_do (body turning) (looped (turn_limit - round) test body) in
@@ -63,7 +74,10 @@ turn_refused test body round p tested value whole e below leads is holds h =
     (first_refused (turned tested) go e (first_refused (computed (firing.turned tested.store)) after e h))
 
 -- a body that is refused
-pub body_refused : (test : Test) (body : Step) (round : ℕ) (p tested : Progress) (value : ℤ) (store : firing.Store) (whole : Result Progress ElabError) (e : ElabError) → round < 1000001 → Leads test body round p whole → test p ≡ Ok (value, tested) → is_true value ≡ true
+pub body_refused : (test : Test) (body : Step) (round : ℕ) (p tested : Progress) (value : ℤ)
+    (store : firing.Store) (whole : Result Progress ElabError) (e : ElabError)
+    → round < TURN_LIMIT + 1 → Leads test body round p whole → test p ≡ Ok (value, tested)
+    → is_true value ≡ true
     → computed (firing.turned tested.store) ≡ Ok store → IsRefusal (body (record tested { store = store })) e → IsRefusal whole e
 body_refused test body round p tested value store whole e below leads is holds turn h =
     let go : Step = λ turning. then_do (body turning) (looped (turn_limit - round) test body) in
@@ -72,7 +86,9 @@ body_refused test body round p tested value store whole e below leads is holds t
     (second_refused (turned tested) go turning e (turned_done tested store turn) (first_refused (body turning) (looped (turn_limit - round) test body) e h))
 
 -- a body that runs
-pub loop_goes_on : (test : Test) (body : Step) (round : ℕ) (p tested after : Progress) (value : ℤ) (store : firing.Store) (whole : Result Progress ElabError) → round < 1000001 → Leads test body round p whole → test p ≡ Ok (value, tested) → is_true value ≡ true
+pub loop_goes_on : (test : Test) (body : Step) (round : ℕ) (p tested after : Progress) (value : ℤ)
+    (store : firing.Store) (whole : Result Progress ElabError) → round < TURN_LIMIT + 1
+    → Leads test body round p whole → test p ≡ Ok (value, tested) → is_true value ≡ true
     → computed (firing.turned tested.store) ≡ Ok store → body (record tested { store = store }) ≡ Ok after → Leads test body (round + 1) after whole
 loop_goes_on test body round p tested after value store whole below leads is holds turn ran fuel enough =
     let go : Step = λ turning. then_do (body turning) (looped (turn_limit - round) test body) in
@@ -81,6 +97,8 @@ loop_goes_on test body round p tested after value store whole below leads is hol
     ∙ sym (whole_turns test body round p tested value whole below leads is holds ∙ ap (λ r. then_do r go) (turned_done tested store turn) ∙ ap (λ r. then_do r (looped (turn_limit - round) test body)) ran)
 
 -- no turn is left
-pub loop_over : (test : Test) (body : Step) (round : ℕ) (p : Progress) (whole : Result Progress ElabError) → 1000001 ≤ round → round ≤ 1000001 → Leads test body round p whole → whole ≡ Err (refused.ConstFault causes.Turns)
+pub loop_over : (test : Test) (body : Step) (round : ℕ) (p : Progress)
+    (whole : Result Progress ElabError) → TURN_LIMIT + 1 ≤ round → round ≤ TURN_LIMIT + 1
+    → Leads test body round p whole → whole ≡ Err (refused.ConstFault causes.Turns)
 loop_over test body round p whole from to leads =
     let none : 0 + round ≡ suc turn_limit = omega (arith, turn_limit_is, from, to) in sym (leads 0 none)

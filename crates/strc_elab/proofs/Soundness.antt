@@ -21,7 +21,7 @@ use Rattle.strc_check.specs.declared.types.ValueType.TheVariants as kind
 use Rattle.strc_check.proofs.Resolving.{resolved_types}
 use Rattle.strc_elab.specs.declared.error.ElabError.{ElabError}
 use Rattle.strc_elab.specs.declared.error.ElabError.TheVariants as refused
-use Rattle.strc_elab.specs.Elaboration.{then_do, where_kept, ruled, computed, given, simple_done, declaration_done, filter_limit, Tally, Made, Setting, Progress, on_store, condition_given, inside, turned, looped, child_found, child_run, child_added, same_item, composed, stmt_run, stmts_run, started_as, instance_of, is_as_written, begun, pipeline_made, composite_made, text_made, stream_made, level_limit, types_of, can_be_main, mains_from, only_main, named_main, main_of, main_made, not_doubled, doubled_from, elaborated}
+use Rattle.strc_elab.specs.Elaboration.{then_do, where_kept, ruled, computed, eval_checked, simple_done, declaration_done, filter_limit, Tally, Elaborated, Setting, Progress, on_store, condition_given, inside, turned, looped, child_found, child_run, child_added, same_item, composed, stmt_run, stmts_run, started_as, instance_of, is_as_written, initial_progress, pipeline_made, composite_made, text_made, stream_made, level_limit, types_of, can_be_main, mains_from, only_main, named_main, main_of, main_made, not_doubled, doubled_from, elaborated}
 use Rattle.strc_elab.specs.Flattening.{nodes_of, row_nodes}
 use Rattle.strc_graph.specs.Graphs as graphs
 use Rattle.strc_elab.specs.Instances.{Stream, in_a_row}
@@ -108,7 +108,7 @@ AreSound children (Some types) = IsSoundRow children types
 abbrev pub IsSound : Progress → Type 0
 IsSound progress = AreSound progress.children progress.types
 
-abbrev pub IsSoundlyMade : Made → Type 0
+abbrev pub IsSoundlyMade : Elaborated → Type 0
 IsSoundlyMade made = IsSoundStream made.stream made.types
 
 all_append : (xs ys : List graphs.NodeCode) → AllByRecursion IsInstance xs → AllByRecursion IsInstance ys → AllByRecursion IsInstance (xs ++ ys)
@@ -156,7 +156,7 @@ row_joined (first ∷ rest) before next types row sound joins = record {
   instances = nodes_joined (first ∷ rest) next row.instances sound.instances;
 }
 
-pub added_sound : (setting : Setting) (progress : Progress) (store : Store) (made : Made) → IsSound progress → IsSoundlyMade made → IfOk (child_added setting progress store made) IsSound
+pub added_sound : (setting : Setting) (progress : Progress) (store : Store) (made : Elaborated) → IsSound progress → IsSoundlyMade made → IfOk (child_added setting progress store made) IsSound
 added_sound setting progress store made sound next = by_types progress.types sound
   where
     P : Progress → Type 0
@@ -186,7 +186,7 @@ tested_sound setting names (Some condition) progress sound =
     then_holds (given_here setting names condition progress) (λ test. Ok (test.0, record progress { store = test.1 })) (λ test. Unit {0}) (λ tested. IsSound tested.1) (any_holds (given_here setting names condition progress)) (λ test h. sound)
   where
     given_here : Setting → TypedNames → tree.Expr → Progress → Result (ℤ × Store) ElabError
-    given_here setting names condition progress = given setting.place names kind.Boolean condition progress.store
+    given_here setting names condition progress = eval_checked setting.place names kind.Boolean condition progress.store
 
 inside_sound : (runs : Progress → Result Progress ElabError) (progress : Progress) → IfOk (runs progress) IsSound → IfOk (inside runs progress) IsSound
 inside_sound runs progress h =
@@ -275,7 +275,7 @@ made_sound holder written (Some found) progress row =
 
 composite_sound : (setting : Setting) → MakesSound setting → (written : Option StreamType) (kind : CompositeKind) (block : tree.Stmts) (tally : Tally) → IfOk (composite_made setting written kind block tally) IsSoundlyMade
 composite_sound setting makes written composite.Pipeline block tally =
-    then_holds (stmts_run setting [] 0 block (begun tally)) (λ progress. pipeline_made setting.place.holder written progress.types progress) IsSound IsSoundlyMade (stmts_sound setting makes [] 0 block (begun tally) refl)
+    then_holds (stmts_run setting [] 0 block (initial_progress tally)) (λ progress. pipeline_made setting.place.holder written progress.types progress) IsSound IsSoundlyMade (stmts_sound setting makes [] 0 block (initial_progress tally) refl)
     (λ progress sound. made_sound setting.place.holder written progress.types progress sound)
 composite_sound setting makes written composite.Splitjoin block tally = tt
 composite_sound setting makes written composite.Feedbackloop block tally = tt
@@ -297,7 +297,7 @@ stream_sound program (suc levels) place text tally =
     text_sound (record { program = program; place = place; elaborate = stream_made program levels }) (λ p t y. stream_sound program levels p t y) text tally
 
 -- what is made of a declared stream has the declared types
-abbrev pub HasTypes : StreamType → Made → Type 0
+abbrev pub HasTypes : StreamType → Elaborated → Type 0
 HasTypes types made = (made.types.input ≡ types.input) × (made.types.output ≡ types.output)
 
 declared_types : (setting : Setting) (name : List ℕ) (stream : tree.Stream) (tally : Tally) → IfOk (text_made setting (text_of name stream) tally) (HasTypes (types_of stream))
@@ -307,7 +307,7 @@ declared_types setting name (tree.Filter input output members) tally =
     then_known (instance_of setting.place filter) _ (HasTypes (record { input = input; output = output })) (λ resolved is.
     resolved_types setting.place.constants filter resolved (instance_resolved setting.place filter resolved is)))
 declared_types setting name (tree.Composite types composite.Pipeline block) tally =
-    then_holds (stmts_run setting [] 0 block (begun tally)) (λ progress. pipeline_made setting.place.holder (Some types) progress.types progress) (λ progress. Unit {0}) (HasTypes types) (any_holds (stmts_run setting [] 0 block (begun tally)))
+    then_holds (stmts_run setting [] 0 block (initial_progress tally)) (λ progress. pipeline_made setting.place.holder (Some types) progress.types progress) (λ progress. Unit {0}) (HasTypes types) (any_holds (stmts_run setting [] 0 block (initial_progress tally)))
     (λ progress h. written_types setting.place.holder types progress.types progress)
   where
     written_types : (holder : ℕ) (types : StreamType) (found : Option StreamType) (progress : Progress) → IfOk (pipeline_made holder (Some types) found progress) (HasTypes types)
@@ -367,7 +367,7 @@ main_sound program found is = then_finish (main_made program found) (both_hold (
     closed = let both = both_true (is_as_written (Some (record { input = item.Void; output = item.Void })) (types_of found.1.stream)) (nat_eq (length (parameters_of found.1)) 0) is in
         both_true (same_item item.Void (types_of found.1.stream).input) (same_item item.Void (types_of found.1.stream).output) both.0
 
-    finish : (made : Made) → IsSoundlyMade made × HasTypes (types_of found.1.stream) made → IsElaborated made.stream
+    finish : (made : Elaborated) → IsSoundlyMade made × HasTypes (types_of found.1.stream) made → IsElaborated made.stream
     finish made h = record {
       typed = h.0.typed;
       input = h.0.input ∙ h.1.0 ∙ sym (items_same item.Void (types_of found.1.stream).input closed.0);
@@ -375,7 +375,7 @@ main_sound program found is = then_finish (main_made program found) (both_hold (
       instances = h.0.instances;
     }
 
-    then_finish : (r : Result Made ElabError) → IfOk r (λ made. IsSoundlyMade made × HasTypes (types_of found.1.stream) made) → IfOk r (λ made. IsElaborated made.stream)
+    then_finish : (r : Result Elaborated ElabError) → IfOk r (λ made. IsSoundlyMade made × HasTypes (types_of found.1.stream) made) → IfOk r (λ made. IsElaborated made.stream)
     then_finish (Ok made) h = finish made h
     then_finish (Err e) h = tt
 

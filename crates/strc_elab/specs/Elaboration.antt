@@ -64,7 +64,7 @@ pub record Tally : Type 0 where
   pub filters : ℕ
 
 -- what the elaboration of a stream gives: its instances, what it takes and gives, and the tally after it
-pub record Made : Type 0 where
+pub record Elaborated : Type 0 where
   pub stream : Stream
   pub types : StreamType
   pub tally : Tally
@@ -73,7 +73,7 @@ pub record Made : Type 0 where
 pub record Setting : Type 0 where
   pub program : List Declaration
   pub place : Place
-  pub elaborate : Place → Text → Tally → Result Made ElabError
+  pub elaborate : Place → Text → Tally → Result Elaborated ElabError
 
 -- how far a body has run: its variables and the turns so far, its children with their type in a row, and how many filters there are
 pub record Progress : Type 0 where
@@ -85,8 +85,8 @@ pub record Progress : Type 0 where
 -- the work language's statements
 
 -- the value of an expression of this type, among these names, and the store after it; names and types are checked just before
-abbrev pub given : Place → TypedNames → ValueType → tree.Expr → Store → Result (ℤ × Store) ElabError
-given place names kind value store =
+abbrev pub eval_checked : Place → TypedNames → ValueType → tree.Expr → Store → Result (ℤ × Store) ElabError
+eval_checked place names kind value store =
     then_do (ruled place.holder (expr_as (start_site place.constants) names kind value)) (λ value'.
     computed (value_of no_io value' store))
 
@@ -123,7 +123,7 @@ on_store does progress = then_do (does progress.store) (λ store. Ok (record pro
 abbrev pub condition_given : Setting → TypedNames → Option tree.Expr → Progress → Result (ℤ × Progress) ElabError
 condition_given setting names None progress = Ok (pos 1, progress)
 condition_given setting names (Some condition) progress =
-    then_do (given setting.place names kind.Boolean condition progress.store) (λ test. Ok (test.0, record progress { store = test.1 }))
+    then_do (eval_checked setting.place names kind.Boolean condition progress.store) (λ test. Ok (test.0, record progress { store = test.1 }))
 
 -- statements in a scope of their own
 abbrev pub inside : (Progress → Result Progress ElabError) → Progress → Result Progress ElabError
@@ -155,7 +155,7 @@ abbrev pub arguments_given : Setting → TypedNames → (parameters : List (List
 arguments_given setting names [] arguments bound store = Ok (bound, store)
 arguments_given setting names (parameter ∷ parameters) [] bound store = Ok (bound, store)
 arguments_given setting names (parameter ∷ parameters) (argument ∷ arguments) bound store =
-    then_do (given setting.place names kind.Int argument store) (λ value.
+    then_do (eval_checked setting.place names kind.Int argument store) (λ value.
     arguments_given setting names parameters arguments (record { 0 = parameter; 1 = value.0 } ∷ bound) value.1)
 
 -- a child by the name of its declaration: the name is known, each parameter has an argument, and no two parameters have one name
@@ -200,7 +200,7 @@ types_joined holder (Some before) next =
     where_kept (same_item before.output next.input) (refused.TypeMismatch holder) (Ok (record { input = before.input; output = next.output }))
 
 -- a pipeline with one more child
-abbrev pub child_added : Setting → Progress → Store → Made → Result Progress ElabError
+abbrev pub child_added : Setting → Progress → Store → Elaborated → Result Progress ElabError
 child_added setting progress store made =
     then_do (types_joined setting.place.holder progress.types made.types) (λ types.
     Ok (record {
@@ -302,8 +302,8 @@ is_as_written None found = true
 is_as_written (Some written) found = same_item written.input found.input && same_item written.output found.output
 
 -- a body before it runs
-abbrev pub begun : Tally → Progress
-begun tally = record {
+abbrev pub initial_progress : Tally → Progress
+initial_progress tally = record {
   store = record { variables = []; traffic = record no_traffic { turns = tally.turns } };
   children = [];
   types = None;
@@ -311,7 +311,7 @@ begun tally = record {
 }
 
 -- a pipeline whose body has run: it has a child, and its type is the written one
-abbrev pub pipeline_made : (holder : ℕ) → Option StreamType → Option StreamType → Progress → Result Made ElabError
+abbrev pub pipeline_made : (holder : ℕ) → Option StreamType → Option StreamType → Progress → Result Elaborated ElabError
 pipeline_made holder written None progress = Err (refused.TypeMismatch holder)
 pipeline_made holder written (Some found) progress =
     where_kept (is_as_written written found) (refused.TypeMismatch holder)
@@ -322,15 +322,15 @@ pipeline_made holder written (Some found) progress =
     }))
 
 -- a composite stream; split-joins and feedback loops aren't elaborated yet
-abbrev pub composite_made : Setting → Option StreamType → CompositeKind → tree.Stmts → Tally → Result Made ElabError
+abbrev pub composite_made : Setting → Option StreamType → CompositeKind → tree.Stmts → Tally → Result Elaborated ElabError
 composite_made setting written composite.Pipeline block tally =
-    then_do (stmts_run setting [] 0 block (begun tally)) (λ progress.
+    then_do (stmts_run setting [] 0 block (initial_progress tally)) (λ progress.
     pipeline_made setting.place.holder written progress.types progress)
 composite_made setting written composite.Splitjoin block tally = Err refused.NotYet
 composite_made setting written composite.Feedbackloop block tally = Err refused.NotYet
 
 -- a stream of this text
-abbrev pub text_made : Setting → Text → Tally → Result Made ElabError
+abbrev pub text_made : Setting → Text → Tally → Result Elaborated ElabError
 text_made setting (FilterText name filter) tally =
     one_more tally (λ tally'.
     then_do (instance_of setting.place filter) (λ resolved.
@@ -343,7 +343,7 @@ text_made setting ReaderText tally = Err refused.NotYet
 text_made setting WriterText tally = Err refused.NotYet
 
 -- a stream that may have so many levels, its own among them
-abbrev pub stream_made : List Declaration → (levels : ℕ) → Place → Text → Tally → Result Made ElabError
+abbrev pub stream_made : List Declaration → (levels : ℕ) → Place → Text → Tally → Result Elaborated ElabError
 stream_made program zero place text tally = Err refused.DepthLimit
 stream_made program (suc levels) place text tally =
     text_made (record { program = program; place = place; elaborate = stream_made program levels }) text tally
@@ -393,7 +393,7 @@ main_of program None = only_main (mains_from 0 program)
 main_of program (Some name) = named_main (declared_from 0 program name)
 
 -- the main stream's place and text
-abbrev pub main_made : List Declaration → ℕ × Declaration → Result Made ElabError
+abbrev pub main_made : List Declaration → ℕ × Declaration → Result Elaborated ElabError
 main_made program found =
     stream_made program level_limit (record { holder = found.0; constants = [] }) (text_of found.1.name found.1.stream) (record { turns = 0; filters = 0 })
 

@@ -1,8 +1,8 @@
 -- What an anonymous stream sees, variable by variable, from the outermost one inwards.
 use Rattle.std.specs.Prelude.{ℕ, suc, ◌-◌, length, take, slice_get, Option, Some, None, List, if◌then◌else◌}
 use Rattle.strc_semantics.specs.Firing.{Variables}
-use Rattle.strc_base.specs.Names.{has_name}
-use Rattle.strc_check.specs.Typing.{TypedNames, plain_names}
+use Rattle.strc_base.specs.Names.{has_name, plain_names}
+use Rattle.strc_check.specs.Typing.{TypedNames}
 use Rattle.strc_check.specs.declared.types.ValueType.{ValueType}
 use Rattle.strc_elab.specs.Bindings.{cells_of}
 use Rattle.strc_elab.specs.Texts.{Constants, as_constant}

@@ -15,7 +15,7 @@ use Rattle.strc_elab.specs.declared.error.ElabError.{ElabError}
 use Rattle.strc_elab.specs.declared.task.Text.{Text}
 use Rattle.strc_elab.specs.declared.task.Text.TheVariants as text
 use Rattle.strc_elab.specs.declared.task.Task.{Task}
-use Rattle.strc_elab.specs.declared.task.Made.{Made}
+use Rattle.strc_elab.specs.declared.task.Elaborated.{Elaborated}
 
 -- a text
 abbrev pub text_view : Text → texts.Text
@@ -43,21 +43,21 @@ KnowsNames task =
     (name : List ℕ) → get_by (λ k. pointwise nat_eq name k.now) task.numbers.now ≡ place_from 0 (map (λ d. d.name) task.declarations.now) name
 
 -- what is made
-abbrev pub made_view : Made → spec.Made
-made_view made = record {
+abbrev pub elaborated_view : Elaborated → spec.Elaborated
+elaborated_view made = record {
   stream = stream_view made.stream;
   types = made.types;
   tally = record { turns = made.tally.turns; filters = made.tally.filters };
 }
 
 -- an answer is what the definitions make of the task
-abbrev pub IsMade : Task → Result Made ElabError → Type 0
-IsMade task result = IsVerdict made_view (spec.stream_made (program_of task) task.levels (place_of task) (text_view task.text) (tally_of task)) result
+abbrev pub IsMade : Task → Result Elaborated ElabError → Type 0
+IsMade task result = IsVerdict elaborated_view (spec.stream_made (program_of task) task.levels (place_of task) (text_view task.text) (tally_of task)) result
 
 -- a function value that elaborates texts with so many levels
-pub record Elaborates (levels : ℕ) (pre : Task → Type 0) (post : Task → Result Made ElabError → Type 0) : Type 0 where
+pub record Elaborates (levels : ℕ) (pre : Task → Type 0) (post : Task → Result Elaborated ElabError → Type 0) : Type 0 where
   pub callable : (task : Task) → task.levels ≡ levels → KnowsNames task → pre task
-  pub elaborates : (task : Task) (result : Result Made ElabError) → task.levels ≡ levels → post task result → IsMade task result
+  pub elaborates : (task : Task) (result : Result Elaborated ElabError) → task.levels ≡ levels → post task result → IsMade task result
 
 -- what the body of a task's text stands in
 abbrev pub setting_of : Task → spec.Setting
@@ -68,5 +68,5 @@ setting_of task = record {
 }
 
 -- what a body's rules stand on: the table knows the names, and the function value elaborates the level below
-unfoldable pub IsReady : Task → (pre : Task → Type 0) (post : Task → Result Made ElabError → Type 0) → Type 0
+unfoldable pub IsReady : Task → (pre : Task → Type 0) (post : Task → Result Elaborated ElabError → Type 0) → Type 0
 IsReady task pre post = KnowsNames task × Elaborates (task.levels - 1) pre post

@@ -20,10 +20,10 @@ use crate::error::ElabError;
 use crate::progress::Progress;
 use crate::steps::Place;
 use crate::store::Store;
-use crate::task::{Made, Task};
+use crate::task::{Elaborated, Task};
 use strc_check::types::ValueType;
 use strc_semantics::evaluation::is_true;
-use strc_semantics::fault::Cause;
+use strc_semantics::fault::{Cause, TURN_LIMIT};
 use strc_syntax::tree::{Composition, Expr, Role, Stmt};
 
 /// What a body's statements stand in: the task whose text it is, and what elaborates the streams
@@ -41,7 +41,7 @@ fn turn(store: &mut Store) -> Result<(), ElabError>
         (store_of store.new) }
     ensures names { store.new.variables.names ≡ store.old.variables.names }
 {
-    if store.turns >= 1_000_000 {
+    if store.turns >= TURN_LIMIT {
         return Err(ElabError::ConstFault {
             cause: Cause::Turns,
         });
@@ -50,7 +50,7 @@ fn turn(store: &mut Store) -> Result<(), ElabError>
     Ok(())
 }
 
-impl<F: Fn(Task) -> Result<Made, ElabError>> Body<'_, F> {
+impl<F: Fn(Task) -> Result<Elaborated, ElabError>> Body<'_, F> {
     /// Where the statements stand.
     pub(crate) fn place(&self) -> Place
         ensures { spec_place result ≡ task_place self.now.task }
@@ -63,7 +63,11 @@ impl<F: Fn(Task) -> Result<Made, ElabError>> Body<'_, F> {
     }
 
     /// The value of a condition, which holds where there is none.
-    fn tested(&self, condition: Option<&Expr>, progress: &mut Progress) -> Result<i32, ElabError>
+    fn eval_condition(
+        &self,
+        condition: Option<&Expr>,
+        progress: &mut Progress,
+    ) -> Result<i32, ElabError>
         ensures tests { Tests (spec.condition_given
             (setting_of self.now.task) progress.old.store.variables.names
             (option_map (λ e. expr_view e.now) condition.entry) (progress_of progress.old)) result
@@ -74,7 +78,7 @@ impl<F: Fn(Task) -> Result<Made, ElabError>> Body<'_, F> {
             None => Ok(1),
             Some(condition) => {
                 self.place()
-                    .given(ValueType::Boolean, condition, &mut progress.store)
+                    .eval_checked(ValueType::Boolean, condition, &mut progress.store)
             }
         }
     }
@@ -149,14 +153,14 @@ impl<F: Fn(Task) -> Result<Made, ElabError>> Body<'_, F> {
                     .assign_element(name, index, *operator, expression, &mut progress.store)
             }
             Stmt::If(condition, chosen) => {
-                if is_true(self.tested(Some(condition), progress)?) {
+                if is_true(self.eval_condition(Some(condition), progress)?) {
                     self.inside(chosen, progress)
                 } else {
                     Ok(())
                 }
             }
             Stmt::IfElse(condition, chosen, other) => {
-                if is_true(self.tested(Some(condition), progress)?) {
+                if is_true(self.eval_condition(Some(condition), progress)?) {
                     self.inside(chosen, progress)
                 } else {
                     self.inside(other, progress)
@@ -231,8 +235,8 @@ impl<F: Fn(Task) -> Result<Made, ElabError>> Body<'_, F> {
             ≡ progress.old.store.variables.names) }
     {
         // The limit of turns comes first; the range is there to end the loop in any case.
-        for _round in 0..1_000_001u32 {
-            if !is_true(self.tested(Some(condition), progress)?) {
+        for _round in 0..TURN_LIMIT + 1 {
+            if !is_true(self.eval_condition(Some(condition), progress)?) {
                 return Ok(());
             }
             turn(&mut progress.store)?;
@@ -260,8 +264,8 @@ impl<F: Fn(Task) -> Result<Made, ElabError>> Body<'_, F> {
         ensures names { OnOk result (progress.new.store.variables.names
             ≡ progress.old.store.variables.names) }
     {
-        for _round in 0..1_000_001u32 {
-            if !is_true(self.tested(condition, progress)?) {
+        for _round in 0..TURN_LIMIT + 1 {
+            if !is_true(self.eval_condition(condition, progress)?) {
                 return Ok(());
             }
             turn(&mut progress.store)?;

@@ -6,7 +6,8 @@ ghost use Rattle.strc_elab.specs.Elaboration as spec;
 ghost use Rattle.strc_elab.specs.Texts as texts;
 ghost use Rattle.strc_elab.specs.Saying.{store_of};
 ghost use Rattle.strc_elab.specs.Answering.{progress_of, Binds, Runs};
-ghost use Rattle.strc_elab.specs.Tasks.{IsReady, setting_of, program_of, made_view, text_view};
+ghost use Rattle.strc_elab.specs.Tasks.{IsReady, setting_of, program_of, elaborated_view};
+ghost use Rattle.strc_elab.specs.Tasks.{text_view};
 
 use crate::body::Body;
 use crate::declared::{declared, text_of};
@@ -14,7 +15,7 @@ use crate::error::ElabError;
 use crate::progress::Progress;
 use crate::seen::seen;
 use crate::store::Store;
-use crate::task::{Made, Tally, Task, Text};
+use crate::task::{Elaborated, Tally, Task, Text};
 use crate::types::same_item;
 use std::alloc::Global;
 use strc_base::memory::NoMemory;
@@ -24,7 +25,7 @@ use strc_check::types::ValueType;
 use strc_lex::token::Name;
 use strc_syntax::tree::{Child, Decl, Expr, StreamType};
 
-impl<F: Fn(Task) -> Result<Made, ElabError>> Body<'_, F> {
+impl<F: Fn(Task) -> Result<Elaborated, ElabError>> Body<'_, F> {
     /// Elaborates a child of a pipeline.
     pub(crate) fn child(&self, child: &Child, progress: &mut Progress) -> Result<(), ElabError>
         requires { IsReady self.now.task (F.pre self.now.elaborate) (F.post self.now.elaborate) }
@@ -120,7 +121,7 @@ impl<F: Fn(Task) -> Result<Made, ElabError>> Body<'_, F> {
         for (number, parameter) in parameters.iter().enumerate() {
             let value = self
                 .place()
-                .given(ValueType::Int, &arguments[number], store)?;
+                .eval_checked(ValueType::Int, &arguments[number], store)?;
             bound.push(parameter.copy()?, value)?;
         }
         Ok(bound)
@@ -183,13 +184,14 @@ impl<F: Fn(Task) -> Result<Made, ElabError>> Body<'_, F> {
     }
 
     /// A pipeline with one more child, which takes what the last one gives.
-    fn add(&self, made: Made, progress: &mut Progress) -> Result<(), ElabError>
+    fn add(&self, made: Elaborated, progress: &mut Progress) -> Result<(), ElabError>
         ensures runs { Runs (spec.child_added (setting_of self.now.task) (progress_of progress.old)
-            (store_of progress.old.store) (made_view made)) result (progress_of progress.new) }
+            (store_of progress.old.store) (elaborated_view made)) result
+            (progress_of progress.new) }
         ensures names { OnOk result (progress.new.store.variables.names
             ≡ progress.old.store.variables.names) }
     {
-        let Made {
+        let Elaborated {
             stream,
             types,
             tally,

@@ -8,7 +8,7 @@ ghost use Rattle.strc_syntax.specs.View.{declaration_view, program_view};
 ghost use Rattle.strc_elab.specs.Elaboration as spec;
 ghost use Rattle.strc_elab.specs.Answering.{IsVerdict};
 ghost use Rattle.strc_elab.specs.Names.{place_from};
-ghost use Rattle.strc_elab.specs.Tasks.{made_view};
+ghost use Rattle.strc_elab.specs.Tasks.{elaborated_view};
 ghost use Rattle.strc_elab.specs.View.{stream_view};
 
 use crate::declared::text_of;
@@ -17,7 +17,7 @@ use crate::index::index_of;
 use crate::level::elaborate_text;
 use crate::main_stream::main_of;
 use crate::stream::Stream;
-use crate::task::{Made, Tally, Task};
+use crate::task::{Elaborated, Tally, Task};
 use indexmap::IndexMap;
 use std::alloc::Global;
 use strc_check::constants::Constants;
@@ -50,10 +50,10 @@ fn main_made(
     numbers: &IndexMap<&[u8], usize>,
     number: usize,
     declaration: &Decl,
-) -> Result<Made, ElabError>
+) -> Result<Elaborated, ElabError>
     requires { (q : List ℕ) → get_by (λ k. pointwise nat_eq q k.now) numbers.now
         ≡ place_from 0 (map (λ d. d.name) declarations.now) q }
-    ensures { IsVerdict made_view (spec.main_made (map declaration_view declarations.now)
+    ensures { IsVerdict elaborated_view (spec.main_made (map declaration_view declarations.now)
         (number, declaration_view declaration.now)) result }
 {
     let constants = Constants::new(alloc);

@@ -5,10 +5,10 @@ ghost use Rattle.strc_elab.specs.Tasks.{KnowsNames, IsMade};
 
 use crate::body::Body;
 use crate::error::ElabError;
-use crate::task::{Made, Task};
+use crate::task::{Elaborated, Task};
 
 /// The instances that a text means, with so many levels as the task allows.
-pub(crate) fn elaborate_text(task: Task) -> Result<Made, ElabError>
+pub(crate) fn elaborate_text(task: Task) -> Result<Elaborated, ElabError>
     requires { KnowsNames task }
     ensures { IsMade task.entry result }
 {

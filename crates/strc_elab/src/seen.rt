@@ -1,7 +1,7 @@
 // What an anonymous stream sees of its surroundings.
 
 ghost use Rattle.std.specs.Prelude.{◌≡◌, ◌<◌, ◌+◌, ◌^◌, IfOk, OnOk, length};
-ghost use Rattle.strc_check.specs.Typing.{plain_names};
+ghost use Rattle.strc_base.specs.Names.{plain_names};
 ghost use Rattle.strc_elab.specs.Texts as texts;
 ghost use Rattle.strc_elab.specs.Seeing.{offered};
 

@@ -53,13 +53,13 @@ pub(crate) fn at_declaration(holder: usize, error: LowerError) -> ElabError
 
 impl Place<'_> {
     /// The value of an expression of this type; its names and types are checked just before.
-    pub(crate) fn given(
+    pub(crate) fn eval_checked(
         &self,
         kind: ValueType,
         expression: &Expr,
         store: &mut Store,
     ) -> Result<i32, ElabError>
-        ensures gives { Gives (spec.given (place_of self.now) store.old.variables.names kind
+        ensures gives { Gives (spec.eval_checked (place_of self.now) store.old.variables.names kind
             (expr_view expression.now) (store_of store.old)) result (store_of store.new) }
         ensures names { store.new.variables.names ≡ store.old.variables.names }
     {

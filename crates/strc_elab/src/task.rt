@@ -41,7 +41,7 @@ pub(crate) struct Task<'a> {
 /// What the elaboration of a stream gives: its instances, what it takes and gives, and the tally
 /// after it.
 #[derive(Drop)]
-pub(crate) struct Made {
+pub(crate) struct Elaborated {
     pub(crate) stream: Stream,
     pub(crate) types: StreamType,
     pub(crate) tally: Tally,

@@ -10,7 +10,7 @@ ghost use Rattle.strc_elab.specs.Elaboration as spec;
 ghost use Rattle.strc_elab.specs.Answering.{progress_of, IsVerdict};
 ghost use Rattle.strc_elab.specs.Tallies.{tally_view};
 ghost use Rattle.strc_elab.specs.Tasks.{IsReady, setting_of, place_of, tally_of, text_view};
-ghost use Rattle.strc_elab.specs.Tasks.{made_view};
+ghost use Rattle.strc_elab.specs.Tasks.{elaborated_view};
 ghost use Rattle.strc_elab.specs.Texts as texts;
 
 use crate::body::Body;
@@ -19,7 +19,7 @@ use crate::progress::Progress;
 use crate::steps::at_declaration;
 use crate::store::Store;
 use crate::stream::Stream;
-use crate::task::{Made, Tally, Task, Text};
+use crate::task::{Elaborated, Tally, Task, Text};
 use crate::types::is_as_written;
 use crate::variables::Variables;
 use std::alloc::{AllocError, Global};
@@ -97,8 +97,8 @@ impl Task<'_> {
         name: Option<&Name>,
         types: StreamType,
         members: &[Member],
-    ) -> Result<Made, ElabError>
-        ensures { IsVerdict made_view (spec.text_made (setting_of self.now)
+    ) -> Result<Elaborated, ElabError>
+        ensures { IsVerdict elaborated_view (spec.text_made (setting_of self.now)
             (texts.FilterText (option_map (λ n. n.now) name.entry)
             (filter_parts types.input types.output members.now)) (tally_of self.now)) result }
     {
@@ -109,7 +109,7 @@ impl Task<'_> {
             input: code.tree().input,
             output: code.tree().output,
         };
-        Ok(Made {
+        Ok(Elaborated {
             stream: Stream::Filter(Instance { name, code }),
             types,
             tally,
@@ -117,12 +117,12 @@ impl Task<'_> {
     }
 
     /// What gives each item that it takes.
-    fn identity(&self) -> Result<Made, ElabError>
-        ensures { IsVerdict made_view (spec.text_made (setting_of self.now) texts.IdentityText
+    fn identity(&self) -> Result<Elaborated, ElabError>
+        ensures { IsVerdict elaborated_view (spec.text_made (setting_of self.now) texts.IdentityText
             (tally_of self.now)) result }
     {
         let tally = self.tally.one_more()?;
-        Ok(Made {
+        Ok(Elaborated {
             stream: Stream::Identity,
             types: StreamType {
                 input: ItemType::Int,
@@ -133,8 +133,8 @@ impl Task<'_> {
     }
 
     /// A body before it runs.
-    fn begun(&self) -> Progress
-        ensures progress { progress_of result ≡ spec.begun (tally_of self.now) }
+    fn initial_progress(&self) -> Progress
+        ensures progress { progress_of result ≡ spec.initial_progress (tally_of self.now) }
         ensures names { result.store.variables.names ≡ [] }
     {
         Progress {
@@ -149,12 +149,16 @@ impl Task<'_> {
     }
 
     /// A pipeline whose body has run: it has a child, and its type is the written one.
-    fn pipeline(&self, written: Option<StreamType>, progress: Progress) -> Result<Made, ElabError>
-        ensures { IsVerdict made_view (spec.pipeline_made self.now.holder written progress.types
-            (progress_of progress)) result }
+    fn pipeline(
+        &self,
+        written: Option<StreamType>,
+        progress: Progress,
+    ) -> Result<Elaborated, ElabError>
+        ensures { IsVerdict elaborated_view (spec.pipeline_made self.now.holder written
+            progress.types (progress_of progress)) result }
     {
         match progress.types {
-            Some(types) if is_as_written(written, types) => Ok(Made {
+            Some(types) if is_as_written(written, types) => Ok(Elaborated {
                 stream: Stream::Pipeline(progress.children),
                 types,
                 tally: Tally {
@@ -169,11 +173,11 @@ impl Task<'_> {
     }
 }
 
-impl<F: Fn(Task) -> Result<Made, ElabError>> Body<'_, F> {
+impl<F: Fn(Task) -> Result<Elaborated, ElabError>> Body<'_, F> {
     /// The stream of the task's text.
-    pub(crate) fn made(&self) -> Result<Made, ElabError>
+    pub(crate) fn made(&self) -> Result<Elaborated, ElabError>
         requires { IsReady self.now.task (F.pre self.now.elaborate) (F.post self.now.elaborate) }
-        ensures { IsVerdict made_view (spec.text_made (setting_of self.now.task)
+        ensures { IsVerdict elaborated_view (spec.text_made (setting_of self.now.task)
             (text_view self.now.task.text) (tally_of self.now.task)) result }
     {
         match self.task.text {
@@ -188,9 +192,9 @@ impl<F: Fn(Task) -> Result<Made, ElabError>> Body<'_, F> {
     fn run(&self, block: &[Stmt]) -> Result<Progress, ElabError>
         requires { IsReady self.now.task (F.pre self.now.elaborate) (F.post self.now.elaborate) }
         ensures { IsVerdict progress_of (spec.stmts_run (setting_of self.now.task) [] 0
-            (block_view block.now) (spec.begun (tally_of self.now.task))) result }
+            (block_view block.now) (spec.initial_progress (tally_of self.now.task))) result }
     {
-        let mut progress = self.task.begun();
+        let mut progress = self.task.initial_progress();
         self.statements(0, block, &mut progress)?;
         Ok(progress)
     }
@@ -201,10 +205,10 @@ impl<F: Fn(Task) -> Result<Made, ElabError>> Body<'_, F> {
         written: Option<StreamType>,
         kind: CompositeKind,
         block: &[Stmt],
-    ) -> Result<Made, ElabError>
+    ) -> Result<Elaborated, ElabError>
         requires { IsReady self.now.task (F.pre self.now.elaborate) (F.post self.now.elaborate) }
-        ensures { IsVerdict made_view (spec.composite_made (setting_of self.now.task) written kind
-            (block_view block.now) (tally_of self.now.task)) result }
+        ensures { IsVerdict elaborated_view (spec.composite_made (setting_of self.now.task) written
+            kind (block_view block.now) (tally_of self.now.task)) result }
     {
         match kind {
             CompositeKind::Pipeline => self.task.pipeline(written, self.run(block)?),

@@ -7,7 +7,7 @@ use crate::interval::Interval;
 use std::alloc::Global;
 use std::marker::Model;
 use strc_base::memory::NoMemory;
-use strc_base::scope::Scope;
+use strc_base::scope_map::ScopeMap;
 use strc_lex::token::Name;
 
 /// Names with the intervals of their variables, in the order in which they were declared. Contracts
@@ -15,37 +15,29 @@ use strc_lex::token::Name;
 /// constant time.
 #[derive(Drop)]
 pub(crate) struct IntervalScope {
-    names: Scope,
-    /// The interval of the variable of each number.
-    intervals: Vec<Option<Interval>>,
+    variables: ScopeMap<Option<Interval>>,
 }
 
 impl Model for IntervalScope {
-    ghost use Rattle.std.specs.Prelude.{◌≡◌, List, ℕ, Option, length, reverse};
+    ghost use Rattle.std.specs.Prelude.{List, ℕ, Option};
     ghost use Rattle.strc_rate.specs.Intervals.{Interval as Known};
 
     ghost Value = { List (List ℕ × Option Known) };
 
-    ghost use Rattle.strc_rate.specs.Seen.{beside};
-
-    ghost view = { λ s. beside s.names (reverse s.intervals.items) };
-
-    ghost invariant = { λ s. length s.intervals.items ≡ length s.names };
+    ghost view = { λ s. s.variables };
 }
 
 impl IntervalScope {
-    ghost use Rattle.strc_base.specs.Names.{has_name};
+    ghost use Rattle.strc_base.specs.Names.{has_name, with_value};
     ghost use Rattle.strc_rate.specs.Peeks.{names_of};
     ghost use Rattle.strc_rate.specs.Intervals.{interval_named};
-    ghost use Rattle.strc_rate.specs.Seen.{given_interval};
 
     /// No names. It takes no memory.
     pub(crate) fn new(alloc: Global) -> IntervalScope
         ensures { result ≡ [] }
     {
         IntervalScope {
-            names: Scope::new(alloc),
-            intervals: Vec::new(alloc),
+            variables: ScopeMap::new(alloc),
         }
     }
 
@@ -53,22 +45,22 @@ impl IntervalScope {
     pub(crate) fn len(&self) -> u32
         ensures { result ≡ length self.now }
     {
-        self.names.len()
+        self.variables.len()
     }
 
     /// Whether one of the names is this one.
     pub(crate) fn has(&self, name: &Name) -> bool
         ensures { result ≡ has_name (names_of self.now) name.now }
     {
-        self.names.has(name)
+        self.variables.has(name)
     }
 
     /// The interval of the innermost variable of this name, where it is known.
     pub(crate) fn interval_of(&self, name: &Name) -> Option<Interval>
         ensures { result ≡ interval_named self.now name.now }
     {
-        match self.names.number_of(name) {
-            Some(number) => self.intervals[number as usize],
+        match self.variables.value_of(name) {
+            Some(interval) => interval,
             None => None,
         }
     }
@@ -77,28 +69,20 @@ impl IntervalScope {
     pub(crate) fn declare(&mut self, name: &Name) -> Result<(), NoMemory>
         ensures { OnOk result (self.new ≡ record { 0 = name.now; 1 = None } ∷ self.old) }
     {
-        // What can fail comes before the first change.
-        self.intervals.reserve(1)?;
-        self.names.declare(name)?;
-        self.intervals.push(None)?;
-        Ok(())
+        self.variables.declare(name, None)
     }
 
     /// Gives the innermost variable of this name, if there is one, another interval.
     pub(crate) fn give_interval(&mut self, name: &Name, interval: Option<Interval>)
-        ensures { self.new ≡ given_interval self.old name.now interval }
+        ensures { self.new ≡ with_value self.old name.now interval }
     {
-        match self.names.number_of(name) {
-            Some(number) => self.intervals[number as usize] = interval,
-            None => {}
-        }
+        self.variables.set(name, interval);
     }
 
     /// Forgets the variables from this place on.
     pub(crate) fn leave(&mut self, start: u32)
         ensures { self.new ≡ drop (length self.old - start) self.old }
     {
-        self.names.leave(start);
-        self.intervals.truncate(start as usize);
+        self.variables.leave(start);
     }
 }

@@ -163,7 +163,7 @@ fn look_inside(
 /// The same of the turns of a counted loop, in which its variable has an interval. Nothing is
 /// looked at in a loop of no turn.
 #[cycle(peeks)]
-#[tactic(auto, using(crate::proofs::IntervalGrowth::drop_own, crate::proofs::IntervalGrowth::given_back, crate::proofs::IntervalGrowth::with_interval_given))]
+#[tactic(auto, using(crate::proofs::IntervalGrowth::drop_own, crate::proofs::IntervalGrowth::with_value_back, crate::proofs::IntervalGrowth::with_interval_is))]
 fn check_peeks_in_turns(
     body: &Stmt,
     counted: CountedLoop,

@@ -4,15 +4,12 @@ use Rattle.strc_work.specs.declared.layout.Place.{Place}
 use Rattle.strc_semantics.specs.Scoping.{Scope, total}
 
 -- names beside the numbers of their cells
-abbrev pub with_cells : List (List ℕ) → List Place → Scope
-with_cells [] places = []
-with_cells (name ∷ names) [] = []
-with_cells (name ∷ names) (place ∷ places) = record { 0 = name; 1 = place.cells } ∷ with_cells names places
+abbrev pub with_cells : List (List ℕ × Place) → Scope
+with_cells [] = []
+with_cells (first ∷ rest) = record { 0 = first.0; 1 = first.1.cells } ∷ with_cells rest
 
--- as many places as names; each variable's cells stand after those of the variables outside it, and are few
-abbrev pub AreLaid : List (List ℕ) → List Place → Type 0
-AreLaid [] [] = Unit {0}
-AreLaid [] (place ∷ places) = ⊥
-AreLaid (name ∷ names) [] = ⊥
-AreLaid (name ∷ names) (place ∷ places) =
-    (place.slot ≡ total (with_cells names places)) × (place.slot + place.cells < 2 ^ 32) × AreLaid names places
+-- each variable's cells stand after those of the variables outside it, and are few
+abbrev pub AreLaid : List (List ℕ × Place) → Type 0
+AreLaid [] = Unit {0}
+AreLaid (first ∷ rest) =
+    (first.1.slot ≡ total (with_cells rest)) × (first.1.slot + first.1.cells < 2 ^ 32) × AreLaid rest

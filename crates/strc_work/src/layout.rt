@@ -5,7 +5,7 @@ ghost use Rattle.std.specs.Prelude.{◌≡◌, ◌-◌, [], ◌∷◌, OnOk, len
 use std::alloc::Global;
 use std::marker::Model;
 use strc_base::memory::NoMemory;
-use strc_base::scope::Scope;
+use strc_base::scope_map::ScopeMap;
 use strc_lex::token::Name;
 
 /// Where a variable's cells stand: the first slot, and how many there are.
@@ -20,22 +20,19 @@ pub struct Place {
 /// look-up takes expected constant time.
 #[derive(Drop)]
 pub struct Layout {
-    names: Scope,
-    /// The place of each variable, by its number.
-    places: Vec<Place>,
+    variables: ScopeMap<Place>,
 }
 
 impl Model for Layout {
-    ghost use Rattle.std.specs.Prelude.{reverse};
     ghost use Rattle.strc_semantics.specs.Scoping.{Scope as Sized};
 
     ghost Value = { Sized };
 
     ghost use Rattle.strc_work.specs.Layouts.{with_cells, AreLaid};
 
-    ghost view = { λ s. with_cells s.names (reverse s.places.items) };
+    ghost view = { λ s. with_cells s.variables };
 
-    ghost invariant = { λ s. AreLaid s.names (reverse s.places.items) };
+    ghost invariant = { λ s. AreLaid s.variables };
 }
 
 impl Layout {
@@ -46,8 +43,7 @@ impl Layout {
         ensures { result ≡ [] }
     {
         Layout {
-            names: Scope::new(alloc),
-            places: Vec::new(alloc),
+            variables: ScopeMap::new(alloc),
         }
     }
 
@@ -55,18 +51,18 @@ impl Layout {
     pub fn len(&self) -> u32
         ensures { result ≡ length self.now }
     {
-        self.names.len()
+        self.variables.len()
     }
 
     /// How many cells they have together: the first free slot.
     pub fn total(&self) -> u32
         ensures { result ≡ scoping.total self.now }
     {
-        let count = self.places.len();
+        let count = self.variables.len();
         if count == 0 {
             return 0;
         }
-        let last = self.places[count - 1];
+        let (_, last) = self.variables.at(count - 1);
         last.slot + last.cells
     }
 
@@ -74,8 +70,8 @@ impl Layout {
     pub fn slot_of(&self, name: &Name) -> u32
         ensures { result ≡ scoping.slot_of self.now name.now }
     {
-        match self.names.number_of(name) {
-            Some(number) => self.places[number as usize].slot,
+        match self.variables.value_of(name) {
+            Some(place) => place.slot,
             None => 0,
         }
     }
@@ -84,8 +80,8 @@ impl Layout {
     pub fn size_of(&self, name: &Name) -> u32
         ensures { result ≡ scoping.size_of self.now name.now }
     {
-        match self.names.number_of(name) {
-            Some(number) => self.places[number as usize].cells,
+        match self.variables.value_of(name) {
+            Some(place) => place.cells,
             None => 0,
         }
     }
@@ -98,18 +94,13 @@ impl Layout {
         if slot.checked_add(cells).is_none() {
             return Err(NoMemory);
         }
-        // What can fail comes before the first change.
-        self.places.reserve(1)?;
-        self.names.declare(name)?;
-        self.places.push(Place { slot, cells })?;
-        Ok(())
+        self.variables.declare(name, Place { slot, cells })
     }
 
     /// Forgets the variables from this place on.
     pub fn leave(&mut self, start: u32)
         ensures { self.new ≡ drop (length self.old - start) self.old }
     {
-        self.names.leave(start);
-        self.places.truncate(start as usize);
+        self.variables.leave(start);
     }
 }

@@ -4,10 +4,10 @@ use Rattle.strc_elab.specs.Saying.{store_of}
 use Rattle.strc_elab.proofs.Turns.{turned_under, turned_over}
 use Rattle.strc_elab.proofs.body.turn.Goals as goal
 
-pub returns-then-store-ge1000000-clause-done : goal.returns-then-store-ge1000000-clause-done
-returns-then-store-ge1000000-clause-done c =
-    ap (λ r. computed r) (turned_over (store_of c.args.store.now) (omega (arith, c.if-store-ge1000000.true)))
+pub returns-then-store-ge-TURN_LIMIT-clause-done : goal.returns-then-store-ge-TURN_LIMIT-clause-done
+returns-then-store-ge-TURN_LIMIT-clause-done c =
+    ap (λ r. computed r) (turned_over (store_of c.args.store.now) (omega (arith, c.if-store-ge-TURN_LIMIT.true)))
 
 pub returns-clause-done : goal.returns-clause-done
 returns-clause-done c =
-    ap (λ r. computed r) (turned_under (store_of c.args.store.now) (omega (arith, c.if-store-ge1000000.false)))
+    ap (λ r. computed r) (turned_under (store_of c.args.store.now) (omega (arith, c.if-store-ge-TURN_LIMIT.false)))

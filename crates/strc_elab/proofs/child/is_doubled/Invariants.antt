@@ -1,5 +1,5 @@
 use Rattle.std.proofs.Common.{◌≡◌, drop}
-use Rattle.strc_check.specs.Typing.{plain_names}
+use Rattle.strc_base.specs.Names.{plain_names}
 use Rattle.strc_elab.specs.Texts.{is_doubled}
 use Rattle.strc_elab.proofs.Doubles.{doubled_behind}
 use Rattle.strc_elab.proofs.child.is_doubled.Given as goal

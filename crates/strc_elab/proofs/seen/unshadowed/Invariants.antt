@@ -1,5 +1,5 @@
 use Rattle.std.proofs.Common.{◌≡◌, take, reverse}
-use Rattle.strc_check.specs.Typing.{plain_names}
+use Rattle.strc_base.specs.Names.{plain_names}
 use Rattle.strc_elab.specs.Texts as texts
 use Rattle.strc_elab.proofs.seen.unshadowed.Given as goal
 

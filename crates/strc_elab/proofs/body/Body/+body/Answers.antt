@@ -73,12 +73,12 @@ statement-returns-then-is_true-clause-runs g t c =
     let chosen : Step = within (stmt_view c.in-If.chosen.value) in
     let other : Step = λ tested. Ok tested in
     let is : stmt_view c.args.statement.now ≡ tree.If condition (stmt_view c.in-If.chosen.value) = ap stmt_view c.in-If.is in
-    let tested = progress_of c.tested.new.progress in
-    let value = c.in_ok-tested-in-If.field-0 in
+    let tested = progress_of c.eval_condition.new.progress in
+    let value = c.in_ok-eval_condition-in-If.field-0 in
     let truth : c.is_true.result ≡ is_true value = search rules in
-    let whole : stmt_run setting names c.args.start (stmt_view c.args.statement.now) p ≡ chosen tested = ap (λ s. stmt_run setting names c.args.start s p) is ∙ chosen_runs (condition_given setting names (Some condition) p) chosen other value tested true c.in_ok-tested-in-If.ensures.tests (sym truth ∙ c.if-is_true.true) in
+    let whole : stmt_run setting names c.args.start (stmt_view c.args.statement.now) p ≡ chosen tested = ap (λ s. stmt_run setting names c.args.start s p) is ∙ chosen_runs (condition_given setting names (Some condition) p) chosen other value tested true c.in_ok-eval_condition-in-If.ensures.tests (sym truth ∙ c.if-is_true.true) in
     let after = progress_of c.inside.new.progress in
-    let ran : Runs (within (stmt_view c.deref-then-is_true.result.now) tested) c.inside.result after = subst (λ n. Runs (inside (stmt_run setting n (length n) (stmt_view c.deref-then-is_true.result.now)) tested) c.inside.result after) c.tested.ensures.names c.inside.ensures.runs in
+    let ran : Runs (within (stmt_view c.deref-then-is_true.result.now) tested) c.inside.result after = subst (λ n. Runs (inside (stmt_run setting n (length n) (stmt_view c.deref-then-is_true.result.now)) tested) c.inside.result after) c.eval_condition.ensures.names c.inside.ensures.runs in
     let here : Runs (chosen tested) c.inside.result after = subst (λ s. Runs (within (stmt_view s) tested) c.inside.result after) c.deref-then-is_true.ensures ran in
     subst (λ r. Runs r c.inside.result after) (sym whole) here
 
@@ -92,12 +92,12 @@ statement-returns-then-is_true-2-clause-runs g t c =
     let chosen : Step = within (stmt_view c.in-IfElse.chosen.value) in
     let other : Step = within (stmt_view c.in-IfElse.other.value) in
     let is : stmt_view c.args.statement.now ≡ tree.IfElse condition (stmt_view c.in-IfElse.chosen.value) (stmt_view c.in-IfElse.other.value) = ap stmt_view c.in-IfElse.is in
-    let tested = progress_of c.tested-in-IfElse.new.progress in
-    let value = c.in_ok-tested-in-IfElse.field-0 in
+    let tested = progress_of c.eval_condition-in-IfElse.new.progress in
+    let value = c.in_ok-eval_condition-in-IfElse.field-0 in
     let truth : c.is_true-in-IfElse.result ≡ is_true value = search rules in
-    let whole : stmt_run setting names c.args.start (stmt_view c.args.statement.now) p ≡ chosen tested = ap (λ s. stmt_run setting names c.args.start s p) is ∙ chosen_runs (condition_given setting names (Some condition) p) chosen other value tested true c.in_ok-tested-in-IfElse.ensures.tests (sym truth ∙ c.if-is_true-2.true) in
+    let whole : stmt_run setting names c.args.start (stmt_view c.args.statement.now) p ≡ chosen tested = ap (λ s. stmt_run setting names c.args.start s p) is ∙ chosen_runs (condition_given setting names (Some condition) p) chosen other value tested true c.in_ok-eval_condition-in-IfElse.ensures.tests (sym truth ∙ c.if-is_true-2.true) in
     let after = progress_of c.inside-then-is_true-2.new.progress in
-    let ran : Runs (within (stmt_view c.deref-then-is_true-2.result.now) tested) c.inside-then-is_true-2.result after = subst (λ n. Runs (inside (stmt_run setting n (length n) (stmt_view c.deref-then-is_true-2.result.now)) tested) c.inside-then-is_true-2.result after) c.tested-in-IfElse.ensures.names c.inside-then-is_true-2.ensures.runs in
+    let ran : Runs (within (stmt_view c.deref-then-is_true-2.result.now) tested) c.inside-then-is_true-2.result after = subst (λ n. Runs (inside (stmt_run setting n (length n) (stmt_view c.deref-then-is_true-2.result.now)) tested) c.inside-then-is_true-2.result after) c.eval_condition-in-IfElse.ensures.names c.inside-then-is_true-2.ensures.runs in
     let here : Runs (chosen tested) c.inside-then-is_true-2.result after = subst (λ s. Runs (within (stmt_view s) tested) c.inside-then-is_true-2.result after) c.deref-then-is_true-2.ensures ran in
     subst (λ r. Runs r c.inside-then-is_true-2.result after) (sym whole) here
 
@@ -111,12 +111,12 @@ statement-returns-else-is_true-2-clause-runs g t c =
     let chosen : Step = within (stmt_view c.in-IfElse.chosen.value) in
     let other : Step = within (stmt_view c.in-IfElse.other.value) in
     let is : stmt_view c.args.statement.now ≡ tree.IfElse condition (stmt_view c.in-IfElse.chosen.value) (stmt_view c.in-IfElse.other.value) = ap stmt_view c.in-IfElse.is in
-    let tested = progress_of c.tested-in-IfElse.new.progress in
-    let value = c.in_ok-tested-in-IfElse.field-0 in
+    let tested = progress_of c.eval_condition-in-IfElse.new.progress in
+    let value = c.in_ok-eval_condition-in-IfElse.field-0 in
     let truth : c.is_true-in-IfElse.result ≡ is_true value = search rules in
-    let whole : stmt_run setting names c.args.start (stmt_view c.args.statement.now) p ≡ other tested = ap (λ s. stmt_run setting names c.args.start s p) is ∙ chosen_runs (condition_given setting names (Some condition) p) chosen other value tested false c.in_ok-tested-in-IfElse.ensures.tests (sym truth ∙ c.if-is_true-2.false) in
+    let whole : stmt_run setting names c.args.start (stmt_view c.args.statement.now) p ≡ other tested = ap (λ s. stmt_run setting names c.args.start s p) is ∙ chosen_runs (condition_given setting names (Some condition) p) chosen other value tested false c.in_ok-eval_condition-in-IfElse.ensures.tests (sym truth ∙ c.if-is_true-2.false) in
     let after = progress_of c.inside-else-is_true-2.new.progress in
-    let ran : Runs (within (stmt_view c.deref-else-is_true-2.result.now) tested) c.inside-else-is_true-2.result after = subst (λ n. Runs (inside (stmt_run setting n (length n) (stmt_view c.deref-else-is_true-2.result.now)) tested) c.inside-else-is_true-2.result after) c.tested-in-IfElse.ensures.names c.inside-else-is_true-2.ensures.runs in
+    let ran : Runs (within (stmt_view c.deref-else-is_true-2.result.now) tested) c.inside-else-is_true-2.result after = subst (λ n. Runs (inside (stmt_run setting n (length n) (stmt_view c.deref-else-is_true-2.result.now)) tested) c.inside-else-is_true-2.result after) c.eval_condition-in-IfElse.ensures.names c.inside-else-is_true-2.ensures.runs in
     let here : Runs (other tested) c.inside-else-is_true-2.result after = subst (λ s. Runs (within (stmt_view s) tested) c.inside-else-is_true-2.result after) c.deref-else-is_true-2.ensures ran in
     subst (λ r. Runs r c.inside-else-is_true-2.result after) (sym whole) here
 
@@ -196,8 +196,8 @@ while_turns-loop-round-init g t c =
       left = λ fuel e. let same : fuel ≡ suc turn_limit = omega (arith, e) in ap (λ n. while_looped (setting_of c.args.self.now.task) c.args.progress.now.store.variables.names (expr_view c.args.condition.now) (stmt_view c.args.body.now) n (progress_of c.args.progress.now)) same;
     }
 
-pub while_turns-returns-in_err-tested-clause-runs : goal.while_turns-returns-in_err-tested-clause-runs
-while_turns-returns-in_err-tested-clause-runs g t c =
+pub while_turns-returns-in_err-eval_condition-clause-runs : goal.while_turns-returns-in_err-eval_condition-clause-runs
+while_turns-returns-in_err-eval_condition-clause-runs g t c =
     let setting = setting_of c.args.self.now.task in
     let names = c.args.progress.now.store.variables.names in
     let condition : Option tree.Expr = Some (expr_view c.args.condition.now) in
@@ -207,9 +207,9 @@ while_turns-returns-in_err-tested-clause-runs g t c =
     let round = c.loop-round._round in
     let left = c.loop-round.invariant.left in
     let m = progress_of c.loop-round.progress in
-    let e = c.in_err-tested.field-0.0 in
-    let met : IsRefusal (test m) e = subst (λ n. IsRefusal (condition_given setting n condition m) e) c.loop-round.invariant.names c.in_err-tested.ensures.tests in
-    let told : Runs whole (Err e) (progress_of c.tested.new.progress) = test_refused test body round m whole e c.loop-round-test.true left met in
+    let e = c.in_err-eval_condition.field-0.0 in
+    let met : IsRefusal (test m) e = subst (λ n. IsRefusal (condition_given setting n condition m) e) c.loop-round.invariant.names c.in_err-eval_condition.ensures.tests in
+    let told : Runs whole (Err e) (progress_of c.eval_condition.new.progress) = test_refused test body round m whole e c.loop-round-test.true left met in
     search rules
 
 pub while_turns-returns-then-not-is_true-clause-runs : goal.while_turns-returns-then-not-is_true-clause-runs
@@ -223,9 +223,9 @@ while_turns-returns-then-not-is_true-clause-runs g t c =
     let round = c.loop-round._round in
     let left = c.loop-round.invariant.left in
     let m = progress_of c.loop-round.progress in
-    let tested = progress_of c.tested.new.progress in
-    let value = c.in_ok-tested.field-0 in
-    let met : test m ≡ Ok (value, tested) = subst (λ n. condition_given setting n condition m ≡ Ok (value, tested)) c.loop-round.invariant.names c.in_ok-tested.ensures.tests in
+    let tested = progress_of c.eval_condition.new.progress in
+    let value = c.in_ok-eval_condition.field-0 in
+    let met : test m ≡ Ok (value, tested) = subst (λ n. condition_given setting n condition m ≡ Ok (value, tested)) c.loop-round.invariant.names c.in_ok-eval_condition.ensures.tests in
     let truth : c.is_true.result ≡ is_true value = search rules in
     let ends : is_true value ≡ false = sym truth ∙ c.if-not-is_true.true in
     loop_ends test body round m tested value whole c.loop-round-test.true left met ends
@@ -241,9 +241,9 @@ while_turns-returns-in_err-turn-clause-runs g t c =
     let round = c.loop-round._round in
     let left = c.loop-round.invariant.left in
     let m = progress_of c.loop-round.progress in
-    let tested = progress_of c.tested.new.progress in
-    let value = c.in_ok-tested.field-0 in
-    let met : test m ≡ Ok (value, tested) = subst (λ n. condition_given setting n condition m ≡ Ok (value, tested)) c.loop-round.invariant.names c.in_ok-tested.ensures.tests in
+    let tested = progress_of c.eval_condition.new.progress in
+    let value = c.in_ok-eval_condition.field-0 in
+    let met : test m ≡ Ok (value, tested) = subst (λ n. condition_given setting n condition m ≡ Ok (value, tested)) c.loop-round.invariant.names c.in_ok-eval_condition.ensures.tests in
     let truth : c.is_true.result ≡ is_true value = search rules in
     let holds : is_true value ≡ true = sym truth ∙ c.if-not-is_true.false in
     let e = c.in_err-turn.field-0.0 in
@@ -262,15 +262,15 @@ while_turns-returns-in_err-inside-clause-runs g t c =
     let round = c.loop-round._round in
     let left = c.loop-round.invariant.left in
     let m = progress_of c.loop-round.progress in
-    let tested = progress_of c.tested.new.progress in
-    let value = c.in_ok-tested.field-0 in
-    let met : test m ≡ Ok (value, tested) = subst (λ n. condition_given setting n condition m ≡ Ok (value, tested)) c.loop-round.invariant.names c.in_ok-tested.ensures.tests in
+    let tested = progress_of c.eval_condition.new.progress in
+    let value = c.in_ok-eval_condition.field-0 in
+    let met : test m ≡ Ok (value, tested) = subst (λ n. condition_given setting n condition m ≡ Ok (value, tested)) c.loop-round.invariant.names c.in_ok-eval_condition.ensures.tests in
     let truth : c.is_true.result ≡ is_true value = search rules in
     let holds : is_true value ≡ true = sym truth ∙ c.if-not-is_true.false in
     let store = store_of c.turn.new.store in
     let turning : spec.Progress = record tested { store = store } in
     let turn : computed (firing.turned tested.store) ≡ Ok store = c.in_ok-turn.ensures.done in
-    let same : c.turn.new.store.variables.names ≡ names = c.turn.ensures.names ∙ c.tested.ensures.names ∙ c.loop-round.invariant.names in
+    let same : c.turn.new.store.variables.names ≡ names = c.turn.ensures.names ∙ c.eval_condition.ensures.names ∙ c.loop-round.invariant.names in
     let e = c.in_err-inside.field-0.0 in
     let no : IsRefusal (body turning) e = subst (λ n. IsRefusal (inside (stmt_run setting n (length n) (stmt_view c.args.body.now)) turning) e) same c.in_err-inside.ensures.runs in
     let told : Runs whole (Err e) (progress_of c.inside.new.progress) = body_refused test body round m tested value store whole e c.loop-round-test.true left met holds turn no in
@@ -287,15 +287,15 @@ while_turns-loop-round-preserved g t c =
     let round = c.loop-round._round in
     let left = c.loop-round.invariant.left in
     let m = progress_of c.loop-round.progress in
-    let tested = progress_of c.tested.new.progress in
-    let value = c.in_ok-tested.field-0 in
-    let met : test m ≡ Ok (value, tested) = subst (λ n. condition_given setting n condition m ≡ Ok (value, tested)) c.loop-round.invariant.names c.in_ok-tested.ensures.tests in
+    let tested = progress_of c.eval_condition.new.progress in
+    let value = c.in_ok-eval_condition.field-0 in
+    let met : test m ≡ Ok (value, tested) = subst (λ n. condition_given setting n condition m ≡ Ok (value, tested)) c.loop-round.invariant.names c.in_ok-eval_condition.ensures.tests in
     let truth : c.is_true.result ≡ is_true value = search rules in
     let holds : is_true value ≡ true = sym truth ∙ c.if-not-is_true.false in
     let store = store_of c.turn.new.store in
     let turning : spec.Progress = record tested { store = store } in
     let turn : computed (firing.turned tested.store) ≡ Ok store = c.in_ok-turn.ensures.done in
-    let same : c.turn.new.store.variables.names ≡ names = c.turn.ensures.names ∙ c.tested.ensures.names ∙ c.loop-round.invariant.names in
+    let same : c.turn.new.store.variables.names ≡ names = c.turn.ensures.names ∙ c.eval_condition.ensures.names ∙ c.loop-round.invariant.names in
     let after = progress_of c.inside.new.progress in
     let ran : body turning ≡ Ok after = subst (λ n. inside (stmt_run setting n (length n) (stmt_view c.args.body.now)) turning ≡ Ok after) same c.in_ok-inside.ensures.runs in
     record {
@@ -323,8 +323,8 @@ for_turns-loop-round-init g t c =
       left = λ fuel e. let same : fuel ≡ suc turn_limit = omega (arith, e) in ap (λ n. for_looped (setting_of c.args.self.now.task) c.args.progress.now.store.variables.names (option_map (λ e. expr_view e.now) c.args.condition) (stmt_view c.args.step.now) (stmt_view c.args.body.now) n (progress_of c.args.progress.now)) same;
     }
 
-pub for_turns-returns-in_err-tested-clause-runs : goal.for_turns-returns-in_err-tested-clause-runs
-for_turns-returns-in_err-tested-clause-runs g t c =
+pub for_turns-returns-in_err-eval_condition-clause-runs : goal.for_turns-returns-in_err-eval_condition-clause-runs
+for_turns-returns-in_err-eval_condition-clause-runs g t c =
     let setting = setting_of c.args.self.now.task in
     let names = c.args.progress.now.store.variables.names in
     let condition : Option tree.Expr = option_map (λ e. expr_view e.now) c.args.condition in
@@ -336,9 +336,9 @@ for_turns-returns-in_err-tested-clause-runs g t c =
     let round = c.loop-round._round in
     let left = c.loop-round.invariant.left in
     let m = progress_of c.loop-round.progress in
-    let e = c.in_err-tested.field-0.0 in
-    let met : IsRefusal (test m) e = subst (λ n. IsRefusal (condition_given setting n condition m) e) c.loop-round.invariant.names c.in_err-tested.ensures.tests in
-    let told : Runs whole (Err e) (progress_of c.tested.new.progress) = test_refused test body round m whole e c.loop-round-test.true left met in
+    let e = c.in_err-eval_condition.field-0.0 in
+    let met : IsRefusal (test m) e = subst (λ n. IsRefusal (condition_given setting n condition m) e) c.loop-round.invariant.names c.in_err-eval_condition.ensures.tests in
+    let told : Runs whole (Err e) (progress_of c.eval_condition.new.progress) = test_refused test body round m whole e c.loop-round-test.true left met in
     search rules
 
 pub for_turns-returns-then-not-is_true-clause-runs : goal.for_turns-returns-then-not-is_true-clause-runs
@@ -354,9 +354,9 @@ for_turns-returns-then-not-is_true-clause-runs g t c =
     let round = c.loop-round._round in
     let left = c.loop-round.invariant.left in
     let m = progress_of c.loop-round.progress in
-    let tested = progress_of c.tested.new.progress in
-    let value = c.in_ok-tested.field-0 in
-    let met : test m ≡ Ok (value, tested) = subst (λ n. condition_given setting n condition m ≡ Ok (value, tested)) c.loop-round.invariant.names c.in_ok-tested.ensures.tests in
+    let tested = progress_of c.eval_condition.new.progress in
+    let value = c.in_ok-eval_condition.field-0 in
+    let met : test m ≡ Ok (value, tested) = subst (λ n. condition_given setting n condition m ≡ Ok (value, tested)) c.loop-round.invariant.names c.in_ok-eval_condition.ensures.tests in
     let truth : c.is_true.result ≡ is_true value = search rules in
     let ends : is_true value ≡ false = sym truth ∙ c.if-not-is_true.true in
     loop_ends test body round m tested value whole c.loop-round-test.true left met ends
@@ -374,9 +374,9 @@ for_turns-returns-in_err-turn-clause-runs g t c =
     let round = c.loop-round._round in
     let left = c.loop-round.invariant.left in
     let m = progress_of c.loop-round.progress in
-    let tested = progress_of c.tested.new.progress in
-    let value = c.in_ok-tested.field-0 in
-    let met : test m ≡ Ok (value, tested) = subst (λ n. condition_given setting n condition m ≡ Ok (value, tested)) c.loop-round.invariant.names c.in_ok-tested.ensures.tests in
+    let tested = progress_of c.eval_condition.new.progress in
+    let value = c.in_ok-eval_condition.field-0 in
+    let met : test m ≡ Ok (value, tested) = subst (λ n. condition_given setting n condition m ≡ Ok (value, tested)) c.loop-round.invariant.names c.in_ok-eval_condition.ensures.tests in
     let truth : c.is_true.result ≡ is_true value = search rules in
     let holds : is_true value ≡ true = sym truth ∙ c.if-not-is_true.false in
     let e = c.in_err-turn.field-0.0 in
@@ -397,15 +397,15 @@ for_turns-returns-in_err-inside-clause-runs g t c =
     let round = c.loop-round._round in
     let left = c.loop-round.invariant.left in
     let m = progress_of c.loop-round.progress in
-    let tested = progress_of c.tested.new.progress in
-    let value = c.in_ok-tested.field-0 in
-    let met : test m ≡ Ok (value, tested) = subst (λ n. condition_given setting n condition m ≡ Ok (value, tested)) c.loop-round.invariant.names c.in_ok-tested.ensures.tests in
+    let tested = progress_of c.eval_condition.new.progress in
+    let value = c.in_ok-eval_condition.field-0 in
+    let met : test m ≡ Ok (value, tested) = subst (λ n. condition_given setting n condition m ≡ Ok (value, tested)) c.loop-round.invariant.names c.in_ok-eval_condition.ensures.tests in
     let truth : c.is_true.result ≡ is_true value = search rules in
     let holds : is_true value ≡ true = sym truth ∙ c.if-not-is_true.false in
     let store = store_of c.turn.new.store in
     let turning : spec.Progress = record tested { store = store } in
     let turn : computed (firing.turned tested.store) ≡ Ok store = c.in_ok-turn.ensures.done in
-    let same : c.turn.new.store.variables.names ≡ names = c.turn.ensures.names ∙ c.tested.ensures.names ∙ c.loop-round.invariant.names in
+    let same : c.turn.new.store.variables.names ≡ names = c.turn.ensures.names ∙ c.eval_condition.ensures.names ∙ c.loop-round.invariant.names in
     let e = c.in_err-inside.field-0.0 in
     let no : IsRefusal (turns turning) e = subst (λ n. IsRefusal (inside (stmt_run setting n (length n) (stmt_view c.args.body.now)) turning) e) same c.in_err-inside.ensures.runs in
     let none : IsRefusal (body turning) e = first_refused (turns turning) steps e no in
@@ -425,15 +425,15 @@ for_turns-returns-in_err-inside-2-clause-runs g t c =
     let round = c.loop-round._round in
     let left = c.loop-round.invariant.left in
     let m = progress_of c.loop-round.progress in
-    let tested = progress_of c.tested.new.progress in
-    let value = c.in_ok-tested.field-0 in
-    let met : test m ≡ Ok (value, tested) = subst (λ n. condition_given setting n condition m ≡ Ok (value, tested)) c.loop-round.invariant.names c.in_ok-tested.ensures.tests in
+    let tested = progress_of c.eval_condition.new.progress in
+    let value = c.in_ok-eval_condition.field-0 in
+    let met : test m ≡ Ok (value, tested) = subst (λ n. condition_given setting n condition m ≡ Ok (value, tested)) c.loop-round.invariant.names c.in_ok-eval_condition.ensures.tests in
     let truth : c.is_true.result ≡ is_true value = search rules in
     let holds : is_true value ≡ true = sym truth ∙ c.if-not-is_true.false in
     let store = store_of c.turn.new.store in
     let turning : spec.Progress = record tested { store = store } in
     let turn : computed (firing.turned tested.store) ≡ Ok store = c.in_ok-turn.ensures.done in
-    let same : c.turn.new.store.variables.names ≡ names = c.turn.ensures.names ∙ c.tested.ensures.names ∙ c.loop-round.invariant.names in
+    let same : c.turn.new.store.variables.names ≡ names = c.turn.ensures.names ∙ c.eval_condition.ensures.names ∙ c.loop-round.invariant.names in
     let after = progress_of c.inside.new.progress in
     let ran : turns turning ≡ Ok after = subst (λ n. inside (stmt_run setting n (length n) (stmt_view c.args.body.now)) turning ≡ Ok after) same c.in_ok-inside.ensures.runs in
     let same' : c.inside.new.progress.store.variables.names ≡ names = c.in_ok-inside.ensures.names ∙ same in
@@ -456,15 +456,15 @@ for_turns-loop-round-preserved g t c =
     let round = c.loop-round._round in
     let left = c.loop-round.invariant.left in
     let m = progress_of c.loop-round.progress in
-    let tested = progress_of c.tested.new.progress in
-    let value = c.in_ok-tested.field-0 in
-    let met : test m ≡ Ok (value, tested) = subst (λ n. condition_given setting n condition m ≡ Ok (value, tested)) c.loop-round.invariant.names c.in_ok-tested.ensures.tests in
+    let tested = progress_of c.eval_condition.new.progress in
+    let value = c.in_ok-eval_condition.field-0 in
+    let met : test m ≡ Ok (value, tested) = subst (λ n. condition_given setting n condition m ≡ Ok (value, tested)) c.loop-round.invariant.names c.in_ok-eval_condition.ensures.tests in
     let truth : c.is_true.result ≡ is_true value = search rules in
     let holds : is_true value ≡ true = sym truth ∙ c.if-not-is_true.false in
     let store = store_of c.turn.new.store in
     let turning : spec.Progress = record tested { store = store } in
     let turn : computed (firing.turned tested.store) ≡ Ok store = c.in_ok-turn.ensures.done in
-    let same : c.turn.new.store.variables.names ≡ names = c.turn.ensures.names ∙ c.tested.ensures.names ∙ c.loop-round.invariant.names in
+    let same : c.turn.new.store.variables.names ≡ names = c.turn.ensures.names ∙ c.eval_condition.ensures.names ∙ c.loop-round.invariant.names in
     let after = progress_of c.inside.new.progress in
     let ran : turns turning ≡ Ok after = subst (λ n. inside (stmt_run setting n (length n) (stmt_view c.args.body.now)) turning ≡ Ok after) same c.in_ok-inside.ensures.runs in
     let same' : c.inside.new.progress.store.variables.names ≡ names = c.in_ok-inside.ensures.names ∙ same in
