@@ -9,7 +9,7 @@ use Rattle.strc_elab.specs.Answering.{IsRefusal}
 use Rattle.strc_elab.specs.declared.error.ElabError.{ElabError}
 use Rattle.strc_elab.specs.declared.error.ElabError.TheVariants as refused
 use Rattle.strc_elab.proofs.Refusals.{refused_same, first_refused, second_refused}
-use Rattle.strc_elab.specs.declared.body.TheConstants.{TURN_LIMIT}
+use Rattle.strc_semantics.specs.declared.fault.TheConstants.{TURN_LIMIT}
 use Rattle.strc_elab.proofs.Turns.{turn_limit_is}
 
 -- what a loop tests, and what it repeats
