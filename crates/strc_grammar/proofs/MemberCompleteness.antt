@@ -17,12 +17,12 @@ use Rattle.strc_grammar.specs.Grammar.{expr_spelled, declared_spelled, row_spell
 use Rattle.strc_grammar.specs.Reading.{◌>>=◌, is_punctuation, repeated, brace}
 use Rattle.strc_syntax.specs.Tree.{chain}
 use Rattle.strc_grammar.specs.Streams.{rate_kind, has_rate, rate_of, rate_turn, no_rate, rates, statement, braced, init, phase, fields, member, members}
-use Rattle.strc_grammar.proofs.Again.{Again, Again-then, expect_punctuation}
+use Rattle.strc_grammar.proofs.Completeness.{Complete, Complete-then, expect_punctuation}
 use Rattle.strc_grammar.proofs.Repeated.{no_rate_stays, rate_turn_at}
-use Rattle.strc_grammar.proofs.ExpressionAgain.{Stops, Stops-keyword, Stops-brace, expr_length, expression_again, found}
-use Rattle.strc_grammar.proofs.Lists.{gathered, gathered_none, gathered_more, TallAgain, each_taller_again}
-use Rattle.strc_grammar.proofs.SimpleAgain.{Again-done, fields_again}
-use Rattle.strc_grammar.proofs.StatementAgain.{listed, row_listed, rates_length, member_length, StmtAgain, brace_closing, row_again}
+use Rattle.strc_grammar.proofs.ExpressionCompleteness.{Stops, Stops-keyword, Stops-brace, expr_length, expression_completeness, found}
+use Rattle.strc_grammar.proofs.Lists.{gathered, gathered_none, gathered_more, TallCompleteness, each_taller_completeness}
+use Rattle.strc_grammar.proofs.SimpleCompleteness.{Complete-done, fields_completeness}
+use Rattle.strc_grammar.proofs.StatementCompleteness.{listed, row_listed, rates_length, member_length, StmtCompleteness, brace_closing, row_completeness}
 
 -- ---- rates
 
@@ -30,16 +30,16 @@ use Rattle.strc_grammar.proofs.StatementAgain.{listed, row_listed, rates_length,
 abbrev AreFresh : List tree.Rate → List tree.Rate → Type 0
 AreFresh front others = AllByRecursion (λ r. has_rate r.kind front ≡ false) others
 
-fresh_behind : (front : List tree.Rate) (a r : tree.Rate) → has_rate r.kind front ≡ false → (a.kind ≡ r.kind → ⊥) → has_rate r.kind (front ++ a ∷ []) ≡ false
+fresh_past : (front : List tree.Rate) (a r : tree.Rate) → has_rate r.kind front ≡ false → (a.kind ≡ r.kind → ⊥) → has_rate r.kind (front ++ a ∷ []) ≡ false
 unfolding has_rate
-fresh_behind front a r kept apart =
+fresh_past front a r kept apart =
     let differs : sameb rate_type a.kind r.kind ≡ false = false_same rate_type tt a.kind r.kind apart in
     list_any-append (λ x. sameb rate_type x.kind r.kind) front (a ∷ []) ∙ rw (kept, differs) refl
 
 still_fresh : (front : List tree.Rate) (a : tree.Rate) (others : List tree.Rate) → AreFresh front others → AllByRecursion (λ other. a.kind ≡ other.kind → ⊥) others
     → AreFresh (front ++ a ∷ []) others
 still_fresh front a [] fresh apart = tt
-still_fresh front a (r ∷ others) fresh apart = (fresh_behind front a r fresh.0 apart.0, still_fresh front a others fresh.1 apart.1)
+still_fresh front a (r ∷ others) fresh apart = (fresh_past front a r fresh.0 apart.0, still_fresh front a others fresh.1 apart.1)
 
 all_fresh : (others : List tree.Rate) → AreFresh [] others
 unfolding has_rate
@@ -66,27 +66,27 @@ rates_stop [] rest stops = stops
 rates_stop (a ∷ others) rest stops = rate_keyword_stops a.kind (expr_spelled a.rate (each_spelled rate_spelled others rest))
 
 module _ (limit : ℕ) where
-  rate_of_again : (a : tree.Rate) → IsExpr a.rate → (front : List tree.Rate) (behind : List TokenKind) → has_rate a.kind front ≡ false → Stopping behind
-      → Again limit (rate_height a) (found a.rate behind) (rate_of limit a.kind front (rate_spelled a behind))
+  rate_of_completeness : (a : tree.Rate) → IsExpr a.rate → (front : List tree.Rate) (past : List TokenKind) → has_rate a.kind front ≡ false → Stopping past
+      → Complete limit (rate_height a) (found a.rate past) (rate_of limit a.kind front (rate_spelled a past))
   unfolding rate_of
-  rate_of_again a shape front behind fresh stops = rw fresh (expression_again a.rate shape limit behind stops)
+  rate_of_completeness a shape front past fresh stops = rw fresh (expression_completeness a.rate shape limit past stops)
 
-  rate_fits : (a : tree.Rate) → IsExpr a.rate → (front : List tree.Rate) (high t : ℕ) (behind : List TokenKind) → has_rate a.kind front ≡ false → Stopping behind → rate_height a ≤ limit
-      → repeated no_rate (rate_turn limit) (suc t) (front, high) (rate_spelled a behind) ≡ repeated no_rate (rate_turn limit) t (front ++ a ∷ [], max high (rate_height a)) behind
+  rate_fits : (a : tree.Rate) → IsExpr a.rate → (front : List tree.Rate) (high t : ℕ) (past : List TokenKind) → has_rate a.kind front ≡ false → Stopping past → rate_height a ≤ limit
+      → repeated no_rate (rate_turn limit) (suc t) (front, high) (rate_spelled a past) ≡ repeated no_rate (rate_turn limit) t (front ++ a ∷ [], max high (rate_height a)) past
   unfolding repeated
-  rate_fits a shape front high t behind fresh stops low =
-      let stands = rate_stands a.kind (expr_spelled a.rate behind) in
-      let goes_on = no_rate_stays (rate_spelled a behind) a.kind stands in
-      let turn = rate_turn_at limit front high (rate_spelled a behind) a.kind a.rate (rate_height a) behind stands ((rate_of_again a shape front behind fresh stops).fits low) in
+  rate_fits a shape front high t past fresh stops low =
+      let stands = rate_stands a.kind (expr_spelled a.rate past) in
+      let goes_on = no_rate_stays (rate_spelled a past) a.kind stands in
+      let turn = rate_turn_at limit front high (rate_spelled a past) a.kind a.rate (rate_height a) past stands ((rate_of_completeness a shape front past fresh stops).fits low) in
       rw (goes_on, turn) refl
 
-  rate_over : (a : tree.Rate) → IsExpr a.rate → (front : List tree.Rate) (high t : ℕ) (behind : List TokenKind) → has_rate a.kind front ≡ false → Stopping behind → limit < rate_height a
-      → repeated no_rate (rate_turn limit) (suc t) (front, high) (rate_spelled a behind) ≡ Err Nesting
+  rate_over : (a : tree.Rate) → IsExpr a.rate → (front : List tree.Rate) (high t : ℕ) (past : List TokenKind) → has_rate a.kind front ≡ false → Stopping past → limit < rate_height a
+      → repeated no_rate (rate_turn limit) (suc t) (front, high) (rate_spelled a past) ≡ Err Nesting
   unfolding repeated rate_turn
-  rate_over a shape front high t behind fresh stops deep =
-      let stands = rate_stands a.kind (expr_spelled a.rate behind) in
-      let goes_on = no_rate_stays (rate_spelled a behind) a.kind stands in
-      let read = (rate_of_again a shape front behind fresh stops).over deep in
+  rate_over a shape front high t past fresh stops deep =
+      let stands = rate_stands a.kind (expr_spelled a.rate past) in
+      let goes_on = no_rate_stays (rate_spelled a past) a.kind stands in
+      let read = (rate_of_completeness a shape front past fresh stops).over deep in
       rw (goes_on, stands, read) refl
 
   rates_end : (front : List tree.Rate) (high t : ℕ) (rest : List TokenKind) → rate_kind rest ≡ None → repeated no_rate (rate_turn limit) (suc t) (front, high) rest ≡ Ok ((front, high), rest)
@@ -95,20 +95,20 @@ module _ (limit : ℕ) where
 
   rates_on : (items : List tree.Rate) → AreRates items → (front : List tree.Rate) (high : ℕ) → AreFresh front items → (turns : ℕ) (rest : List TokenKind) → rate_kind rest ≡ None → Stopping rest
       → length (each_spelled rate_spelled items rest) + 1 ≤ turns + length rest
-      → Again limit (highest rate_height items) (gathered rate_height front high items rest) (repeated no_rate (rate_turn limit) turns (front, high) (each_spelled rate_spelled items rest))
+      → Complete limit (highest rate_height items) (gathered rate_height front high items rest) (repeated no_rate (rate_turn limit) turns (front, high) (each_spelled rate_spelled items rest))
   rates_on [] shape front high fresh zero rest none stops le = absurd (omega arith)
   rates_on [] shape front high fresh (suc t) rest none stops le =
       record { fits = λ h. rates_end front high t rest none ∙ ap Ok (gathered_none rate_height front high rest); over = λ h. absurd (omega arith) }
   rates_on (a ∷ others) shape front high fresh zero rest none stops le =
       absurd (omega (arith, expr_length a.rate (each_spelled rate_spelled others rest), rates_length others rest))
   rates_on (a ∷ others) shape front high fresh (suc t) rest none stops le =
-      let behind = each_spelled rate_spelled others rest in
+      let past = each_spelled rate_spelled others rest in
       let next = rates_stop others rest stops in
-      let more = rates_on others shape.2 (front ++ a ∷ []) (max high (rate_height a)) (still_fresh front a others fresh.1 shape.1) t rest none stops (omega (arith, expr_length a.rate behind)) in record {
-        fits = λ h. rate_fits a shape.0 front high t behind fresh.0 next (omega arith) ∙ more.fits (omega arith) ∙ ap Ok (gathered_more rate_height front high a others rest);
+      let more = rates_on others shape.2 (front ++ a ∷ []) (max high (rate_height a)) (still_fresh front a others fresh.1 shape.1) t rest none stops (omega (arith, expr_length a.rate past)) in record {
+        fits = λ h. rate_fits a shape.0 front high t past fresh.0 next (omega arith) ∙ more.fits (omega arith) ∙ ap Ok (gathered_more rate_height front high a others rest);
         over = λ h. elim (cases_lt limit (rate_height a)) [
-          | inl lt ↦ rate_over a shape.0 front high t behind fresh.0 next lt
-          | inr low ↦ rate_fits a shape.0 front high t behind fresh.0 next low ∙ more.over (omega arith)
+          | inl lt ↦ rate_over a shape.0 front high t past fresh.0 next lt
+          | inr low ↦ rate_fits a shape.0 front high t past fresh.0 next low ∙ more.over (omega arith)
         ];
       }
 
@@ -119,85 +119,85 @@ no_rate_block block rest = refl
 -- ---- members
 
 -- the statements of a block are read again
-abbrev pub BlockAgain : tree.Stmts → Type 0
-BlockAgain block = AllByRecursion StmtAgain (listed block)
+abbrev pub BlockCompleteness : tree.Stmts → Type 0
+BlockCompleteness block = AllByRecursion StmtCompleteness (listed block)
 
 module _ (d : ℕ) where
-  pub braced_again : (block : tree.Stmts) → BlockAgain block → (rest : List TokenKind) → Again d (row_height block) (block, row_height block, rest) (braced (statement d) (block_spelled block rest))
+  pub braced_completeness : (block : tree.Stmts) → BlockCompleteness block → (rest : List TokenKind) → Complete d (row_height block) (block, row_height block, rest) (braced (statement d) (block_spelled block rest))
   unfolding braced
-  braced_again block again rest =
+  braced_completeness block complete rest =
       rw (expect_punctuation punctuation.OpenBrace (row_spelled block (token.Punctuation punctuation.CloseBrace ∷ rest)))
-      (Again-then d (row_height block) (row_height block) ((listed block, row_height block), rest) (block, row_height block, rest) _ _ (row_again d block again rest) (omega arith)
-      (λ low. rw (row_listed block) (Again-done d (row_height block) (block, row_height block, rest) _ low refl)))
+      (Complete-then d (row_height block) (row_height block) ((listed block, row_height block), rest) (block, row_height block, rest) _ _ (row_completeness d block complete rest) (omega arith)
+      (λ low. rw (row_listed block) (Complete-done d (row_height block) (block, row_height block, rest) _ low refl)))
 
-  rates_again : (declared : List tree.Rate) → AreRates declared → (block : tree.Stmts) (rest : List TokenKind)
-      → Again d (highest rate_height declared) ((declared, highest rate_height declared), block_spelled block rest) (rates d (each_spelled rate_spelled declared (block_spelled block rest)))
+  rates_completeness : (declared : List tree.Rate) → AreRates declared → (block : tree.Stmts) (rest : List TokenKind)
+      → Complete d (highest rate_height declared) ((declared, highest rate_height declared), block_spelled block rest) (rates d (each_spelled rate_spelled declared (block_spelled block rest)))
   unfolding rates
-  rates_again declared shape block rest =
-      let behind = block_spelled block rest in
+  rates_completeness declared shape block rest =
+      let past = block_spelled block rest in
       let none : max 0 (highest rate_height declared) ≡ highest rate_height declared = omega arith in
-      let read = rates_on d declared shape [] 0 (all_fresh declared) (length (each_spelled rate_spelled declared behind) + 1) behind (no_rate_block block rest)
+      let read = rates_on d declared shape [] 0 (all_fresh declared) (length (each_spelled rate_spelled declared past) + 1) past (no_rate_block block rest)
       (Stops-brace lowest_precedence (row_spelled block (token.Punctuation punctuation.CloseBrace ∷ rest))) (omega arith) in
       rw none at read
 
-  phase_again : (declared : List tree.Rate) (block : tree.Stmts) → AreRates declared → BlockAgain block → (rest : List TokenKind)
-      → Again d (max (highest rate_height declared) (row_height block)) ((declared, block), max (highest rate_height declared) (row_height block), rest)
+  phase_completeness : (declared : List tree.Rate) (block : tree.Stmts) → AreRates declared → BlockCompleteness block → (rest : List TokenKind)
+      → Complete d (max (highest rate_height declared) (row_height block)) ((declared, block), max (highest rate_height declared) (row_height block), rest)
       (phase d (statement d) (each_spelled rate_spelled declared (block_spelled block rest)))
   unfolding phase
-  phase_again declared block rated again rest =
+  phase_completeness declared block rated complete rest =
       let high : ℕ = max (highest rate_height declared) (row_height block) in
       let all : (List tree.Rate × tree.Stmts) × ℕ × List TokenKind = ((declared, block), high, rest) in
-      Again-then d (highest rate_height declared) high ((declared, highest rate_height declared), block_spelled block rest) all _ _ (rates_again declared rated block rest) (omega arith) (λ one.
-      Again-then d (row_height block) high (block, row_height block, rest) all _ _ (braced_again block again rest) (omega arith) (λ two.
-      Again-done d high all _ (omega arith) refl))
+      Complete-then d (highest rate_height declared) high ((declared, highest rate_height declared), block_spelled block rest) all _ _ (rates_completeness declared rated block rest) (omega arith) (λ one.
+      Complete-then d (row_height block) high (block, row_height block, rest) all _ _ (braced_completeness block complete rest) (omega arith) (λ two.
+      Complete-done d high all _ (omega arith) refl))
 
-  phase_member_again : (make : List tree.Rate → tree.Stmts → tree.Member) (declared : List tree.Rate) (block : tree.Stmts) → AreRates declared → BlockAgain block → (rest : List TokenKind)
-      → Again d (max (highest rate_height declared) (row_height block)) {X = tree.Member × ℕ × List TokenKind} (make declared block, max (highest rate_height declared) (row_height block), rest)
+  phase_member_completeness : (make : List tree.Rate → tree.Stmts → tree.Member) (declared : List tree.Rate) (block : tree.Stmts) → AreRates declared → BlockCompleteness block → (rest : List TokenKind)
+      → Complete d (max (highest rate_height declared) (row_height block)) {X = tree.Member × ℕ × List TokenKind} (make declared block, max (highest rate_height declared) (row_height block), rest)
       (phase d (statement d) (each_spelled rate_spelled declared (block_spelled block rest)) >>= λ read. Ok (make read.0.0 read.0.1, read.1, read.2))
-  phase_member_again make declared block rated again rest =
+  phase_member_completeness make declared block rated complete rest =
       let high : ℕ = max (highest rate_height declared) (row_height block) in
-      Again-then d high high ((declared, block), high, rest) (make declared block, high, rest) _ _ (phase_again declared block rated again rest) (omega arith)
-      (λ low. Again-done d high (make declared block, high, rest) _ low refl)
+      Complete-then d high high ((declared, block), high, rest) (make declared block, high, rest) _ _ (phase_completeness declared block rated complete rest) (omega arith)
+      (λ low. Complete-done d high (make declared block, high, rest) _ low refl)
 
-  init_again : (block : tree.Stmts) → BlockAgain block → (rest : List TokenKind)
-      → Again d (row_height block) (tree.Init block, row_height block, rest) (init (statement d) (block_spelled block rest))
+  init_completeness : (block : tree.Stmts) → BlockCompleteness block → (rest : List TokenKind)
+      → Complete d (row_height block) (tree.Init block, row_height block, rest) (init (statement d) (block_spelled block rest))
   unfolding init
-  init_again block again rest =
+  init_completeness block complete rest =
       let high : ℕ = row_height block in
-      Again-then d high high (block, high, rest) (tree.Init block, high, rest) _ _ (braced_again block again rest) (omega arith)
-      (λ low. Again-done d high (tree.Init block, high, rest) _ low refl)
+      Complete-then d high high (block, high, rest) (tree.Init block, high, rest) _ _ (braced_completeness block complete rest) (omega arith)
+      (λ low. Complete-done d high (tree.Init block, high, rest) _ low refl)
 
-  field_again : (kind : tree.VariableType) (vs : List tree.Variable) → IsVariableType kind → AreVariables vs → (rest : List TokenKind)
-      → Again d (declared_height kind vs) (tree.Fields kind vs, declared_height kind vs, rest) (fields d (declared_spelled kind vs (token.Punctuation punctuation.Semicolon ∷ rest)))
+  field_completeness : (kind : tree.VariableType) (vs : List tree.Variable) → IsVariableType kind → AreVariables vs → (rest : List TokenKind)
+      → Complete d (declared_height kind vs) (tree.Fields kind vs, declared_height kind vs, rest) (fields d (declared_spelled kind vs (token.Punctuation punctuation.Semicolon ∷ rest)))
   unfolding fields
-  field_again kind vs typed shape rest =
+  field_completeness kind vs typed shape rest =
       let high : ℕ = declared_height kind vs in
-      Again-then d high high ((kind, vs), high, token.Punctuation punctuation.Semicolon ∷ rest) (tree.Fields kind vs, high, rest) _ _ (fields_again kind vs typed shape d rest) (omega arith)
-      (λ low. rw (expect_punctuation punctuation.Semicolon rest) (Again-done d high (tree.Fields kind vs, high, rest) _ low refl))
+      Complete-then d high high ((kind, vs), high, token.Punctuation punctuation.Semicolon ∷ rest) (tree.Fields kind vs, high, rest) _ _ (fields_completeness kind vs typed shape d rest) (omega arith)
+      (λ low. rw (expect_punctuation punctuation.Semicolon rest) (Complete-done d high (tree.Fields kind vs, high, rest) _ low refl))
 
 -- the statements of a member are read again
-abbrev pub InsideAgain : tree.Member → Type 0
-InsideAgain (tree.Fields kind vs) = Unit {0}
-InsideAgain (tree.Init block) = BlockAgain block
-InsideAgain (tree.Prework declared block) = BlockAgain block
-InsideAgain (tree.Work declared block) = BlockAgain block
+abbrev pub InsideCompleteness : tree.Member → Type 0
+InsideCompleteness (tree.Fields kind vs) = Unit {0}
+InsideCompleteness (tree.Init block) = BlockCompleteness block
+InsideCompleteness (tree.Prework declared block) = BlockCompleteness block
+InsideCompleteness (tree.Work declared block) = BlockCompleteness block
 
 -- a member is read again at each limit
-pub record MemberAgain (m : tree.Member) : Type 0 where
+pub record MemberCompleteness (m : tree.Member) : Type 0 where
   pub shape : IsMember m
-  pub reads : (d : ℕ) (rest : List TokenKind) → Again d (member_height m) (m, member_height m, rest) (member d (statement d) (member_spelled m rest))
+  pub reads : (d : ℕ) (rest : List TokenKind) → Complete d (member_height m) (m, member_height m, rest) (member d (statement d) (member_spelled m rest))
 
-member_reads : (m : tree.Member) → IsMember m → InsideAgain m → (d : ℕ) (rest : List TokenKind) → Again d (member_height m) (m, member_height m, rest) (member d (statement d) (member_spelled m rest))
+member_reads : (m : tree.Member) → IsMember m → InsideCompleteness m → (d : ℕ) (rest : List TokenKind) → Complete d (member_height m) (m, member_height m, rest) (member d (statement d) (member_spelled m rest))
 unfolding member
-member_reads (tree.Fields tree.Boolean vs) shape inside d rest = field_again d tree.Boolean vs shape.0 shape.1 rest
-member_reads (tree.Fields tree.Int vs) shape inside d rest = field_again d tree.Int vs shape.0 shape.1 rest
-member_reads (tree.Fields (tree.Array size) vs) shape inside d rest = field_again d (tree.Array size) vs shape.0 shape.1 rest
-member_reads (tree.Init block) shape inside d rest = init_again d block inside rest
-member_reads (tree.Prework declared block) shape inside d rest = phase_member_again d tree.Prework declared block shape.0 inside rest
-member_reads (tree.Work declared block) shape inside d rest = phase_member_again d tree.Work declared block shape.0 inside rest
+member_reads (tree.Fields tree.Boolean vs) shape inside d rest = field_completeness d tree.Boolean vs shape.0 shape.1 rest
+member_reads (tree.Fields tree.Int vs) shape inside d rest = field_completeness d tree.Int vs shape.0 shape.1 rest
+member_reads (tree.Fields (tree.Array size) vs) shape inside d rest = field_completeness d (tree.Array size) vs shape.0 shape.1 rest
+member_reads (tree.Init block) shape inside d rest = init_completeness d block inside rest
+member_reads (tree.Prework declared block) shape inside d rest = phase_member_completeness d tree.Prework declared block shape.0 inside rest
+member_reads (tree.Work declared block) shape inside d rest = phase_member_completeness d tree.Work declared block shape.0 inside rest
 
-pub member_again : (m : tree.Member) → IsMember m → InsideAgain m → MemberAgain m
-member_again m shape inside = record { shape = shape; reads = member_reads m shape inside }
+pub member_completeness : (m : tree.Member) → IsMember m → InsideCompleteness m → MemberCompleteness m
+member_completeness m shape inside = record { shape = shape; reads = member_reads m shape inside }
 
 no_brace_member : (m : tree.Member) (rest : List TokenKind) → brace (member_spelled m rest) ≡ None
 unfolding brace is_punctuation
@@ -231,27 +231,27 @@ module _ (d : ℕ) where
   abbrev Anything : List TokenKind → Type 0
   Anything rest = Unit {0}
 
-  abbrev IsOneAgain : tree.Member → Type 0
-  IsOneAgain m = TallAgain member_spelled member_height (member d (statement d)) brace Anything d m
+  abbrev IsOneCompleteness : tree.Member → Type 0
+  IsOneCompleteness m = TallCompleteness member_spelled member_height (member d (statement d)) brace Anything d m
 
-  one_again : (m : tree.Member) → MemberAgain m → IsOneAgain m
-  one_again m again = record {
-    reads = λ rest any. again.reads d rest;
+  one_completeness : (m : tree.Member) → MemberCompleteness m → IsOneCompleteness m
+  one_completeness m complete = record {
+    reads = λ rest any. complete.reads d rest;
     stays = λ rest. no_brace_member m rest;
     follows = λ rest. tt;
-    long = λ rest. omega (arith, member_length m again.shape rest);
+    long = λ rest. omega (arith, member_length m complete.shape rest);
   }
 
-  all_again : (items : List tree.Member) → AllByRecursion MemberAgain items → AllByRecursion IsOneAgain items
-  all_again [] again = tt
-  all_again (m ∷ others) again = (one_again m again.0, all_again others again.1)
+  all_completeness : (items : List tree.Member) → AllByRecursion MemberCompleteness items → AllByRecursion IsOneCompleteness items
+  all_completeness [] complete = tt
+  all_completeness (m ∷ others) complete = (one_completeness m complete.0, all_completeness others complete.1)
 
-  pub members_again : (items : List tree.Member) → AllByRecursion MemberAgain items → (rest : List TokenKind)
-      → Again d (highest member_height items) ((items, highest member_height items), rest) (members d (statement d) (each_spelled member_spelled items (token.Punctuation punctuation.CloseBrace ∷ rest)))
+  pub members_completeness : (items : List tree.Member) → AllByRecursion MemberCompleteness items → (rest : List TokenKind)
+      → Complete d (highest member_height items) ((items, highest member_height items), rest) (members d (statement d) (each_spelled member_spelled items (token.Punctuation punctuation.CloseBrace ∷ rest)))
   unfolding members
-  members_again items again rest =
+  members_completeness items complete rest =
       let end : List TokenKind = token.Punctuation punctuation.CloseBrace ∷ rest in
       let none : max 0 (highest member_height items) ≡ highest member_height items = omega arith in
-      let read = each_taller_again member_spelled member_height (member d (statement d)) brace Anything d items (all_again items again) [] 0 (length (each_spelled member_spelled items end)) end rest
+      let read = each_taller_completeness member_spelled member_height (member d (statement d)) brace Anything d items (all_completeness items complete) [] 0 (length (each_spelled member_spelled items end) + 1) end rest
       (brace_closing d rest) tt (omega arith) in
       rw none at read

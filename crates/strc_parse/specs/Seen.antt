@@ -28,9 +28,9 @@ abbrev pub block_view : Vec Stmt → tree.Stmts
 block_view block = row (map stmt_view block.items)
 
 -- the condition and the step of a `for`, and the height of the higher
-abbrev pub seen_behind_first : Option Expr × Stmt × ℕ × Bor (List Token)
+abbrev pub seen_after_first : Option Expr × Stmt × ℕ × Bor (List Token)
     → (Option tree.Expr × tree.Stmt) × ℕ × List TokenKind
-seen_behind_first x = ((option_map expr_view x.0, stmt_view x.1), x.2, kinds x.3.now)
+seen_after_first x = ((option_map expr_view x.0, stmt_view x.1), x.2, kinds x.3.now)
 
 -- whether a rate of this kind is among these
 abbrev pub seen_rate : RateKind → List RateTree → Bool

@@ -187,8 +187,8 @@ impl<F: Fn(Global, usize, &[Token]) -> Result<(Stmt, usize, &[Token]), ReadError
     }
 
     /// A stream without a name: after its type.
-    #[tactic(auto, unfolding(strc_grammar::specs::Streams::behind_type))]
-    fn behind_type<'t>(
+    #[tactic(auto, unfolding(strc_grammar::specs::Streams::after_type))]
+    fn after_type<'t>(
         &self,
         types: StreamType,
         tokens: &'t [Token],
@@ -196,7 +196,7 @@ impl<F: Fn(Global, usize, &[Token]) -> Result<(Stmt, usize, &[Token]), ReadError
         requires deep { 0 < self.now.depth }
         requires reads { ReadsStatements (self.now.depth - 1)
             (F.pre self.now.reader) (F.post self.now.reader) }
-        ensures { Gives (parsed child_view) result (spec.behind_type (self.now.depth - 1)
+        ensures { Gives (parsed child_view) result (spec.after_type (self.now.depth - 1)
             (spec.statement (self.now.depth - 1)) types (kinds tokens.now)) }
     {
         if is_keyword(Keyword::Filter, tokens) {
@@ -216,12 +216,12 @@ impl<F: Fn(Global, usize, &[Token]) -> Result<(Stmt, usize, &[Token]), ReadError
             (spec.statement (self.now.depth - 1)) (kinds tokens.now)) }
     {
         let (types, rest) = stream_type(tokens)?;
-        self.behind_type(types, rest)
+        self.after_type(types, rest)
     }
 
     /// A child that begins with this keyword.
-    #[tactic(auto, unfolding(strc_grammar::specs::Streams::worded_child))]
-    fn worded_child<'t>(
+    #[tactic(auto, unfolding(strc_grammar::specs::Streams::keyword_child))]
+    fn keyword_child<'t>(
         &self,
         keyword: Keyword,
         tokens: &'t [Token],
@@ -229,7 +229,7 @@ impl<F: Fn(Global, usize, &[Token]) -> Result<(Stmt, usize, &[Token]), ReadError
         requires deep { 0 < self.now.depth }
         requires reads { ReadsStatements (self.now.depth - 1)
             (F.pre self.now.reader) (F.post self.now.reader) }
-        ensures { Gives (parsed child_view) result (spec.worded_child (self.now.depth - 1)
+        ensures { Gives (parsed child_view) result (spec.keyword_child (self.now.depth - 1)
             (spec.statement (self.now.depth - 1)) keyword (kinds tokens.now)) }
     {
         match keyword {
@@ -255,7 +255,7 @@ impl<F: Fn(Global, usize, &[Token]) -> Result<(Stmt, usize, &[Token]), ReadError
             Some(TokenKind::Name(name)) => {
                 named_child(self.alloc, self.depth - 1, name.copy()?, tail(tokens))
             }
-            Some(TokenKind::Keyword(keyword)) => self.worded_child(*keyword, tokens),
+            Some(TokenKind::Keyword(keyword)) => self.keyword_child(*keyword, tokens),
             _ => Err(unexpected(tokens)),
         }
     }

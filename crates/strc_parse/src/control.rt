@@ -145,14 +145,14 @@ impl<F: Fn(Global, usize, &[Token]) -> Result<(Stmt, usize, &[Token]), ReadError
     {
         match peek(tokens) {
             Some(TokenKind::Punctuation(Punctuation::OpenBrace)) => self.block(tail(tokens)),
-            Some(TokenKind::Keyword(keyword)) => self.worded_statement(*keyword, tokens),
+            Some(TokenKind::Keyword(keyword)) => self.keyword_statement(*keyword, tokens),
             _ => ended(self.alloc, self.depth, tokens),
         }
     }
 
     /// A statement that begins with this keyword.
-    #[tactic(auto, unfolding(strc_grammar::specs::Streams::worded_statement))]
-    fn worded_statement<'t>(
+    #[tactic(auto, unfolding(strc_grammar::specs::Streams::keyword_statement))]
+    fn keyword_statement<'t>(
         &self,
         keyword: Keyword,
         tokens: &'t [Token],
@@ -161,7 +161,7 @@ impl<F: Fn(Global, usize, &[Token]) -> Result<(Stmt, usize, &[Token]), ReadError
         requires reads { ReadsStatements (self.now.depth - 1)
             (F.pre self.now.reader) (F.post self.now.reader) }
         ensures { Gives (parsed stmt_view) result
-            (spec.worded_statement self.now.depth (spec.statement (self.now.depth - 1)) keyword
+            (spec.keyword_statement self.now.depth (spec.statement (self.now.depth - 1)) keyword
             (kinds tokens.now)) }
     {
         match keyword {

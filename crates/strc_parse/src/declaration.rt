@@ -9,15 +9,12 @@ ghost use Rattle.strc_grammar.specs.Reading.{Gives};
 
 use crate::control::{members, statements};
 use std::alloc::Global;
-use strc_grammar::ReadError;
+use strc_grammar::{HEIGHT_LIMIT, ReadError};
 use strc_lex::token::{Keyword, Name, Punctuation, Token};
 use strc_rules::lookahead::{expect, is_keyword, name, tail, unexpected};
 use strc_rules::parameter::parameters;
 use strc_rules::stream_type::{composite_kind, stream_type};
 use strc_syntax::tree::{CompositeKind, CompositeTree, Decl, FilterTree, StreamTree, StreamType};
-
-/// The greatest height of a statement or an expression.
-const HEIGHT_LIMIT: usize = 256;
 
 /// The name of a stream, its parameters and the brace that opens it.
 #[tactic(auto, unfolding(strc_grammar::specs::Streams::heading))]
@@ -105,13 +102,10 @@ pub(crate) fn declarations(alloc: Global, tokens: &[Token]) -> Result<Vec<Decl>,
 {
     let mut found = Vec::new(alloc);
     let mut rest = tokens;
-    for _turn in 0..tokens.len() + 1 {
-        if rest.is_empty() {
-            return Ok(found);
-        }
+    while !rest.is_empty() {
         let (next, after) = declaration(alloc, rest)?;
         found.push(next)?;
         rest = after;
     }
-    Err(unexpected(rest))
+    Ok(found)
 }

@@ -210,15 +210,12 @@ impl<F: Fn(Global, usize, &[Token]) -> Result<(Stmt, usize, &[Token]), ReadError
         let mut found = Vec::new(self.alloc);
         let mut highest = 0;
         let mut rest = tokens;
-        for _turn in 0..tokens.len() {
-            if is_punctuation(Punctuation::CloseBrace, rest) {
-                return Ok((found, highest, tail(rest)));
-            }
+        while !is_punctuation(Punctuation::CloseBrace, rest) {
             let (next, height, after) = self.member(rest)?;
             found.push(next)?;
             highest = highest.max(height);
             rest = after;
         }
-        Err(unexpected(rest))
+        Ok((found, highest, tail(rest)))
     }
 }

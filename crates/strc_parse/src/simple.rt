@@ -5,7 +5,7 @@ ghost use Rattle.strc_syntax.specs.View.{expr_view, stmt_view};
 ghost use Rattle.strc_grammar.specs.Grammar.{kinds};
 ghost use Rattle.std.specs.Option.{option_map};
 ghost use Rattle.strc_rules.specs.Seen.{parsed};
-ghost use Rattle.strc_parse.specs.Seen.{heading_view, seen_behind_first};
+ghost use Rattle.strc_parse.specs.Seen.{heading_view, seen_after_first};
 ghost use Rattle.strc_grammar.specs.Reading as spec;
 ghost use Rattle.strc_grammar.specs.Reading.{Gives};
 
@@ -262,14 +262,14 @@ fn last_part(
 }
 
 /// `condition; step)`, and the height of the higher.
-#[tactic(auto, unfolding(strc_grammar::specs::Reading::behind_first))]
-fn behind_first(
+#[tactic(auto, unfolding(strc_grammar::specs::Reading::after_first))]
+fn after_first(
     alloc: Global,
     depth: usize,
     tokens: &[Token],
 ) -> Result<(Option<Expr>, Stmt, usize, &[Token]), ReadError>
     requires { 0 < depth }
-    ensures { Gives seen_behind_first result (spec.behind_first depth (kinds tokens.now)) }
+    ensures { Gives seen_after_first result (spec.after_first depth (kinds tokens.now)) }
 {
     let (condition, height, rest) = condition(alloc, depth, tokens)?;
     let (condition, step) = beside(condition, last_part(alloc, depth, rest))?;
@@ -297,12 +297,12 @@ pub(crate) fn for_heading(
 {
     let opened = expect(Punctuation::OpenParen, tokens)?;
     let (first, height, rest) = ended(alloc, depth, opened)?;
-    let (first, behind) = beside(first, behind_first(alloc, depth, rest))?;
-    let (condition, step, behind_height, rest) = behind;
+    let (first, after) = beside(first, after_first(alloc, depth, rest))?;
+    let (condition, step, after_height, rest) = after;
     let heading = ForHeading {
         first,
         condition,
         step,
     };
-    Ok((heading, height.max(behind_height), rest))
+    Ok((heading, height.max(after_height), rest))
 }

@@ -70,15 +70,18 @@ impl<
         match peek(tokens) {
             Some(TokenKind::Number(value)) => Ok((Expr::Number(*value), 1, tail(tokens))),
             Some(TokenKind::Name(name)) => self.after_name(name.copy()?, tail(tokens)),
-            Some(TokenKind::Keyword(keyword)) => self.worded(*keyword, tokens),
-            Some(TokenKind::Punctuation(punctuation)) => self.marked(*punctuation, tokens),
+            Some(TokenKind::Keyword(keyword)) => self.keyword_operand(*keyword, tokens),
+            Some(TokenKind::Punctuation(punctuation)) => self.punctuation_operand(
+                *punctuation,
+                tokens,
+            ),
             Some(TokenKind::StringLiteral(_)) | None => Err(unexpected(tokens)),
         }
     }
 
     /// An operand that begins with this keyword.
-    #[tactic(auto, unfolding(strc_grammar::specs::Reading::worded))]
-    fn worded<'t>(
+    #[tactic(auto, unfolding(strc_grammar::specs::Reading::keyword_operand))]
+    fn keyword_operand<'t>(
         &self,
         keyword: Keyword,
         tokens: &'t [Token],
@@ -87,7 +90,7 @@ impl<
         requires reads { ReadsExpressions (self.now.depth - 1)
             (F.pre self.now.reader) (F.post self.now.reader) }
         ensures { Gives (parsed expr_view) result
-            (spec.worded self.now.depth (spec.expression (self.now.depth - 1)) keyword
+            (spec.keyword_operand self.now.depth (spec.expression (self.now.depth - 1)) keyword
             (kinds tokens.now)) }
     {
         match keyword {
@@ -100,8 +103,8 @@ impl<
     }
 
     /// An operand that begins with this punctuation mark.
-    #[tactic(auto, unfolding(strc_grammar::specs::Reading::marked))]
-    fn marked<'t>(
+    #[tactic(auto, unfolding(strc_grammar::specs::Reading::punctuation_operand))]
+    fn punctuation_operand<'t>(
         &self,
         punctuation: Punctuation,
         tokens: &'t [Token],
@@ -110,7 +113,7 @@ impl<
         requires reads { ReadsExpressions (self.now.depth - 1)
             (F.pre self.now.reader) (F.post self.now.reader) }
         ensures { Gives (parsed expr_view) result
-            (spec.marked self.now.depth (spec.expression (self.now.depth - 1)) punctuation
+            (spec.punctuation_operand self.now.depth (spec.expression (self.now.depth - 1)) punctuation
             (kinds tokens.now)) }
     {
         match punctuation {
