@@ -13,6 +13,7 @@ use strc_grammar::{HEIGHT_LIMIT, ReadError};
 use strc_lex::token::{Keyword, Name, Punctuation, Token};
 use strc_rules::lookahead::{expect, is_keyword, name, tail, unexpected};
 use strc_rules::parameter::parameters;
+use strc_rules::parsed::Parsed;
 use strc_rules::stream_type::{composite_kind, stream_type};
 use strc_syntax::tree::{CompositeKind, CompositeTree, Decl, FilterTree, StreamTree, StreamType};
 
@@ -27,7 +28,11 @@ fn heading(
     let (called, rest) = name(tokens)?;
     let (parameters, rest) = parameters(alloc, rest)?;
     let rest = expect(Punctuation::OpenBrace, rest)?;
-    Ok((called, parameters, rest))
+    Ok(Parsed {
+        value: called,
+        height: parameters,
+        rest,
+    })
 }
 
 /// A filter: after its keyword.
@@ -35,8 +40,16 @@ fn heading(
 fn filter(alloc: Global, types: StreamType, tokens: &[Token]) -> Result<(Decl, &[Token]), ReadError>
     ensures { Gives seen_declaration result (spec.filter height_limit types (kinds tokens.now)) }
 {
-    let (name, parameters, rest) = heading(alloc, tokens)?;
-    let (members, _, rest) = members(alloc, HEIGHT_LIMIT, rest)?;
+    let Parsed {
+        value: name,
+        height: parameters,
+        rest,
+    } = heading(alloc, tokens)?;
+    let Parsed {
+        value: members,
+        height: _,
+        rest,
+    } = members(alloc, HEIGHT_LIMIT, rest)?;
     let stream = StreamTree::Filter(FilterTree {
         input: types.input,
         output: types.output,
@@ -61,8 +74,16 @@ fn composite(
     ensures { Gives seen_declaration result
         (spec.composite height_limit types kind (kinds tokens.now)) }
 {
-    let (name, parameters, rest) = heading(alloc, tokens)?;
-    let (block, _, rest) = statements(alloc, HEIGHT_LIMIT, rest)?;
+    let Parsed {
+        value: name,
+        height: parameters,
+        rest,
+    } = heading(alloc, tokens)?;
+    let Parsed {
+        value: block,
+        height: _,
+        rest,
+    } = statements(alloc, HEIGHT_LIMIT, rest)?;
     let stream = StreamTree::Composite(CompositeTree { types, kind, block });
     let declared = Decl {
         name,

@@ -10,6 +10,7 @@ ghost use Rattle.strc_grammar.specs.Reading.{Gives};
 use crate::expression::{LOWEST_PRECEDENCE, expression};
 use crate::held::before;
 use crate::lookahead::{expect, is_punctuation, tail};
+use crate::parsed::Parsed;
 use std::alloc::Global;
 use strc_grammar::ReadError;
 use strc_lex::token::{Punctuation, Token};
@@ -23,7 +24,7 @@ fn more_arguments<'t>(
     first: Vec<Expr>,
     height: usize,
     tokens: &'t [Token],
-) -> Result<(Vec<Expr>, usize, &'t [Token]), ReadError>
+) -> Result<Parsed<'t, Vec<Expr>>, ReadError>
     ensures { Gives (parsed_all expr_view) result
         (spec.more_arguments depth (map expr_view first.items, height) (kinds tokens.entry.now)) }
 {
@@ -31,12 +32,20 @@ fn more_arguments<'t>(
     let mut highest = height;
     let mut rest = tokens;
     while is_punctuation(Punctuation::Comma, rest) {
-        let (next, height, after) = expression(alloc, depth, LOWEST_PRECEDENCE, tail(rest))?;
+        let Parsed {
+            value: next,
+            height,
+            rest: after,
+        } = expression(alloc, depth, LOWEST_PRECEDENCE, tail(rest))?;
         found.push(next)?;
         highest = highest.max(height);
         rest = after;
     }
-    Ok((found, highest, rest))
+    Ok(Parsed {
+        value: found,
+        height: highest,
+        rest,
+    })
 }
 
 /// Expressions with commas between them, or none before the bracket that closes them, and the
@@ -46,14 +55,22 @@ fn listed_arguments(
     alloc: Global,
     depth: usize,
     tokens: &[Token],
-) -> Result<(Vec<Expr>, usize, &[Token]), ReadError>
+) -> Result<Parsed<'_, Vec<Expr>>, ReadError>
     ensures { Gives (parsed_all expr_view) result (spec.listed_arguments depth (kinds tokens.now)) }
 {
     let mut found = Vec::new(alloc);
     if is_punctuation(Punctuation::CloseParen, tokens) {
-        return Ok((found, 0, tokens));
+        return Ok(Parsed {
+            value: found,
+            height: 0,
+            rest: tokens,
+        });
     }
-    let (first, height, rest) = expression(alloc, depth, LOWEST_PRECEDENCE, tokens)?;
+    let Parsed {
+        value: first,
+        height,
+        rest,
+    } = expression(alloc, depth, LOWEST_PRECEDENCE, tokens)?;
     found.push(first)?;
     more_arguments(alloc, depth, found, height, rest)
 }
@@ -65,15 +82,27 @@ pub fn arguments(
     alloc: Global,
     depth: usize,
     tokens: &[Token],
-) -> Result<(Option<Vec<Expr>>, usize, &[Token]), ReadError>
+) -> Result<Parsed<'_, Option<Vec<Expr>>>, ReadError>
     ensures { Gives (parsed weights_view) result (spec.arguments depth (kinds tokens.now)) }
 {
     if !is_punctuation(Punctuation::OpenParen, tokens) {
-        return Ok((None, 0, tokens));
+        return Ok(Parsed {
+            value: None,
+            height: 0,
+            rest: tokens,
+        });
     }
-    let (listed, height, rest) = listed_arguments(alloc, depth, tail(tokens))?;
+    let Parsed {
+        value: listed,
+        height,
+        rest,
+    } = listed_arguments(alloc, depth, tail(tokens))?;
     let (listed, rest) = before(Punctuation::CloseParen, listed, rest)?;
-    Ok((Some(listed), height, rest))
+    Ok(Parsed {
+        value: Some(listed),
+        height,
+        rest,
+    })
 }
 
 /// `()`, if it comes next.

@@ -13,6 +13,7 @@ use crate::expression::ExpressionRules;
 use crate::held::raise;
 use crate::lookahead::{expect, is_punctuation, name, peek, tail, unexpected};
 use crate::operator::step_after;
+use crate::parsed::Parsed;
 use std::alloc::Global;
 use strc_grammar::ReadError;
 use strc_lex::token::{Keyword, Name, Punctuation, Token, TokenKind};
@@ -28,38 +29,47 @@ fn after_place<'t>(
     index: Option<Expr>,
     height: usize,
     tokens: &'t [Token],
-) -> Result<(Expr, usize, &'t [Token]), ReadError>
+) -> Result<Parsed<'t, Expr>, ReadError>
     ensures { Gives (parsed expr_view) result
         (spec.after_place depth name (option_map expr_view index) height (kinds tokens.now)) }
 {
     match step_after(tokens) {
-        None => Ok((read_of(alloc, name, index)?, height, tokens)),
+        None => Ok(Parsed {
+            value: read_of(alloc, name, index)?,
+            height,
+            rest: tokens,
+        }),
         Some(operator) => {
             let (place, height) = raise(depth, (name, index), height)?;
             let (name, index) = place;
-            Ok((step_of(alloc, operator, name, index)?, height, tail(tokens)))
+            Ok(Parsed {
+                value: step_of(alloc, operator, name, index)?,
+                height,
+                rest: tail(tokens),
+            })
         }
     }
 }
 
 /// `pop()`: after the keyword.
 #[tactic(auto, unfolding(strc_grammar::specs::Reading::pop_brackets))]
-fn pop_brackets(tokens: &[Token]) -> Result<(Expr, usize, &[Token]), ReadError>
+fn pop_brackets(tokens: &[Token]) -> Result<Parsed<'_, Expr>, ReadError>
     ensures { Gives (parsed expr_view) result (spec.pop_brackets (kinds tokens.now)) }
 {
     let inside = expect(Punctuation::OpenParen, tokens)?;
     let rest = expect(Punctuation::CloseParen, inside)?;
-    Ok((Expr::Pop, 1, rest))
+    Ok(Parsed {
+        value: Expr::Pop,
+        height: 1,
+        rest,
+    })
 }
 
-impl<
-    F: Fn(Global, usize, usize, &[Token]) -> Result<(Expr, usize, &[Token]), ReadError>,
-> ExpressionRules<F> {
+impl<F: Fn(Global, usize, usize, &[Token]) -> Result<Parsed<'_, Expr>, ReadError>> ExpressionRules<
+    F,
+> {
     #[tactic(auto, unfolding(strc_grammar::specs::Reading::operand))]
-    pub(crate) fn operand<'t>(
-        &self,
-        tokens: &'t [Token],
-    ) -> Result<(Expr, usize, &'t [Token]), ReadError>
+    pub(crate) fn operand<'t>(&self, tokens: &'t [Token]) -> Result<Parsed<'t, Expr>, ReadError>
         requires deep { 0 < self.now.depth }
         requires reads { ReadsExpressions (self.now.depth - 1)
             (F.pre self.now.reader) (F.post self.now.reader) }
@@ -68,7 +78,11 @@ impl<
             (kinds tokens.now)) }
     {
         match peek(tokens) {
-            Some(TokenKind::Number(value)) => Ok((Expr::Number(*value), 1, tail(tokens))),
+            Some(TokenKind::Number(value)) => Ok(Parsed {
+                value: Expr::Number(*value),
+                height: 1,
+                rest: tail(tokens),
+            }),
             Some(TokenKind::Name(name)) => self.after_name(name.copy()?, tail(tokens)),
             Some(TokenKind::Keyword(keyword)) => self.keyword_operand(*keyword, tokens),
             Some(TokenKind::Punctuation(punctuation)) => self.punctuation_operand(
@@ -85,7 +99,7 @@ impl<
         &self,
         keyword: Keyword,
         tokens: &'t [Token],
-    ) -> Result<(Expr, usize, &'t [Token]), ReadError>
+    ) -> Result<Parsed<'t, Expr>, ReadError>
         requires deep { 0 < self.now.depth }
         requires reads { ReadsExpressions (self.now.depth - 1)
             (F.pre self.now.reader) (F.post self.now.reader) }
@@ -94,8 +108,16 @@ impl<
             (kinds tokens.now)) }
     {
         match keyword {
-            Keyword::True => Ok((Expr::Truth(true), 1, tail(tokens))),
-            Keyword::False => Ok((Expr::Truth(false), 1, tail(tokens))),
+            Keyword::True => Ok(Parsed {
+                value: Expr::Truth(true),
+                height: 1,
+                rest: tail(tokens),
+            }),
+            Keyword::False => Ok(Parsed {
+                value: Expr::Truth(false),
+                height: 1,
+                rest: tail(tokens),
+            }),
             Keyword::Pop => pop_brackets(tail(tokens)),
             Keyword::Peek => self.peek_brackets(tail(tokens)),
             _ => Err(unexpected(tokens)),
@@ -108,7 +130,7 @@ impl<
         &self,
         punctuation: Punctuation,
         tokens: &'t [Token],
-    ) -> Result<(Expr, usize, &'t [Token]), ReadError>
+    ) -> Result<Parsed<'t, Expr>, ReadError>
         requires deep { 0 < self.now.depth }
         requires reads { ReadsExpressions (self.now.depth - 1)
             (F.pre self.now.reader) (F.post self.now.reader) }
@@ -129,10 +151,7 @@ impl<
 
     /// `[i]`, if it comes next, and the height of what has the index: after the name.
     #[tactic(auto, unfolding(strc_grammar::specs::Reading::index))]
-    fn index<'t>(
-        &self,
-        tokens: &'t [Token],
-    ) -> Result<(Option<Expr>, usize, &'t [Token]), ReadError>
+    fn index<'t>(&self, tokens: &'t [Token]) -> Result<Parsed<'t, Option<Expr>>, ReadError>
         requires deep { 0 < self.now.depth }
         requires reads { ReadsExpressions (self.now.depth - 1)
             (F.pre self.now.reader) (F.post self.now.reader) }
@@ -140,20 +159,28 @@ impl<
             (spec.index self.now.depth (spec.expression (self.now.depth - 1)) (kinds tokens.now)) }
     {
         if !is_punctuation(Punctuation::OpenBracket, tokens) {
-            return Ok((None, 1, tokens));
+            return Ok(Parsed {
+                value: None,
+                height: 1,
+                rest: tokens,
+            });
         }
-        let (index, height, rest) = self.closed(Punctuation::CloseBracket, tail(tokens))?;
+        let Parsed {
+            value: index,
+            height,
+            rest,
+        } = self.closed(Punctuation::CloseBracket, tail(tokens))?;
         let (index, height) = raise(self.depth, index, height)?;
-        Ok((Some(index), height, rest))
+        Ok(Parsed {
+            value: Some(index),
+            height,
+            rest,
+        })
     }
 
     /// A variable or an element, and the step after it: after the name.
     #[tactic(auto, unfolding(strc_grammar::specs::Reading::after_name))]
-    fn after_name<'t>(
-        &self,
-        name: Name,
-        tokens: &'t [Token],
-    ) -> Result<(Expr, usize, &'t [Token]), ReadError>
+    fn after_name<'t>(&self, name: Name, tokens: &'t [Token]) -> Result<Parsed<'t, Expr>, ReadError>
         requires deep { 0 < self.now.depth }
         requires reads { ReadsExpressions (self.now.depth - 1)
             (F.pre self.now.reader) (F.post self.now.reader) }
@@ -161,7 +188,11 @@ impl<
             (spec.after_name self.now.depth (spec.expression (self.now.depth - 1)) name
             (kinds tokens.now)) }
     {
-        let (index, height, rest) = self.index(tokens)?;
+        let Parsed {
+            value: index,
+            height,
+            rest,
+        } = self.index(tokens)?;
         after_place(self.alloc, self.depth, name, index, height, rest)
     }
 
@@ -171,7 +202,7 @@ impl<
         &self,
         operator: StepOperator,
         tokens: &'t [Token],
-    ) -> Result<(Expr, usize, &'t [Token]), ReadError>
+    ) -> Result<Parsed<'t, Expr>, ReadError>
         requires deep { 0 < self.now.depth }
         requires reads { ReadsExpressions (self.now.depth - 1)
             (F.pre self.now.reader) (F.post self.now.reader) }
@@ -180,18 +211,23 @@ impl<
             (kinds tokens.now)) }
     {
         let (name, rest) = name(tokens)?;
-        let (index, height, rest) = self.index(rest)?;
+        let Parsed {
+            value: index,
+            height,
+            rest,
+        } = self.index(rest)?;
         let (place, height) = raise(self.depth, (name, index), height)?;
         let (name, index) = place;
-        Ok((step_of(self.alloc, operator, name, index)?, height, rest))
+        Ok(Parsed {
+            value: step_of(self.alloc, operator, name, index)?,
+            height,
+            rest,
+        })
     }
 
     /// `peek(i)`: after the keyword.
     #[tactic(auto, unfolding(strc_grammar::specs::Reading::peek_brackets))]
-    fn peek_brackets<'t>(
-        &self,
-        tokens: &'t [Token],
-    ) -> Result<(Expr, usize, &'t [Token]), ReadError>
+    fn peek_brackets<'t>(&self, tokens: &'t [Token]) -> Result<Parsed<'t, Expr>, ReadError>
         requires deep { 0 < self.now.depth }
         requires reads { ReadsExpressions (self.now.depth - 1)
             (F.pre self.now.reader) (F.post self.now.reader) }
@@ -200,23 +236,39 @@ impl<
             (kinds tokens.now)) }
     {
         let inside = expect(Punctuation::OpenParen, tokens)?;
-        let (index, height, rest) = self.closed(Punctuation::CloseParen, inside)?;
+        let Parsed {
+            value: index,
+            height,
+            rest,
+        } = self.closed(Punctuation::CloseParen, inside)?;
         let (index, height) = raise(self.depth, index, height)?;
-        Ok((peek_of(self.alloc, index)?, height, rest))
+        Ok(Parsed {
+            value: peek_of(self.alloc, index)?,
+            height,
+            rest,
+        })
     }
 
     /// `(e)`: after the bracket.
     #[tactic(auto, unfolding(strc_grammar::specs::Reading::group))]
-    fn group<'t>(&self, tokens: &'t [Token]) -> Result<(Expr, usize, &'t [Token]), ReadError>
+    fn group<'t>(&self, tokens: &'t [Token]) -> Result<Parsed<'t, Expr>, ReadError>
         requires deep { 0 < self.now.depth }
         requires reads { ReadsExpressions (self.now.depth - 1)
             (F.pre self.now.reader) (F.post self.now.reader) }
         ensures { Gives (parsed expr_view) result
             (spec.group self.now.depth (spec.expression (self.now.depth - 1)) (kinds tokens.now)) }
     {
-        let (inner, height, rest) = self.closed(Punctuation::CloseParen, tokens)?;
+        let Parsed {
+            value: inner,
+            height,
+            rest,
+        } = self.closed(Punctuation::CloseParen, tokens)?;
         let (inner, height) = raise(self.depth, inner, height)?;
-        Ok((group_of(self.alloc, inner)?, height, rest))
+        Ok(Parsed {
+            value: group_of(self.alloc, inner)?,
+            height,
+            rest,
+        })
     }
 
     /// `-e`: after the punctuation.
@@ -225,7 +277,7 @@ impl<
         &self,
         operator: UnaryOperator,
         tokens: &'t [Token],
-    ) -> Result<(Expr, usize, &'t [Token]), ReadError>
+    ) -> Result<Parsed<'t, Expr>, ReadError>
         requires deep { 0 < self.now.depth }
         requires reads { ReadsExpressions (self.now.depth - 1)
             (F.pre self.now.reader) (F.post self.now.reader) }
@@ -233,8 +285,16 @@ impl<
             (spec.sign self.now.depth (spec.expression (self.now.depth - 1)) operator
             (kinds tokens.now)) }
     {
-        let (inner, height, rest) = self.below(0, tokens)?;
+        let Parsed {
+            value: inner,
+            height,
+            rest,
+        } = self.below(0, tokens)?;
         let (inner, height) = raise(self.depth, inner, height)?;
-        Ok((unary_of(self.alloc, operator, inner)?, height, rest))
+        Ok(Parsed {
+            value: unary_of(self.alloc, operator, inner)?,
+            height,
+            rest,
+        })
     }
 }

@@ -11,6 +11,7 @@ ghost use Rattle.strc_grammar.specs.Reading.{Gives};
 use crate::expression::{LOWEST_PRECEDENCE, closed, expression};
 use crate::held::beside;
 use crate::lookahead::{is_punctuation, name, peek, tail, unexpected};
+use crate::parsed::Parsed;
 use std::alloc::Global;
 use strc_grammar::ReadError;
 use strc_lex::token::{Keyword, Punctuation, Token, TokenKind};
@@ -22,14 +23,26 @@ fn initial(
     alloc: Global,
     depth: usize,
     tokens: &[Token],
-) -> Result<(Option<Expr>, usize, &[Token]), ReadError>
+) -> Result<Parsed<'_, Option<Expr>>, ReadError>
     ensures { Gives (parsed (option_map expr_view)) result (spec.initial depth (kinds tokens.now)) }
 {
     if !is_punctuation(Punctuation::Assign, tokens) {
-        return Ok((None, 0, tokens));
+        return Ok(Parsed {
+            value: None,
+            height: 0,
+            rest: tokens,
+        });
     }
-    let (value, height, rest) = expression(alloc, depth, LOWEST_PRECEDENCE, tail(tokens))?;
-    Ok((Some(value), height, rest))
+    let Parsed {
+        value,
+        height,
+        rest,
+    } = expression(alloc, depth, LOWEST_PRECEDENCE, tail(tokens))?;
+    Ok(Parsed {
+        value: Some(value),
+        height,
+        rest,
+    })
 }
 
 /// `x` or `x = e`, with the height of e or 0.
@@ -38,12 +51,20 @@ fn variable(
     alloc: Global,
     depth: usize,
     tokens: &[Token],
-) -> Result<(Variable, usize, &[Token]), ReadError>
+) -> Result<Parsed<'_, Variable>, ReadError>
     ensures { Gives (parsed variable_view) result (spec.variable depth (kinds tokens.now)) }
 {
     let (name, rest) = name(tokens)?;
-    let (initial, height, rest) = initial(alloc, depth, rest)?;
-    Ok((Variable { name, initial }, height, rest))
+    let Parsed {
+        value: initial,
+        height,
+        rest,
+    } = initial(alloc, depth, rest)?;
+    Ok(Parsed {
+        value: Variable { name, initial },
+        height,
+        rest,
+    })
 }
 
 /// Variables with commas between them, and the height of the highest initialiser or 0.
@@ -52,10 +73,14 @@ fn variables(
     alloc: Global,
     depth: usize,
     tokens: &[Token],
-) -> Result<(Vec<Variable>, usize, &[Token]), ReadError>
+) -> Result<Parsed<'_, Vec<Variable>>, ReadError>
     ensures { Gives (parsed_all variable_view) result (spec.variables depth (kinds tokens.now)) }
 {
-    let (first, height, rest) = variable(alloc, depth, tokens)?;
+    let Parsed {
+        value: first,
+        height,
+        rest,
+    } = variable(alloc, depth, tokens)?;
     let mut found = Vec::new(alloc);
     found.push(first)?;
     more_variables(alloc, depth, found, height, rest)
@@ -69,7 +94,7 @@ fn more_variables<'t>(
     first: Vec<Variable>,
     height: usize,
     tokens: &'t [Token],
-) -> Result<(Vec<Variable>, usize, &'t [Token]), ReadError>
+) -> Result<Parsed<'t, Vec<Variable>>, ReadError>
     ensures { Gives (parsed_all variable_view) result
         (spec.more_variables depth (map variable_view first.items, height)
         (kinds tokens.entry.now)) }
@@ -78,12 +103,20 @@ fn more_variables<'t>(
     let mut highest = height;
     let mut rest = tokens;
     while is_punctuation(Punctuation::Comma, rest) {
-        let (next, height, after) = variable(alloc, depth, tail(rest))?;
+        let Parsed {
+            value: next,
+            height,
+            rest: after,
+        } = variable(alloc, depth, tail(rest))?;
         found.push(next)?;
         highest = highest.max(height);
         rest = after;
     }
-    Ok((found, highest, rest))
+    Ok(Parsed {
+        value: found,
+        height: highest,
+        rest,
+    })
 }
 
 /// `int` or `int[n]`: after the keyword.
@@ -92,14 +125,26 @@ fn int_type(
     alloc: Global,
     depth: usize,
     tokens: &[Token],
-) -> Result<(VariableType, usize, &[Token]), ReadError>
+) -> Result<Parsed<'_, VariableType>, ReadError>
     ensures { Gives (parsed type_view) result (spec.int_type depth (kinds tokens.now)) }
 {
     if !is_punctuation(Punctuation::OpenBracket, tokens) {
-        return Ok((VariableType::Int, 0, tokens));
+        return Ok(Parsed {
+            value: VariableType::Int,
+            height: 0,
+            rest: tokens,
+        });
     }
-    let (length, height, rest) = closed(alloc, depth, Punctuation::CloseBracket, tail(tokens))?;
-    Ok((VariableType::Array(length), height, rest))
+    let Parsed {
+        value: length,
+        height,
+        rest,
+    } = closed(alloc, depth, Punctuation::CloseBracket, tail(tokens))?;
+    Ok(Parsed {
+        value: VariableType::Array(length),
+        height,
+        rest,
+    })
 }
 
 /// The type of variables, and the height of its length or 0.
@@ -108,11 +153,15 @@ fn variable_type(
     alloc: Global,
     depth: usize,
     tokens: &[Token],
-) -> Result<(VariableType, usize, &[Token]), ReadError>
+) -> Result<Parsed<'_, VariableType>, ReadError>
     ensures { Gives (parsed type_view) result (spec.variable_type depth (kinds tokens.now)) }
 {
     match peek(tokens) {
-        Some(TokenKind::Keyword(Keyword::Boolean)) => Ok((VariableType::Boolean, 0, tail(tokens))),
+        Some(TokenKind::Keyword(Keyword::Boolean)) => Ok(Parsed {
+            value: VariableType::Boolean,
+            height: 0,
+            rest: tail(tokens),
+        }),
         Some(TokenKind::Keyword(Keyword::Int)) => int_type(alloc, depth, tail(tokens)),
         _ => Err(unexpected(tokens)),
     }
@@ -124,11 +173,23 @@ pub fn declared(
     alloc: Global,
     depth: usize,
     tokens: &[Token],
-) -> Result<(Variables, usize, &[Token]), ReadError>
+) -> Result<Parsed<'_, Variables>, ReadError>
     ensures { Gives (parsed declared_view) result (spec.declared depth (kinds tokens.now)) }
 {
-    let (kind, height, rest) = variable_type(alloc, depth, tokens)?;
+    let Parsed {
+        value: kind,
+        height,
+        rest,
+    } = variable_type(alloc, depth, tokens)?;
     let (kind, variables) = beside(kind, variables(alloc, depth, rest))?;
-    let (variables, highest, rest) = variables;
-    Ok((Variables { kind, variables }, height.max(highest), rest))
+    let Parsed {
+        value: variables,
+        height: highest,
+        rest,
+    } = variables;
+    Ok(Parsed {
+        value: Variables { kind, variables },
+        height: height.max(highest),
+        rest,
+    })
 }
