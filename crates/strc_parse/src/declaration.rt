@@ -28,11 +28,7 @@ fn heading(
     let (called, rest) = name(tokens)?;
     let (parameters, rest) = parameters(alloc, rest)?;
     let rest = expect(Punctuation::OpenBrace, rest)?;
-    Ok(Parsed {
-        value: called,
-        height: parameters,
-        rest,
-    })
+    Ok((called, parameters, rest))
 }
 
 /// A filter: after its keyword.
@@ -40,11 +36,7 @@ fn heading(
 fn filter(alloc: Global, types: StreamType, tokens: &[Token]) -> Result<(Decl, &[Token]), ReadError>
     ensures { Gives seen_declaration result (spec.filter height_limit types (kinds tokens.now)) }
 {
-    let Parsed {
-        value: name,
-        height: parameters,
-        rest,
-    } = heading(alloc, tokens)?;
+    let (name, parameters, rest) = heading(alloc, tokens)?;
     let Parsed {
         value: members,
         height: _,
@@ -74,11 +66,7 @@ fn composite(
     ensures { Gives seen_declaration result
         (spec.composite height_limit types kind (kinds tokens.now)) }
 {
-    let Parsed {
-        value: name,
-        height: parameters,
-        rest,
-    } = heading(alloc, tokens)?;
+    let (name, parameters, rest) = heading(alloc, tokens)?;
     let Parsed {
         value: block,
         height: _,
