@@ -17,7 +17,6 @@ use strc_grammar::ReadError;
 use strc_lex::token::{Keyword, Name, Punctuation, Token, TokenKind};
 use strc_rules::argument::{arguments, empty_brackets};
 use strc_rules::expression::closed;
-use strc_rules::held::{before, raise};
 use strc_rules::lookahead::{expect, expect_keyword, is_keyword, peek, tail, unexpected};
 use strc_rules::parsed::Parsed;
 use strc_rules::stream_type::{composite_kind, file, int_items, stream_type};
@@ -34,17 +33,8 @@ fn named_child<'t>(
 ) -> Result<Parsed<'t, Child>, ReadError>
     ensures { Gives (parsed child_view) result (spec.named_child limit name (kinds tokens.now)) }
 {
-    let Parsed {
-        value: given,
-        height,
-        rest,
-    } = arguments(alloc, limit, tokens)?;
-    let (given, rest) = before(Punctuation::Semicolon, given, rest)?;
-    Ok(Parsed {
-        value: Child::Named(name, given),
-        height,
-        rest,
-    })
+    let given = arguments(alloc, limit, tokens)?.before(Punctuation::Semicolon)?;
+    Ok(Parsed::new(Child::Named(name, given.value), given.height, given.rest))
 }
 
 /// `<int>();`: after the keyword.
@@ -55,11 +45,7 @@ fn identity(tokens: &[Token]) -> Result<Parsed<'_, Child>, ReadError>
     let opened = int_items(tokens)?;
     let (brackets, rest) = empty_brackets(opened)?;
     let rest = expect(Punctuation::Semicolon, rest)?;
-    Ok(Parsed {
-        value: Child::Identity(brackets),
-        height: 0,
-        rest,
-    })
+    Ok(Parsed::new(Child::Identity(brackets), 0, rest))
 }
 
 /// `FileReader`: after the keyword.
@@ -67,11 +53,7 @@ fn file_reader(tokens: &[Token]) -> Result<Parsed<'_, Child>, ReadError>
     ensures { Gives (parsed child_view) result (parts.file_reader (kinds tokens.now)) }
 {
     let (text, rest) = file(tokens)?;
-    Ok(Parsed {
-        value: Child::FileReader(text),
-        height: 0,
-        rest,
-    })
+    Ok(Parsed::new(Child::FileReader(text), 0, rest))
 }
 
 /// `FileWriter`: after the keyword.
@@ -79,11 +61,7 @@ fn file_writer(tokens: &[Token]) -> Result<Parsed<'_, Child>, ReadError>
     ensures { Gives (parsed child_view) result (parts.file_writer (kinds tokens.now)) }
 {
     let (text, rest) = file(tokens)?;
-    Ok(Parsed {
-        value: Child::FileWriter(text),
-        height: 0,
-        rest,
-    })
+    Ok(Parsed::new(Child::FileWriter(text), 0, rest))
 }
 
 /// `roundrobin(1, 2)`, and the height of the highest weight or 0.
@@ -110,22 +88,14 @@ fn splitter(
 {
     if is_keyword(Keyword::Duplicate, tokens) {
         let (brackets, rest) = empty_brackets(tail(tokens))?;
-        return Ok(Parsed {
-            value: Splitter::Duplicate(brackets),
-            height: 0,
-            rest,
-        });
+        return Ok(Parsed::new(Splitter::Duplicate(brackets), 0, rest));
     }
-    let Parsed {
-        value: weights,
-        height,
-        rest,
-    } = weights(alloc, limit, tokens)?;
-    Ok(Parsed {
-        value: Splitter::Roundrobin(weights),
-        height,
-        rest,
-    })
+    let weights = weights(alloc, limit, tokens)?;
+    Ok(Parsed::new(
+        Splitter::Roundrobin(weights.value),
+        weights.height,
+        weights.rest,
+    ))
 }
 
 /// `split`: after the keyword.
@@ -138,18 +108,14 @@ fn split(
     requires { 0 < depth }
     ensures { Gives (parsed composition_view) result (spec.split depth (kinds tokens.now)) }
 {
-    let Parsed {
-        value: splitter,
-        height,
-        rest,
-    } = splitter(alloc, depth - 1, tokens)?;
-    let (splitter, rest) = before(Punctuation::Semicolon, splitter, rest)?;
-    let (splitter, height) = raise(depth, splitter, height)?;
-    Ok(Parsed {
-        value: Composition::Split(splitter),
-        height,
-        rest,
-    })
+    let splitter = splitter(alloc, depth - 1, tokens)?
+        .before(Punctuation::Semicolon)?
+        .raise(depth)?;
+    Ok(Parsed::new(
+        Composition::Split(splitter.value),
+        splitter.height,
+        splitter.rest,
+    ))
 }
 
 /// `join`: after the keyword.
@@ -158,18 +124,14 @@ fn join(alloc: Global, depth: usize, tokens: &[Token]) -> Result<Parsed<'_, Comp
     requires { 0 < depth }
     ensures { Gives (parsed composition_view) result (spec.join depth (kinds tokens.now)) }
 {
-    let Parsed {
-        value: weights,
-        height,
-        rest,
-    } = weights(alloc, depth - 1, tokens)?;
-    let (weights, rest) = before(Punctuation::Semicolon, weights, rest)?;
-    let (weights, height) = raise(depth, weights, height)?;
-    Ok(Parsed {
-        value: Composition::Join(weights),
-        height,
-        rest,
-    })
+    let weights = weights(alloc, depth - 1, tokens)?
+        .before(Punctuation::Semicolon)?
+        .raise(depth)?;
+    Ok(Parsed::new(
+        Composition::Join(weights.value),
+        weights.height,
+        weights.rest,
+    ))
 }
 
 /// `enqueue`: after the keyword.
@@ -182,16 +144,8 @@ fn enqueue(
     requires { 0 < depth }
     ensures { Gives (parsed composition_view) result (spec.enqueue depth (kinds tokens.now)) }
 {
-    let Parsed {
-        value,
-        height,
-        rest,
-    } = closed(alloc, depth - 1, Punctuation::Semicolon, tokens)?;
-    Ok(Parsed {
-        value: Composition::Enqueue(value),
-        height,
-        rest,
-    })
+    let read = closed(alloc, depth - 1, Punctuation::Semicolon, tokens)?;
+    Ok(Parsed::new(Composition::Enqueue(read.value), read.height, read.rest))
 }
 
 // Children come with the height of their highest part, or 0.
@@ -210,16 +164,12 @@ impl<F: Fn(Global, usize, &[Token]) -> Result<Parsed<'_, Stmt>, ReadError>> Stat
             (spec.statement (self.now.depth - 1)) types (kinds tokens.now)) }
     {
         let opened = expect(Punctuation::OpenBrace, tokens)?;
-        let Parsed {
-            value: members,
-            height,
-            rest,
-        } = self.members(opened)?;
-        Ok(Parsed {
-            value: filter_of(types, members),
-            height,
-            rest,
-        })
+        let members = self.members(opened)?;
+        Ok(Parsed::new(
+            filter_of(types, members.value),
+            members.height,
+            members.rest,
+        ))
     }
 
     /// A composite stream without a name: at its kind.
@@ -239,16 +189,12 @@ impl<F: Fn(Global, usize, &[Token]) -> Result<Parsed<'_, Stmt>, ReadError>> Stat
         match composite_kind(tokens) {
             None => Err(unexpected(tokens)),
             Some(kind) => {
-                let Parsed {
-                    value: block,
-                    height,
-                    rest,
-                } = self.braced(tail(tokens))?;
-                Ok(Parsed {
-                    value: composite_of(types, kind, block),
-                    height,
-                    rest,
-                })
+                let block = self.braced(tail(tokens))?;
+                Ok(Parsed::new(
+                    composite_of(types, kind, block.value),
+                    block.height,
+                    block.rest,
+                ))
             }
         }
     }
@@ -340,17 +286,12 @@ impl<F: Fn(Global, usize, &[Token]) -> Result<Parsed<'_, Stmt>, ReadError>> Stat
         ensures { Gives (parsed composition_view) result (spec.child_for self.now.depth
             (spec.statement (self.now.depth - 1)) role (kinds tokens.now)) }
     {
-        let Parsed {
-            value: child,
-            height,
-            rest,
-        } = self.child(tokens)?;
-        let (child, height) = raise(self.depth, child, height)?;
-        Ok(Parsed {
-            value: Composition::Child(role, child),
-            height,
-            rest,
-        })
+        let child = self.child(tokens)?.raise(self.depth)?;
+        Ok(Parsed::new(
+            Composition::Child(role, child.value),
+            child.height,
+            child.rest,
+        ))
     }
 
     /// A statement of a composite stream that begins with this keyword, and the height of its part.
@@ -390,16 +331,11 @@ impl<F: Fn(Global, usize, &[Token]) -> Result<Parsed<'_, Stmt>, ReadError>> Stat
         ensures { Gives (parsed stmt_view) result (spec.compose self.now.depth
             (spec.statement (self.now.depth - 1)) keyword (kinds tokens.now)) }
     {
-        let Parsed {
-            value: composition,
-            height,
-            rest,
-        } = self.composition(keyword, tokens)?;
-        let (composition, height) = raise(self.depth, composition, height)?;
-        Ok(Parsed {
-            value: Stmt::Compose(composition),
-            height,
-            rest,
-        })
+        let composition = self.composition(keyword, tokens)?.raise(self.depth)?;
+        Ok(Parsed::new(
+            Stmt::Compose(composition.value),
+            composition.height,
+            composition.rest,
+        ))
     }
 }

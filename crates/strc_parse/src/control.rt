@@ -88,16 +88,8 @@ fn push(alloc: Global, depth: usize, tokens: &[Token]) -> Result<Parsed<'_, Stmt
     requires { 0 < depth }
     ensures { Gives (parsed stmt_view) result (parts.push depth (kinds tokens.now)) }
 {
-    let Parsed {
-        value,
-        height,
-        rest,
-    } = argument(alloc, depth, tokens)?;
-    Ok(Parsed {
-        value: Stmt::Push(value),
-        height,
-        rest,
-    })
+    let read = argument(alloc, depth, tokens)?;
+    Ok(Parsed::new(Stmt::Push(read.value), read.height, read.rest))
 }
 
 /// `print(e);`: after the keyword.
@@ -105,16 +97,8 @@ fn print(alloc: Global, depth: usize, tokens: &[Token]) -> Result<Parsed<'_, Stm
     requires { 0 < depth }
     ensures { Gives (parsed stmt_view) result (parts.print depth (kinds tokens.now)) }
 {
-    let Parsed {
-        value,
-        height,
-        rest,
-    } = argument(alloc, depth, tokens)?;
-    Ok(Parsed {
-        value: Stmt::Print(value),
-        height,
-        rest,
-    })
+    let read = argument(alloc, depth, tokens)?;
+    Ok(Parsed::new(Stmt::Print(read.value), read.height, read.rest))
 }
 
 /// `println(e);`: after the keyword.
@@ -122,16 +106,8 @@ fn println(alloc: Global, depth: usize, tokens: &[Token]) -> Result<Parsed<'_, S
     requires { 0 < depth }
     ensures { Gives (parsed stmt_view) result (parts.println depth (kinds tokens.now)) }
 {
-    let Parsed {
-        value,
-        height,
-        rest,
-    } = argument(alloc, depth, tokens)?;
-    Ok(Parsed {
-        value: Stmt::Println(value),
-        height,
-        rest,
-    })
+    let read = argument(alloc, depth, tokens)?;
+    Ok(Parsed::new(Stmt::Println(read.value), read.height, read.rest))
 }
 
 impl<F: Fn(Global, usize, &[Token]) -> Result<Parsed<'_, Stmt>, ReadError>> StatementRules<F> {
@@ -201,18 +177,10 @@ impl<F: Fn(Global, usize, &[Token]) -> Result<Parsed<'_, Stmt>, ReadError>> Stat
         ensures { Gives (parsed stmt_view) result
             (spec.branch self.now.depth (spec.statement (self.now.depth - 1)) (kinds tokens.now)) }
     {
-        let Parsed {
-            value: condition,
-            height,
-            rest,
-        } = bracketed(self.alloc, self.depth, tokens)?;
-        let (condition, chosen) = beside(condition, self.below(rest))?;
-        let Parsed {
-            value: chosen,
-            height: chosen_height,
-            rest,
-        } = chosen;
-        self.after_branch(condition, chosen, height.max(chosen_height), rest)
+        let read = bracketed(self.alloc, self.depth, tokens)?;
+        let (condition, chosen) = beside(read.value, self.below(read.rest))?;
+        let height = read.height.max(chosen.height);
+        self.after_branch(condition, chosen.value, height, chosen.rest)
     }
 
     /// What follows a branch, to which an `else` belongs that comes next.
@@ -236,11 +204,7 @@ impl<F: Fn(Global, usize, &[Token]) -> Result<Parsed<'_, Stmt>, ReadError>> Stat
         }
         let (parts, height) = raise(self.depth, (condition, chosen), height)?;
         let (condition, chosen) = parts;
-        Ok(Parsed {
-            value: if_of(self.alloc, condition, chosen)?,
-            height,
-            rest: tokens,
-        })
+        Ok(Parsed::new(if_of(self.alloc, condition, chosen)?, height, tokens))
     }
 
     /// The branch after `else`, with the height of what stands before it.
@@ -260,19 +224,12 @@ impl<F: Fn(Global, usize, &[Token]) -> Result<Parsed<'_, Stmt>, ReadError>> Stat
             (expr_view condition) (stmt_view chosen) height (kinds tokens.now)) }
     {
         let (before, other) = beside((condition, chosen), self.below(tokens))?;
-        let Parsed {
-            value: other,
-            height: other_height,
-            rest,
-        } = other;
-        let (parts, height) = raise(self.depth, (before, other), height.max(other_height))?;
+        let height = height.max(other.height);
+        let rest = other.rest;
+        let (parts, height) = raise(self.depth, (before, other.value), height)?;
         let ((condition, chosen), other) = parts;
         let made = if_else_of(self.alloc, condition, chosen, other)?;
-        Ok(Parsed {
-            value: made,
-            height,
-            rest,
-        })
+        Ok(Parsed::new(made, height, rest))
     }
 
     /// `while`: after the keyword.
@@ -285,24 +242,13 @@ impl<F: Fn(Global, usize, &[Token]) -> Result<Parsed<'_, Stmt>, ReadError>> Stat
             (spec.while_loop self.now.depth (spec.statement (self.now.depth - 1))
             (kinds tokens.now)) }
     {
-        let Parsed {
-            value: condition,
-            height,
-            rest,
-        } = bracketed(self.alloc, self.depth, tokens)?;
-        let (condition, body) = beside(condition, self.below(rest))?;
-        let Parsed {
-            value: body,
-            height: body_height,
-            rest,
-        } = body;
-        let (parts, height) = raise(self.depth, (condition, body), height.max(body_height))?;
+        let read = bracketed(self.alloc, self.depth, tokens)?;
+        let (condition, body) = beside(read.value, self.below(read.rest))?;
+        let height = read.height.max(body.height);
+        let rest = body.rest;
+        let (parts, height) = raise(self.depth, (condition, body.value), height)?;
         let (condition, body) = parts;
-        Ok(Parsed {
-            value: while_of(self.alloc, condition, body)?,
-            height,
-            rest,
-        })
+        Ok(Parsed::new(while_of(self.alloc, condition, body)?, height, rest))
     }
 
     /// `for`: after the keyword.
@@ -315,18 +261,11 @@ impl<F: Fn(Global, usize, &[Token]) -> Result<Parsed<'_, Stmt>, ReadError>> Stat
             (spec.for_loop self.now.depth (spec.statement (self.now.depth - 1))
             (kinds tokens.now)) }
     {
-        let Parsed {
-            value: heading,
-            height,
-            rest,
-        } = for_heading(self.alloc, self.depth, tokens)?;
-        let (heading, body) = beside(heading, self.below(rest))?;
-        let Parsed {
-            value: body,
-            height: body_height,
-            rest,
-        } = body;
-        let (parts, height) = raise(self.depth, (heading, body), height.max(body_height))?;
+        let read = for_heading(self.alloc, self.depth, tokens)?;
+        let (heading, body) = beside(read.value, self.below(read.rest))?;
+        let height = read.height.max(body.height);
+        let rest = body.rest;
+        let (parts, height) = raise(self.depth, (heading, body.value), height)?;
         let (heading, body) = parts;
         let ForHeading {
             first,
@@ -334,11 +273,7 @@ impl<F: Fn(Global, usize, &[Token]) -> Result<Parsed<'_, Stmt>, ReadError>> Stat
             step,
         } = heading;
         let made = for_of(self.alloc, first, condition, step, body)?;
-        Ok(Parsed {
-            value: made,
-            height,
-            rest,
-        })
+        Ok(Parsed::new(made, height, rest))
     }
 
     /// A block as a statement: after its brace.
@@ -350,17 +285,8 @@ impl<F: Fn(Global, usize, &[Token]) -> Result<Parsed<'_, Stmt>, ReadError>> Stat
         ensures { Gives (parsed stmt_view) result
             (spec.block self.now.depth (spec.statement (self.now.depth - 1)) (kinds tokens.now)) }
     {
-        let Parsed {
-            value: body,
-            height: highest,
-            rest,
-        } = self.statements(tokens)?;
-        let (body, height) = raise(self.depth, body, highest)?;
-        Ok(Parsed {
-            value: block_of(body),
-            height,
-            rest,
-        })
+        let body = self.statements(tokens)?.raise(self.depth)?;
+        Ok(Parsed::new(block_of(body.value), body.height, body.rest))
     }
 
     /// Statements one depth below, up to the brace that closes them, and the height of the highest
@@ -381,20 +307,12 @@ impl<F: Fn(Global, usize, &[Token]) -> Result<Parsed<'_, Stmt>, ReadError>> Stat
         let mut rest = tokens;
         for _turn in 0..tokens.len() {
             if is_punctuation(Punctuation::CloseBrace, rest) {
-                return Ok(Parsed {
-                    value: found,
-                    height: highest,
-                    rest: tail(rest),
-                });
+                return Ok(Parsed::new(found, highest, tail(rest)));
             }
-            let Parsed {
-                value: next,
-                height,
-                rest: after,
-            } = self.below(rest)?;
-            found.push(next)?;
-            highest = highest.max(height);
-            rest = after;
+            let next = self.below(rest)?;
+            found.push(next.value)?;
+            highest = highest.max(next.height);
+            rest = next.rest;
         }
         Err(unexpected(rest))
     }

@@ -37,11 +37,8 @@ fn filter(alloc: Global, types: StreamType, tokens: &[Token]) -> Result<(Decl, &
     ensures { Gives seen_declaration result (spec.filter height_limit types (kinds tokens.now)) }
 {
     let (name, parameters, rest) = heading(alloc, tokens)?;
-    let Parsed {
-        value: members,
-        height: _,
-        rest,
-    } = members(alloc, HEIGHT_LIMIT, rest)?;
+    let read = members(alloc, HEIGHT_LIMIT, rest)?;
+    let members = read.value;
     let stream = StreamTree::Filter(FilterTree {
         input: types.input,
         output: types.output,
@@ -52,7 +49,7 @@ fn filter(alloc: Global, types: StreamType, tokens: &[Token]) -> Result<(Decl, &
         parameters,
         stream,
     };
-    Ok((declared, rest))
+    Ok((declared, read.rest))
 }
 
 /// A composite stream: after its kind.
@@ -67,18 +64,15 @@ fn composite(
         (spec.composite height_limit types kind (kinds tokens.now)) }
 {
     let (name, parameters, rest) = heading(alloc, tokens)?;
-    let Parsed {
-        value: block,
-        height: _,
-        rest,
-    } = statements(alloc, HEIGHT_LIMIT, rest)?;
+    let read = statements(alloc, HEIGHT_LIMIT, rest)?;
+    let block = read.value;
     let stream = StreamTree::Composite(CompositeTree { types, kind, block });
     let declared = Decl {
         name,
         parameters,
         stream,
     };
-    Ok((declared, rest))
+    Ok((declared, read.rest))
 }
 
 /// A stream: after its type.

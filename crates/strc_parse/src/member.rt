@@ -15,7 +15,7 @@ use std::alloc::Global;
 use strc_grammar::ReadError;
 use strc_lex::token::{Keyword, Punctuation, Token, TokenKind};
 use strc_rules::expression::{LOWEST_PRECEDENCE, expression};
-use strc_rules::held::{before, beside};
+use strc_rules::held::beside;
 use strc_rules::lookahead::{expect, is_punctuation, peek, tail, unexpected};
 use strc_rules::parsed::Parsed;
 use strc_rules::variable::declared;
@@ -73,20 +73,15 @@ fn rates(
     let mut highest = 0;
     let mut rest = tokens;
     while let Some(kind) = rate_kind(rest) {
-        let Parsed {
-            value: rate,
-            height,
-            rest: after,
-        } = rate_of(alloc, limit, kind, &found, rest)?;
-        found.push(RateTree { kind, rate })?;
-        highest = highest.max(height);
-        rest = after;
+        let rate = rate_of(alloc, limit, kind, &found, rest)?;
+        found.push(RateTree {
+            kind,
+            rate: rate.value,
+        })?;
+        highest = highest.max(rate.height);
+        rest = rate.rest;
     }
-    Ok(Parsed {
-        value: found,
-        height: highest,
-        rest,
-    })
+    Ok(Parsed::new(found, highest, rest))
 }
 
 /// Fields of one type, and the height of the highest expression or 0.
@@ -94,17 +89,12 @@ fn rates(
 fn fields(alloc: Global, limit: usize, tokens: &[Token]) -> Result<Parsed<'_, Member>, ReadError>
     ensures { Gives (parsed member_view) result (spec.fields limit (kinds tokens.now)) }
 {
-    let Parsed {
-        value: declared,
-        height,
-        rest,
-    } = declared(alloc, limit, tokens)?;
-    let (declared, rest) = before(Punctuation::Semicolon, declared, rest)?;
-    Ok(Parsed {
-        value: Member::Fields(declared),
-        height,
-        rest,
-    })
+    let declared = declared(alloc, limit, tokens)?.before(Punctuation::Semicolon)?;
+    Ok(Parsed::new(
+        Member::Fields(declared.value),
+        declared.height,
+        declared.rest,
+    ))
 }
 
 // Statements and expressions of a member are read one depth below, and the heights are those of its
@@ -120,16 +110,7 @@ impl<F: Fn(Global, usize, &[Token]) -> Result<Parsed<'_, Stmt>, ReadError>> Stat
             (spec.braced (spec.statement (self.now.depth - 1)) (kinds tokens.now)) }
     {
         let opened = expect(Punctuation::OpenBrace, tokens)?;
-        let Parsed {
-            value: block,
-            height,
-            rest,
-        } = self.statements(opened)?;
-        Ok(Parsed {
-            value: block,
-            height,
-            rest,
-        })
+        self.statements(opened)
     }
 
     /// An initialisation: after the keyword.
@@ -141,16 +122,8 @@ impl<F: Fn(Global, usize, &[Token]) -> Result<Parsed<'_, Stmt>, ReadError>> Stat
         ensures { Gives (parsed member_view) result
             (spec.init (spec.statement (self.now.depth - 1)) (kinds tokens.now)) }
     {
-        let Parsed {
-            value: block,
-            height,
-            rest,
-        } = self.braced(tokens)?;
-        Ok(Parsed {
-            value: init_of(block),
-            height,
-            rest,
-        })
+        let block = self.braced(tokens)?;
+        Ok(Parsed::new(init_of(block.value), block.height, block.rest))
     }
 
     /// Rates and a block.
@@ -166,22 +139,10 @@ impl<F: Fn(Global, usize, &[Token]) -> Result<Parsed<'_, Stmt>, ReadError>> Stat
             (spec.phase (self.now.depth - 1) (spec.statement (self.now.depth - 1))
             (kinds tokens.now)) }
     {
-        let Parsed {
-            value: rates,
-            height: rates_height,
-            rest,
-        } = rates(self.alloc, self.depth - 1, tokens)?;
-        let (rates, block) = beside(rates, self.braced(rest))?;
-        let Parsed {
-            value: block,
-            height,
-            rest,
-        } = block;
-        Ok(Parsed {
-            value: (rates, block),
-            height: rates_height.max(height),
-            rest,
-        })
+        let read = rates(self.alloc, self.depth - 1, tokens)?;
+        let (rates, block) = beside(read.value, self.braced(read.rest))?;
+        let height = read.height.max(block.height);
+        Ok(Parsed::new((rates, block.value), height, block.rest))
     }
 
     /// `prework`: after the keyword.
@@ -193,16 +154,9 @@ impl<F: Fn(Global, usize, &[Token]) -> Result<Parsed<'_, Stmt>, ReadError>> Stat
             (parts.prework (self.now.depth - 1) (spec.statement (self.now.depth - 1))
             (kinds tokens.now)) }
     {
-        let Parsed {
-            value: (rates, block),
-            height,
-            rest,
-        } = self.phase(tokens)?;
-        Ok(Parsed {
-            value: prework_of(rates, block),
-            height,
-            rest,
-        })
+        let phase = self.phase(tokens)?;
+        let (rates, block) = phase.value;
+        Ok(Parsed::new(prework_of(rates, block), phase.height, phase.rest))
     }
 
     /// `work`: after the keyword.
@@ -214,16 +168,9 @@ impl<F: Fn(Global, usize, &[Token]) -> Result<Parsed<'_, Stmt>, ReadError>> Stat
             (parts.work (self.now.depth - 1) (spec.statement (self.now.depth - 1))
             (kinds tokens.now)) }
     {
-        let Parsed {
-            value: (rates, block),
-            height,
-            rest,
-        } = self.phase(tokens)?;
-        Ok(Parsed {
-            value: work_of(rates, block),
-            height,
-            rest,
-        })
+        let phase = self.phase(tokens)?;
+        let (rates, block) = phase.value;
+        Ok(Parsed::new(work_of(rates, block), phase.height, phase.rest))
     }
 
     #[tactic(auto, unfolding(strc_grammar::specs::Streams::member))]
@@ -263,19 +210,11 @@ impl<F: Fn(Global, usize, &[Token]) -> Result<Parsed<'_, Stmt>, ReadError>> Stat
         let mut highest = 0;
         let mut rest = tokens;
         while !is_punctuation(Punctuation::CloseBrace, rest) {
-            let Parsed {
-                value: next,
-                height,
-                rest: after,
-            } = self.member(rest)?;
-            found.push(next)?;
-            highest = highest.max(height);
-            rest = after;
+            let next = self.member(rest)?;
+            found.push(next.value)?;
+            highest = highest.max(next.height);
+            rest = next.rest;
         }
-        Ok(Parsed {
-            value: found,
-            height: highest,
-            rest: tail(rest),
-        })
+        Ok(Parsed::new(found, highest, tail(rest)))
     }
 }

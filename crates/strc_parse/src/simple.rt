@@ -13,7 +13,7 @@ use std::alloc::Global;
 use strc_grammar::ReadError;
 use strc_lex::token::{Keyword, Name, Punctuation, Token, TokenKind};
 use strc_rules::expression::{LOWEST_PRECEDENCE, closed, expression};
-use strc_rules::held::{before, beside, raise};
+use strc_rules::held::{beside, raise};
 use strc_rules::lookahead::{expect, is_punctuation, peek, tail};
 use strc_rules::operator::assign_at;
 use strc_rules::parsed::Parsed;
@@ -26,17 +26,12 @@ fn declare(alloc: Global, depth: usize, tokens: &[Token]) -> Result<Parsed<'_, S
     requires { 0 < depth }
     ensures { Gives (parsed stmt_view) result (spec.declare depth (kinds tokens.now)) }
 {
-    let Parsed {
-        value: declared,
-        height,
-        rest,
-    } = declared(alloc, depth - 1, tokens)?;
-    let (declared, height) = raise(depth, declared, height)?;
-    Ok(Parsed {
-        value: Stmt::Declare(declared),
-        height,
-        rest,
-    })
+    let declared = declared(alloc, depth - 1, tokens)?.raise(depth)?;
+    Ok(Parsed::new(
+        Stmt::Declare(declared.value),
+        declared.height,
+        declared.rest,
+    ))
 }
 
 /// An expression that was read, as a statement.
@@ -51,11 +46,7 @@ fn evaluate<'t>(
         (spec.evaluate depth (expr_view value) height (kinds tokens.now)) }
 {
     let (value, height) = raise(depth, value, height)?;
-    Ok(Parsed {
-        value: Stmt::Evaluate(value),
-        height,
-        rest: tokens,
-    })
+    Ok(Parsed::new(Stmt::Evaluate(value), height, tokens))
 }
 
 /// `x = e`: after the operator.
@@ -71,18 +62,11 @@ fn assign_to<'t>(
     ensures { Gives (parsed stmt_view) result
         (spec.assign_to depth name operator (kinds tokens.now)) }
 {
-    let Parsed {
-        value,
-        height,
-        rest,
-    } = expression(alloc, depth - 1, LOWEST_PRECEDENCE, tokens)?;
-    let (parts, height) = raise(depth, (name, value), height)?;
+    let read = expression(alloc, depth - 1, LOWEST_PRECEDENCE, tokens)?;
+    let rest = read.rest;
+    let (parts, height) = raise(depth, (name, read.value), read.height)?;
     let (name, value) = parts;
-    Ok(Parsed {
-        value: Stmt::Assign(name, operator, value),
-        height,
-        rest,
-    })
+    Ok(Parsed::new(Stmt::Assign(name, operator, value), height, rest))
 }
 
 /// `x[i] = e`: after the operator, with the height of the element.
@@ -102,19 +86,16 @@ fn assign_element<'t>(
         (kinds tokens.now)) }
 {
     let value = expression(alloc, depth - 1, LOWEST_PRECEDENCE, tokens);
-    let (element, value) = beside((name, index), value)?;
-    let Parsed {
-        value,
-        height,
-        rest,
-    } = value;
-    let (parts, height) = raise(depth, (element, value), element_height.max(height))?;
+    let (element, read) = beside((name, index), value)?;
+    let rest = read.rest;
+    let height = element_height.max(read.height);
+    let (parts, height) = raise(depth, (element, read.value), height)?;
     let ((name, index), value) = parts;
-    Ok(Parsed {
-        value: Stmt::AssignElement(name, index, operator, value),
+    Ok(Parsed::new(
+        Stmt::AssignElement(name, index, operator, value),
         height,
         rest,
-    })
+    ))
 }
 
 /// What an operator that comes first makes of the expression before it: an assignment, where that
@@ -166,12 +147,8 @@ fn simple(alloc: Global, depth: usize, tokens: &[Token]) -> Result<Parsed<'_, St
     requires { 0 < depth }
     ensures { Gives (parsed stmt_view) result (spec.simple depth (kinds tokens.now)) }
 {
-    let Parsed {
-        value,
-        height,
-        rest,
-    } = expression(alloc, depth - 1, LOWEST_PRECEDENCE, tokens)?;
-    after_value(alloc, depth, value, height, rest)
+    let read = expression(alloc, depth - 1, LOWEST_PRECEDENCE, tokens)?;
+    after_value(alloc, depth, read.value, read.height, read.rest)
 }
 
 /// The same, or nothing before this punctuation mark.
@@ -186,11 +163,7 @@ fn optional(
     ensures { Gives (parsed stmt_view) result (spec.optional depth end (kinds tokens.now)) }
 {
     if is_punctuation(end, tokens) {
-        Ok(Parsed {
-            value: Stmt::Empty,
-            height: 1,
-            rest: tokens,
-        })
+        Ok(Parsed::new(Stmt::Empty, 1, tokens))
     } else {
         simple(alloc, depth, tokens)
     }
@@ -219,17 +192,7 @@ pub(crate) fn ended(
     requires { 0 < depth }
     ensures { Gives (parsed stmt_view) result (spec.ended depth (kinds tokens.now)) }
 {
-    let Parsed {
-        value: read,
-        height,
-        rest,
-    } = part(alloc, depth, tokens)?;
-    let (read, rest) = before(Punctuation::Semicolon, read, rest)?;
-    Ok(Parsed {
-        value: read,
-        height,
-        rest,
-    })
+    part(alloc, depth, tokens)?.before(Punctuation::Semicolon)
 }
 
 /// `(e)`, with the height of e.
@@ -256,18 +219,9 @@ pub(crate) fn argument(
     requires { 0 < depth }
     ensures { Gives (parsed expr_view) result (spec.argument depth (kinds tokens.now)) }
 {
-    let Parsed {
-        value,
-        height,
-        rest,
-    } = bracketed(alloc, depth, tokens)?;
-    let (value, rest) = before(Punctuation::Semicolon, value, rest)?;
-    let (value, height) = raise(depth, value, height)?;
-    Ok(Parsed {
-        value,
-        height,
-        rest,
-    })
+    bracketed(alloc, depth, tokens)?
+        .before(Punctuation::Semicolon)?
+        .raise(depth)
 }
 
 /// The condition of a `for`, if there is one, and its semicolon.
@@ -281,22 +235,10 @@ fn condition(
         (spec.condition depth (kinds tokens.now)) }
 {
     if is_punctuation(Punctuation::Semicolon, tokens) {
-        return Ok(Parsed {
-            value: None,
-            height: 0,
-            rest: tail(tokens),
-        });
+        return Ok(Parsed::new(None, 0, tail(tokens)));
     }
-    let Parsed {
-        value,
-        height,
-        rest,
-    } = closed(alloc, depth, Punctuation::Semicolon, tokens)?;
-    Ok(Parsed {
-        value: Some(value),
-        height,
-        rest,
-    })
+    let read = closed(alloc, depth, Punctuation::Semicolon, tokens)?;
+    Ok(Parsed::new(Some(read.value), read.height, read.rest))
 }
 
 /// The step of a `for`, and the bracket after it.
@@ -305,17 +247,7 @@ fn last_part(alloc: Global, depth: usize, tokens: &[Token]) -> Result<Parsed<'_,
     requires { 0 < depth }
     ensures { Gives (parsed stmt_view) result (spec.last_part depth (kinds tokens.now)) }
 {
-    let Parsed {
-        value: step,
-        height,
-        rest,
-    } = optional(alloc, depth, Punctuation::CloseParen, tokens)?;
-    let (step, rest) = before(Punctuation::CloseParen, step, rest)?;
-    Ok(Parsed {
-        value: step,
-        height,
-        rest,
-    })
+    optional(alloc, depth, Punctuation::CloseParen, tokens)?.before(Punctuation::CloseParen)
 }
 
 /// `condition; step)`, and the height of the higher.
@@ -328,22 +260,10 @@ fn after_first(
     requires { 0 < depth }
     ensures { Gives (parsed after_first_view) result (spec.after_first depth (kinds tokens.now)) }
 {
-    let Parsed {
-        value: condition,
-        height,
-        rest,
-    } = condition(alloc, depth, tokens)?;
-    let (condition, step) = beside(condition, last_part(alloc, depth, rest))?;
-    let Parsed {
-        value: step,
-        height: step_height,
-        rest,
-    } = step;
-    Ok(Parsed {
-        value: (condition, step),
-        height: height.max(step_height),
-        rest,
-    })
+    let read = condition(alloc, depth, tokens)?;
+    let (condition, step) = beside(read.value, last_part(alloc, depth, read.rest))?;
+    let height = read.height.max(step.height);
+    Ok(Parsed::new((condition, step.value), height, step.rest))
 }
 
 /// What is in the brackets of a `for`.
@@ -365,25 +285,15 @@ pub(crate) fn for_heading(
     ensures { Gives (parsed heading_view) result (spec.for_heading depth (kinds tokens.now)) }
 {
     let opened = expect(Punctuation::OpenParen, tokens)?;
-    let Parsed {
-        value: first,
-        height,
-        rest,
-    } = ended(alloc, depth, opened)?;
-    let (first, after) = beside(first, after_first(alloc, depth, rest))?;
-    let Parsed {
-        value: (condition, step),
-        height: after_height,
-        rest,
-    } = after;
+    let read = ended(alloc, depth, opened)?;
+    let (first, after) = beside(read.value, after_first(alloc, depth, read.rest))?;
+    let height = read.height.max(after.height);
+    let rest = after.rest;
+    let (condition, step) = after.value;
     let heading = ForHeading {
         first,
         condition,
         step,
     };
-    Ok(Parsed {
-        value: heading,
-        height: height.max(after_height),
-        rest,
-    })
+    Ok(Parsed::new(heading, height, rest))
 }

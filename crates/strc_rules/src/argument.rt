@@ -8,7 +8,6 @@ ghost use Rattle.strc_grammar.specs.Reading as spec;
 ghost use Rattle.strc_grammar.specs.Reading.{Gives};
 
 use crate::expression::{LOWEST_PRECEDENCE, expression};
-use crate::held::before;
 use crate::lookahead::{expect, is_punctuation, tail};
 use crate::parsed::Parsed;
 use std::alloc::Global;
@@ -32,20 +31,12 @@ fn more_arguments<'t>(
     let mut highest = height;
     let mut rest = tokens;
     while is_punctuation(Punctuation::Comma, rest) {
-        let Parsed {
-            value: next,
-            height,
-            rest: after,
-        } = expression(alloc, depth, LOWEST_PRECEDENCE, tail(rest))?;
-        found.push(next)?;
-        highest = highest.max(height);
-        rest = after;
+        let next = expression(alloc, depth, LOWEST_PRECEDENCE, tail(rest))?;
+        found.push(next.value)?;
+        highest = highest.max(next.height);
+        rest = next.rest;
     }
-    Ok(Parsed {
-        value: found,
-        height: highest,
-        rest,
-    })
+    Ok(Parsed::new(found, highest, rest))
 }
 
 /// Expressions with commas between them, or none before the bracket that closes them, and the
@@ -60,19 +51,11 @@ fn listed_arguments(
 {
     let mut found = Vec::new(alloc);
     if is_punctuation(Punctuation::CloseParen, tokens) {
-        return Ok(Parsed {
-            value: found,
-            height: 0,
-            rest: tokens,
-        });
+        return Ok(Parsed::new(found, 0, tokens));
     }
-    let Parsed {
-        value: first,
-        height,
-        rest,
-    } = expression(alloc, depth, LOWEST_PRECEDENCE, tokens)?;
-    found.push(first)?;
-    more_arguments(alloc, depth, found, height, rest)
+    let first = expression(alloc, depth, LOWEST_PRECEDENCE, tokens)?;
+    found.push(first.value)?;
+    more_arguments(alloc, depth, found, first.height, first.rest)
 }
 
 /// `(1, 2)`, if it comes next, and the height of the highest expression or 0. The depth is the
@@ -86,23 +69,10 @@ pub fn arguments(
     ensures { Gives (parsed weights_view) result (spec.arguments depth (kinds tokens.now)) }
 {
     if !is_punctuation(Punctuation::OpenParen, tokens) {
-        return Ok(Parsed {
-            value: None,
-            height: 0,
-            rest: tokens,
-        });
+        return Ok(Parsed::new(None, 0, tokens));
     }
-    let Parsed {
-        value: listed,
-        height,
-        rest,
-    } = listed_arguments(alloc, depth, tail(tokens))?;
-    let (listed, rest) = before(Punctuation::CloseParen, listed, rest)?;
-    Ok(Parsed {
-        value: Some(listed),
-        height,
-        rest,
-    })
+    let listed = listed_arguments(alloc, depth, tail(tokens))?.before(Punctuation::CloseParen)?;
+    Ok(Parsed::new(Some(listed.value), listed.height, listed.rest))
 }
 
 /// `()`, if it comes next.

@@ -9,7 +9,7 @@ ghost use Rattle.strc_grammar.specs.Reading as spec;
 ghost use Rattle.strc_grammar.specs.Reading.{Gives};
 ghost use Rattle.strc_rules.specs.Readers.{ReadsExpressions};
 
-use crate::held::{before, beside, raise};
+use crate::held::{beside, raise};
 use crate::lookahead::{is_punctuation, tail};
 use crate::operator::operator_at;
 use crate::parsed::Parsed;
@@ -65,17 +65,7 @@ pub fn closed(
     ensures { Gives (parsed expr_view) result
         (spec.closed (spec.expression depth) closing (kinds tokens.now)) }
 {
-    let Parsed {
-        value,
-        height,
-        rest,
-    } = expression(alloc, depth, LOWEST_PRECEDENCE, tokens)?;
-    let (value, rest) = before(closing, value, rest)?;
-    Ok(Parsed {
-        value,
-        height,
-        rest,
-    })
+    expression(alloc, depth, LOWEST_PRECEDENCE, tokens)?.before(closing)
 }
 
 impl<F: Fn(Global, usize, usize, &[Token]) -> Result<Parsed<'_, Expr>, ReadError>> ExpressionRules<
@@ -109,17 +99,7 @@ impl<F: Fn(Global, usize, usize, &[Token]) -> Result<Parsed<'_, Expr>, ReadError
         ensures { Gives (parsed expr_view) result
             (spec.closed (spec.expression (self.now.depth - 1)) closing (kinds tokens.now)) }
     {
-        let Parsed {
-            value,
-            height,
-            rest,
-        } = self.below(LOWEST_PRECEDENCE, tokens)?;
-        let (value, rest) = before(closing, value, rest)?;
-        Ok(Parsed {
-            value,
-            height,
-            rest,
-        })
+        self.below(LOWEST_PRECEDENCE, tokens)?.before(closing)
     }
 
     #[tactic(auto, unfolding(strc_grammar::specs::Reading::ranked))]
@@ -148,19 +128,11 @@ impl<F: Fn(Global, usize, usize, &[Token]) -> Result<Parsed<'_, Expr>, ReadError
             (spec.conditional self.now.depth (spec.expression (self.now.depth - 1))
             (kinds tokens.now)) }
     {
-        let Parsed {
-            value: condition,
-            height,
-            rest,
-        } = self.climb(LOWEST_BINARY_PRECEDENCE, tokens)?;
-        if is_punctuation(Punctuation::Question, rest) {
-            self.choice(condition, height, tail(rest))
+        let condition = self.climb(LOWEST_BINARY_PRECEDENCE, tokens)?;
+        if is_punctuation(Punctuation::Question, condition.rest) {
+            self.choice(condition.value, condition.height, tail(condition.rest))
         } else {
-            Ok(Parsed {
-                value: condition,
-                height,
-                rest,
-            })
+            Ok(condition)
         }
     }
 
@@ -181,27 +153,14 @@ impl<F: Fn(Global, usize, usize, &[Token]) -> Result<Parsed<'_, Expr>, ReadError
     {
         let chosen = self.closed(Punctuation::Colon, tokens);
         let (condition, chosen) = beside(condition, chosen)?;
-        let Parsed {
-            value: chosen,
-            height: chosen_height,
-            rest,
-        } = chosen;
-        let parts = (condition, chosen);
-        let (parts, other) = beside(parts, self.below(LOWEST_PRECEDENCE, rest))?;
-        let Parsed {
-            value: other,
-            height: other_height,
-            rest,
-        } = other;
-        let height = height.max(chosen_height.max(other_height));
-        let (parts, height) = raise(self.depth, (parts, other), height)?;
+        let parts = (condition, chosen.value);
+        let (parts, other) = beside(parts, self.below(LOWEST_PRECEDENCE, chosen.rest))?;
+        let height = height.max(chosen.height.max(other.height));
+        let rest = other.rest;
+        let (parts, height) = raise(self.depth, (parts, other.value), height)?;
         let ((condition, chosen), other) = parts;
         let whole = conditional_of(self.alloc, condition, chosen, other)?;
-        Ok(Parsed {
-            value: whole,
-            height,
-            rest,
-        })
+        Ok(Parsed::new(whole, height, rest))
     }
 
     /// An expression of at most this precedence, of operands and binary operators.
@@ -217,12 +176,8 @@ impl<F: Fn(Global, usize, usize, &[Token]) -> Result<Parsed<'_, Expr>, ReadError
         if rank == 0 {
             return self.operand(tokens);
         }
-        let Parsed {
-            value: left,
-            height,
-            rest,
-        } = self.climb(rank - 1, tokens)?;
-        self.chain(rank, left, height, rest)
+        let left = self.climb(rank - 1, tokens)?;
+        self.chain(rank, left.value, left.height, left.rest)
     }
 
     /// Goes on after an operand with operators of one precedence, which group to the left.
@@ -248,21 +203,13 @@ impl<F: Fn(Global, usize, usize, &[Token]) -> Result<Parsed<'_, Expr>, ReadError
         let mut rest = tokens;
         while let Some(operator) = operator_at(rank, rest) {
             let (held, right) = beside(left, self.below(rank - 1, tail(rest)))?;
-            let Parsed {
-                value: right,
-                height: right_height,
-                rest: after,
-            } = right;
-            let (parts, higher) = raise(self.depth, (held, right), height.max(right_height))?;
-            let (held, right) = parts;
-            left = binary_of(self.alloc, operator, held, right)?;
+            let parts = (held, right.value);
+            let (parts, higher) = raise(self.depth, parts, height.max(right.height))?;
+            let (held, other) = parts;
+            left = binary_of(self.alloc, operator, held, other)?;
             height = higher;
-            rest = after;
+            rest = right.rest;
         }
-        Ok(Parsed {
-            value: left,
-            height,
-            rest,
-        })
+        Ok(Parsed::new(left, height, rest))
     }
 }

@@ -34,19 +34,11 @@ fn after_place<'t>(
         (spec.after_place depth name (option_map expr_view index) height (kinds tokens.now)) }
 {
     match step_after(tokens) {
-        None => Ok(Parsed {
-            value: read_of(alloc, name, index)?,
-            height,
-            rest: tokens,
-        }),
+        None => Ok(Parsed::new(read_of(alloc, name, index)?, height, tokens)),
         Some(operator) => {
             let (place, height) = raise(depth, (name, index), height)?;
             let (name, index) = place;
-            Ok(Parsed {
-                value: step_of(alloc, operator, name, index)?,
-                height,
-                rest: tail(tokens),
-            })
+            Ok(Parsed::new(step_of(alloc, operator, name, index)?, height, tail(tokens)))
         }
     }
 }
@@ -58,11 +50,7 @@ fn pop_brackets(tokens: &[Token]) -> Result<Parsed<'_, Expr>, ReadError>
 {
     let inside = expect(Punctuation::OpenParen, tokens)?;
     let rest = expect(Punctuation::CloseParen, inside)?;
-    Ok(Parsed {
-        value: Expr::Pop,
-        height: 1,
-        rest,
-    })
+    Ok(Parsed::new(Expr::Pop, 1, rest))
 }
 
 impl<F: Fn(Global, usize, usize, &[Token]) -> Result<Parsed<'_, Expr>, ReadError>> ExpressionRules<
@@ -78,11 +66,11 @@ impl<F: Fn(Global, usize, usize, &[Token]) -> Result<Parsed<'_, Expr>, ReadError
             (kinds tokens.now)) }
     {
         match peek(tokens) {
-            Some(TokenKind::Number(value)) => Ok(Parsed {
-                value: Expr::Number(*value),
-                height: 1,
-                rest: tail(tokens),
-            }),
+            Some(TokenKind::Number(value)) => Ok(Parsed::new(
+                Expr::Number(*value),
+                1,
+                tail(tokens),
+            )),
             Some(TokenKind::Name(name)) => self.after_name(name.copy()?, tail(tokens)),
             Some(TokenKind::Keyword(keyword)) => self.keyword_operand(*keyword, tokens),
             Some(TokenKind::Punctuation(punctuation)) => self.punctuation_operand(
@@ -108,16 +96,8 @@ impl<F: Fn(Global, usize, usize, &[Token]) -> Result<Parsed<'_, Expr>, ReadError
             (kinds tokens.now)) }
     {
         match keyword {
-            Keyword::True => Ok(Parsed {
-                value: Expr::Truth(true),
-                height: 1,
-                rest: tail(tokens),
-            }),
-            Keyword::False => Ok(Parsed {
-                value: Expr::Truth(false),
-                height: 1,
-                rest: tail(tokens),
-            }),
+            Keyword::True => Ok(Parsed::new(Expr::Truth(true), 1, tail(tokens))),
+            Keyword::False => Ok(Parsed::new(Expr::Truth(false), 1, tail(tokens))),
             Keyword::Pop => pop_brackets(tail(tokens)),
             Keyword::Peek => self.peek_brackets(tail(tokens)),
             _ => Err(unexpected(tokens)),
@@ -135,8 +115,8 @@ impl<F: Fn(Global, usize, usize, &[Token]) -> Result<Parsed<'_, Expr>, ReadError
         requires reads { ReadsExpressions (self.now.depth - 1)
             (F.pre self.now.reader) (F.post self.now.reader) }
         ensures { Gives (parsed expr_view) result
-            (spec.punctuation_operand self.now.depth (spec.expression (self.now.depth - 1)) punctuation
-            (kinds tokens.now)) }
+            (spec.punctuation_operand self.now.depth (spec.expression (self.now.depth - 1))
+            punctuation (kinds tokens.now)) }
     {
         match punctuation {
             Punctuation::OpenParen => self.group(tail(tokens)),
@@ -159,23 +139,12 @@ impl<F: Fn(Global, usize, usize, &[Token]) -> Result<Parsed<'_, Expr>, ReadError
             (spec.index self.now.depth (spec.expression (self.now.depth - 1)) (kinds tokens.now)) }
     {
         if !is_punctuation(Punctuation::OpenBracket, tokens) {
-            return Ok(Parsed {
-                value: None,
-                height: 1,
-                rest: tokens,
-            });
+            return Ok(Parsed::new(None, 1, tokens));
         }
-        let Parsed {
-            value: index,
-            height,
-            rest,
-        } = self.closed(Punctuation::CloseBracket, tail(tokens))?;
-        let (index, height) = raise(self.depth, index, height)?;
-        Ok(Parsed {
-            value: Some(index),
-            height,
-            rest,
-        })
+        let index = self
+            .closed(Punctuation::CloseBracket, tail(tokens))?
+            .raise(self.depth)?;
+        Ok(Parsed::new(Some(index.value), index.height, index.rest))
     }
 
     /// A variable or an element, and the step after it: after the name.
@@ -188,12 +157,15 @@ impl<F: Fn(Global, usize, usize, &[Token]) -> Result<Parsed<'_, Expr>, ReadError
             (spec.after_name self.now.depth (spec.expression (self.now.depth - 1)) name
             (kinds tokens.now)) }
     {
-        let Parsed {
-            value: index,
-            height,
-            rest,
-        } = self.index(tokens)?;
-        after_place(self.alloc, self.depth, name, index, height, rest)
+        let index = self.index(tokens)?;
+        after_place(
+            self.alloc,
+            self.depth,
+            name,
+            index.value,
+            index.height,
+            index.rest,
+        )
     }
 
     /// `++x` or `++x[i]`: after the punctuation.
@@ -211,18 +183,10 @@ impl<F: Fn(Global, usize, usize, &[Token]) -> Result<Parsed<'_, Expr>, ReadError
             (kinds tokens.now)) }
     {
         let (name, rest) = name(tokens)?;
-        let Parsed {
-            value: index,
-            height,
-            rest,
-        } = self.index(rest)?;
-        let (place, height) = raise(self.depth, (name, index), height)?;
-        let (name, index) = place;
-        Ok(Parsed {
-            value: step_of(self.alloc, operator, name, index)?,
-            height,
-            rest,
-        })
+        let index = self.index(rest)?;
+        let (place, height) = raise(self.depth, (name, index.value), index.height)?;
+        let (name, at) = place;
+        Ok(Parsed::new(step_of(self.alloc, operator, name, at)?, height, index.rest))
     }
 
     /// `peek(i)`: after the keyword.
@@ -236,17 +200,10 @@ impl<F: Fn(Global, usize, usize, &[Token]) -> Result<Parsed<'_, Expr>, ReadError
             (kinds tokens.now)) }
     {
         let inside = expect(Punctuation::OpenParen, tokens)?;
-        let Parsed {
-            value: index,
-            height,
-            rest,
-        } = self.closed(Punctuation::CloseParen, inside)?;
-        let (index, height) = raise(self.depth, index, height)?;
-        Ok(Parsed {
-            value: peek_of(self.alloc, index)?,
-            height,
-            rest,
-        })
+        let index = self
+            .closed(Punctuation::CloseParen, inside)?
+            .raise(self.depth)?;
+        Ok(Parsed::new(peek_of(self.alloc, index.value)?, index.height, index.rest))
     }
 
     /// `(e)`: after the bracket.
@@ -258,17 +215,10 @@ impl<F: Fn(Global, usize, usize, &[Token]) -> Result<Parsed<'_, Expr>, ReadError
         ensures { Gives (parsed expr_view) result
             (spec.group self.now.depth (spec.expression (self.now.depth - 1)) (kinds tokens.now)) }
     {
-        let Parsed {
-            value: inner,
-            height,
-            rest,
-        } = self.closed(Punctuation::CloseParen, tokens)?;
-        let (inner, height) = raise(self.depth, inner, height)?;
-        Ok(Parsed {
-            value: group_of(self.alloc, inner)?,
-            height,
-            rest,
-        })
+        let inner = self
+            .closed(Punctuation::CloseParen, tokens)?
+            .raise(self.depth)?;
+        Ok(Parsed::new(group_of(self.alloc, inner.value)?, inner.height, inner.rest))
     }
 
     /// `-e`: after the punctuation.
@@ -285,16 +235,8 @@ impl<F: Fn(Global, usize, usize, &[Token]) -> Result<Parsed<'_, Expr>, ReadError
             (spec.sign self.now.depth (spec.expression (self.now.depth - 1)) operator
             (kinds tokens.now)) }
     {
-        let Parsed {
-            value: inner,
-            height,
-            rest,
-        } = self.below(0, tokens)?;
-        let (inner, height) = raise(self.depth, inner, height)?;
-        Ok(Parsed {
-            value: unary_of(self.alloc, operator, inner)?,
-            height,
-            rest,
-        })
+        let inner = self.below(0, tokens)?.raise(self.depth)?;
+        let made = unary_of(self.alloc, operator, inner.value)?;
+        Ok(Parsed::new(made, inner.height, inner.rest))
     }
 }

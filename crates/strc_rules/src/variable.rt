@@ -27,22 +27,10 @@ fn initial(
     ensures { Gives (parsed (option_map expr_view)) result (spec.initial depth (kinds tokens.now)) }
 {
     if !is_punctuation(Punctuation::Assign, tokens) {
-        return Ok(Parsed {
-            value: None,
-            height: 0,
-            rest: tokens,
-        });
+        return Ok(Parsed::new(None, 0, tokens));
     }
-    let Parsed {
-        value,
-        height,
-        rest,
-    } = expression(alloc, depth, LOWEST_PRECEDENCE, tail(tokens))?;
-    Ok(Parsed {
-        value: Some(value),
-        height,
-        rest,
-    })
+    let read = expression(alloc, depth, LOWEST_PRECEDENCE, tail(tokens))?;
+    Ok(Parsed::new(Some(read.value), read.height, read.rest))
 }
 
 /// `x` or `x = e`, with the height of e or 0.
@@ -55,16 +43,9 @@ fn variable(
     ensures { Gives (parsed variable_view) result (spec.variable depth (kinds tokens.now)) }
 {
     let (name, rest) = name(tokens)?;
-    let Parsed {
-        value: initial,
-        height,
-        rest,
-    } = initial(alloc, depth, rest)?;
-    Ok(Parsed {
-        value: Variable { name, initial },
-        height,
-        rest,
-    })
+    let read = initial(alloc, depth, rest)?;
+    let initial = read.value;
+    Ok(Parsed::new(Variable { name, initial }, read.height, read.rest))
 }
 
 /// Variables with commas between them, and the height of the highest initialiser or 0.
@@ -76,14 +57,10 @@ fn variables(
 ) -> Result<Parsed<'_, Vec<Variable>>, ReadError>
     ensures { Gives (parsed_all variable_view) result (spec.variables depth (kinds tokens.now)) }
 {
-    let Parsed {
-        value: first,
-        height,
-        rest,
-    } = variable(alloc, depth, tokens)?;
+    let first = variable(alloc, depth, tokens)?;
     let mut found = Vec::new(alloc);
-    found.push(first)?;
-    more_variables(alloc, depth, found, height, rest)
+    found.push(first.value)?;
+    more_variables(alloc, depth, found, first.height, first.rest)
 }
 
 /// The same after these.
@@ -103,20 +80,12 @@ fn more_variables<'t>(
     let mut highest = height;
     let mut rest = tokens;
     while is_punctuation(Punctuation::Comma, rest) {
-        let Parsed {
-            value: next,
-            height,
-            rest: after,
-        } = variable(alloc, depth, tail(rest))?;
-        found.push(next)?;
-        highest = highest.max(height);
-        rest = after;
+        let next = variable(alloc, depth, tail(rest))?;
+        found.push(next.value)?;
+        highest = highest.max(next.height);
+        rest = next.rest;
     }
-    Ok(Parsed {
-        value: found,
-        height: highest,
-        rest,
-    })
+    Ok(Parsed::new(found, highest, rest))
 }
 
 /// `int` or `int[n]`: after the keyword.
@@ -129,22 +98,14 @@ fn int_type(
     ensures { Gives (parsed type_view) result (spec.int_type depth (kinds tokens.now)) }
 {
     if !is_punctuation(Punctuation::OpenBracket, tokens) {
-        return Ok(Parsed {
-            value: VariableType::Int,
-            height: 0,
-            rest: tokens,
-        });
+        return Ok(Parsed::new(VariableType::Int, 0, tokens));
     }
-    let Parsed {
-        value: length,
-        height,
-        rest,
-    } = closed(alloc, depth, Punctuation::CloseBracket, tail(tokens))?;
-    Ok(Parsed {
-        value: VariableType::Array(length),
-        height,
-        rest,
-    })
+    let length = closed(alloc, depth, Punctuation::CloseBracket, tail(tokens))?;
+    Ok(Parsed::new(
+        VariableType::Array(length.value),
+        length.height,
+        length.rest,
+    ))
 }
 
 /// The type of variables, and the height of its length or 0.
@@ -157,11 +118,11 @@ fn variable_type(
     ensures { Gives (parsed type_view) result (spec.variable_type depth (kinds tokens.now)) }
 {
     match peek(tokens) {
-        Some(TokenKind::Keyword(Keyword::Boolean)) => Ok(Parsed {
-            value: VariableType::Boolean,
-            height: 0,
-            rest: tail(tokens),
-        }),
+        Some(TokenKind::Keyword(Keyword::Boolean)) => Ok(Parsed::new(
+            VariableType::Boolean,
+            0,
+            tail(tokens),
+        )),
         Some(TokenKind::Keyword(Keyword::Int)) => int_type(alloc, depth, tail(tokens)),
         _ => Err(unexpected(tokens)),
     }
@@ -176,20 +137,9 @@ pub fn declared(
 ) -> Result<Parsed<'_, Variables>, ReadError>
     ensures { Gives (parsed declared_view) result (spec.declared depth (kinds tokens.now)) }
 {
-    let Parsed {
-        value: kind,
-        height,
-        rest,
-    } = variable_type(alloc, depth, tokens)?;
-    let (kind, variables) = beside(kind, variables(alloc, depth, rest))?;
-    let Parsed {
-        value: variables,
-        height: highest,
-        rest,
-    } = variables;
-    Ok(Parsed {
-        value: Variables { kind, variables },
-        height: height.max(highest),
-        rest,
-    })
+    let read = variable_type(alloc, depth, tokens)?;
+    let (kind, others) = beside(read.value, variables(alloc, depth, read.rest))?;
+    let variables = others.value;
+    let height = read.height.max(others.height);
+    Ok(Parsed::new(Variables { kind, variables }, height, others.rest))
 }

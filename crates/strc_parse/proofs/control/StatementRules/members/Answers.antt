@@ -31,15 +31,15 @@ pub loop-rest-preserved : goal.loop-rest-preserved
 unfolding one_taller
 loop-rest-preserved g c =
     let depth = c.args.self.now.depth - 1 in
-    let next = c.in_ok-next.field-0.value in
+    let next = c.in_ok-next.next.value in
     let front = map member_view c.loop-rest.found.items in
     let e : map member_view c.push.new.self.items ≡ front ++ member_view next ∷ [] =
     rw c.in_ok-push.ensures.items (map_push _ c.loop-rest.found.items next) in
     let one : one_taller (member depth (statement depth)) (front, c.loop-rest.highest) (kinds c.loop-rest.rest.now)
-    ≡ Ok ((front ++ member_view next ∷ [], max c.loop-rest.highest c.in_ok-next.field-0.height), kinds c.in_ok-next.field-0.rest.now) =
+    ≡ Ok ((front ++ member_view next ∷ [], max c.loop-rest.highest c.in_ok-next.next.height), kinds c.in_ok-next.next.rest.now) =
     rw c.in_ok-next.ensures refl in
     let less = member_shorter depth (statement depth) (λ ts. statement_soundness depth ts) _ _ _ _ c.in_ok-next.ensures in
-    let high : c.max-highest.result ≡ max c.loop-rest.highest c.in_ok-next.field-0.height = search rules in
+    let high : c.max-highest.result ≡ max c.loop-rest.highest c.in_ok-next.next.height = search rules in
     rw (e, high) (goes_on brace (one_taller (member depth (statement depth))) _ (front, c.loop-rest.highest)
     (kinds c.loop-rest.rest.now) c.loop-rest.invariant _ _ less
     (brace_stays _ (sym c.is_punctuation.ensures ∙ c.loop-rest-test.true)) one)
@@ -52,6 +52,6 @@ loop-rest-smaller g c =
 pub returns : goal.returns
 returns g c =
     let depth = c.args.self.now.depth - 1 in
-    rw c.tail.ensures (goes_to brace (one_taller (member depth (statement depth))) _
+    rw (c.new.ensures, c.tail.ensures) (goes_to brace (one_taller (member depth (statement depth))) _
     (map member_view c.loop-rest.found.items, c.loop-rest.highest) (kinds c.loop-rest.rest.now) c.loop-rest.invariant _
     (brace_closes _ (sym c.is_punctuation.ensures ∙ c.loop-rest-test.false)))
