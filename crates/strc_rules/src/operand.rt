@@ -113,8 +113,8 @@ impl<
         requires reads { ReadsExpressions (self.now.depth - 1)
             (F.pre self.now.reader) (F.post self.now.reader) }
         ensures { Gives (parsed expr_view) result
-            (spec.punctuation_operand self.now.depth (spec.expression (self.now.depth - 1)) punctuation
-            (kinds tokens.now)) }
+            (spec.punctuation_operand self.now.depth (spec.expression (self.now.depth - 1))
+            punctuation (kinds tokens.now)) }
     {
         match punctuation {
             Punctuation::OpenParen => self.group(tail(tokens)),
