@@ -7,10 +7,10 @@ use Rattle.strc_lex.specs.declared.token.TokenKind.{TokenKind}
 use Rattle.strc_grammar.specs.declared.error.Fault.TheVariants.{Nesting}
 use Rattle.strc_grammar.specs.Grammar.{each_spelled, highest}
 use Rattle.strc_grammar.specs.Reading.{Read, Tall, repeated, one_more, one_taller}
-use Rattle.strc_grammar.proofs.Again.{Again}
+use Rattle.strc_grammar.proofs.Completeness.{Complete}
 
 module _ {A : Type 0} (height_of : A → ℕ) where
-  -- the items that were read behind those in front
+  -- the items that were read after those in front
   abbrev pub gathered : List A → ℕ → List A → List TokenKind → (List A × ℕ) × List TokenKind
   gathered front high items after = ((front ++ items, max high (highest height_of items)), after)
 
@@ -26,51 +26,51 @@ module _ {A : Type 0} (height_of : A → ℕ) where
 module _ {A : Type 0} (spelled : A → List TokenKind → List TokenKind) (height_of : A → ℕ) (reader : List TokenKind → Tall A) (stop : List TokenKind → Option (List TokenKind))
     (Follows : List TokenKind → Type 0) (depth : ℕ) where
   -- an item that is read again before what may follow, and where the loop goes on
-  pub record TallAgain (a : A) : Type 0 where
-    pub reads : (rest : List TokenKind) → Follows rest → Again depth (height_of a) (a, height_of a, rest) (reader (spelled a rest))
+  pub record TallCompleteness (a : A) : Type 0 where
+    pub reads : (rest : List TokenKind) → Follows rest → Complete depth (height_of a) (a, height_of a, rest) (reader (spelled a rest))
     pub stays : (rest : List TokenKind) → stop (spelled a rest) ≡ None
     pub follows : (rest : List TokenKind) → Follows (spelled a rest)
     pub long : (rest : List TokenKind) → length rest + 1 ≤ length (spelled a rest)
 
-  all_follow : (items : List A) → AllByRecursion TallAgain items → (rest : List TokenKind) → Follows rest → Follows (each_spelled spelled items rest)
+  all_follow : (items : List A) → AllByRecursion TallCompleteness items → (rest : List TokenKind) → Follows rest → Follows (each_spelled spelled items rest)
   all_follow [] all rest f = f
   all_follow (a ∷ others) all rest f = all.0.follows (each_spelled spelled others rest)
 
-  tall_long : (items : List A) → AllByRecursion TallAgain items → (rest : List TokenKind) → length rest ≤ length (each_spelled spelled items rest)
+  tall_long : (items : List A) → AllByRecursion TallCompleteness items → (rest : List TokenKind) → length rest ≤ length (each_spelled spelled items rest)
   tall_long [] all rest = omega arith
   tall_long (a ∷ others) all rest = omega (arith, all.0.long (each_spelled spelled others rest), tall_long others all.1 rest)
 
-  tall_fits : (a : A) → TallAgain a → (front : List A) (high t : ℕ) (behind : List TokenKind) → Follows behind → height_of a ≤ depth
-      → repeated stop (one_taller reader) (suc t) (front, high) (spelled a behind) ≡ repeated stop (one_taller reader) t (front ++ a ∷ [], max high (height_of a)) behind
+  tall_fits : (a : A) → TallCompleteness a → (front : List A) (high t : ℕ) (past : List TokenKind) → Follows past → height_of a ≤ depth
+      → repeated stop (one_taller reader) (suc t) (front, high) (spelled a past) ≡ repeated stop (one_taller reader) t (front ++ a ∷ [], max high (height_of a)) past
   unfolding repeated one_taller
-  tall_fits a again front high t behind f low = let read = (again.reads behind f).fits low in rw (again.stays behind, read) refl
+  tall_fits a complete front high t past f low = let read = (complete.reads past f).fits low in rw (complete.stays past, read) refl
 
-  tall_over : (a : A) → TallAgain a → (front : List A) (high t : ℕ) (behind : List TokenKind) → Follows behind → depth < height_of a
-      → repeated stop (one_taller reader) (suc t) (front, high) (spelled a behind) ≡ Err Nesting
+  tall_over : (a : A) → TallCompleteness a → (front : List A) (high t : ℕ) (past : List TokenKind) → Follows past → depth < height_of a
+      → repeated stop (one_taller reader) (suc t) (front, high) (spelled a past) ≡ Err Nesting
   unfolding repeated one_taller
-  tall_over a again front high t behind f lt = let read = (again.reads behind f).over lt in rw (again.stays behind, read) refl
+  tall_over a complete front high t past f lt = let read = (complete.reads past f).over lt in rw (complete.stays past, read) refl
 
   no_more : (front : List A) (high t : ℕ) (rest after : List TokenKind) → stop rest ≡ Some after → repeated stop (one_taller reader) (suc t) (front, high) rest ≡ Ok ((front, high), after)
   unfolding repeated
   no_more front high t rest after stops = rw stops refl
 
-  pub each_taller_again : (items : List A) → AllByRecursion TallAgain items → (front : List A) (high turns : ℕ) (rest after : List TokenKind) → stop rest ≡ Some after → Follows rest
+  pub each_taller_completeness : (items : List A) → AllByRecursion TallCompleteness items → (front : List A) (high turns : ℕ) (rest after : List TokenKind) → stop rest ≡ Some after → Follows rest
       → length (each_spelled spelled items rest) + 1 ≤ turns + length rest
-      → Again depth (highest height_of items) (gathered height_of front high items after) (repeated stop (one_taller reader) turns (front, high) (each_spelled spelled items rest))
-  each_taller_again [] all front high zero rest after stops f le = absurd (omega arith)
-  each_taller_again [] all front high (suc t) rest after stops f le =
+      → Complete depth (highest height_of items) (gathered height_of front high items after) (repeated stop (one_taller reader) turns (front, high) (each_spelled spelled items rest))
+  each_taller_completeness [] all front high zero rest after stops f le = absurd (omega arith)
+  each_taller_completeness [] all front high (suc t) rest after stops f le =
       record { fits = λ h. no_more front high t rest after stops ∙ ap Ok (gathered_none height_of front high after); over = λ h. absurd (omega arith) }
-  each_taller_again (a ∷ others) all front high zero rest after stops f le =
+  each_taller_completeness (a ∷ others) all front high zero rest after stops f le =
       absurd (omega (arith, all.0.long (each_spelled spelled others rest), tall_long others all.1 rest))
-  each_taller_again (a ∷ others) all front high (suc t) rest after stops f le =
-      let behind = each_spelled spelled others rest in
+  each_taller_completeness (a ∷ others) all front high (suc t) rest after stops f le =
+      let past = each_spelled spelled others rest in
       let next = all_follow others all.1 rest f in
-      let enough : length behind + 1 ≤ t + length rest = omega (arith, all.0.long behind) in
-      let more = each_taller_again others all.1 (front ++ a ∷ []) (max high (height_of a)) t rest after stops f enough in record {
-        fits = λ h. tall_fits a all.0 front high t behind next (omega arith) ∙ more.fits (omega arith) ∙ ap Ok (gathered_more height_of front high a others after);
+      let enough : length past + 1 ≤ t + length rest = omega (arith, all.0.long past) in
+      let more = each_taller_completeness others all.1 (front ++ a ∷ []) (max high (height_of a)) t rest after stops f enough in record {
+        fits = λ h. tall_fits a all.0 front high t past next (omega arith) ∙ more.fits (omega arith) ∙ ap Ok (gathered_more height_of front high a others after);
         over = λ h. elim (cases_lt depth (height_of a)) [
-          | inl lt ↦ tall_over a all.0 front high t behind next lt
-          | inr low ↦ tall_fits a all.0 front high t behind next low ∙ more.over (omega arith)
+          | inl lt ↦ tall_over a all.0 front high t past next lt
+          | inr low ↦ tall_fits a all.0 front high t past next low ∙ more.over (omega arith)
         ];
       }
 
@@ -78,44 +78,44 @@ module _ {A : Type 0} (spelled : A → List TokenKind → List TokenKind) (heigh
 
 module _ {A : Type 0} (spelled : A → List TokenKind → List TokenKind) (height_of : A → ℕ) (reader : List TokenKind → Read A) (stop : List TokenKind → Option (List TokenKind)) (depth : ℕ) where
   -- an item that is read again, and where the loop goes on
-  pub record ItemAgain (a : A) : Type 0 where
-    pub reads : (rest : List TokenKind) → Again depth (height_of a) (a, rest) (reader (spelled a rest))
+  pub record ItemCompleteness (a : A) : Type 0 where
+    pub reads : (rest : List TokenKind) → Complete depth (height_of a) (a, rest) (reader (spelled a rest))
     pub stays : (rest : List TokenKind) → stop (spelled a rest) ≡ None
     pub long : (rest : List TokenKind) → length rest + 1 ≤ length (spelled a rest)
 
-  each_long : (items : List A) → AllByRecursion ItemAgain items → (rest : List TokenKind) → length rest ≤ length (each_spelled spelled items rest)
+  each_long : (items : List A) → AllByRecursion ItemCompleteness items → (rest : List TokenKind) → length rest ≤ length (each_spelled spelled items rest)
   each_long [] all rest = omega arith
   each_long (a ∷ others) all rest = omega (arith, all.0.long (each_spelled spelled others rest), each_long others all.1 rest)
 
-  item_fits : (a : A) → ItemAgain a → (front : List A) (t : ℕ) (behind : List TokenKind) → height_of a ≤ depth
-      → repeated stop (one_more reader) (suc t) front (spelled a behind) ≡ repeated stop (one_more reader) t (front ++ a ∷ []) behind
+  item_fits : (a : A) → ItemCompleteness a → (front : List A) (t : ℕ) (past : List TokenKind) → height_of a ≤ depth
+      → repeated stop (one_more reader) (suc t) front (spelled a past) ≡ repeated stop (one_more reader) t (front ++ a ∷ []) past
   unfolding repeated one_more
-  item_fits a again front t behind low = let read = (again.reads behind).fits low in rw (again.stays behind, read) refl
+  item_fits a complete front t past low = let read = (complete.reads past).fits low in rw (complete.stays past, read) refl
 
-  item_over : (a : A) → ItemAgain a → (front : List A) (t : ℕ) (behind : List TokenKind) → depth < height_of a
-      → repeated stop (one_more reader) (suc t) front (spelled a behind) ≡ Err Nesting
+  item_over : (a : A) → ItemCompleteness a → (front : List A) (t : ℕ) (past : List TokenKind) → depth < height_of a
+      → repeated stop (one_more reader) (suc t) front (spelled a past) ≡ Err Nesting
   unfolding repeated one_more
-  item_over a again front t behind lt = let read = (again.reads behind).over lt in rw (again.stays behind, read) refl
+  item_over a complete front t past lt = let read = (complete.reads past).over lt in rw (complete.stays past, read) refl
 
   no_more_items : (front : List A) (t : ℕ) (rest after : List TokenKind) → stop rest ≡ Some after → repeated stop (one_more reader) (suc t) front rest ≡ Ok (front, after)
   unfolding repeated
   no_more_items front t rest after stops = rw stops refl
 
-  pub each_again : (items : List A) → AllByRecursion ItemAgain items → (front : List A) (turns : ℕ) (rest after : List TokenKind) → stop rest ≡ Some after
+  pub each_completeness : (items : List A) → AllByRecursion ItemCompleteness items → (front : List A) (turns : ℕ) (rest after : List TokenKind) → stop rest ≡ Some after
       → length (each_spelled spelled items rest) + 1 ≤ turns + length rest
-      → Again depth (highest height_of items) (front ++ items, after) (repeated stop (one_more reader) turns front (each_spelled spelled items rest))
-  each_again [] all front zero rest after stops le = absurd (omega arith)
-  each_again [] all front (suc t) rest after stops le =
+      → Complete depth (highest height_of items) (front ++ items, after) (repeated stop (one_more reader) turns front (each_spelled spelled items rest))
+  each_completeness [] all front zero rest after stops le = absurd (omega arith)
+  each_completeness [] all front (suc t) rest after stops le =
       record { fits = λ h. no_more_items front t rest after stops ∙ ap (λ (xs : List A). Ok (xs, after)) (sym (append-nil front)); over = λ h. absurd (omega arith) }
-  each_again (a ∷ others) all front zero rest after stops le =
+  each_completeness (a ∷ others) all front zero rest after stops le =
       absurd (omega (arith, all.0.long (each_spelled spelled others rest), each_long others all.1 rest))
-  each_again (a ∷ others) all front (suc t) rest after stops le =
-      let behind = each_spelled spelled others rest in
-      let enough : length behind + 1 ≤ t + length rest = omega (arith, all.0.long behind) in
-      let more = each_again others all.1 (front ++ a ∷ []) t rest after stops enough in record {
-        fits = λ h. item_fits a all.0 front t behind (omega arith) ∙ more.fits (omega arith) ∙ ap (λ (xs : List A). Ok (xs, after)) (append_assoc front (a ∷ []) others);
+  each_completeness (a ∷ others) all front (suc t) rest after stops le =
+      let past = each_spelled spelled others rest in
+      let enough : length past + 1 ≤ t + length rest = omega (arith, all.0.long past) in
+      let more = each_completeness others all.1 (front ++ a ∷ []) t rest after stops enough in record {
+        fits = λ h. item_fits a all.0 front t past (omega arith) ∙ more.fits (omega arith) ∙ ap (λ (xs : List A). Ok (xs, after)) (append_assoc front (a ∷ []) others);
         over = λ h. elim (cases_lt depth (height_of a)) [
-          | inl lt ↦ item_over a all.0 front t behind lt
-          | inr low ↦ item_fits a all.0 front t behind low ∙ more.over (omega arith)
+          | inl lt ↦ item_over a all.0 front t past lt
+          | inr low ↦ item_fits a all.0 front t past low ∙ more.over (omega arith)
         ];
       }

@@ -28,6 +28,7 @@ use Rattle.strc_syntax.specs.declared.tree.BinaryOperator.{BinaryOperator}
 use Rattle.strc_syntax.specs.declared.tree.BinaryOperator.TheVariants as binary
 use Rattle.strc_syntax.specs.declared.tree.Program.{Program}
 use Rattle.strc_grammar.specs.declared.error.ParseError.{ParseError}
+use Rattle.strc_grammar.specs.declared.height.TheConstants.{HEIGHT_LIMIT}
 use Rattle.strc_grammar.specs.declared.error.ParseError.TheVariants as refusal
 use Rattle.strc_syntax.specs.Tree as tree
 use Rattle.strc_syntax.specs.View.{program_view}
@@ -121,7 +122,7 @@ initial_spelled (Some initial) rest = token.Punctuation punctuation.Assign ∷ e
 abbrev pub variable_spelled : tree.Variable → List TokenKind → List TokenKind
 variable_spelled variable rest = token.Name variable.name ∷ initial_spelled variable.initial rest
 
--- a further variable, behind its comma
+-- a further variable, after its comma
 abbrev pub next_spelled : tree.Variable → List TokenKind → List TokenKind
 next_spelled variable rest = token.Punctuation punctuation.Comma ∷ variable_spelled variable rest
 
@@ -166,7 +167,7 @@ abbrev pub brackets_spelled : Brackets → List TokenKind → List TokenKind
 brackets_spelled brackets.Written rest = token.Punctuation punctuation.OpenParen ∷ token.Punctuation punctuation.CloseParen ∷ rest
 brackets_spelled brackets.Missing rest = rest
 
--- a further expression, behind its comma
+-- a further expression, after its comma
 abbrev pub next_argument_spelled : tree.Expr → List TokenKind → List TokenKind
 next_argument_spelled argument rest = token.Punctuation punctuation.Comma ∷ expr_spelled argument rest
 
@@ -292,7 +293,7 @@ block_spelled block rest = token.Punctuation punctuation.OpenBrace ∷ row_spell
 abbrev pub parameter_spelled : List ℕ → List TokenKind → List TokenKind
 parameter_spelled name rest = token.Keyword keyword.Int ∷ token.Name name ∷ rest
 
--- a further parameter, behind its comma
+-- a further parameter, after its comma
 abbrev pub next_parameter_spelled : List ℕ → List TokenKind → List TokenKind
 next_parameter_spelled name rest = token.Punctuation punctuation.Comma ∷ parameter_spelled name rest
 
@@ -357,7 +358,7 @@ rank (tree.Binary operator left right) = precedence operator
 rank (tree.Conditional condition chosen other) = lowest_precedence
 rank _ = 0
 
--- A prefix operator takes an operand; a binary one takes no looser side, and on its right no equally loose one; the
+-- A prefix operator takes an operand; a binary one takes no side of lower precedence, and on its right none of equal precedence; the
 -- condition of `c ? a : b` is no such expression itself, and its other two parts are any.
 abbrev pub IsExpr : tree.Expr → Type 0
 IsExpr (tree.Number value) = Unit {0}
@@ -402,7 +403,7 @@ abbrev pub IsFirst : tree.Stmt → Type 0
 IsFirst (tree.Declare kind variables) = IsVariableType kind × AreVariables variables
 IsFirst other = IsStep other
 
--- whether an `else` behind this statement belongs to an `if` that ends it
+-- whether an `else` after this statement belongs to an `if` that ends it
 abbrev pub takes_else : tree.Stmt → Bool
 takes_else (tree.If condition chosen) = true
 takes_else (tree.IfElse condition chosen other) = takes_else other
@@ -594,7 +595,7 @@ height program = highest declaration_height program
 
 -- the greatest height that a program may have
 abbrev pub height_limit : ℕ
-height_limit = 256
+height_limit = HEIGHT_LIMIT
 
 -- the tokens are those of this program, which is well shaped and not too high
 abbrev pub Parses : List TokenKind → List tree.Declaration → Type 0

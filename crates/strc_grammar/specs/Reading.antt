@@ -131,7 +131,7 @@ one_more reader front tokens = reader tokens >>= λ read. Ok (front ++ read.0 �
 unfoldable pub one_taller : {A : Type 0} → (List TokenKind → Tall A) → List A × ℕ → List TokenKind → Read (List A × ℕ)
 one_taller reader so_far tokens = reader tokens >>= λ read. Ok ((so_far.0 ++ read.0 ∷ [], max so_far.1 read.1), read.2)
 
--- a loop stops at the brace that closes, and goes on behind it
+-- a loop stops at the brace that closes, and goes on after it
 unfoldable pub brace : List TokenKind → Option (List TokenKind)
 brace tokens = if is_punctuation punctuation.CloseBrace tokens then Some (tail tokens) else None
 
@@ -175,7 +175,7 @@ step_of (Some punctuation.PlusPlus) = Some step.IncrementAfter
 step_of (Some punctuation.MinusMinus) = Some step.DecrementAfter
 step_of _ = None
 
--- the step of a variable or an element that stands behind it
+-- the step of a variable or an element that stands after it
 unfoldable pub step_after : List TokenKind → Option StepOperator
 step_after tokens = step_of (punctuation_at tokens)
 
@@ -190,7 +190,7 @@ closed below closing tokens = do
   rest ← expect closing value.2
   Ok (value.0, value.1, rest)
 
--- `[i]`, if it stands there, with the height of what has the index: behind the name
+-- `[i]`, if it stands there, with the height of what has the index: after the name
 unfoldable pub index : ℕ → Below → List TokenKind → Tall (Option tree.Expr)
 index depth below tokens =
     if is_punctuation punctuation.OpenBracket tokens
@@ -201,15 +201,15 @@ abbrev pub after_place_by : ℕ → List ℕ → Option tree.Expr → ℕ → Li
 after_place_by depth name at height tokens None = Ok (read_of name at, height, tokens)
 after_place_by depth name at height tokens (Some operator) = raised depth height >>= λ high. Ok (step_of_place operator name at, high, tail tokens)
 
--- `x` or `x++`, `x[i]` or `x[i]++`: behind the name and its index
+-- `x` or `x++`, `x[i]` or `x[i]++`: after the name and its index
 unfoldable pub after_place : ℕ → List ℕ → Option tree.Expr → ℕ → List TokenKind → Tall tree.Expr
 after_place depth name at height tokens = after_place_by depth name at height tokens (step_after tokens)
 
--- the same behind the name
+-- the same after the name
 unfoldable pub after_name : ℕ → Below → List ℕ → List TokenKind → Tall tree.Expr
 after_name depth below name tokens = index depth below tokens >>= λ at. after_place depth name at.0 at.1 at.2
 
--- `++x` or `++x[i]`: behind the punctuation
+-- `++x` or `++x[i]`: after the punctuation
 unfoldable pub step_first : ℕ → Below → StepOperator → List TokenKind → Tall tree.Expr
 step_first depth below operator tokens = do
   read ← name tokens
@@ -217,14 +217,14 @@ step_first depth below operator tokens = do
   height ← raised depth at.1
   Ok (step_of_place operator read.0 at.0, height, at.2)
 
--- `pop()`: behind the keyword
+-- `pop()`: after the keyword
 unfoldable pub pop_brackets : List TokenKind → Tall tree.Expr
 pop_brackets tokens = do
   inside ← expect punctuation.OpenParen tokens
   rest ← expect punctuation.CloseParen inside
   Ok (tree.Pop, 1, rest)
 
--- `peek(i)`: behind the keyword
+-- `peek(i)`: after the keyword
 unfoldable pub peek_brackets : ℕ → Below → List TokenKind → Tall tree.Expr
 peek_brackets depth below tokens = do
   inside ← expect punctuation.OpenParen tokens
@@ -232,14 +232,14 @@ peek_brackets depth below tokens = do
   height ← raised depth at.1
   Ok (tree.Peek at.0, height, at.2)
 
--- `(e)`: behind the bracket
+-- `(e)`: after the bracket
 unfoldable pub group : ℕ → Below → List TokenKind → Tall tree.Expr
 group depth below tokens = do
   inner ← closed below punctuation.CloseParen tokens
   height ← raised depth inner.1
   Ok (tree.Group inner.0, height, inner.2)
 
--- `-e`: behind the punctuation
+-- `-e`: after the punctuation
 unfoldable pub sign : ℕ → Below → UnaryOperator → List TokenKind → Tall tree.Expr
 sign depth below operator tokens = do
   inner ← below 0 tokens
@@ -247,28 +247,28 @@ sign depth below operator tokens = do
   Ok (tree.Unary operator inner.0, height, inner.2)
 
 -- an operand that begins with this punctuation mark
-unfoldable pub marked : ℕ → Below → Punctuation → List TokenKind → Tall tree.Expr
-marked depth below punctuation.OpenParen tokens = group depth below (tail tokens)
-marked depth below punctuation.Minus tokens = sign depth below unary.Negate (tail tokens)
-marked depth below punctuation.Not tokens = sign depth below unary.Not (tail tokens)
-marked depth below punctuation.Tilde tokens = sign depth below unary.Complement (tail tokens)
-marked depth below punctuation.PlusPlus tokens = step_first depth below step.IncrementFirst (tail tokens)
-marked depth below punctuation.MinusMinus tokens = step_first depth below step.DecrementFirst (tail tokens)
-marked depth below _ tokens = unexpected tokens
+unfoldable pub punctuation_operand : ℕ → Below → Punctuation → List TokenKind → Tall tree.Expr
+punctuation_operand depth below punctuation.OpenParen tokens = group depth below (tail tokens)
+punctuation_operand depth below punctuation.Minus tokens = sign depth below unary.Negate (tail tokens)
+punctuation_operand depth below punctuation.Not tokens = sign depth below unary.Not (tail tokens)
+punctuation_operand depth below punctuation.Tilde tokens = sign depth below unary.Complement (tail tokens)
+punctuation_operand depth below punctuation.PlusPlus tokens = step_first depth below step.IncrementFirst (tail tokens)
+punctuation_operand depth below punctuation.MinusMinus tokens = step_first depth below step.DecrementFirst (tail tokens)
+punctuation_operand depth below _ tokens = unexpected tokens
 
 -- an operand that begins with this keyword
-unfoldable pub worded : ℕ → Below → Keyword → List TokenKind → Tall tree.Expr
-worded depth below keyword.True tokens = Ok (tree.Truth true, 1, tail tokens)
-worded depth below keyword.False tokens = Ok (tree.Truth false, 1, tail tokens)
-worded depth below keyword.Pop tokens = pop_brackets (tail tokens)
-worded depth below keyword.Peek tokens = peek_brackets depth below (tail tokens)
-worded depth below _ tokens = unexpected tokens
+unfoldable pub keyword_operand : ℕ → Below → Keyword → List TokenKind → Tall tree.Expr
+keyword_operand depth below keyword.True tokens = Ok (tree.Truth true, 1, tail tokens)
+keyword_operand depth below keyword.False tokens = Ok (tree.Truth false, 1, tail tokens)
+keyword_operand depth below keyword.Pop tokens = pop_brackets (tail tokens)
+keyword_operand depth below keyword.Peek tokens = peek_brackets depth below (tail tokens)
+keyword_operand depth below _ tokens = unexpected tokens
 
 abbrev pub operand_by : ℕ → Below → List TokenKind → Option TokenKind → Tall tree.Expr
 operand_by depth below tokens (Some (token.Number value)) = Ok (tree.Number value, 1, tail tokens)
 operand_by depth below tokens (Some (token.Name name)) = after_name depth below name (tail tokens)
-operand_by depth below tokens (Some (token.Keyword found)) = worded depth below found tokens
-operand_by depth below tokens (Some (token.Punctuation found)) = marked depth below found tokens
+operand_by depth below tokens (Some (token.Keyword found)) = keyword_operand depth below found tokens
+operand_by depth below tokens (Some (token.Punctuation found)) = punctuation_operand depth below found tokens
 operand_by depth below tokens (Some (token.StringLiteral found)) = unexpected tokens
 operand_by depth below tokens None = unexpected tokens
 
@@ -276,7 +276,7 @@ operand_by depth below tokens None = unexpected tokens
 unfoldable pub operand : ℕ → Below → List TokenKind → Tall tree.Expr
 operand depth below tokens = operand_by depth below tokens (first tokens)
 
--- A turn of the loop over operators of one rank, which group to the left: what comes first, and how to go on behind it.
+-- A turn of the loop over operators of one rank, which group to the left: what comes first, and how to go on after it.
 abbrev pub chain_by : ℕ → Below → ℕ → (tree.Expr → ℕ → List TokenKind → Tall tree.Expr) → tree.Expr → ℕ → List TokenKind → Option BinaryOperator → Tall tree.Expr
 chain_by depth below rank goes_on left height tokens None = Ok (left, height, tokens)
 chain_by depth below rank goes_on left height tokens (Some operator) =
@@ -292,7 +292,7 @@ unfoldable pub climb : ℕ → Below → ℕ → List TokenKind → Tall tree.Ex
 climb depth below zero tokens = operand depth below tokens
 climb depth below (suc rank) tokens = climb depth below rank tokens >>= λ left. chain depth below (suc rank) (length left.2) left.0 left.1 left.2
 
--- `a : b`: behind the question mark
+-- `a : b`: after the question mark
 unfoldable pub choice : ℕ → Below → tree.Expr → ℕ → List TokenKind → Tall tree.Expr
 choice depth below condition height tokens = do
   chosen ← closed below punctuation.Colon tokens
@@ -341,7 +341,7 @@ no_comma tokens = if is_punctuation punctuation.Comma tokens then None else Some
 unfoldable pub next_variable : ℕ → List TokenKind → Tall tree.Variable
 next_variable depth tokens = variable depth (tail tokens)
 
--- the variables behind these
+-- the variables after these
 unfoldable pub more_variables : ℕ → List tree.Variable × ℕ → List TokenKind → Read (List tree.Variable × ℕ)
 more_variables depth so_far tokens = repeated no_comma (one_taller (next_variable depth)) (length tokens + 1) so_far tokens
 
@@ -349,7 +349,7 @@ more_variables depth so_far tokens = repeated no_comma (one_taller (next_variabl
 unfoldable pub variables : ℕ → List TokenKind → Read (List tree.Variable × ℕ)
 variables depth tokens = variable depth tokens >>= λ read. more_variables depth (read.0 ∷ [], read.1) read.2
 
--- `int` or `int[n]`: behind the keyword
+-- `int` or `int[n]`: after the keyword
 unfoldable pub int_type : ℕ → List TokenKind → Tall tree.VariableType
 int_type depth tokens =
     if is_punctuation punctuation.OpenBracket tokens
@@ -398,14 +398,14 @@ assign_at tokens = assign_of (punctuation_at tokens)
 unfoldable pub evaluate : ℕ → tree.Expr → ℕ → List TokenKind → Tall tree.Stmt
 evaluate depth value height tokens = raised depth height >>= λ high. Ok (tree.Evaluate value, high, tokens)
 
--- `x = e`: behind the operator
+-- `x = e`: after the operator
 unfoldable pub assign_to : ℕ → List ℕ → AssignOperator → List TokenKind → Tall tree.Stmt
 assign_to depth name operator tokens = do
   value ← expression (depth - 1) lowest_precedence tokens
   height ← raised depth value.1
   Ok (tree.Assign name operator value.0, height, value.2)
 
--- `x[i] = e`: behind the operator, with the height of the element
+-- `x[i] = e`: after the operator, with the height of the element
 unfoldable pub assign_element : ℕ → List ℕ → tree.Expr → ℕ → AssignOperator → List TokenKind → Tall tree.Stmt
 assign_element depth name at height operator tokens = do
   value ← expression (depth - 1) lowest_precedence tokens
@@ -471,7 +471,7 @@ condition depth tokens =
     then Ok (None, 0, tail tokens)
     else (closed (expression depth) punctuation.Semicolon tokens >>= λ value. Ok (Some value.0, value.1, value.2))
 
--- the step of a `for`, and the bracket behind it
+-- the step of a `for`, and the bracket after it
 unfoldable pub last_part : ℕ → List TokenKind → Tall tree.Stmt
 last_part depth tokens = do
   read ← optional depth punctuation.CloseParen tokens
@@ -479,8 +479,8 @@ last_part depth tokens = do
   Ok (read.0, read.1, rest)
 
 -- `condition; step)`, and the height of the higher
-unfoldable pub behind_first : ℕ → List TokenKind → Tall (Option tree.Expr × tree.Stmt)
-behind_first depth tokens = do
+unfoldable pub after_first : ℕ → List TokenKind → Tall (Option tree.Expr × tree.Stmt)
+after_first depth tokens = do
   tested ← condition depth tokens
   stepped ← last_part depth tested.2
   Ok ((tested.0, stepped.0), max tested.1 stepped.1, stepped.2)
@@ -490,8 +490,8 @@ unfoldable pub for_heading : ℕ → List TokenKind → Tall (tree.Stmt × Optio
 for_heading depth tokens = do
   opened ← expect punctuation.OpenParen tokens
   begun ← ended depth opened
-  behind ← behind_first depth begun.2
-  Ok ((begun.0, behind.0.0, behind.0.1), max begun.1 behind.1, behind.2)
+  past ← after_first depth begun.2
+  Ok ((begun.0, past.0.0, past.0.1), max begun.1 past.1, past.2)
 
 -- ---- arguments and parameters
 
@@ -499,7 +499,7 @@ for_heading depth tokens = do
 unfoldable pub next_argument : ℕ → List TokenKind → Tall tree.Expr
 next_argument depth tokens = expression depth lowest_precedence (tail tokens)
 
--- the arguments behind these
+-- the arguments after these
 unfoldable pub more_arguments : ℕ → List tree.Expr × ℕ → List TokenKind → Read (List tree.Expr × ℕ)
 more_arguments depth so_far tokens = repeated no_comma (one_taller (next_argument depth)) (length tokens + 1) so_far tokens
 
@@ -532,7 +532,7 @@ parameter tokens = expect_keyword keyword.Int tokens >>= λ named. name named
 unfoldable pub next_parameter : List TokenKind → Read (List ℕ)
 next_parameter tokens = parameter (tail tokens)
 
--- the parameters behind these
+-- the parameters after these
 unfoldable pub more_parameters : List (List ℕ) → List TokenKind → Read (List (List ℕ))
 more_parameters so_far tokens = repeated no_comma (one_more next_parameter) (length tokens + 1) so_far tokens
 

@@ -32,14 +32,14 @@ Inner = List TokenKind → Tall tree.Stmt
 unfoldable pub statements : Inner → List TokenKind → Read (List tree.Stmt × ℕ)
 statements inner tokens = repeated brace (one_taller inner) (length tokens) ([], 0) tokens
 
--- a block as a statement: behind its brace
+-- a block as a statement: after its brace
 unfoldable pub block : ℕ → Inner → List TokenKind → Tall tree.Stmt
 block depth inner tokens = do
   body ← statements inner tokens
   height ← raised depth body.0.1
   Ok (tree.Block (row body.0.0), height, body.1)
 
--- the branch behind `else`, with the height of what stands before it
+-- the branch after `else`, with the height of what stands before it
 unfoldable pub other_branch : ℕ → Inner → tree.Expr → tree.Stmt → ℕ → List TokenKind → Tall tree.Stmt
 other_branch depth inner condition chosen height tokens = do
   other ← inner tokens
@@ -53,14 +53,14 @@ after_branch depth inner condition chosen height tokens =
     then other_branch depth inner condition chosen height (tail tokens)
     else (raised depth height >>= λ high. Ok (tree.If condition chosen, high, tokens))
 
--- `if`: behind the keyword
+-- `if`: after the keyword
 unfoldable pub branch : ℕ → Inner → List TokenKind → Tall tree.Stmt
 branch depth inner tokens = do
   condition ← bracketed depth tokens
   chosen ← inner condition.2
   after_branch depth inner condition.0 chosen.0 (max condition.1 chosen.1) chosen.2
 
--- `while`: behind the keyword
+-- `while`: after the keyword
 unfoldable pub while_loop : ℕ → Inner → List TokenKind → Tall tree.Stmt
 while_loop depth inner tokens = do
   condition ← bracketed depth tokens
@@ -68,7 +68,7 @@ while_loop depth inner tokens = do
   height ← raised depth (max condition.1 body.1)
   Ok (tree.While condition.0 body.0, height, body.2)
 
--- `for`: behind the keyword
+-- `for`: after the keyword
 unfoldable pub for_loop : ℕ → Inner → List TokenKind → Tall tree.Stmt
 for_loop depth inner tokens = do
   heading ← for_heading depth tokens
@@ -126,7 +126,7 @@ braced inner tokens = do
   body ← statements inner opened
   Ok (row body.0.0, body.0.1, body.1)
 
--- an initialisation: behind the keyword
+-- an initialisation: after the keyword
 unfoldable pub init : Inner → List TokenKind → Tall tree.Member
 init inner tokens = braced inner tokens >>= λ block. Ok (tree.Init block.0, block.1, block.2)
 
@@ -158,18 +158,18 @@ member limit inner tokens = member_by limit inner tokens (first tokens)
 
 -- the members of a filter up to the brace that closes them, and the height of the highest or 0
 unfoldable pub members : ℕ → Inner → List TokenKind → Read (List tree.Member × ℕ)
-members limit inner tokens = repeated brace (one_taller (member limit inner)) (length tokens) ([], 0) tokens
+members limit inner tokens = repeated brace (one_taller (member limit inner)) (length tokens + 1) ([], 0) tokens
 
 -- ---- children of composite streams, each with the height of its highest part or 0
 
--- `A(1, 2);`: behind the name
+-- `A(1, 2);`: after the name
 unfoldable pub named_child : ℕ → List ℕ → List TokenKind → Tall tree.Child
 named_child limit name tokens = do
   given ← arguments limit tokens
   rest ← expect punctuation.Semicolon given.2
   Ok (tree.Named name given.0, given.1, rest)
 
--- `<int>();`: behind the keyword
+-- `<int>();`: after the keyword
 unfoldable pub identity : List TokenKind → Tall tree.Child
 identity tokens = do
   opened ← int_items tokens
@@ -177,7 +177,7 @@ identity tokens = do
   rest ← expect punctuation.Semicolon pair.1
   Ok (tree.Identity pair.0, 0, rest)
 
--- a filter without a name: behind its keyword
+-- a filter without a name: after its keyword
 unfoldable pub anonymous_filter : ℕ → Inner → StreamType → List TokenKind → Tall tree.Child
 anonymous_filter limit inner types tokens = do
   opened ← expect punctuation.OpenBrace tokens
@@ -192,30 +192,30 @@ anonymous_by inner types tokens (Some kind) = braced inner (tail tokens) >>= λ 
 unfoldable pub anonymous_composite : Inner → Option StreamType → List TokenKind → Tall tree.Child
 anonymous_composite inner types tokens = anonymous_by inner types tokens (composite_kind tokens)
 
--- a stream without a name: behind its type
-unfoldable pub behind_type : ℕ → Inner → StreamType → List TokenKind → Tall tree.Child
-behind_type limit inner types tokens =
+-- a stream without a name: after its type
+unfoldable pub after_type : ℕ → Inner → StreamType → List TokenKind → Tall tree.Child
+after_type limit inner types tokens =
     if is_keyword keyword.Filter tokens then anonymous_filter limit inner types (tail tokens) else anonymous_composite inner (Some types) tokens
 
 -- the same with its type
 unfoldable pub typed_child : ℕ → Inner → List TokenKind → Tall tree.Child
-typed_child limit inner tokens = stream_type tokens >>= λ types. behind_type limit inner types.0 types.1
+typed_child limit inner tokens = stream_type tokens >>= λ types. after_type limit inner types.0 types.1
 
-abbrev pub worded_child_by : ℕ → Inner → Keyword → List TokenKind → Tall tree.Child
-worded_child_by limit inner keyword.Identity tokens = identity (tail tokens)
-worded_child_by limit inner keyword.FileReader tokens = file (tail tokens) >>= λ read. Ok (tree.FileReader read.0, 0, read.1)
-worded_child_by limit inner keyword.FileWriter tokens = file (tail tokens) >>= λ read. Ok (tree.FileWriter read.0, 0, read.1)
-worded_child_by limit inner keyword.Int tokens = typed_child limit inner tokens
-worded_child_by limit inner keyword.Void tokens = typed_child limit inner tokens
-worded_child_by limit inner _ tokens = anonymous_composite inner None tokens
+abbrev pub keyword_child_by : ℕ → Inner → Keyword → List TokenKind → Tall tree.Child
+keyword_child_by limit inner keyword.Identity tokens = identity (tail tokens)
+keyword_child_by limit inner keyword.FileReader tokens = file (tail tokens) >>= λ read. Ok (tree.FileReader read.0, 0, read.1)
+keyword_child_by limit inner keyword.FileWriter tokens = file (tail tokens) >>= λ read. Ok (tree.FileWriter read.0, 0, read.1)
+keyword_child_by limit inner keyword.Int tokens = typed_child limit inner tokens
+keyword_child_by limit inner keyword.Void tokens = typed_child limit inner tokens
+keyword_child_by limit inner _ tokens = anonymous_composite inner None tokens
 
 -- a child that begins with this keyword
-unfoldable pub worded_child : ℕ → Inner → Keyword → List TokenKind → Tall tree.Child
-worded_child limit inner found tokens = worded_child_by limit inner found tokens
+unfoldable pub keyword_child : ℕ → Inner → Keyword → List TokenKind → Tall tree.Child
+keyword_child limit inner found tokens = keyword_child_by limit inner found tokens
 
 abbrev pub child_by : ℕ → Inner → List TokenKind → Option TokenKind → Tall tree.Child
 child_by limit inner tokens (Some (token.Name name)) = named_child limit name (tail tokens)
-child_by limit inner tokens (Some (token.Keyword found)) = worded_child limit inner found tokens
+child_by limit inner tokens (Some (token.Keyword found)) = keyword_child limit inner found tokens
 child_by limit inner tokens _ = unexpected tokens
 
 -- a child, with its semicolon where it has one
@@ -224,7 +224,7 @@ child limit inner tokens = child_by limit inner tokens (first tokens)
 
 -- ---- statements of composite streams
 
--- a child for this: behind its keyword
+-- a child for this: after its keyword
 unfoldable pub child_for : ℕ → Inner → Role → List TokenKind → Tall tree.Composition
 child_for depth inner role tokens = do
   read ← child (depth - 1) inner tokens
@@ -242,7 +242,7 @@ splitter limit tokens =
     then (empty_brackets (tail tokens) >>= λ pair. Ok (tree.Duplicate pair.0, 0, pair.1))
     else (weights limit tokens >>= λ read. Ok (tree.Roundrobin read.0, read.1, read.2))
 
--- `split`: behind the keyword
+-- `split`: after the keyword
 unfoldable pub split : ℕ → List TokenKind → Tall tree.Composition
 split depth tokens = do
   read ← splitter (depth - 1) tokens
@@ -250,7 +250,7 @@ split depth tokens = do
   height ← raised depth read.1
   Ok (tree.Split read.0, height, rest)
 
--- `join`: behind the keyword
+-- `join`: after the keyword
 unfoldable pub join : ℕ → List TokenKind → Tall tree.Composition
 join depth tokens = do
   read ← weights (depth - 1) tokens
@@ -258,7 +258,7 @@ join depth tokens = do
   height ← raised depth read.1
   Ok (tree.Join read.0, height, rest)
 
--- `enqueue`: behind the keyword
+-- `enqueue`: after the keyword
 unfoldable pub enqueue : ℕ → List TokenKind → Tall tree.Composition
 enqueue depth tokens = closed (expression (depth - 1)) punctuation.Semicolon tokens >>= λ value. Ok (tree.Enqueue value.0, value.1, value.2)
 
@@ -284,31 +284,31 @@ compose depth inner found tokens = do
 
 -- ---- statements
 
-abbrev pub worded_statement_by : ℕ → Inner → Keyword → List TokenKind → Tall tree.Stmt
-worded_statement_by depth inner keyword.If tokens = branch depth inner (tail tokens)
-worded_statement_by depth inner keyword.While tokens = while_loop depth inner (tail tokens)
-worded_statement_by depth inner keyword.For tokens = for_loop depth inner (tail tokens)
-worded_statement_by depth inner keyword.Push tokens = argument depth (tail tokens) >>= λ read. Ok (tree.Push read.0, read.1, read.2)
-worded_statement_by depth inner keyword.Print tokens = argument depth (tail tokens) >>= λ read. Ok (tree.Print read.0, read.1, read.2)
-worded_statement_by depth inner keyword.Println tokens = argument depth (tail tokens) >>= λ read. Ok (tree.Println read.0, read.1, read.2)
-worded_statement_by depth inner keyword.Add tokens = compose depth inner keyword.Add tokens
-worded_statement_by depth inner keyword.Body tokens = compose depth inner keyword.Body tokens
-worded_statement_by depth inner keyword.Loop tokens = compose depth inner keyword.Loop tokens
-worded_statement_by depth inner keyword.Split tokens = compose depth inner keyword.Split tokens
-worded_statement_by depth inner keyword.Join tokens = compose depth inner keyword.Join tokens
-worded_statement_by depth inner keyword.Enqueue tokens = compose depth inner keyword.Enqueue tokens
-worded_statement_by depth inner _ tokens = ended depth tokens
+abbrev pub keyword_statement_by : ℕ → Inner → Keyword → List TokenKind → Tall tree.Stmt
+keyword_statement_by depth inner keyword.If tokens = branch depth inner (tail tokens)
+keyword_statement_by depth inner keyword.While tokens = while_loop depth inner (tail tokens)
+keyword_statement_by depth inner keyword.For tokens = for_loop depth inner (tail tokens)
+keyword_statement_by depth inner keyword.Push tokens = argument depth (tail tokens) >>= λ read. Ok (tree.Push read.0, read.1, read.2)
+keyword_statement_by depth inner keyword.Print tokens = argument depth (tail tokens) >>= λ read. Ok (tree.Print read.0, read.1, read.2)
+keyword_statement_by depth inner keyword.Println tokens = argument depth (tail tokens) >>= λ read. Ok (tree.Println read.0, read.1, read.2)
+keyword_statement_by depth inner keyword.Add tokens = compose depth inner keyword.Add tokens
+keyword_statement_by depth inner keyword.Body tokens = compose depth inner keyword.Body tokens
+keyword_statement_by depth inner keyword.Loop tokens = compose depth inner keyword.Loop tokens
+keyword_statement_by depth inner keyword.Split tokens = compose depth inner keyword.Split tokens
+keyword_statement_by depth inner keyword.Join tokens = compose depth inner keyword.Join tokens
+keyword_statement_by depth inner keyword.Enqueue tokens = compose depth inner keyword.Enqueue tokens
+keyword_statement_by depth inner _ tokens = ended depth tokens
 
 -- a statement that begins with this keyword
-unfoldable pub worded_statement : ℕ → Inner → Keyword → List TokenKind → Tall tree.Stmt
-worded_statement depth inner found tokens = worded_statement_by depth inner found tokens
+unfoldable pub keyword_statement : ℕ → Inner → Keyword → List TokenKind → Tall tree.Stmt
+keyword_statement depth inner found tokens = keyword_statement_by depth inner found tokens
 
 abbrev pub statement_by : ℕ → Inner → List TokenKind → Option TokenKind → Tall tree.Stmt
 statement_by depth inner tokens (Some (token.Punctuation punctuation.OpenBrace)) = block depth inner (tail tokens)
-statement_by depth inner tokens (Some (token.Keyword found)) = worded_statement depth inner found tokens
+statement_by depth inner tokens (Some (token.Keyword found)) = keyword_statement depth inner found tokens
 statement_by depth inner tokens _ = ended depth tokens
 
--- a statement, behind the test of its depth
+-- a statement, after the test of its depth
 unfoldable pub shallow : ℕ → Inner → List TokenKind → Tall tree.Stmt
 shallow depth inner tokens = statement_by depth inner tokens (first tokens)
 
@@ -327,14 +327,14 @@ heading tokens = do
   rest ← expect punctuation.OpenBrace given.1
   Ok ((named.0, given.0), rest)
 
--- a filter: behind its keyword
+-- a filter: after its keyword
 unfoldable pub filter : ℕ → StreamType → List TokenKind → Read tree.Declaration
 filter limit types tokens = do
   head ← heading tokens
   body ← members limit (statement limit) head.1
   Ok (record { name = head.0.0; parameters = head.0.1; stream = tree.Filter types.input types.output body.0.0 }, body.1)
 
--- a composite stream: behind its kind
+-- a composite stream: after its kind
 unfoldable pub composite : ℕ → StreamType → CompositeKind → List TokenKind → Read tree.Declaration
 composite limit types kind tokens = do
   head ← heading tokens
@@ -345,7 +345,7 @@ abbrev pub composite_by : ℕ → StreamType → List TokenKind → Option Compo
 composite_by limit types tokens None = unexpected tokens
 composite_by limit types tokens (Some kind) = composite limit types kind (tail tokens)
 
--- a stream: behind its type
+-- a stream: after its type
 unfoldable pub stream : ℕ → StreamType → List TokenKind → Read tree.Declaration
 stream limit types tokens = if is_keyword keyword.Filter tokens then filter limit types (tail tokens) else composite_by limit types tokens (composite_kind tokens)
 

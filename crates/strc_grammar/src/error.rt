@@ -13,7 +13,7 @@ pub enum ParseError {
     /// No program has the token of this number there, counted from 0.
     /// It is the number of tokens where the text ends too soon.
     Parse { token: usize },
-    /// A statement or an expression is higher than 256.
+    /// A statement or an expression is higher than `HEIGHT_LIMIT`.
     Nesting,
     /// Memory ran out.
     NoMemory,

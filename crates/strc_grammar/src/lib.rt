@@ -1,4 +1,4 @@
-// Takes nothing: this crate is definitions and laws.
+// Takes nothing: this crate is definitions, laws and the limit of heights.
 // Gives what a text's tokens spell: the grammar, its trees' shapes and heights, and what each rule
 // reads.
 // The theorem to rely on: `one_tree`: two programs never share a spelling; and each rule reads just
@@ -9,7 +9,9 @@
 #![tactic(auto)]
 
 mod error;
+mod height;
 mod laws;
 
 pub use error::{Fault, ParseError, ReadError};
+pub use height::HEIGHT_LIMIT;
 pub use laws::one_tree;

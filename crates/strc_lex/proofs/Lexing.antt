@@ -40,7 +40,7 @@ token_bare text kind len size token (inr comment) = none_is_not_some (kind, len)
 pub stands_bare : (text : List ℕ) (item : Token) → StandsAt text item → (size : ℕ) → IsTrivia (drop item.span.start text) size → ⊥
 stands_bare text item stands size trivia = token_bare (drop item.span.start text) item.kind (item.span.end - item.span.start) size stands.token trivia
 
--- one more token, and the trivia_run behind it
+-- one more token, and the trivia_run after it
 pub lexes_push : (text : List ℕ) (from : ℕ) (tokens : List Token) (item : Token) (to : ℕ) → LexesBetween text from tokens item.span.start → StandsAt text item → IsTriviaRun text item.span.end to → LexesBetween text from (tokens ++ item ∷ []) to
 lexes_push text from [] item to front stands trivia_run = (front, stands, trivia_run)
 lexes_push text from (first ∷ tokens) item to front stands trivia_run = (front.0, front.1, lexes_push text first.span.end tokens item to front.2 stands trivia_run)
@@ -51,7 +51,7 @@ made kind start end = record { kind = kind; span = record { start = start; end =
 token_same : (t u : Token) → t.kind ≡ u.kind → t.span.start ≡ u.span.start → t.span.end ≡ u.span.end → t ≡ u
 token_same t u kind start end = ap (λ k. made k t.span.start t.span.end) kind ∙ ap (λ s. made u.kind s t.span.end) start ∙ ap (λ e. made u.kind u.span.start e) end
 
--- two tokens behind one place are one
+-- two tokens after one place are one
 same_token : (text : List ℕ) (from : ℕ) (t u : Token) → IsTriviaRun text from t.span.start → StandsAt text t → IsTriviaRun text from u.span.start → StandsAt text u → t ≡ u
 same_token text from t u trivia_run_t stands_t trivia_run_u stands_u =
     let start = trivia_end text from t.span.start u.span.start trivia_run_t trivia_run_u (stands_bare text t stands_t) (stands_bare text u stands_u) in
@@ -63,7 +63,7 @@ same_token text from t u trivia_run_t stands_t trivia_run_u stands_u =
     let order_u = stands_u.ordered in
     token_same t u (ap (λ (p : TokenKind × ℕ). p.0) pair) start (omega arith)
 
--- a trivia_run to the end leaves no room for a token
+-- a run of trivia to the end leaves no room for a token
 no_token_in_trivia_run : (text : List ℕ) (from : ℕ) (u : Token) → IsTriviaRun text from (length text) → IsTriviaRun text from u.span.start → StandsAt text u → ⊥
 no_token_in_trivia_run text from u trivia_run trivia_run_u stands =
     let ends = stands_within text u stands in

@@ -45,7 +45,7 @@ pub string_only : (b : ℕ) (rest : List ℕ) (n : ℕ) (x y : List ℕ) → IsL
 string_only b rest zero x y h g = absurd (cc (h.0))
 string_only b rest (suc n) x y h g = (string_run x rest n (cc (h.0)) h.1).0 ∙ sym (string_run y rest n (cc (g.0)) g.1).0
 
--- a quote behind the run is within the text, and ends the string
+-- a quote after the run is within the text, and ends the string
 closing : (n : ℕ) (rest : List ℕ) → is_closed (drop n rest) ≡ true → (n < length rest) × (take (suc n) rest ≡ take n rest ++ 34 ∷ [])
 closing zero [] e = absurd (cc)
 closing zero (x ∷ rest) e = (omega arith, ap (λ y. y ∷ []) (quote_is x e))

@@ -209,7 +209,7 @@ punctuation_longest text m found other size within e = by (pair_of text) refl fo
     | inr one ↦ let short = punctuation_short m in let fits = size_of_punctuation text other size within e in omega arith
   ]
 
--- behind a `/` that opens no comment stands no `/` and no `*`
+-- after a `/` that opens no comment stands no `/` and no `*`
 slash_apart : (b : ℕ) (rest : List ℕ) → b ≡ 47 → opens_comment (b ∷ rest) ≡ false → IsApart (Punctuation symbol.Slash) rest
 slash_apart b [] e plain = tt
 slash_apart b (c ∷ rest) e plain = (

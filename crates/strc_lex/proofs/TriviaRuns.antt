@@ -1,4 +1,4 @@
--- A trivia_run is one: from one place it can end at one place alone, where no trivia of a trivia_run begins.
+-- A run of trivia is one: from one place it can end at one place alone, where no trivia of a run of trivia begins.
 use Rattle.std.proofs.Common.{◌≡◌, ℕ, zero, suc, ◌+◌, ◌<◌, ◌≤◌, true, List, [], ◌∷◌, ◌++◌, length, take, drop, refl, ap, arith, ◌∙◌, sym, subst, inl, inr, codes, length-drop, nat_eq, Option, Some, None, IfSome, IfNone, false, slice_get}
 use Rattle.std.specs.List.{starts_with}
 use Rattle.std.proofs.lemmas.Bool.{both_ways}
@@ -34,8 +34,8 @@ line_only text m n first second =
 
 block_only : (text : List ℕ) (m n : ℕ) → IsBlockComment text m → IsBlockComment text n → m ≡ n
 block_only text m n first second =
-    let not_less : first.close < second.close → ⊥ = λ less. second.first first.close first.behind less first.closes in
-    let not_more : second.close < first.close → ⊥ = λ more. first.first second.close second.behind more second.closes in
+    let not_less : first.close < second.close → ⊥ = λ less. second.first first.close first.past less first.closes in
+    let not_more : second.close < first.close → ⊥ = λ more. first.first second.close second.past more second.closes in
     omega (arith, not_less, not_more, first.ends, second.ends)
 
 no_line_block : (text : List ℕ) (m n : ℕ) → IsLineComment text m → IsBlockComment text n → ⊥
@@ -51,14 +51,14 @@ blank_only : (text : List ℕ) (m n : ℕ) → IsBlank text m → IsBlank text n
 blank_only [] m n first second = absurd first
 blank_only (b ∷ rest) m n first second = first.1 ∙ sym second.1
 
--- a trivia of a trivia_run has one length
+-- trivia has one length
 pub trivia_only : (text : List ℕ) (m n : ℕ) → IsTrivia text m → IsTrivia text n → m ≡ n
 trivia_only text m n (inl first) (inl second) = blank_only text m n first second
 trivia_only text m n (inl first) (inr second) = absurd (no_blank_comment text m n first second)
 trivia_only text m n (inr first) (inl second) = absurd (no_blank_comment text n m second first)
 trivia_only text m n (inr first) (inr second) = comment_only text m n first second
 
--- a trivia of a trivia_run isn't empty, and is within the text
+-- trivia isn't empty, and is within the text
 
 line_fits : (text : List ℕ) (len : ℕ) → IsLineComment text len → (0 < len) × (len ≤ length text)
 line_fits [] len line = absurd (cc (line.opens))
@@ -91,7 +91,7 @@ trivia_run_push text from at len trivia_run trivia =
       trivia = trivia_push text from trivia_run.lengths at len trivia_run.trivia trivia;
     }
 
--- a trivia_run goes on, if anywhere
+-- a run of trivia goes on, if anywhere
 trivia_ordered : (text : List ℕ) (from : ℕ) (lens : List ℕ) (to : ℕ) → AreTrivia text from lens to → from ≤ to
 trivia_ordered text from [] to h = omega arith
 trivia_ordered text from (len ∷ lens) to h = let rest = trivia_ordered text (from + len) lens to h.1 in omega arith
@@ -99,7 +99,7 @@ trivia_ordered text from (len ∷ lens) to h = let rest = trivia_ordered text (f
 pub trivia_run_ordered : (text : List ℕ) (from to : ℕ) → IsTriviaRun text from to → from ≤ to
 trivia_run_ordered text from to trivia_run = trivia_ordered text from trivia_run.lengths to trivia_run.trivia
 
--- no trivia of a trivia_run begins at the end of the text
+-- no trivia of a run of trivia begins at the end of the text
 pub bare_end : (text : List ℕ) (at len : ℕ) → length text ≤ at → IsTrivia (drop at text) len → ⊥
 bare_end text at len past trivia = let fits = trivia_fits (drop at text) len trivia in omega (arith, fits.0, fits.1, length-drop at text)
 
@@ -112,7 +112,7 @@ lengths_end text from (m ∷ ms) (n ∷ ns) a b h g bare_a bare_b =
     let same = trivia_only (drop from text) m n h.0 g.0 in
     lengths_end text (from + m) ms ns a b h.1 (subst (λ k. AreTrivia text (from + k) ns b) (sym same) g.1) bare_a bare_b
 
--- two trivia_runs from one place end at one place, where no trivia of a trivia_run begins
+-- two trivia from one place end at one place, where no trivia of a run of trivia begins
 pub trivia_end : (text : List ℕ) (from a b : ℕ) → IsTriviaRun text from a → IsTriviaRun text from b
     → ((len : ℕ) → IsTrivia (drop a text) len → ⊥) → ((len : ℕ) → IsTrivia (drop b text) len → ⊥) → a ≡ b
 trivia_end text from a b first second bare_a bare_b = lengths_end text from first.lengths second.lengths a b first.trivia second.trivia bare_a bare_b

@@ -1,4 +1,4 @@
--- Reading the token at the front of a text: what the scanner computes. `StringLiteral` says what a token is.
+-- Reading the token at the front of a text: what the scanner computes. `Text` says what a token is.
 use Rattle.std.specs.Prelude.{ℕ, Bool, true, false, List, [], ◌∷◌, ◌+◌, length, drop, take_while, find, nat_le, nat_eq, codes, ◌||◌, Option, Some, None, if◌then◌else◌, ◌==◌, ◌&&◌}
 use Rattle.std.specs.List.{starts_with}
 use Rattle.std.specs.Cmp.Lexicographic.{pointwise}
@@ -24,7 +24,7 @@ keyword_or_name bytes (Some w) = Keyword w
 abbrev pub name_at : List ℕ → TokenKind × ℕ
 name_at text = let bytes = take_while is_name_byte text in (keyword_or_name bytes (keyword_of bytes), length bytes)
 
--- whether what stands behind a number parts it from the next token
+-- whether what stands after a number parts it from the next token
 abbrev pub ends_number : List ℕ → Bool
 ends_number [] = true
 ends_number (b ∷ rest) = if is_name_byte b then false else true

@@ -1,4 +1,4 @@
--- The tokens of a text: trivia_runs and tokens in turn, each token the longest that can stand there.
+-- The tokens of a text: trivia and tokens in turn, each token the longest that can stand there.
 use Rattle.std.specs.Prelude.{◌≡◌, ◌≢◌, ℕ, ◌+◌, ◌-◌, ◌*◌, ◌<◌, ◌≤◌, true, false, List, [], ◌∷◌, ◌++◌, length, take, drop}
 use Rattle.std.specs.List.{list_all}
 use Rattle.std.specs.Int.{w32, cast_signed}
@@ -6,6 +6,7 @@ use Rattle.strc_lex.specs.Characters.{is_digit, is_letter, is_name_byte, is_stri
 use Rattle.strc_lex.specs.KeywordTexts.{keyword_text}
 use Rattle.strc_lex.specs.PunctuationTexts.{punctuation_text}
 use Rattle.strc_lex.specs.Trivia.{IsTrivia, IsTriviaRun}
+use Rattle.strc_lex.specs.declared.lexer.TheConstants.{TEXT_LIMIT}
 use Rattle.strc_lex.specs.declared.token.Token.{Token}
 use Rattle.strc_lex.specs.declared.token.TokenKind.{TokenKind}
 use Rattle.strc_lex.specs.declared.token.TokenKind.TheVariants.{Name, Number, Keyword, Punctuation, StringLiteral}
@@ -14,7 +15,7 @@ use Rattle.strc_lex.specs.declared.token.Punctuation.TheVariants as punctuation
 
 -- how long a text may be, in bytes
 abbrev pub text_limit : ℕ
-text_limit = 1048576
+text_limit = TEXT_LIMIT
 
 -- a letter or `_`, then letters, digits and `_`
 abbrev pub IsNameText : List ℕ → Type 0
@@ -26,7 +27,7 @@ abbrev pub IsNumeral : List ℕ → Type 0
 IsNumeral [] = ⊥
 IsNumeral (b ∷ bytes) = (is_digit b ≡ true) × (list_all is_digit bytes ≡ true) × (b ≡ 48 → bytes ≡ [])
 
--- the number that these digits write behind a higher part
+-- the number that these digits write after a higher part
 abbrev pub number_from : ℕ → List ℕ → ℕ
 number_from high [] = high
 number_from high (b ∷ bytes) = number_from (10 * high + (b - 48)) bytes
@@ -39,7 +40,7 @@ IsLexeme (Keyword w) bytes = keyword_text w ≡ bytes
 IsLexeme (Punctuation m) bytes = punctuation_text m ≡ bytes
 IsLexeme (StringLiteral inner) bytes = (bytes ≡ 34 ∷ inner ++ 34 ∷ []) × (list_all is_string_byte inner ≡ true)
 
--- No digit, letter or `_` stands right behind a number. No `/` or `*` stands right behind `/`: a comment begins there.
+-- No digit, letter or `_` stands right after a number. No `/` or `*` stands right after `/`: a comment begins there.
 abbrev pub IsApart : TokenKind → List ℕ → Type 0
 IsApart (Number value) (b ∷ rest) = is_name_byte b ≡ false
 IsApart (Punctuation punctuation.Slash) (b ∷ rest) = (b ≢ 47) × (b ≢ 42)
@@ -57,13 +58,13 @@ pub record StandsAt (text : List ℕ) (item : Token) : Type 0 where
   pub ordered : item.span.start < item.span.end
   pub token : IsToken (drop item.span.start text) item.kind (item.span.end - item.span.start)
 
--- from one place up to another the text is trivia_runs and these tokens in turn
+-- from one place up to another the text is trivia and these tokens in turn
 abbrev pub LexesBetween : List ℕ → ℕ → List Token → ℕ → Type 0
 LexesBetween text from [] to = IsTriviaRun text from to
 LexesBetween text from (token ∷ tokens) to =
     IsTriviaRun text from token.span.start × StandsAt text token × LexesBetween text token.span.end tokens to
 
--- the text is trivia_runs and these tokens in turn
+-- the text is trivia and these tokens in turn
 abbrev pub Lexes : List ℕ → List Token → Type 0
 Lexes text tokens = LexesBetween text 0 tokens (length text)
 
@@ -73,7 +74,7 @@ pub record IsStuck (text : List ℕ) (at : ℕ) : Type 0 where
   pub bare : (len : ℕ) → IsTrivia (drop at text) len → ⊥
   pub none : (kind : TokenKind) (len : ℕ) → IsToken (drop at text) kind len → ⊥
 
--- what stands before the place is trivia_runs and tokens, and no token goes on there
+-- what stands before the place is trivia and tokens, and no token goes on there
 pub record StopsAt (text : List ℕ) (at : ℕ) : Type 0 where
   pub tokens : List Token
   pub front : LexesBetween text 0 tokens at

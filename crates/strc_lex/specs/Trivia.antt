@@ -13,11 +13,11 @@ pub record IsLineComment (text : List ℕ) (len : ℕ) : Type 0 where
   pub line : (k : ℕ) → k < len → slice_index text k ≢ 10
   pub ends : len < length text → slice_index text len ≡ 10
 
--- `/*`, and what follows, with the first `*/` behind it
+-- `/*`, and what follows, with the first `*/` after it
 pub record IsBlockComment (text : List ℕ) (len : ℕ) : Type 0 where
   pub opens : Reads text 0 (codes "/*")
   pub close : ℕ
-  pub behind : 2 ≤ close
+  pub past : 2 ≤ close
   pub closes : Reads text close (codes "*/")
   pub first : (k : ℕ) → 2 ≤ k → k < close → Reads text k (codes "*/") → ⊥
   pub ends : len ≡ close + 2
@@ -31,7 +31,7 @@ abbrev pub IsBlank : List ℕ → ℕ → Type 0
 IsBlank [] len = ⊥
 IsBlank (b ∷ rest) len = (is_white b ≡ true) × (len ≡ 1)
 
--- the text begins with a trivia of a trivia_run: a byte of white space, or a comment
+-- the text begins with trivia: a byte of white space, or a comment
 abbrev pub IsTrivia : List ℕ → ℕ → Type 0
 IsTrivia text len = IsBlank text len ⊎ IsComment text len
 

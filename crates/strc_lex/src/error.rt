@@ -3,6 +3,7 @@
 ghost use Rattle.strc_lex.specs.declared.error.LexError.TheVariants.{NoMemory};
 ghost use Rattle.std.specs.Prelude.{◌≡◌};
 
+use crate::lexer::TEXT_LIMIT;
 use std::alloc::{AllocError, AllocFailed};
 use std::error::Error;
 use std::fmt;
@@ -12,7 +13,7 @@ use std::fmt;
 pub enum LexError {
     /// No token begins at this byte, counted from 0.
     Lex { at: usize },
-    /// The text is longer than 1,048,576 bytes.
+    /// The text is longer than `TEXT_LIMIT`.
     TextTooLong,
     /// Memory ran out.
     NoMemory,
@@ -27,7 +28,7 @@ impl fmt::Display for LexError {
     fn fmt<W: fmt::Write>(&self, f: &mut fmt::Formatter<W>) -> fmt::Result {
         match self {
             LexError::Lex { at } => write!(f, "no token begins at byte {at}"),
-            LexError::TextTooLong => write!(f, "the text is longer than 1048576 bytes"),
+            LexError::TextTooLong => write!(f, "the text is longer than {TEXT_LIMIT} bytes"),
             LexError::NoMemory => write!(f, "out of memory"),
         }
     }

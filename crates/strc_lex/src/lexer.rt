@@ -12,20 +12,20 @@ use crate::token::{Span, Token, TokenKind};
 use crate::trivia::trivia_end;
 use std::alloc::{AllocError, Global};
 
-// How long a text may be, in bytes.
-const TEXT_LIMIT: usize = 1048576;
+/// How long a text may be, in bytes.
+pub const TEXT_LIMIT: usize = 1_048_576;
 
 /// The tokens of a text, each with its place.
 ///
-/// White space and comments part tokens. A text longer than 1,048,576 bytes is `TextTooLong`. Where
-/// no token goes on, also where a comment or a string isn't closed, `Lex` names the byte.
+/// White space and comments part tokens. A text longer than `TEXT_LIMIT` is `TextTooLong`. Where no
+/// token goes on, also where a comment or a string isn't closed, `Lex` names the byte.
 pub fn lex(alloc: Global, text: &[u8]) -> Result<Vec<Token>, LexError>
     ensures ok { IfOk result (λ tokens. Lexes text.now tokens.items) }
     // What has tokens is read, unless memory runs out.
     ensures only { (tokens : List Token) → Lexes text.now tokens → length text.now ≤ text_limit
         → MatchResult result (λ found. found.items ≡ tokens) (λ e. e ≡ LexError.NoMemory) }
     ensures too_long { IsErrOf result LexError.TextTooLong ↔ (text_limit < length text.now) }
-    // What stands before the byte is trivia_runs and tokens, and no token goes on there.
+    // What stands before the byte is trivia and tokens, and no token goes on there.
     ensures stuck { (at : ℕ) → IsErrOf result (LexError.Lex at) → StopsAt text.now at }
 {
     if text.len() > TEXT_LIMIT {

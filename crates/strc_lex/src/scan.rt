@@ -11,7 +11,7 @@ use crate::token::{Keyword, Name, Punctuation, StringLiteral, TokenKind};
 use std::alloc::{AllocError, Global};
 
 // The greatest number that a text can write.
-const GREATEST: u64 = 2147483648;
+const GREATEST: u64 = 2_147_483_648;
 
 /// The token at the front of a text and its length, or None where none begins there.
 pub(crate) fn token_at(alloc: Global, text: &[u8]) -> Result<Option<(TokenKind, usize)>, AllocError>
@@ -104,7 +104,7 @@ fn is_plain(digits: &[u8]) -> bool
     }
 }
 
-// Whether what stands behind a number parts it from the next token.
+// Whether what stands after a number parts it from the next token.
 fn ends_number(rest: &[u8]) -> bool
     ensures { result ≡ spec.ends_number rest.now }
 {

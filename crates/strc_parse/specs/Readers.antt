@@ -7,14 +7,15 @@ use Rattle.strc_syntax.specs.declared.tree.Stmt.{Stmt}
 use Rattle.strc_grammar.specs.declared.error.ReadError.{ReadError}
 use Rattle.strc_grammar.specs.Grammar.{kinds}
 use Rattle.strc_syntax.specs.View.{stmt_view}
+use Rattle.strc_rules.specs.declared.parsed.Parsed.{Parsed}
 use Rattle.strc_rules.specs.Seen.{parsed}
 use Rattle.strc_grammar.specs.Reading.{Gives}
 use Rattle.strc_grammar.specs.Streams.{statement}
 
 pub record ReadsStatements (depth : ℕ) (pre : Global → ℕ → Bor (List Token) → Type 0)
     (post : Global → ℕ → Bor (List Token)
-    → Result (Stmt × ℕ × Bor (List Token)) ReadError → Type 0) : Type 0 where
+    → Result (Parsed Stmt) ReadError → Type 0) : Type 0 where
   pub callable : (alloc : Global) (tokens : Bor (List Token)) → pre alloc depth tokens
   pub reads : (alloc : Global) (tokens : Bor (List Token))
-      (r : Result (Stmt × ℕ × Bor (List Token)) ReadError) → post alloc depth tokens r
+      (r : Result (Parsed Stmt) ReadError) → post alloc depth tokens r
       → Gives (parsed stmt_view) r (statement depth (kinds tokens.now))

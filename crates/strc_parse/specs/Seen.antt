@@ -27,19 +27,17 @@ heading_view h = (stmt_view h.first, option_map expr_view h.condition, stmt_view
 abbrev pub block_view : Vec Stmt → tree.Stmts
 block_view block = row (map stmt_view block.items)
 
--- the condition and the step of a `for`, and the height of the higher
-abbrev pub seen_behind_first : Option Expr × Stmt × ℕ × Bor (List Token)
-    → (Option tree.Expr × tree.Stmt) × ℕ × List TokenKind
-seen_behind_first x = ((option_map expr_view x.0, stmt_view x.1), x.2, kinds x.3.now)
+-- the condition and the step of a `for`
+abbrev pub after_first_view : Option Expr × Stmt → Option tree.Expr × tree.Stmt
+after_first_view x = (option_map expr_view x.0, stmt_view x.1)
 
 -- whether a rate of this kind is among these
 abbrev pub seen_rate : RateKind → List RateTree → Bool
 seen_rate kind rates = list_any (λ r. sameb rate_type r.kind kind) rates
 
--- rates and a block, and the height of the highest
-abbrev pub seen_phase : Vec RateTree × Vec Stmt × ℕ × Bor (List Token)
-    → (List tree.Rate × tree.Stmts) × ℕ × List TokenKind
-seen_phase x = ((map rate_view x.0.items, block_view x.1), x.2, kinds x.3.now)
+-- rates and a block
+abbrev pub phase_view : Vec RateTree × Vec Stmt → List tree.Rate × tree.Stmts
+phase_view x = (map rate_view x.0.items, block_view x.1)
 
 -- the name and the parameters of a stream
 abbrev pub seen_stream_heading : List ℕ × Option (Vec (List ℕ)) × Bor (List Token)

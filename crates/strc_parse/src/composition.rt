@@ -17,8 +17,8 @@ use strc_grammar::ReadError;
 use strc_lex::token::{Keyword, Name, Punctuation, Token, TokenKind};
 use strc_rules::argument::{arguments, empty_brackets};
 use strc_rules::expression::closed;
-use strc_rules::held::{before, raise};
 use strc_rules::lookahead::{expect, expect_keyword, is_keyword, peek, tail, unexpected};
+use strc_rules::parsed::Parsed;
 use strc_rules::stream_type::{composite_kind, file, int_items, stream_type};
 use strc_syntax::node::{composite_of, filter_of};
 use strc_syntax::tree::{Child, Composition, Expr, Role, Splitter, Stmt, StreamType};
@@ -30,39 +30,38 @@ fn named_child<'t>(
     limit: usize,
     name: Name,
     tokens: &'t [Token],
-) -> Result<(Child, usize, &'t [Token]), ReadError>
+) -> Result<Parsed<'t, Child>, ReadError>
     ensures { Gives (parsed child_view) result (spec.named_child limit name (kinds tokens.now)) }
 {
-    let (given, height, rest) = arguments(alloc, limit, tokens)?;
-    let (given, rest) = before(Punctuation::Semicolon, given, rest)?;
-    Ok((Child::Named(name, given), height, rest))
+    let given = arguments(alloc, limit, tokens)?.before(Punctuation::Semicolon)?;
+    Ok(Parsed::new(Child::Named(name, given.value), given.height, given.rest))
 }
 
 /// `<int>();`: after the keyword.
 #[tactic(auto, unfolding(strc_grammar::specs::Streams::identity))]
-fn identity(tokens: &[Token]) -> Result<(Child, usize, &[Token]), ReadError>
+fn identity(tokens: &[Token]) -> Result<Parsed<'_, Child>, ReadError>
     ensures { Gives (parsed child_view) result (spec.identity (kinds tokens.now)) }
 {
     let opened = int_items(tokens)?;
     let (brackets, rest) = empty_brackets(opened)?;
     let rest = expect(Punctuation::Semicolon, rest)?;
-    Ok((Child::Identity(brackets), 0, rest))
+    Ok(Parsed::new(Child::Identity(brackets), 0, rest))
 }
 
 /// `FileReader`: after the keyword.
-fn file_reader(tokens: &[Token]) -> Result<(Child, usize, &[Token]), ReadError>
+fn file_reader(tokens: &[Token]) -> Result<Parsed<'_, Child>, ReadError>
     ensures { Gives (parsed child_view) result (parts.file_reader (kinds tokens.now)) }
 {
     let (text, rest) = file(tokens)?;
-    Ok((Child::FileReader(text), 0, rest))
+    Ok(Parsed::new(Child::FileReader(text), 0, rest))
 }
 
 /// `FileWriter`: after the keyword.
-fn file_writer(tokens: &[Token]) -> Result<(Child, usize, &[Token]), ReadError>
+fn file_writer(tokens: &[Token]) -> Result<Parsed<'_, Child>, ReadError>
     ensures { Gives (parsed child_view) result (parts.file_writer (kinds tokens.now)) }
 {
     let (text, rest) = file(tokens)?;
-    Ok((Child::FileWriter(text), 0, rest))
+    Ok(Parsed::new(Child::FileWriter(text), 0, rest))
 }
 
 /// `roundrobin(1, 2)`, and the height of the highest weight or 0.
@@ -71,7 +70,7 @@ fn weights(
     alloc: Global,
     limit: usize,
     tokens: &[Token],
-) -> Result<(Option<Vec<Expr>>, usize, &[Token]), ReadError>
+) -> Result<Parsed<'_, Option<Vec<Expr>>>, ReadError>
     ensures { Gives (parsed weights_view) result (spec.weights limit (kinds tokens.now)) }
 {
     let rest = expect_keyword(Keyword::Roundrobin, tokens)?;
@@ -84,15 +83,19 @@ fn splitter(
     alloc: Global,
     limit: usize,
     tokens: &[Token],
-) -> Result<(Splitter, usize, &[Token]), ReadError>
+) -> Result<Parsed<'_, Splitter>, ReadError>
     ensures { Gives (parsed splitter_view) result (spec.splitter limit (kinds tokens.now)) }
 {
     if is_keyword(Keyword::Duplicate, tokens) {
         let (brackets, rest) = empty_brackets(tail(tokens))?;
-        return Ok((Splitter::Duplicate(brackets), 0, rest));
+        return Ok(Parsed::new(Splitter::Duplicate(brackets), 0, rest));
     }
-    let (weights, height, rest) = weights(alloc, limit, tokens)?;
-    Ok((Splitter::Roundrobin(weights), height, rest))
+    let weights = weights(alloc, limit, tokens)?;
+    Ok(Parsed::new(
+        Splitter::Roundrobin(weights.value),
+        weights.height,
+        weights.rest,
+    ))
 }
 
 /// `split`: after the keyword.
@@ -101,30 +104,34 @@ fn split(
     alloc: Global,
     depth: usize,
     tokens: &[Token],
-) -> Result<(Composition, usize, &[Token]), ReadError>
+) -> Result<Parsed<'_, Composition>, ReadError>
     requires { 0 < depth }
     ensures { Gives (parsed composition_view) result (spec.split depth (kinds tokens.now)) }
 {
-    let (splitter, height, rest) = splitter(alloc, depth - 1, tokens)?;
-    let (splitter, rest) = before(Punctuation::Semicolon, splitter, rest)?;
-    let (splitter, height) = raise(depth, splitter, height)?;
-    Ok((Composition::Split(splitter), height, rest))
+    let splitter = splitter(alloc, depth - 1, tokens)?
+        .before(Punctuation::Semicolon)?
+        .raise(depth)?;
+    Ok(Parsed::new(
+        Composition::Split(splitter.value),
+        splitter.height,
+        splitter.rest,
+    ))
 }
 
 /// `join`: after the keyword.
 #[tactic(auto, unfolding(strc_grammar::specs::Streams::join))]
-fn join(
-    alloc: Global,
-    depth: usize,
-    tokens: &[Token],
-) -> Result<(Composition, usize, &[Token]), ReadError>
+fn join(alloc: Global, depth: usize, tokens: &[Token]) -> Result<Parsed<'_, Composition>, ReadError>
     requires { 0 < depth }
     ensures { Gives (parsed composition_view) result (spec.join depth (kinds tokens.now)) }
 {
-    let (weights, height, rest) = weights(alloc, depth - 1, tokens)?;
-    let (weights, rest) = before(Punctuation::Semicolon, weights, rest)?;
-    let (weights, height) = raise(depth, weights, height)?;
-    Ok((Composition::Join(weights), height, rest))
+    let weights = weights(alloc, depth - 1, tokens)?
+        .before(Punctuation::Semicolon)?
+        .raise(depth)?;
+    Ok(Parsed::new(
+        Composition::Join(weights.value),
+        weights.height,
+        weights.rest,
+    ))
 }
 
 /// `enqueue`: after the keyword.
@@ -133,25 +140,23 @@ fn enqueue(
     alloc: Global,
     depth: usize,
     tokens: &[Token],
-) -> Result<(Composition, usize, &[Token]), ReadError>
+) -> Result<Parsed<'_, Composition>, ReadError>
     requires { 0 < depth }
     ensures { Gives (parsed composition_view) result (spec.enqueue depth (kinds tokens.now)) }
 {
-    let (value, height, rest) = closed(alloc, depth - 1, Punctuation::Semicolon, tokens)?;
-    Ok((Composition::Enqueue(value), height, rest))
+    let read = closed(alloc, depth - 1, Punctuation::Semicolon, tokens)?;
+    Ok(Parsed::new(Composition::Enqueue(read.value), read.height, read.rest))
 }
 
 // Children come with the height of their highest part, or 0.
-impl<F: Fn(Global, usize, &[Token]) -> Result<(Stmt, usize, &[Token]), ReadError>> StatementRules<
-    F,
-> {
+impl<F: Fn(Global, usize, &[Token]) -> Result<Parsed<'_, Stmt>, ReadError>> StatementRules<F> {
     /// A filter without a name: after its keyword.
     #[tactic(auto, unfolding(strc_grammar::specs::Streams::anonymous_filter))]
     fn anonymous_filter<'t>(
         &self,
         types: StreamType,
         tokens: &'t [Token],
-    ) -> Result<(Child, usize, &'t [Token]), ReadError>
+    ) -> Result<Parsed<'t, Child>, ReadError>
         requires deep { 0 < self.now.depth }
         requires reads { ReadsStatements (self.now.depth - 1)
             (F.pre self.now.reader) (F.post self.now.reader) }
@@ -159,8 +164,12 @@ impl<F: Fn(Global, usize, &[Token]) -> Result<(Stmt, usize, &[Token]), ReadError
             (spec.statement (self.now.depth - 1)) types (kinds tokens.now)) }
     {
         let opened = expect(Punctuation::OpenBrace, tokens)?;
-        let (members, height, rest) = self.members(opened)?;
-        Ok((filter_of(types, members), height, rest))
+        let members = self.members(opened)?;
+        Ok(Parsed::new(
+            filter_of(types, members.value),
+            members.height,
+            members.rest,
+        ))
     }
 
     /// A composite stream without a name: at its kind.
@@ -169,7 +178,7 @@ impl<F: Fn(Global, usize, &[Token]) -> Result<(Stmt, usize, &[Token]), ReadError
         &self,
         types: Option<StreamType>,
         tokens: &'t [Token],
-    ) -> Result<(Child, usize, &'t [Token]), ReadError>
+    ) -> Result<Parsed<'t, Child>, ReadError>
         requires deep { 0 < self.now.depth }
         requires reads { ReadsStatements (self.now.depth - 1)
             (F.pre self.now.reader) (F.post self.now.reader) }
@@ -180,23 +189,27 @@ impl<F: Fn(Global, usize, &[Token]) -> Result<(Stmt, usize, &[Token]), ReadError
         match composite_kind(tokens) {
             None => Err(unexpected(tokens)),
             Some(kind) => {
-                let (block, height, rest) = self.braced(tail(tokens))?;
-                Ok((composite_of(types, kind, block), height, rest))
+                let block = self.braced(tail(tokens))?;
+                Ok(Parsed::new(
+                    composite_of(types, kind, block.value),
+                    block.height,
+                    block.rest,
+                ))
             }
         }
     }
 
     /// A stream without a name: after its type.
-    #[tactic(auto, unfolding(strc_grammar::specs::Streams::behind_type))]
-    fn behind_type<'t>(
+    #[tactic(auto, unfolding(strc_grammar::specs::Streams::after_type))]
+    fn after_type<'t>(
         &self,
         types: StreamType,
         tokens: &'t [Token],
-    ) -> Result<(Child, usize, &'t [Token]), ReadError>
+    ) -> Result<Parsed<'t, Child>, ReadError>
         requires deep { 0 < self.now.depth }
         requires reads { ReadsStatements (self.now.depth - 1)
             (F.pre self.now.reader) (F.post self.now.reader) }
-        ensures { Gives (parsed child_view) result (spec.behind_type (self.now.depth - 1)
+        ensures { Gives (parsed child_view) result (spec.after_type (self.now.depth - 1)
             (spec.statement (self.now.depth - 1)) types (kinds tokens.now)) }
     {
         if is_keyword(Keyword::Filter, tokens) {
@@ -208,7 +221,7 @@ impl<F: Fn(Global, usize, &[Token]) -> Result<(Stmt, usize, &[Token]), ReadError
 
     /// The same with its type.
     #[tactic(auto, unfolding(strc_grammar::specs::Streams::typed_child))]
-    fn typed_child<'t>(&self, tokens: &'t [Token]) -> Result<(Child, usize, &'t [Token]), ReadError>
+    fn typed_child<'t>(&self, tokens: &'t [Token]) -> Result<Parsed<'t, Child>, ReadError>
         requires deep { 0 < self.now.depth }
         requires reads { ReadsStatements (self.now.depth - 1)
             (F.pre self.now.reader) (F.post self.now.reader) }
@@ -216,20 +229,20 @@ impl<F: Fn(Global, usize, &[Token]) -> Result<(Stmt, usize, &[Token]), ReadError
             (spec.statement (self.now.depth - 1)) (kinds tokens.now)) }
     {
         let (types, rest) = stream_type(tokens)?;
-        self.behind_type(types, rest)
+        self.after_type(types, rest)
     }
 
     /// A child that begins with this keyword.
-    #[tactic(auto, unfolding(strc_grammar::specs::Streams::worded_child))]
-    fn worded_child<'t>(
+    #[tactic(auto, unfolding(strc_grammar::specs::Streams::keyword_child))]
+    fn keyword_child<'t>(
         &self,
         keyword: Keyword,
         tokens: &'t [Token],
-    ) -> Result<(Child, usize, &'t [Token]), ReadError>
+    ) -> Result<Parsed<'t, Child>, ReadError>
         requires deep { 0 < self.now.depth }
         requires reads { ReadsStatements (self.now.depth - 1)
             (F.pre self.now.reader) (F.post self.now.reader) }
-        ensures { Gives (parsed child_view) result (spec.worded_child (self.now.depth - 1)
+        ensures { Gives (parsed child_view) result (spec.keyword_child (self.now.depth - 1)
             (spec.statement (self.now.depth - 1)) keyword (kinds tokens.now)) }
     {
         match keyword {
@@ -244,7 +257,7 @@ impl<F: Fn(Global, usize, &[Token]) -> Result<(Stmt, usize, &[Token]), ReadError
 
     /// A child, with its semicolon where it has one.
     #[tactic(auto, unfolding(strc_grammar::specs::Streams::child))]
-    fn child<'t>(&self, tokens: &'t [Token]) -> Result<(Child, usize, &'t [Token]), ReadError>
+    fn child<'t>(&self, tokens: &'t [Token]) -> Result<Parsed<'t, Child>, ReadError>
         requires deep { 0 < self.now.depth }
         requires reads { ReadsStatements (self.now.depth - 1)
             (F.pre self.now.reader) (F.post self.now.reader) }
@@ -255,7 +268,7 @@ impl<F: Fn(Global, usize, &[Token]) -> Result<(Stmt, usize, &[Token]), ReadError
             Some(TokenKind::Name(name)) => {
                 named_child(self.alloc, self.depth - 1, name.copy()?, tail(tokens))
             }
-            Some(TokenKind::Keyword(keyword)) => self.worded_child(*keyword, tokens),
+            Some(TokenKind::Keyword(keyword)) => self.keyword_child(*keyword, tokens),
             _ => Err(unexpected(tokens)),
         }
     }
@@ -266,16 +279,19 @@ impl<F: Fn(Global, usize, &[Token]) -> Result<(Stmt, usize, &[Token]), ReadError
         &self,
         role: Role,
         tokens: &'t [Token],
-    ) -> Result<(Composition, usize, &'t [Token]), ReadError>
+    ) -> Result<Parsed<'t, Composition>, ReadError>
         requires deep { 0 < self.now.depth }
         requires reads { ReadsStatements (self.now.depth - 1)
             (F.pre self.now.reader) (F.post self.now.reader) }
         ensures { Gives (parsed composition_view) result (spec.child_for self.now.depth
             (spec.statement (self.now.depth - 1)) role (kinds tokens.now)) }
     {
-        let (child, height, rest) = self.child(tokens)?;
-        let (child, height) = raise(self.depth, child, height)?;
-        Ok((Composition::Child(role, child), height, rest))
+        let child = self.child(tokens)?.raise(self.depth)?;
+        Ok(Parsed::new(
+            Composition::Child(role, child.value),
+            child.height,
+            child.rest,
+        ))
     }
 
     /// A statement of a composite stream that begins with this keyword, and the height of its part.
@@ -284,7 +300,7 @@ impl<F: Fn(Global, usize, &[Token]) -> Result<(Stmt, usize, &[Token]), ReadError
         &self,
         keyword: Keyword,
         tokens: &'t [Token],
-    ) -> Result<(Composition, usize, &'t [Token]), ReadError>
+    ) -> Result<Parsed<'t, Composition>, ReadError>
         requires deep { 0 < self.now.depth }
         requires reads { ReadsStatements (self.now.depth - 1)
             (F.pre self.now.reader) (F.post self.now.reader) }
@@ -308,15 +324,18 @@ impl<F: Fn(Global, usize, &[Token]) -> Result<(Stmt, usize, &[Token]), ReadError
         &self,
         keyword: Keyword,
         tokens: &'t [Token],
-    ) -> Result<(Stmt, usize, &'t [Token]), ReadError>
+    ) -> Result<Parsed<'t, Stmt>, ReadError>
         requires deep { 0 < self.now.depth }
         requires reads { ReadsStatements (self.now.depth - 1)
             (F.pre self.now.reader) (F.post self.now.reader) }
         ensures { Gives (parsed stmt_view) result (spec.compose self.now.depth
             (spec.statement (self.now.depth - 1)) keyword (kinds tokens.now)) }
     {
-        let (composition, height, rest) = self.composition(keyword, tokens)?;
-        let (composition, height) = raise(self.depth, composition, height)?;
-        Ok((Stmt::Compose(composition), height, rest))
+        let composition = self.composition(keyword, tokens)?.raise(self.depth)?;
+        Ok(Parsed::new(
+            Stmt::Compose(composition.value),
+            composition.height,
+            composition.rest,
+        ))
     }
 }

@@ -16,6 +16,7 @@ use strc_grammar::{Fault, ReadError};
 use strc_lex::token::{Keyword, Punctuation, Token, TokenKind};
 use strc_rules::held::{beside, raise};
 use strc_rules::lookahead::{is_keyword, is_punctuation, peek, tail, unexpected};
+use strc_rules::parsed::Parsed;
 use strc_syntax::node::{block_of, for_of, if_else_of, if_of, while_of};
 use strc_syntax::tree::{Expr, Member, Stmt};
 
@@ -29,11 +30,7 @@ pub(crate) struct StatementRules<F> {
 
 /// A statement of at most this height, its height and what follows it.
 #[tactic(auto, unfolding(strc_grammar::specs::Streams::statement))]
-fn statement(
-    alloc: Global,
-    depth: usize,
-    tokens: &[Token],
-) -> Result<(Stmt, usize, &[Token]), ReadError>
+fn statement(alloc: Global, depth: usize, tokens: &[Token]) -> Result<Parsed<'_, Stmt>, ReadError>
     ensures { Gives (parsed stmt_view) result (spec.statement depth (kinds tokens.now)) }
 {
     if depth == 0 {
@@ -54,7 +51,7 @@ pub(crate) fn statements(
     alloc: Global,
     depth: usize,
     tokens: &[Token],
-) -> Result<(Vec<Stmt>, usize, &[Token]), ReadError>
+) -> Result<Parsed<'_, Vec<Stmt>>, ReadError>
     requires bound { depth < 1000 }
     ensures { Gives (parsed_all stmt_view) result
         (spec.statements (spec.statement depth) (kinds tokens.now)) }
@@ -73,7 +70,7 @@ pub(crate) fn members(
     alloc: Global,
     depth: usize,
     tokens: &[Token],
-) -> Result<(Vec<Member>, usize, &[Token]), ReadError>
+) -> Result<Parsed<'_, Vec<Member>>, ReadError>
     requires bound { depth < 1000 }
     ensures { Gives (parsed_all member_view) result
         (spec.members depth (spec.statement depth) (kinds tokens.now)) }
@@ -87,45 +84,35 @@ pub(crate) fn members(
 }
 
 /// `push(e);`: after the keyword.
-fn push(alloc: Global, depth: usize, tokens: &[Token]) -> Result<(Stmt, usize, &[Token]), ReadError>
+fn push(alloc: Global, depth: usize, tokens: &[Token]) -> Result<Parsed<'_, Stmt>, ReadError>
     requires { 0 < depth }
     ensures { Gives (parsed stmt_view) result (parts.push depth (kinds tokens.now)) }
 {
-    let (value, height, rest) = argument(alloc, depth, tokens)?;
-    Ok((Stmt::Push(value), height, rest))
+    let read = argument(alloc, depth, tokens)?;
+    Ok(Parsed::new(Stmt::Push(read.value), read.height, read.rest))
 }
 
 /// `print(e);`: after the keyword.
-fn print(
-    alloc: Global,
-    depth: usize,
-    tokens: &[Token],
-) -> Result<(Stmt, usize, &[Token]), ReadError>
+fn print(alloc: Global, depth: usize, tokens: &[Token]) -> Result<Parsed<'_, Stmt>, ReadError>
     requires { 0 < depth }
     ensures { Gives (parsed stmt_view) result (parts.print depth (kinds tokens.now)) }
 {
-    let (value, height, rest) = argument(alloc, depth, tokens)?;
-    Ok((Stmt::Print(value), height, rest))
+    let read = argument(alloc, depth, tokens)?;
+    Ok(Parsed::new(Stmt::Print(read.value), read.height, read.rest))
 }
 
 /// `println(e);`: after the keyword.
-fn println(
-    alloc: Global,
-    depth: usize,
-    tokens: &[Token],
-) -> Result<(Stmt, usize, &[Token]), ReadError>
+fn println(alloc: Global, depth: usize, tokens: &[Token]) -> Result<Parsed<'_, Stmt>, ReadError>
     requires { 0 < depth }
     ensures { Gives (parsed stmt_view) result (parts.println depth (kinds tokens.now)) }
 {
-    let (value, height, rest) = argument(alloc, depth, tokens)?;
-    Ok((Stmt::Println(value), height, rest))
+    let read = argument(alloc, depth, tokens)?;
+    Ok(Parsed::new(Stmt::Println(read.value), read.height, read.rest))
 }
 
-impl<F: Fn(Global, usize, &[Token]) -> Result<(Stmt, usize, &[Token]), ReadError>> StatementRules<
-    F,
-> {
+impl<F: Fn(Global, usize, &[Token]) -> Result<Parsed<'_, Stmt>, ReadError>> StatementRules<F> {
     /// A statement one depth below.
-    fn below<'t>(&self, tokens: &'t [Token]) -> Result<(Stmt, usize, &'t [Token]), ReadError>
+    fn below<'t>(&self, tokens: &'t [Token]) -> Result<Parsed<'t, Stmt>, ReadError>
         requires deep { 0 < self.now.depth }
         requires reads { ReadsStatements (self.now.depth - 1)
             (F.pre self.now.reader) (F.post self.now.reader) }
@@ -136,7 +123,7 @@ impl<F: Fn(Global, usize, &[Token]) -> Result<(Stmt, usize, &[Token]), ReadError
     }
 
     #[tactic(auto, unfolding(strc_grammar::specs::Streams::shallow))]
-    fn shallow<'t>(&self, tokens: &'t [Token]) -> Result<(Stmt, usize, &'t [Token]), ReadError>
+    fn shallow<'t>(&self, tokens: &'t [Token]) -> Result<Parsed<'t, Stmt>, ReadError>
         requires deep { 0 < self.now.depth }
         requires reads { ReadsStatements (self.now.depth - 1)
             (F.pre self.now.reader) (F.post self.now.reader) }
@@ -145,23 +132,23 @@ impl<F: Fn(Global, usize, &[Token]) -> Result<(Stmt, usize, &[Token]), ReadError
     {
         match peek(tokens) {
             Some(TokenKind::Punctuation(Punctuation::OpenBrace)) => self.block(tail(tokens)),
-            Some(TokenKind::Keyword(keyword)) => self.worded_statement(*keyword, tokens),
+            Some(TokenKind::Keyword(keyword)) => self.keyword_statement(*keyword, tokens),
             _ => ended(self.alloc, self.depth, tokens),
         }
     }
 
     /// A statement that begins with this keyword.
-    #[tactic(auto, unfolding(strc_grammar::specs::Streams::worded_statement))]
-    fn worded_statement<'t>(
+    #[tactic(auto, unfolding(strc_grammar::specs::Streams::keyword_statement))]
+    fn keyword_statement<'t>(
         &self,
         keyword: Keyword,
         tokens: &'t [Token],
-    ) -> Result<(Stmt, usize, &'t [Token]), ReadError>
+    ) -> Result<Parsed<'t, Stmt>, ReadError>
         requires deep { 0 < self.now.depth }
         requires reads { ReadsStatements (self.now.depth - 1)
             (F.pre self.now.reader) (F.post self.now.reader) }
         ensures { Gives (parsed stmt_view) result
-            (spec.worded_statement self.now.depth (spec.statement (self.now.depth - 1)) keyword
+            (spec.keyword_statement self.now.depth (spec.statement (self.now.depth - 1)) keyword
             (kinds tokens.now)) }
     {
         match keyword {
@@ -183,17 +170,17 @@ impl<F: Fn(Global, usize, &[Token]) -> Result<(Stmt, usize, &[Token]), ReadError
 
     /// `if`: after the keyword.
     #[tactic(auto, unfolding(strc_grammar::specs::Streams::branch))]
-    fn branch<'t>(&self, tokens: &'t [Token]) -> Result<(Stmt, usize, &'t [Token]), ReadError>
+    fn branch<'t>(&self, tokens: &'t [Token]) -> Result<Parsed<'t, Stmt>, ReadError>
         requires deep { 0 < self.now.depth }
         requires reads { ReadsStatements (self.now.depth - 1)
             (F.pre self.now.reader) (F.post self.now.reader) }
         ensures { Gives (parsed stmt_view) result
             (spec.branch self.now.depth (spec.statement (self.now.depth - 1)) (kinds tokens.now)) }
     {
-        let (condition, height, rest) = bracketed(self.alloc, self.depth, tokens)?;
-        let (condition, chosen) = beside(condition, self.below(rest))?;
-        let (chosen, chosen_height, rest) = chosen;
-        self.after_branch(condition, chosen, height.max(chosen_height), rest)
+        let read = bracketed(self.alloc, self.depth, tokens)?;
+        let (condition, chosen) = beside(read.value, self.below(read.rest))?;
+        let height = read.height.max(chosen.height);
+        self.after_branch(condition, chosen.value, height, chosen.rest)
     }
 
     /// What follows a branch, to which an `else` belongs that comes next.
@@ -204,7 +191,7 @@ impl<F: Fn(Global, usize, &[Token]) -> Result<(Stmt, usize, &[Token]), ReadError
         chosen: Stmt,
         height: usize,
         tokens: &'t [Token],
-    ) -> Result<(Stmt, usize, &'t [Token]), ReadError>
+    ) -> Result<Parsed<'t, Stmt>, ReadError>
         requires deep { 0 < self.now.depth }
         requires reads { ReadsStatements (self.now.depth - 1)
             (F.pre self.now.reader) (F.post self.now.reader) }
@@ -217,7 +204,7 @@ impl<F: Fn(Global, usize, &[Token]) -> Result<(Stmt, usize, &[Token]), ReadError
         }
         let (parts, height) = raise(self.depth, (condition, chosen), height)?;
         let (condition, chosen) = parts;
-        Ok((if_of(self.alloc, condition, chosen)?, height, tokens))
+        Ok(Parsed::new(if_of(self.alloc, condition, chosen)?, height, tokens))
     }
 
     /// The branch after `else`, with the height of what stands before it.
@@ -228,7 +215,7 @@ impl<F: Fn(Global, usize, &[Token]) -> Result<(Stmt, usize, &[Token]), ReadError
         chosen: Stmt,
         height: usize,
         tokens: &'t [Token],
-    ) -> Result<(Stmt, usize, &'t [Token]), ReadError>
+    ) -> Result<Parsed<'t, Stmt>, ReadError>
         requires deep { 0 < self.now.depth }
         requires reads { ReadsStatements (self.now.depth - 1)
             (F.pre self.now.reader) (F.post self.now.reader) }
@@ -237,16 +224,17 @@ impl<F: Fn(Global, usize, &[Token]) -> Result<(Stmt, usize, &[Token]), ReadError
             (expr_view condition) (stmt_view chosen) height (kinds tokens.now)) }
     {
         let (before, other) = beside((condition, chosen), self.below(tokens))?;
-        let (other, other_height, rest) = other;
-        let (parts, height) = raise(self.depth, (before, other), height.max(other_height))?;
+        let height = height.max(other.height);
+        let rest = other.rest;
+        let (parts, height) = raise(self.depth, (before, other.value), height)?;
         let ((condition, chosen), other) = parts;
         let made = if_else_of(self.alloc, condition, chosen, other)?;
-        Ok((made, height, rest))
+        Ok(Parsed::new(made, height, rest))
     }
 
     /// `while`: after the keyword.
     #[tactic(auto, unfolding(strc_grammar::specs::Streams::while_loop))]
-    fn while_loop<'t>(&self, tokens: &'t [Token]) -> Result<(Stmt, usize, &'t [Token]), ReadError>
+    fn while_loop<'t>(&self, tokens: &'t [Token]) -> Result<Parsed<'t, Stmt>, ReadError>
         requires deep { 0 < self.now.depth }
         requires reads { ReadsStatements (self.now.depth - 1)
             (F.pre self.now.reader) (F.post self.now.reader) }
@@ -254,17 +242,18 @@ impl<F: Fn(Global, usize, &[Token]) -> Result<(Stmt, usize, &[Token]), ReadError
             (spec.while_loop self.now.depth (spec.statement (self.now.depth - 1))
             (kinds tokens.now)) }
     {
-        let (condition, height, rest) = bracketed(self.alloc, self.depth, tokens)?;
-        let (condition, body) = beside(condition, self.below(rest))?;
-        let (body, body_height, rest) = body;
-        let (parts, height) = raise(self.depth, (condition, body), height.max(body_height))?;
+        let read = bracketed(self.alloc, self.depth, tokens)?;
+        let (condition, body) = beside(read.value, self.below(read.rest))?;
+        let height = read.height.max(body.height);
+        let rest = body.rest;
+        let (parts, height) = raise(self.depth, (condition, body.value), height)?;
         let (condition, body) = parts;
-        Ok((while_of(self.alloc, condition, body)?, height, rest))
+        Ok(Parsed::new(while_of(self.alloc, condition, body)?, height, rest))
     }
 
     /// `for`: after the keyword.
     #[tactic(auto, unfolding(strc_grammar::specs::Streams::for_loop))]
-    fn for_loop<'t>(&self, tokens: &'t [Token]) -> Result<(Stmt, usize, &'t [Token]), ReadError>
+    fn for_loop<'t>(&self, tokens: &'t [Token]) -> Result<Parsed<'t, Stmt>, ReadError>
         requires deep { 0 < self.now.depth }
         requires reads { ReadsStatements (self.now.depth - 1)
             (F.pre self.now.reader) (F.post self.now.reader) }
@@ -272,10 +261,11 @@ impl<F: Fn(Global, usize, &[Token]) -> Result<(Stmt, usize, &[Token]), ReadError
             (spec.for_loop self.now.depth (spec.statement (self.now.depth - 1))
             (kinds tokens.now)) }
     {
-        let (heading, height, rest) = for_heading(self.alloc, self.depth, tokens)?;
-        let (heading, body) = beside(heading, self.below(rest))?;
-        let (body, body_height, rest) = body;
-        let (parts, height) = raise(self.depth, (heading, body), height.max(body_height))?;
+        let read = for_heading(self.alloc, self.depth, tokens)?;
+        let (heading, body) = beside(read.value, self.below(read.rest))?;
+        let height = read.height.max(body.height);
+        let rest = body.rest;
+        let (parts, height) = raise(self.depth, (heading, body.value), height)?;
         let (heading, body) = parts;
         let ForHeading {
             first,
@@ -283,21 +273,20 @@ impl<F: Fn(Global, usize, &[Token]) -> Result<(Stmt, usize, &[Token]), ReadError
             step,
         } = heading;
         let made = for_of(self.alloc, first, condition, step, body)?;
-        Ok((made, height, rest))
+        Ok(Parsed::new(made, height, rest))
     }
 
     /// A block as a statement: after its brace.
     #[tactic(auto, unfolding(strc_grammar::specs::Streams::block))]
-    fn block<'t>(&self, tokens: &'t [Token]) -> Result<(Stmt, usize, &'t [Token]), ReadError>
+    fn block<'t>(&self, tokens: &'t [Token]) -> Result<Parsed<'t, Stmt>, ReadError>
         requires deep { 0 < self.now.depth }
         requires reads { ReadsStatements (self.now.depth - 1)
             (F.pre self.now.reader) (F.post self.now.reader) }
         ensures { Gives (parsed stmt_view) result
             (spec.block self.now.depth (spec.statement (self.now.depth - 1)) (kinds tokens.now)) }
     {
-        let (body, highest, rest) = self.statements(tokens)?;
-        let (body, height) = raise(self.depth, body, highest)?;
-        Ok((block_of(body), height, rest))
+        let body = self.statements(tokens)?.raise(self.depth)?;
+        Ok(Parsed::new(block_of(body.value), body.height, body.rest))
     }
 
     /// Statements one depth below, up to the brace that closes them, and the height of the highest
@@ -306,7 +295,7 @@ impl<F: Fn(Global, usize, &[Token]) -> Result<(Stmt, usize, &[Token]), ReadError
     pub(crate) fn statements<'t>(
         &self,
         tokens: &'t [Token],
-    ) -> Result<(Vec<Stmt>, usize, &'t [Token]), ReadError>
+    ) -> Result<Parsed<'t, Vec<Stmt>>, ReadError>
         requires deep { 0 < self.now.depth }
         requires reads { ReadsStatements (self.now.depth - 1)
             (F.pre self.now.reader) (F.post self.now.reader) }
@@ -318,12 +307,12 @@ impl<F: Fn(Global, usize, &[Token]) -> Result<(Stmt, usize, &[Token]), ReadError
         let mut rest = tokens;
         for _turn in 0..tokens.len() {
             if is_punctuation(Punctuation::CloseBrace, rest) {
-                return Ok((found, highest, tail(rest)));
+                return Ok(Parsed::new(found, highest, tail(rest)));
             }
-            let (next, height, after) = self.below(rest)?;
-            found.push(next)?;
-            highest = highest.max(height);
-            rest = after;
+            let next = self.below(rest)?;
+            found.push(next.value)?;
+            highest = highest.max(next.height);
+            rest = next.rest;
         }
         Err(unexpected(rest))
     }

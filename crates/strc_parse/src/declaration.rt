@@ -9,15 +9,13 @@ ghost use Rattle.strc_grammar.specs.Reading.{Gives};
 
 use crate::control::{members, statements};
 use std::alloc::Global;
-use strc_grammar::ReadError;
+use strc_grammar::{HEIGHT_LIMIT, ReadError};
 use strc_lex::token::{Keyword, Name, Punctuation, Token};
 use strc_rules::lookahead::{expect, is_keyword, name, tail, unexpected};
 use strc_rules::parameter::parameters;
+use strc_rules::parsed::Parsed;
 use strc_rules::stream_type::{composite_kind, stream_type};
 use strc_syntax::tree::{CompositeKind, CompositeTree, Decl, FilterTree, StreamTree, StreamType};
-
-/// The greatest height of a statement or an expression.
-const HEIGHT_LIMIT: usize = 256;
 
 /// The name of a stream, its parameters and the brace that opens it.
 #[tactic(auto, unfolding(strc_grammar::specs::Streams::heading))]
@@ -39,7 +37,8 @@ fn filter(alloc: Global, types: StreamType, tokens: &[Token]) -> Result<(Decl, &
     ensures { Gives seen_declaration result (spec.filter height_limit types (kinds tokens.now)) }
 {
     let (name, parameters, rest) = heading(alloc, tokens)?;
-    let (members, _, rest) = members(alloc, HEIGHT_LIMIT, rest)?;
+    let read = members(alloc, HEIGHT_LIMIT, rest)?;
+    let members = read.value;
     let stream = StreamTree::Filter(FilterTree {
         input: types.input,
         output: types.output,
@@ -50,7 +49,7 @@ fn filter(alloc: Global, types: StreamType, tokens: &[Token]) -> Result<(Decl, &
         parameters,
         stream,
     };
-    Ok((declared, rest))
+    Ok((declared, read.rest))
 }
 
 /// A composite stream: after its kind.
@@ -65,14 +64,15 @@ fn composite(
         (spec.composite height_limit types kind (kinds tokens.now)) }
 {
     let (name, parameters, rest) = heading(alloc, tokens)?;
-    let (block, _, rest) = statements(alloc, HEIGHT_LIMIT, rest)?;
+    let read = statements(alloc, HEIGHT_LIMIT, rest)?;
+    let block = read.value;
     let stream = StreamTree::Composite(CompositeTree { types, kind, block });
     let declared = Decl {
         name,
         parameters,
         stream,
     };
-    Ok((declared, rest))
+    Ok((declared, read.rest))
 }
 
 /// A stream: after its type.
@@ -105,13 +105,10 @@ pub(crate) fn declarations(alloc: Global, tokens: &[Token]) -> Result<Vec<Decl>,
 {
     let mut found = Vec::new(alloc);
     let mut rest = tokens;
-    for _turn in 0..tokens.len() + 1 {
-        if rest.is_empty() {
-            return Ok(found);
-        }
+    while !rest.is_empty() {
         let (next, after) = declaration(alloc, rest)?;
         found.push(next)?;
         rest = after;
     }
-    Err(unexpected(rest))
+    Ok(found)
 }

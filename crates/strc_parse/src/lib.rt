@@ -1,7 +1,7 @@
 // Takes the tokens of a program's text.
 // Gives its syntax tree, or the refusal of tokens that no program has.
-// The theorem to rely on: `parse` answers Ok exactly with the tree of height at most 256 that has
-// this spelling.
+// The theorem to rely on: `parse` answers Ok exactly with the tree of height at most `HEIGHT_LIMIT`
+// that has this spelling.
 // Stands on strc_rules, which reads what has no statement in it, on strc_grammar, whose rules it
 // follows, on strc_syntax, whose trees it makes, and on strc_lex, whose tokens it reads.
 #![tactic(auto)]
@@ -14,4 +14,4 @@ mod program;
 mod simple;
 
 pub use program::parse;
-pub use strc_grammar::{ParseError, one_tree};
+pub use strc_grammar::{HEIGHT_LIMIT, ParseError, one_tree};

@@ -4,7 +4,7 @@ ghost use Rattle.std.specs.Prelude.{◌≡◌, ◌-◌, ◌<◌, map};
 ghost use Rattle.strc_syntax.specs.View.{expr_view, rate_view, member_view};
 ghost use Rattle.strc_grammar.specs.Grammar.{kinds};
 ghost use Rattle.strc_rules.specs.Seen.{parsed, parsed_all};
-ghost use Rattle.strc_parse.specs.Seen.{block_view, seen_phase, seen_rate};
+ghost use Rattle.strc_parse.specs.Seen.{block_view, phase_view, seen_rate};
 ghost use Rattle.strc_grammar.specs.Streams as spec;
 ghost use Rattle.strc_grammar.specs.Reading.{Gives};
 ghost use Rattle.strc_parse.specs.Readers.{ReadsStatements};
@@ -15,8 +15,9 @@ use std::alloc::Global;
 use strc_grammar::ReadError;
 use strc_lex::token::{Keyword, Punctuation, Token, TokenKind};
 use strc_rules::expression::{LOWEST_PRECEDENCE, expression};
-use strc_rules::held::{before, beside};
+use strc_rules::held::beside;
 use strc_rules::lookahead::{expect, is_punctuation, peek, tail, unexpected};
+use strc_rules::parsed::Parsed;
 use strc_rules::variable::declared;
 use strc_syntax::node::{init_of, prework_of, work_of};
 use strc_syntax::tree::{Expr, Member, RateKind, RateTree, Stmt};
@@ -49,7 +50,7 @@ fn rate_of<'t>(
     kind: RateKind,
     so_far: &[RateTree],
     tokens: &'t [Token],
-) -> Result<(Expr, usize, &'t [Token]), ReadError>
+) -> Result<Parsed<'t, Expr>, ReadError>
     ensures { Gives (parsed expr_view) result
         (spec.rate_of limit kind (map rate_view so_far.now) (kinds tokens.now)) }
 {
@@ -65,46 +66,43 @@ fn rates(
     alloc: Global,
     limit: usize,
     tokens: &[Token],
-) -> Result<(Vec<RateTree>, usize, &[Token]), ReadError>
+) -> Result<Parsed<'_, Vec<RateTree>>, ReadError>
     ensures { Gives (parsed_all rate_view) result (spec.rates limit (kinds tokens.entry.now)) }
 {
     let mut found = Vec::new(alloc);
     let mut highest = 0;
     let mut rest = tokens;
     while let Some(kind) = rate_kind(rest) {
-        let (rate, height, after) = rate_of(alloc, limit, kind, &found, rest)?;
-        found.push(RateTree { kind, rate })?;
-        highest = highest.max(height);
-        rest = after;
+        let rate = rate_of(alloc, limit, kind, &found, rest)?;
+        found.push(RateTree {
+            kind,
+            rate: rate.value,
+        })?;
+        highest = highest.max(rate.height);
+        rest = rate.rest;
     }
-    Ok((found, highest, rest))
+    Ok(Parsed::new(found, highest, rest))
 }
 
 /// Fields of one type, and the height of the highest expression or 0.
 #[tactic(auto, unfolding(strc_grammar::specs::Streams::fields))]
-fn fields(
-    alloc: Global,
-    limit: usize,
-    tokens: &[Token],
-) -> Result<(Member, usize, &[Token]), ReadError>
+fn fields(alloc: Global, limit: usize, tokens: &[Token]) -> Result<Parsed<'_, Member>, ReadError>
     ensures { Gives (parsed member_view) result (spec.fields limit (kinds tokens.now)) }
 {
-    let (declared, height, rest) = declared(alloc, limit, tokens)?;
-    let (declared, rest) = before(Punctuation::Semicolon, declared, rest)?;
-    Ok((Member::Fields(declared), height, rest))
+    let declared = declared(alloc, limit, tokens)?.before(Punctuation::Semicolon)?;
+    Ok(Parsed::new(
+        Member::Fields(declared.value),
+        declared.height,
+        declared.rest,
+    ))
 }
 
 // Statements and expressions of a member are read one depth below, and the heights are those of its
 // highest part, or 0.
-impl<F: Fn(Global, usize, &[Token]) -> Result<(Stmt, usize, &[Token]), ReadError>> StatementRules<
-    F,
-> {
+impl<F: Fn(Global, usize, &[Token]) -> Result<Parsed<'_, Stmt>, ReadError>> StatementRules<F> {
     /// A block with its braces.
     #[tactic(auto, unfolding(strc_grammar::specs::Streams::braced))]
-    pub(crate) fn braced<'t>(
-        &self,
-        tokens: &'t [Token],
-    ) -> Result<(Vec<Stmt>, usize, &'t [Token]), ReadError>
+    pub(crate) fn braced<'t>(&self, tokens: &'t [Token]) -> Result<Parsed<'t, Vec<Stmt>>, ReadError>
         requires deep { 0 < self.now.depth }
         requires reads { ReadsStatements (self.now.depth - 1)
             (F.pre self.now.reader) (F.post self.now.reader) }
@@ -112,21 +110,20 @@ impl<F: Fn(Global, usize, &[Token]) -> Result<(Stmt, usize, &[Token]), ReadError
             (spec.braced (spec.statement (self.now.depth - 1)) (kinds tokens.now)) }
     {
         let opened = expect(Punctuation::OpenBrace, tokens)?;
-        let (block, height, rest) = self.statements(opened)?;
-        Ok((block, height, rest))
+        self.statements(opened)
     }
 
     /// An initialisation: after the keyword.
     #[tactic(auto, unfolding(strc_grammar::specs::Streams::init))]
-    fn init<'t>(&self, tokens: &'t [Token]) -> Result<(Member, usize, &'t [Token]), ReadError>
+    fn init<'t>(&self, tokens: &'t [Token]) -> Result<Parsed<'t, Member>, ReadError>
         requires deep { 0 < self.now.depth }
         requires reads { ReadsStatements (self.now.depth - 1)
             (F.pre self.now.reader) (F.post self.now.reader) }
         ensures { Gives (parsed member_view) result
             (spec.init (spec.statement (self.now.depth - 1)) (kinds tokens.now)) }
     {
-        let (block, height, rest) = self.braced(tokens)?;
-        Ok((init_of(block), height, rest))
+        let block = self.braced(tokens)?;
+        Ok(Parsed::new(init_of(block.value), block.height, block.rest))
     }
 
     /// Rates and a block.
@@ -134,22 +131,22 @@ impl<F: Fn(Global, usize, &[Token]) -> Result<(Stmt, usize, &[Token]), ReadError
     fn phase<'t>(
         &self,
         tokens: &'t [Token],
-    ) -> Result<(Vec<RateTree>, Vec<Stmt>, usize, &'t [Token]), ReadError>
+    ) -> Result<Parsed<'t, (Vec<RateTree>, Vec<Stmt>)>, ReadError>
         requires deep { 0 < self.now.depth }
         requires reads { ReadsStatements (self.now.depth - 1)
             (F.pre self.now.reader) (F.post self.now.reader) }
-        ensures { Gives seen_phase result
+        ensures { Gives (parsed phase_view) result
             (spec.phase (self.now.depth - 1) (spec.statement (self.now.depth - 1))
             (kinds tokens.now)) }
     {
-        let (rates, rates_height, rest) = rates(self.alloc, self.depth - 1, tokens)?;
-        let (rates, block) = beside(rates, self.braced(rest))?;
-        let (block, height, rest) = block;
-        Ok((rates, block, rates_height.max(height), rest))
+        let read = rates(self.alloc, self.depth - 1, tokens)?;
+        let (rates, block) = beside(read.value, self.braced(read.rest))?;
+        let height = read.height.max(block.height);
+        Ok(Parsed::new((rates, block.value), height, block.rest))
     }
 
     /// `prework`: after the keyword.
-    fn prework<'t>(&self, tokens: &'t [Token]) -> Result<(Member, usize, &'t [Token]), ReadError>
+    fn prework<'t>(&self, tokens: &'t [Token]) -> Result<Parsed<'t, Member>, ReadError>
         requires deep { 0 < self.now.depth }
         requires reads { ReadsStatements (self.now.depth - 1)
             (F.pre self.now.reader) (F.post self.now.reader) }
@@ -157,12 +154,13 @@ impl<F: Fn(Global, usize, &[Token]) -> Result<(Stmt, usize, &[Token]), ReadError
             (parts.prework (self.now.depth - 1) (spec.statement (self.now.depth - 1))
             (kinds tokens.now)) }
     {
-        let (rates, block, height, rest) = self.phase(tokens)?;
-        Ok((prework_of(rates, block), height, rest))
+        let phase = self.phase(tokens)?;
+        let (rates, block) = phase.value;
+        Ok(Parsed::new(prework_of(rates, block), phase.height, phase.rest))
     }
 
     /// `work`: after the keyword.
-    fn work<'t>(&self, tokens: &'t [Token]) -> Result<(Member, usize, &'t [Token]), ReadError>
+    fn work<'t>(&self, tokens: &'t [Token]) -> Result<Parsed<'t, Member>, ReadError>
         requires deep { 0 < self.now.depth }
         requires reads { ReadsStatements (self.now.depth - 1)
             (F.pre self.now.reader) (F.post self.now.reader) }
@@ -170,12 +168,13 @@ impl<F: Fn(Global, usize, &[Token]) -> Result<(Stmt, usize, &[Token]), ReadError
             (parts.work (self.now.depth - 1) (spec.statement (self.now.depth - 1))
             (kinds tokens.now)) }
     {
-        let (rates, block, height, rest) = self.phase(tokens)?;
-        Ok((work_of(rates, block), height, rest))
+        let phase = self.phase(tokens)?;
+        let (rates, block) = phase.value;
+        Ok(Parsed::new(work_of(rates, block), phase.height, phase.rest))
     }
 
     #[tactic(auto, unfolding(strc_grammar::specs::Streams::member))]
-    fn member<'t>(&self, tokens: &'t [Token]) -> Result<(Member, usize, &'t [Token]), ReadError>
+    fn member<'t>(&self, tokens: &'t [Token]) -> Result<Parsed<'t, Member>, ReadError>
         requires deep { 0 < self.now.depth }
         requires reads { ReadsStatements (self.now.depth - 1)
             (F.pre self.now.reader) (F.post self.now.reader) }
@@ -199,7 +198,7 @@ impl<F: Fn(Global, usize, &[Token]) -> Result<(Stmt, usize, &[Token]), ReadError
     pub(crate) fn members<'t>(
         &self,
         tokens: &'t [Token],
-    ) -> Result<(Vec<Member>, usize, &'t [Token]), ReadError>
+    ) -> Result<Parsed<'t, Vec<Member>>, ReadError>
         requires deep { 0 < self.now.depth }
         requires reads { ReadsStatements (self.now.depth - 1)
             (F.pre self.now.reader) (F.post self.now.reader) }
@@ -210,15 +209,12 @@ impl<F: Fn(Global, usize, &[Token]) -> Result<(Stmt, usize, &[Token]), ReadError
         let mut found = Vec::new(self.alloc);
         let mut highest = 0;
         let mut rest = tokens;
-        for _turn in 0..tokens.len() {
-            if is_punctuation(Punctuation::CloseBrace, rest) {
-                return Ok((found, highest, tail(rest)));
-            }
-            let (next, height, after) = self.member(rest)?;
-            found.push(next)?;
-            highest = highest.max(height);
-            rest = after;
+        while !is_punctuation(Punctuation::CloseBrace, rest) {
+            let next = self.member(rest)?;
+            found.push(next.value)?;
+            highest = highest.max(next.height);
+            rest = next.rest;
         }
-        Err(unexpected(rest))
+        Ok(Parsed::new(found, highest, tail(rest)))
     }
 }

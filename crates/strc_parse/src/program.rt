@@ -23,7 +23,7 @@ fn program(alloc: Global, tokens: &[Token]) -> Result<Program, ReadError>
 /// The tree of a program's tokens.
 ///
 /// `Parse` is for tokens that no program has, whatever its height; `Nesting` for those of which a
-/// statement or an expression is higher than 256; `NoMemory` where memory runs out.
+/// statement or an expression is higher than `HEIGHT_LIMIT`; `NoMemory` where memory runs out.
 pub fn parse(alloc: Global, tokens: &[Token]) -> Result<Program, ParseError>
     // What is read is a well-shaped program, and these are its tokens.
     ensures ok { IfOk result (λ p. Parses (kinds tokens.now) (program_view p)) }

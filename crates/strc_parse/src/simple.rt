@@ -5,7 +5,7 @@ ghost use Rattle.strc_syntax.specs.View.{expr_view, stmt_view};
 ghost use Rattle.strc_grammar.specs.Grammar.{kinds};
 ghost use Rattle.std.specs.Option.{option_map};
 ghost use Rattle.strc_rules.specs.Seen.{parsed};
-ghost use Rattle.strc_parse.specs.Seen.{heading_view, seen_behind_first};
+ghost use Rattle.strc_parse.specs.Seen.{heading_view, after_first_view};
 ghost use Rattle.strc_grammar.specs.Reading as spec;
 ghost use Rattle.strc_grammar.specs.Reading.{Gives};
 
@@ -13,25 +13,25 @@ use std::alloc::Global;
 use strc_grammar::ReadError;
 use strc_lex::token::{Keyword, Name, Punctuation, Token, TokenKind};
 use strc_rules::expression::{LOWEST_PRECEDENCE, closed, expression};
-use strc_rules::held::{before, beside, raise};
+use strc_rules::held::{beside, raise};
 use strc_rules::lookahead::{expect, is_punctuation, peek, tail};
 use strc_rules::operator::assign_at;
+use strc_rules::parsed::Parsed;
 use strc_rules::variable::declared;
 use strc_syntax::tree::{AssignOperator, Expr, Stmt};
 
 /// The declaration as a statement.
 #[tactic(auto, unfolding(strc_grammar::specs::Reading::declare))]
-fn declare(
-    alloc: Global,
-    depth: usize,
-    tokens: &[Token],
-) -> Result<(Stmt, usize, &[Token]), ReadError>
+fn declare(alloc: Global, depth: usize, tokens: &[Token]) -> Result<Parsed<'_, Stmt>, ReadError>
     requires { 0 < depth }
     ensures { Gives (parsed stmt_view) result (spec.declare depth (kinds tokens.now)) }
 {
-    let (declared, height, rest) = declared(alloc, depth - 1, tokens)?;
-    let (declared, height) = raise(depth, declared, height)?;
-    Ok((Stmt::Declare(declared), height, rest))
+    let declared = declared(alloc, depth - 1, tokens)?.raise(depth)?;
+    Ok(Parsed::new(
+        Stmt::Declare(declared.value),
+        declared.height,
+        declared.rest,
+    ))
 }
 
 /// An expression that was read, as a statement.
@@ -41,12 +41,12 @@ fn evaluate<'t>(
     value: Expr,
     height: usize,
     tokens: &'t [Token],
-) -> Result<(Stmt, usize, &'t [Token]), ReadError>
+) -> Result<Parsed<'t, Stmt>, ReadError>
     ensures { Gives (parsed stmt_view) result
         (spec.evaluate depth (expr_view value) height (kinds tokens.now)) }
 {
     let (value, height) = raise(depth, value, height)?;
-    Ok((Stmt::Evaluate(value), height, tokens))
+    Ok(Parsed::new(Stmt::Evaluate(value), height, tokens))
 }
 
 /// `x = e`: after the operator.
@@ -57,15 +57,16 @@ fn assign_to<'t>(
     name: Name,
     operator: AssignOperator,
     tokens: &'t [Token],
-) -> Result<(Stmt, usize, &'t [Token]), ReadError>
+) -> Result<Parsed<'t, Stmt>, ReadError>
     requires { 0 < depth }
     ensures { Gives (parsed stmt_view) result
         (spec.assign_to depth name operator (kinds tokens.now)) }
 {
-    let (value, height, rest) = expression(alloc, depth - 1, LOWEST_PRECEDENCE, tokens)?;
-    let (parts, height) = raise(depth, (name, value), height)?;
+    let read = expression(alloc, depth - 1, LOWEST_PRECEDENCE, tokens)?;
+    let rest = read.rest;
+    let (parts, height) = raise(depth, (name, read.value), read.height)?;
     let (name, value) = parts;
-    Ok((Stmt::Assign(name, operator, value), height, rest))
+    Ok(Parsed::new(Stmt::Assign(name, operator, value), height, rest))
 }
 
 /// `x[i] = e`: after the operator, with the height of the element.
@@ -78,18 +79,19 @@ fn assign_element<'t>(
     element_height: usize,
     operator: AssignOperator,
     tokens: &'t [Token],
-) -> Result<(Stmt, usize, &'t [Token]), ReadError>
+) -> Result<Parsed<'t, Stmt>, ReadError>
     requires { 0 < depth }
     ensures { Gives (parsed stmt_view) result
         (spec.assign_element depth name (expr_view index) element_height operator
         (kinds tokens.now)) }
 {
     let value = expression(alloc, depth - 1, LOWEST_PRECEDENCE, tokens);
-    let (element, value) = beside((name, index), value)?;
-    let (value, height, rest) = value;
-    let (parts, height) = raise(depth, (element, value), element_height.max(height))?;
+    let (element, read) = beside((name, index), value)?;
+    let rest = read.rest;
+    let height = element_height.max(read.height);
+    let (parts, height) = raise(depth, (element, read.value), height)?;
     let ((name, index), value) = parts;
-    Ok((
+    Ok(Parsed::new(
         Stmt::AssignElement(name, index, operator, value),
         height,
         rest,
@@ -106,7 +108,7 @@ fn assignment<'t>(
     height: usize,
     operator: AssignOperator,
     tokens: &'t [Token],
-) -> Result<(Stmt, usize, &'t [Token]), ReadError>
+) -> Result<Parsed<'t, Stmt>, ReadError>
     requires { 0 < depth }
     ensures { Gives (parsed stmt_view) result
         (spec.assignment depth (expr_view value) height operator (kinds tokens.now)) }
@@ -128,7 +130,7 @@ fn after_value<'t>(
     value: Expr,
     height: usize,
     tokens: &'t [Token],
-) -> Result<(Stmt, usize, &'t [Token]), ReadError>
+) -> Result<Parsed<'t, Stmt>, ReadError>
     requires { 0 < depth }
     ensures { Gives (parsed stmt_view) result
         (spec.after_value depth (expr_view value) height (kinds tokens.now)) }
@@ -141,16 +143,12 @@ fn after_value<'t>(
 
 /// An expression or an assignment.
 #[tactic(auto, unfolding(strc_grammar::specs::Reading::simple))]
-fn simple(
-    alloc: Global,
-    depth: usize,
-    tokens: &[Token],
-) -> Result<(Stmt, usize, &[Token]), ReadError>
+fn simple(alloc: Global, depth: usize, tokens: &[Token]) -> Result<Parsed<'_, Stmt>, ReadError>
     requires { 0 < depth }
     ensures { Gives (parsed stmt_view) result (spec.simple depth (kinds tokens.now)) }
 {
-    let (value, height, rest) = expression(alloc, depth - 1, LOWEST_PRECEDENCE, tokens)?;
-    after_value(alloc, depth, value, height, rest)
+    let read = expression(alloc, depth - 1, LOWEST_PRECEDENCE, tokens)?;
+    after_value(alloc, depth, read.value, read.height, read.rest)
 }
 
 /// The same, or nothing before this punctuation mark.
@@ -160,12 +158,12 @@ fn optional(
     depth: usize,
     end: Punctuation,
     tokens: &[Token],
-) -> Result<(Stmt, usize, &[Token]), ReadError>
+) -> Result<Parsed<'_, Stmt>, ReadError>
     requires { 0 < depth }
     ensures { Gives (parsed stmt_view) result (spec.optional depth end (kinds tokens.now)) }
 {
     if is_punctuation(end, tokens) {
-        Ok((Stmt::Empty, 1, tokens))
+        Ok(Parsed::new(Stmt::Empty, 1, tokens))
     } else {
         simple(alloc, depth, tokens)
     }
@@ -173,7 +171,7 @@ fn optional(
 
 /// A statement up to its semicolon.
 #[tactic(auto, unfolding(strc_grammar::specs::Reading::part))]
-fn part(alloc: Global, depth: usize, tokens: &[Token]) -> Result<(Stmt, usize, &[Token]), ReadError>
+fn part(alloc: Global, depth: usize, tokens: &[Token]) -> Result<Parsed<'_, Stmt>, ReadError>
     requires { 0 < depth }
     ensures { Gives (parsed stmt_view) result (spec.part depth (kinds tokens.now)) }
 {
@@ -190,13 +188,11 @@ pub(crate) fn ended(
     alloc: Global,
     depth: usize,
     tokens: &[Token],
-) -> Result<(Stmt, usize, &[Token]), ReadError>
+) -> Result<Parsed<'_, Stmt>, ReadError>
     requires { 0 < depth }
     ensures { Gives (parsed stmt_view) result (spec.ended depth (kinds tokens.now)) }
 {
-    let (read, height, rest) = part(alloc, depth, tokens)?;
-    let (read, rest) = before(Punctuation::Semicolon, read, rest)?;
-    Ok((read, height, rest))
+    part(alloc, depth, tokens)?.before(Punctuation::Semicolon)
 }
 
 /// `(e)`, with the height of e.
@@ -205,7 +201,7 @@ pub(crate) fn bracketed(
     alloc: Global,
     depth: usize,
     tokens: &[Token],
-) -> Result<(Expr, usize, &[Token]), ReadError>
+) -> Result<Parsed<'_, Expr>, ReadError>
     requires { 0 < depth }
     ensures { Gives (parsed expr_view) result (spec.bracketed depth (kinds tokens.now)) }
 {
@@ -219,14 +215,13 @@ pub(crate) fn argument(
     alloc: Global,
     depth: usize,
     tokens: &[Token],
-) -> Result<(Expr, usize, &[Token]), ReadError>
+) -> Result<Parsed<'_, Expr>, ReadError>
     requires { 0 < depth }
     ensures { Gives (parsed expr_view) result (spec.argument depth (kinds tokens.now)) }
 {
-    let (value, height, rest) = bracketed(alloc, depth, tokens)?;
-    let (value, rest) = before(Punctuation::Semicolon, value, rest)?;
-    let (value, height) = raise(depth, value, height)?;
-    Ok((value, height, rest))
+    bracketed(alloc, depth, tokens)?
+        .before(Punctuation::Semicolon)?
+        .raise(depth)
 }
 
 /// The condition of a `for`, if there is one, and its semicolon.
@@ -235,46 +230,40 @@ fn condition(
     alloc: Global,
     depth: usize,
     tokens: &[Token],
-) -> Result<(Option<Expr>, usize, &[Token]), ReadError>
+) -> Result<Parsed<'_, Option<Expr>>, ReadError>
     ensures { Gives (parsed (option_map expr_view)) result
         (spec.condition depth (kinds tokens.now)) }
 {
     if is_punctuation(Punctuation::Semicolon, tokens) {
-        return Ok((None, 0, tail(tokens)));
+        return Ok(Parsed::new(None, 0, tail(tokens)));
     }
-    let (value, height, rest) = closed(alloc, depth, Punctuation::Semicolon, tokens)?;
-    Ok((Some(value), height, rest))
+    let read = closed(alloc, depth, Punctuation::Semicolon, tokens)?;
+    Ok(Parsed::new(Some(read.value), read.height, read.rest))
 }
 
 /// The step of a `for`, and the bracket after it.
 #[tactic(auto, unfolding(strc_grammar::specs::Reading::last_part))]
-fn last_part(
-    alloc: Global,
-    depth: usize,
-    tokens: &[Token],
-) -> Result<(Stmt, usize, &[Token]), ReadError>
+fn last_part(alloc: Global, depth: usize, tokens: &[Token]) -> Result<Parsed<'_, Stmt>, ReadError>
     requires { 0 < depth }
     ensures { Gives (parsed stmt_view) result (spec.last_part depth (kinds tokens.now)) }
 {
-    let (step, height, rest) = optional(alloc, depth, Punctuation::CloseParen, tokens)?;
-    let (step, rest) = before(Punctuation::CloseParen, step, rest)?;
-    Ok((step, height, rest))
+    optional(alloc, depth, Punctuation::CloseParen, tokens)?.before(Punctuation::CloseParen)
 }
 
 /// `condition; step)`, and the height of the higher.
-#[tactic(auto, unfolding(strc_grammar::specs::Reading::behind_first))]
-fn behind_first(
+#[tactic(auto, unfolding(strc_grammar::specs::Reading::after_first))]
+fn after_first(
     alloc: Global,
     depth: usize,
     tokens: &[Token],
-) -> Result<(Option<Expr>, Stmt, usize, &[Token]), ReadError>
+) -> Result<Parsed<'_, (Option<Expr>, Stmt)>, ReadError>
     requires { 0 < depth }
-    ensures { Gives seen_behind_first result (spec.behind_first depth (kinds tokens.now)) }
+    ensures { Gives (parsed after_first_view) result (spec.after_first depth (kinds tokens.now)) }
 {
-    let (condition, height, rest) = condition(alloc, depth, tokens)?;
-    let (condition, step) = beside(condition, last_part(alloc, depth, rest))?;
-    let (step, step_height, rest) = step;
-    Ok((condition, step, height.max(step_height), rest))
+    let read = condition(alloc, depth, tokens)?;
+    let (condition, step) = beside(read.value, last_part(alloc, depth, read.rest))?;
+    let height = read.height.max(step.height);
+    Ok(Parsed::new((condition, step.value), height, step.rest))
 }
 
 /// What is in the brackets of a `for`.
@@ -291,18 +280,20 @@ pub(crate) fn for_heading(
     alloc: Global,
     depth: usize,
     tokens: &[Token],
-) -> Result<(ForHeading, usize, &[Token]), ReadError>
+) -> Result<Parsed<'_, ForHeading>, ReadError>
     requires { 0 < depth }
     ensures { Gives (parsed heading_view) result (spec.for_heading depth (kinds tokens.now)) }
 {
     let opened = expect(Punctuation::OpenParen, tokens)?;
-    let (first, height, rest) = ended(alloc, depth, opened)?;
-    let (first, behind) = beside(first, behind_first(alloc, depth, rest))?;
-    let (condition, step, behind_height, rest) = behind;
+    let read = ended(alloc, depth, opened)?;
+    let (first, after) = beside(read.value, after_first(alloc, depth, read.rest))?;
+    let height = read.height.max(after.height);
+    let rest = after.rest;
+    let (condition, step) = after.value;
     let heading = ForHeading {
         first,
         condition,
         step,
     };
-    Ok((heading, height.max(behind_height), rest))
+    Ok(Parsed::new(heading, height, rest))
 }

@@ -13,8 +13,8 @@ use Rattle.strc_grammar.proofs.Rounds.{chain_on}
 use Rattle.strc_grammar.specs.Grammar.{lowest_precedence}
 use Rattle.strc_grammar.specs.Reading.{◌>>=◌, Fails, Read, Tall, Below, tail, punctuation_at, is_punctuation, is_keyword, expect_keyword, name, raised, repeated, operator, chain, expression, initial, variable, parameter}
 use Rattle.strc_grammar.proofs.Repeated.{repeated_on, repeated_ends, repeated_fails}
-use Rattle.strc_grammar.proofs.Holds.{Holds, punctuation_is}
-use Rattle.strc_grammar.proofs.ExpressionHolds.{ExprRead, ExprRead-long, expression_holds}
+use Rattle.strc_grammar.proofs.Soundness.{Sound-ok, punctuation_is}
+use Rattle.strc_grammar.proofs.ExpressionSoundness.{ExprRead, ExprRead-long, expression_soundness}
 use Rattle.strc_syntax.specs.Tree as tree
 
 -- The loop so far: to go on from here gives the whole, and the turns are enough for the tokens that are left.
@@ -41,14 +41,10 @@ module _ {S : Type 0} (stop : List TokenKind → Option (List TokenKind)) (turn 
   pub goes_wrong : (e : ReadError) → stop tokens ≡ None → Fails e (turn so_far tokens) → Fails e whole
   goes_wrong e on fails = repeated_fails stop turn going.turns 0 so_far tokens whole from_none e (omega (arith, going.enough)) on fails
 
-Holds-ok : {A : Type 0} (P : A → Type 0) (deep : ℕ) (tokens : List TokenKind) (r : Result A Fault) (x : A) → r ≡ Ok x → Holds P deep tokens r → P x
-Holds-ok P deep tokens (Err e) x is holds = absurd cc
-Holds-ok P deep tokens (Ok y) x is holds = let same : y ≡ x = cc in rw same at holds
-
 -- what an expression leaves is no longer than what it was read from
 pub expression_within : (depth rank : ℕ) (tokens : List TokenKind) (value : tree.Expr) (height : ℕ) (after : List TokenKind) → expression depth rank tokens ≡ Ok (value, height, after) → length after ≤ length tokens
 expression_within depth rank tokens value height after is =
-    let read = Holds-ok (ExprRead depth rank tokens) depth tokens (expression depth rank tokens) (value, height, after) is (expression_holds depth rank tokens) in
+    let read = Sound-ok (ExprRead depth rank tokens) depth tokens (expression depth rank tokens) (value, height, after) is (expression_soundness depth rank tokens) in
     omega (arith, ExprRead-long read)
 
 pub past_comma : (tokens : List TokenKind) → is_punctuation punctuation.Comma tokens ≡ true → length (tail tokens) < length tokens

@@ -1,4 +1,4 @@
--- What the steps behind a held value give.
+-- What the steps after a held value give.
 use Rattle.std.specs.Prelude.{◌≡◌, ℕ, List, Result, Ok, Err}
 use Rattle.std.specs.Borrow.{Bor}
 use Rattle.strc_lex.specs.declared.token.Token.{Token}
@@ -7,6 +7,7 @@ use Rattle.strc_grammar.specs.declared.error.Fault.{Fault}
 use Rattle.strc_grammar.specs.declared.error.ReadError.{ReadError}
 use Rattle.strc_grammar.specs.Grammar.{kinds}
 use Rattle.strc_grammar.specs.Reading.{Fails}
+use Rattle.strc_rules.specs.declared.parsed.Parsed.{Parsed}
 
 -- the same part, and the height of the node that it becomes part of
 abbrev pub Raises : {T : Type 0} → T → Result (T × ℕ) ReadError → Result ℕ Fault → Type 0
@@ -23,3 +24,16 @@ Goes part (Err e) read = Fails e read
 abbrev pub Holds : {T U : Type 0} → T → Result U ReadError → Result (T × U) ReadError → Type 0
 Holds part next (Ok x) = (x.0 ≡ part) × (next ≡ Ok x.1)
 Holds part next (Err e) = next ≡ Err e
+
+-- the same, with the height of the node that it becomes part of
+abbrev pub IsRaised : {T : Type 0} → Parsed T → Result (Parsed T) ReadError → Result ℕ Fault
+    → Type 0
+IsRaised part (Ok x) read = (x.value ≡ part.value) × (x.rest ≡ part.rest) × (read ≡ Ok x.height)
+IsRaised part (Err e) read = Fails e read
+
+-- the same, up to what follows it
+abbrev pub IsClosed : {T : Type 0} → Parsed T → Result (Parsed T) ReadError
+    → Result (List TokenKind) Fault → Type 0
+IsClosed part (Ok x) read =
+    (x.value ≡ part.value) × (x.height ≡ part.height) × (read ≡ Ok (kinds x.rest.now))
+IsClosed part (Err e) read = Fails e read

@@ -7,14 +7,15 @@ use Rattle.strc_syntax.specs.declared.tree.Expr.{Expr}
 use Rattle.strc_grammar.specs.declared.error.ReadError.{ReadError}
 use Rattle.strc_grammar.specs.Grammar.{kinds}
 use Rattle.strc_syntax.specs.View.{expr_view}
+use Rattle.strc_rules.specs.declared.parsed.Parsed.{Parsed}
 use Rattle.strc_rules.specs.Seen.{parsed}
 use Rattle.strc_grammar.specs.Reading.{Gives, expression}
 
 pub record ReadsExpressions (depth : ℕ) (pre : Global → ℕ → ℕ → Bor (List Token) → Type 0)
     (post : Global → ℕ → ℕ → Bor (List Token)
-    → Result (Expr × ℕ × Bor (List Token)) ReadError → Type 0) : Type 0 where
+    → Result (Parsed Expr) ReadError → Type 0) : Type 0 where
   pub callable : (alloc : Global) (rank : ℕ) (tokens : Bor (List Token))
       → pre alloc depth rank tokens
   pub reads : (alloc : Global) (rank : ℕ) (tokens : Bor (List Token))
-      (r : Result (Expr × ℕ × Bor (List Token)) ReadError) → post alloc depth rank tokens r
+      (r : Result (Parsed Expr) ReadError) → post alloc depth rank tokens r
       → Gives (parsed expr_view) r (expression depth rank (kinds tokens.now))

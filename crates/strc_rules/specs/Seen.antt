@@ -9,19 +9,19 @@ use Rattle.strc_syntax.specs.declared.tree.Variables.{Variables}
 use Rattle.strc_syntax.specs.Tree as tree
 use Rattle.strc_syntax.specs.View.{type_view, variable_view}
 use Rattle.strc_grammar.specs.Grammar.{kinds}
+use Rattle.strc_rules.specs.declared.parsed.Parsed.{Parsed}
 
 -- a value and the tokens after it
 abbrev pub seen : {A : Type 0} → A × Bor (List Token) → A × List TokenKind
 seen x = (x.0, kinds x.1.now)
 
 -- what was parsed, by its view: a tree, its height and the tokens after it
-abbrev pub parsed : {A B : Type 0} → (A → B) → A × ℕ × Bor (List Token) → B × ℕ × List TokenKind
-parsed view x = (view x.0, x.1, kinds x.2.now)
+abbrev pub parsed : {A B : Type 0} → (A → B) → Parsed A → B × ℕ × List TokenKind
+parsed view x = (view x.value, x.height, kinds x.rest.now)
 
 -- several trees, the height of the highest and the tokens after them
-abbrev pub parsed_all : {A B : Type 0} → (A → B) → Vec A × ℕ × Bor (List Token)
-    → (List B × ℕ) × List TokenKind
-parsed_all view x = ((map view x.0.items, x.1), kinds x.2.now)
+abbrev pub parsed_all : {A B : Type 0} → (A → B) → Parsed (Vec A) → (List B × ℕ) × List TokenKind
+parsed_all view x = ((map view x.value.items, x.height), kinds x.rest.now)
 
 -- a type and the variables of it
 abbrev pub declared_view : Variables → tree.VariableType × List tree.Variable

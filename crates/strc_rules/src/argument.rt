@@ -8,8 +8,8 @@ ghost use Rattle.strc_grammar.specs.Reading as spec;
 ghost use Rattle.strc_grammar.specs.Reading.{Gives};
 
 use crate::expression::{LOWEST_PRECEDENCE, expression};
-use crate::held::before;
 use crate::lookahead::{expect, is_punctuation, tail};
+use crate::parsed::Parsed;
 use std::alloc::Global;
 use strc_grammar::ReadError;
 use strc_lex::token::{Punctuation, Token};
@@ -23,7 +23,7 @@ fn more_arguments<'t>(
     first: Vec<Expr>,
     height: usize,
     tokens: &'t [Token],
-) -> Result<(Vec<Expr>, usize, &'t [Token]), ReadError>
+) -> Result<Parsed<'t, Vec<Expr>>, ReadError>
     ensures { Gives (parsed_all expr_view) result
         (spec.more_arguments depth (map expr_view first.items, height) (kinds tokens.entry.now)) }
 {
@@ -31,12 +31,12 @@ fn more_arguments<'t>(
     let mut highest = height;
     let mut rest = tokens;
     while is_punctuation(Punctuation::Comma, rest) {
-        let (next, height, after) = expression(alloc, depth, LOWEST_PRECEDENCE, tail(rest))?;
-        found.push(next)?;
-        highest = highest.max(height);
-        rest = after;
+        let next = expression(alloc, depth, LOWEST_PRECEDENCE, tail(rest))?;
+        found.push(next.value)?;
+        highest = highest.max(next.height);
+        rest = next.rest;
     }
-    Ok((found, highest, rest))
+    Ok(Parsed::new(found, highest, rest))
 }
 
 /// Expressions with commas between them, or none before the bracket that closes them, and the
@@ -46,16 +46,16 @@ fn listed_arguments(
     alloc: Global,
     depth: usize,
     tokens: &[Token],
-) -> Result<(Vec<Expr>, usize, &[Token]), ReadError>
+) -> Result<Parsed<'_, Vec<Expr>>, ReadError>
     ensures { Gives (parsed_all expr_view) result (spec.listed_arguments depth (kinds tokens.now)) }
 {
     let mut found = Vec::new(alloc);
     if is_punctuation(Punctuation::CloseParen, tokens) {
-        return Ok((found, 0, tokens));
+        return Ok(Parsed::new(found, 0, tokens));
     }
-    let (first, height, rest) = expression(alloc, depth, LOWEST_PRECEDENCE, tokens)?;
-    found.push(first)?;
-    more_arguments(alloc, depth, found, height, rest)
+    let first = expression(alloc, depth, LOWEST_PRECEDENCE, tokens)?;
+    found.push(first.value)?;
+    more_arguments(alloc, depth, found, first.height, first.rest)
 }
 
 /// `(1, 2)`, if it comes next, and the height of the highest expression or 0. The depth is the
@@ -65,15 +65,14 @@ pub fn arguments(
     alloc: Global,
     depth: usize,
     tokens: &[Token],
-) -> Result<(Option<Vec<Expr>>, usize, &[Token]), ReadError>
+) -> Result<Parsed<'_, Option<Vec<Expr>>>, ReadError>
     ensures { Gives (parsed weights_view) result (spec.arguments depth (kinds tokens.now)) }
 {
     if !is_punctuation(Punctuation::OpenParen, tokens) {
-        return Ok((None, 0, tokens));
+        return Ok(Parsed::new(None, 0, tokens));
     }
-    let (listed, height, rest) = listed_arguments(alloc, depth, tail(tokens))?;
-    let (listed, rest) = before(Punctuation::CloseParen, listed, rest)?;
-    Ok((Some(listed), height, rest))
+    let listed = listed_arguments(alloc, depth, tail(tokens))?.before(Punctuation::CloseParen)?;
+    Ok(Parsed::new(Some(listed.value), listed.height, listed.rest))
 }
 
 /// `()`, if it comes next.

@@ -9,9 +9,10 @@ ghost use Rattle.strc_grammar.specs.Reading as spec;
 ghost use Rattle.strc_grammar.specs.Reading.{Gives};
 ghost use Rattle.strc_rules.specs.Readers.{ReadsExpressions};
 
-use crate::held::{before, beside, raise};
+use crate::held::{beside, raise};
 use crate::lookahead::{is_punctuation, tail};
 use crate::operator::operator_at;
+use crate::parsed::Parsed;
 use std::alloc::Global;
 use strc_grammar::{Fault, ReadError};
 use strc_lex::token::{Punctuation, Token};
@@ -39,7 +40,7 @@ pub fn expression(
     depth: usize,
     rank: usize,
     tokens: &[Token],
-) -> Result<(Expr, usize, &[Token]), ReadError>
+) -> Result<Parsed<'_, Expr>, ReadError>
     ensures { Gives (parsed expr_view) result (spec.expression depth rank (kinds tokens.now)) }
 {
     if depth == 0 {
@@ -60,24 +61,22 @@ pub fn closed(
     depth: usize,
     closing: Punctuation,
     tokens: &[Token],
-) -> Result<(Expr, usize, &[Token]), ReadError>
+) -> Result<Parsed<'_, Expr>, ReadError>
     ensures { Gives (parsed expr_view) result
         (spec.closed (spec.expression depth) closing (kinds tokens.now)) }
 {
-    let (value, height, rest) = expression(alloc, depth, LOWEST_PRECEDENCE, tokens)?;
-    let (value, rest) = before(closing, value, rest)?;
-    Ok((value, height, rest))
+    expression(alloc, depth, LOWEST_PRECEDENCE, tokens)?.before(closing)
 }
 
-impl<
-    F: Fn(Global, usize, usize, &[Token]) -> Result<(Expr, usize, &[Token]), ReadError>,
-> ExpressionRules<F> {
+impl<F: Fn(Global, usize, usize, &[Token]) -> Result<Parsed<'_, Expr>, ReadError>> ExpressionRules<
+    F,
+> {
     /// An expression of at most this precedence, one depth below.
     pub(crate) fn below<'t>(
         &self,
         rank: usize,
         tokens: &'t [Token],
-    ) -> Result<(Expr, usize, &'t [Token]), ReadError>
+    ) -> Result<Parsed<'t, Expr>, ReadError>
         requires deep { 0 < self.now.depth }
         requires reads { ReadsExpressions (self.now.depth - 1)
             (F.pre self.now.reader) (F.post self.now.reader) }
@@ -93,24 +92,18 @@ impl<
         &self,
         closing: Punctuation,
         tokens: &'t [Token],
-    ) -> Result<(Expr, usize, &'t [Token]), ReadError>
+    ) -> Result<Parsed<'t, Expr>, ReadError>
         requires deep { 0 < self.now.depth }
         requires reads { ReadsExpressions (self.now.depth - 1)
             (F.pre self.now.reader) (F.post self.now.reader) }
         ensures { Gives (parsed expr_view) result
             (spec.closed (spec.expression (self.now.depth - 1)) closing (kinds tokens.now)) }
     {
-        let (value, height, rest) = self.below(LOWEST_PRECEDENCE, tokens)?;
-        let (value, rest) = before(closing, value, rest)?;
-        Ok((value, height, rest))
+        self.below(LOWEST_PRECEDENCE, tokens)?.before(closing)
     }
 
     #[tactic(auto, unfolding(strc_grammar::specs::Reading::ranked))]
-    fn ranked<'t>(
-        &self,
-        rank: usize,
-        tokens: &'t [Token],
-    ) -> Result<(Expr, usize, &'t [Token]), ReadError>
+    fn ranked<'t>(&self, rank: usize, tokens: &'t [Token]) -> Result<Parsed<'t, Expr>, ReadError>
         requires deep { 0 < self.now.depth }
         requires reads { ReadsExpressions (self.now.depth - 1)
             (F.pre self.now.reader) (F.post self.now.reader) }
@@ -127,7 +120,7 @@ impl<
 
     /// `c ? a : b`, or c alone.
     #[tactic(auto, unfolding(strc_grammar::specs::Reading::conditional))]
-    fn conditional<'t>(&self, tokens: &'t [Token]) -> Result<(Expr, usize, &'t [Token]), ReadError>
+    fn conditional<'t>(&self, tokens: &'t [Token]) -> Result<Parsed<'t, Expr>, ReadError>
         requires deep { 0 < self.now.depth }
         requires reads { ReadsExpressions (self.now.depth - 1)
             (F.pre self.now.reader) (F.post self.now.reader) }
@@ -135,11 +128,11 @@ impl<
             (spec.conditional self.now.depth (spec.expression (self.now.depth - 1))
             (kinds tokens.now)) }
     {
-        let (condition, height, rest) = self.climb(LOWEST_BINARY_PRECEDENCE, tokens)?;
-        if is_punctuation(Punctuation::Question, rest) {
-            self.choice(condition, height, tail(rest))
+        let condition = self.climb(LOWEST_BINARY_PRECEDENCE, tokens)?;
+        if is_punctuation(Punctuation::Question, condition.rest) {
+            self.choice(condition.value, condition.height, tail(condition.rest))
         } else {
-            Ok((condition, height, rest))
+            Ok(condition)
         }
     }
 
@@ -150,7 +143,7 @@ impl<
         condition: Expr,
         height: usize,
         tokens: &'t [Token],
-    ) -> Result<(Expr, usize, &'t [Token]), ReadError>
+    ) -> Result<Parsed<'t, Expr>, ReadError>
         requires deep { 0 < self.now.depth }
         requires reads { ReadsExpressions (self.now.depth - 1)
             (F.pre self.now.reader) (F.post self.now.reader) }
@@ -160,24 +153,19 @@ impl<
     {
         let chosen = self.closed(Punctuation::Colon, tokens);
         let (condition, chosen) = beside(condition, chosen)?;
-        let (chosen, chosen_height, rest) = chosen;
-        let parts = (condition, chosen);
-        let (parts, other) = beside(parts, self.below(LOWEST_PRECEDENCE, rest))?;
-        let (other, other_height, rest) = other;
-        let height = height.max(chosen_height.max(other_height));
-        let (parts, height) = raise(self.depth, (parts, other), height)?;
+        let parts = (condition, chosen.value);
+        let (parts, other) = beside(parts, self.below(LOWEST_PRECEDENCE, chosen.rest))?;
+        let height = height.max(chosen.height.max(other.height));
+        let rest = other.rest;
+        let (parts, height) = raise(self.depth, (parts, other.value), height)?;
         let ((condition, chosen), other) = parts;
         let whole = conditional_of(self.alloc, condition, chosen, other)?;
-        Ok((whole, height, rest))
+        Ok(Parsed::new(whole, height, rest))
     }
 
     /// An expression of at most this precedence, of operands and binary operators.
     #[tactic(auto, unfolding(strc_grammar::specs::Reading::climb))]
-    fn climb<'t>(
-        &self,
-        rank: usize,
-        tokens: &'t [Token],
-    ) -> Result<(Expr, usize, &'t [Token]), ReadError>
+    fn climb<'t>(&self, rank: usize, tokens: &'t [Token]) -> Result<Parsed<'t, Expr>, ReadError>
         requires deep { 0 < self.now.depth }
         requires reads { ReadsExpressions (self.now.depth - 1)
             (F.pre self.now.reader) (F.post self.now.reader) }
@@ -188,8 +176,8 @@ impl<
         if rank == 0 {
             return self.operand(tokens);
         }
-        let (left, height, rest) = self.climb(rank - 1, tokens)?;
-        self.chain(rank, left, height, rest)
+        let left = self.climb(rank - 1, tokens)?;
+        self.chain(rank, left.value, left.height, left.rest)
     }
 
     /// Goes on after an operand with operators of one precedence, which group to the left.
@@ -200,7 +188,7 @@ impl<
         first: Expr,
         first_height: usize,
         tokens: &'t [Token],
-    ) -> Result<(Expr, usize, &'t [Token]), ReadError>
+    ) -> Result<Parsed<'t, Expr>, ReadError>
         requires deep { 0 < self.now.depth }
         requires some { 0 < rank }
         requires reads { ReadsExpressions (self.now.depth - 1)
@@ -215,13 +203,13 @@ impl<
         let mut rest = tokens;
         while let Some(operator) = operator_at(rank, rest) {
             let (held, right) = beside(left, self.below(rank - 1, tail(rest)))?;
-            let (right, right_height, after) = right;
-            let (parts, higher) = raise(self.depth, (held, right), height.max(right_height))?;
-            let (held, right) = parts;
-            left = binary_of(self.alloc, operator, held, right)?;
+            let parts = (held, right.value);
+            let (parts, higher) = raise(self.depth, parts, height.max(right.height))?;
+            let (held, other) = parts;
+            left = binary_of(self.alloc, operator, held, other)?;
             height = higher;
-            rest = after;
+            rest = right.rest;
         }
-        Ok((left, height, rest))
+        Ok(Parsed::new(left, height, rest))
     }
 }

@@ -14,5 +14,6 @@ pub mod lookahead;
 mod operand;
 pub mod operator;
 pub mod parameter;
+pub mod parsed;
 pub mod stream_type;
 pub mod variable;

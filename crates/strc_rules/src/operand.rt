@@ -13,6 +13,7 @@ use crate::expression::ExpressionRules;
 use crate::held::raise;
 use crate::lookahead::{expect, is_punctuation, name, peek, tail, unexpected};
 use crate::operator::step_after;
+use crate::parsed::Parsed;
 use std::alloc::Global;
 use strc_grammar::ReadError;
 use strc_lex::token::{Keyword, Name, Punctuation, Token, TokenKind};
@@ -28,38 +29,35 @@ fn after_place<'t>(
     index: Option<Expr>,
     height: usize,
     tokens: &'t [Token],
-) -> Result<(Expr, usize, &'t [Token]), ReadError>
+) -> Result<Parsed<'t, Expr>, ReadError>
     ensures { Gives (parsed expr_view) result
         (spec.after_place depth name (option_map expr_view index) height (kinds tokens.now)) }
 {
     match step_after(tokens) {
-        None => Ok((read_of(alloc, name, index)?, height, tokens)),
+        None => Ok(Parsed::new(read_of(alloc, name, index)?, height, tokens)),
         Some(operator) => {
             let (place, height) = raise(depth, (name, index), height)?;
             let (name, index) = place;
-            Ok((step_of(alloc, operator, name, index)?, height, tail(tokens)))
+            Ok(Parsed::new(step_of(alloc, operator, name, index)?, height, tail(tokens)))
         }
     }
 }
 
 /// `pop()`: after the keyword.
 #[tactic(auto, unfolding(strc_grammar::specs::Reading::pop_brackets))]
-fn pop_brackets(tokens: &[Token]) -> Result<(Expr, usize, &[Token]), ReadError>
+fn pop_brackets(tokens: &[Token]) -> Result<Parsed<'_, Expr>, ReadError>
     ensures { Gives (parsed expr_view) result (spec.pop_brackets (kinds tokens.now)) }
 {
     let inside = expect(Punctuation::OpenParen, tokens)?;
     let rest = expect(Punctuation::CloseParen, inside)?;
-    Ok((Expr::Pop, 1, rest))
+    Ok(Parsed::new(Expr::Pop, 1, rest))
 }
 
-impl<
-    F: Fn(Global, usize, usize, &[Token]) -> Result<(Expr, usize, &[Token]), ReadError>,
-> ExpressionRules<F> {
+impl<F: Fn(Global, usize, usize, &[Token]) -> Result<Parsed<'_, Expr>, ReadError>> ExpressionRules<
+    F,
+> {
     #[tactic(auto, unfolding(strc_grammar::specs::Reading::operand))]
-    pub(crate) fn operand<'t>(
-        &self,
-        tokens: &'t [Token],
-    ) -> Result<(Expr, usize, &'t [Token]), ReadError>
+    pub(crate) fn operand<'t>(&self, tokens: &'t [Token]) -> Result<Parsed<'t, Expr>, ReadError>
         requires deep { 0 < self.now.depth }
         requires reads { ReadsExpressions (self.now.depth - 1)
             (F.pre self.now.reader) (F.post self.now.reader) }
@@ -68,31 +66,38 @@ impl<
             (kinds tokens.now)) }
     {
         match peek(tokens) {
-            Some(TokenKind::Number(value)) => Ok((Expr::Number(*value), 1, tail(tokens))),
+            Some(TokenKind::Number(value)) => Ok(Parsed::new(
+                Expr::Number(*value),
+                1,
+                tail(tokens),
+            )),
             Some(TokenKind::Name(name)) => self.after_name(name.copy()?, tail(tokens)),
-            Some(TokenKind::Keyword(keyword)) => self.worded(*keyword, tokens),
-            Some(TokenKind::Punctuation(punctuation)) => self.marked(*punctuation, tokens),
+            Some(TokenKind::Keyword(keyword)) => self.keyword_operand(*keyword, tokens),
+            Some(TokenKind::Punctuation(punctuation)) => self.punctuation_operand(
+                *punctuation,
+                tokens,
+            ),
             Some(TokenKind::StringLiteral(_)) | None => Err(unexpected(tokens)),
         }
     }
 
     /// An operand that begins with this keyword.
-    #[tactic(auto, unfolding(strc_grammar::specs::Reading::worded))]
-    fn worded<'t>(
+    #[tactic(auto, unfolding(strc_grammar::specs::Reading::keyword_operand))]
+    fn keyword_operand<'t>(
         &self,
         keyword: Keyword,
         tokens: &'t [Token],
-    ) -> Result<(Expr, usize, &'t [Token]), ReadError>
+    ) -> Result<Parsed<'t, Expr>, ReadError>
         requires deep { 0 < self.now.depth }
         requires reads { ReadsExpressions (self.now.depth - 1)
             (F.pre self.now.reader) (F.post self.now.reader) }
         ensures { Gives (parsed expr_view) result
-            (spec.worded self.now.depth (spec.expression (self.now.depth - 1)) keyword
+            (spec.keyword_operand self.now.depth (spec.expression (self.now.depth - 1)) keyword
             (kinds tokens.now)) }
     {
         match keyword {
-            Keyword::True => Ok((Expr::Truth(true), 1, tail(tokens))),
-            Keyword::False => Ok((Expr::Truth(false), 1, tail(tokens))),
+            Keyword::True => Ok(Parsed::new(Expr::Truth(true), 1, tail(tokens))),
+            Keyword::False => Ok(Parsed::new(Expr::Truth(false), 1, tail(tokens))),
             Keyword::Pop => pop_brackets(tail(tokens)),
             Keyword::Peek => self.peek_brackets(tail(tokens)),
             _ => Err(unexpected(tokens)),
@@ -100,18 +105,18 @@ impl<
     }
 
     /// An operand that begins with this punctuation mark.
-    #[tactic(auto, unfolding(strc_grammar::specs::Reading::marked))]
-    fn marked<'t>(
+    #[tactic(auto, unfolding(strc_grammar::specs::Reading::punctuation_operand))]
+    fn punctuation_operand<'t>(
         &self,
         punctuation: Punctuation,
         tokens: &'t [Token],
-    ) -> Result<(Expr, usize, &'t [Token]), ReadError>
+    ) -> Result<Parsed<'t, Expr>, ReadError>
         requires deep { 0 < self.now.depth }
         requires reads { ReadsExpressions (self.now.depth - 1)
             (F.pre self.now.reader) (F.post self.now.reader) }
         ensures { Gives (parsed expr_view) result
-            (spec.marked self.now.depth (spec.expression (self.now.depth - 1)) punctuation
-            (kinds tokens.now)) }
+            (spec.punctuation_operand self.now.depth (spec.expression (self.now.depth - 1))
+            punctuation (kinds tokens.now)) }
     {
         match punctuation {
             Punctuation::OpenParen => self.group(tail(tokens)),
@@ -126,10 +131,7 @@ impl<
 
     /// `[i]`, if it comes next, and the height of what has the index: after the name.
     #[tactic(auto, unfolding(strc_grammar::specs::Reading::index))]
-    fn index<'t>(
-        &self,
-        tokens: &'t [Token],
-    ) -> Result<(Option<Expr>, usize, &'t [Token]), ReadError>
+    fn index<'t>(&self, tokens: &'t [Token]) -> Result<Parsed<'t, Option<Expr>>, ReadError>
         requires deep { 0 < self.now.depth }
         requires reads { ReadsExpressions (self.now.depth - 1)
             (F.pre self.now.reader) (F.post self.now.reader) }
@@ -137,20 +139,17 @@ impl<
             (spec.index self.now.depth (spec.expression (self.now.depth - 1)) (kinds tokens.now)) }
     {
         if !is_punctuation(Punctuation::OpenBracket, tokens) {
-            return Ok((None, 1, tokens));
+            return Ok(Parsed::new(None, 1, tokens));
         }
-        let (index, height, rest) = self.closed(Punctuation::CloseBracket, tail(tokens))?;
-        let (index, height) = raise(self.depth, index, height)?;
-        Ok((Some(index), height, rest))
+        let index = self
+            .closed(Punctuation::CloseBracket, tail(tokens))?
+            .raise(self.depth)?;
+        Ok(Parsed::new(Some(index.value), index.height, index.rest))
     }
 
     /// A variable or an element, and the step after it: after the name.
     #[tactic(auto, unfolding(strc_grammar::specs::Reading::after_name))]
-    fn after_name<'t>(
-        &self,
-        name: Name,
-        tokens: &'t [Token],
-    ) -> Result<(Expr, usize, &'t [Token]), ReadError>
+    fn after_name<'t>(&self, name: Name, tokens: &'t [Token]) -> Result<Parsed<'t, Expr>, ReadError>
         requires deep { 0 < self.now.depth }
         requires reads { ReadsExpressions (self.now.depth - 1)
             (F.pre self.now.reader) (F.post self.now.reader) }
@@ -158,8 +157,15 @@ impl<
             (spec.after_name self.now.depth (spec.expression (self.now.depth - 1)) name
             (kinds tokens.now)) }
     {
-        let (index, height, rest) = self.index(tokens)?;
-        after_place(self.alloc, self.depth, name, index, height, rest)
+        let index = self.index(tokens)?;
+        after_place(
+            self.alloc,
+            self.depth,
+            name,
+            index.value,
+            index.height,
+            index.rest,
+        )
     }
 
     /// `++x` or `++x[i]`: after the punctuation.
@@ -168,7 +174,7 @@ impl<
         &self,
         operator: StepOperator,
         tokens: &'t [Token],
-    ) -> Result<(Expr, usize, &'t [Token]), ReadError>
+    ) -> Result<Parsed<'t, Expr>, ReadError>
         requires deep { 0 < self.now.depth }
         requires reads { ReadsExpressions (self.now.depth - 1)
             (F.pre self.now.reader) (F.post self.now.reader) }
@@ -177,18 +183,15 @@ impl<
             (kinds tokens.now)) }
     {
         let (name, rest) = name(tokens)?;
-        let (index, height, rest) = self.index(rest)?;
-        let (place, height) = raise(self.depth, (name, index), height)?;
-        let (name, index) = place;
-        Ok((step_of(self.alloc, operator, name, index)?, height, rest))
+        let index = self.index(rest)?;
+        let (place, height) = raise(self.depth, (name, index.value), index.height)?;
+        let (name, at) = place;
+        Ok(Parsed::new(step_of(self.alloc, operator, name, at)?, height, index.rest))
     }
 
     /// `peek(i)`: after the keyword.
     #[tactic(auto, unfolding(strc_grammar::specs::Reading::peek_brackets))]
-    fn peek_brackets<'t>(
-        &self,
-        tokens: &'t [Token],
-    ) -> Result<(Expr, usize, &'t [Token]), ReadError>
+    fn peek_brackets<'t>(&self, tokens: &'t [Token]) -> Result<Parsed<'t, Expr>, ReadError>
         requires deep { 0 < self.now.depth }
         requires reads { ReadsExpressions (self.now.depth - 1)
             (F.pre self.now.reader) (F.post self.now.reader) }
@@ -197,23 +200,25 @@ impl<
             (kinds tokens.now)) }
     {
         let inside = expect(Punctuation::OpenParen, tokens)?;
-        let (index, height, rest) = self.closed(Punctuation::CloseParen, inside)?;
-        let (index, height) = raise(self.depth, index, height)?;
-        Ok((peek_of(self.alloc, index)?, height, rest))
+        let index = self
+            .closed(Punctuation::CloseParen, inside)?
+            .raise(self.depth)?;
+        Ok(Parsed::new(peek_of(self.alloc, index.value)?, index.height, index.rest))
     }
 
     /// `(e)`: after the bracket.
     #[tactic(auto, unfolding(strc_grammar::specs::Reading::group))]
-    fn group<'t>(&self, tokens: &'t [Token]) -> Result<(Expr, usize, &'t [Token]), ReadError>
+    fn group<'t>(&self, tokens: &'t [Token]) -> Result<Parsed<'t, Expr>, ReadError>
         requires deep { 0 < self.now.depth }
         requires reads { ReadsExpressions (self.now.depth - 1)
             (F.pre self.now.reader) (F.post self.now.reader) }
         ensures { Gives (parsed expr_view) result
             (spec.group self.now.depth (spec.expression (self.now.depth - 1)) (kinds tokens.now)) }
     {
-        let (inner, height, rest) = self.closed(Punctuation::CloseParen, tokens)?;
-        let (inner, height) = raise(self.depth, inner, height)?;
-        Ok((group_of(self.alloc, inner)?, height, rest))
+        let inner = self
+            .closed(Punctuation::CloseParen, tokens)?
+            .raise(self.depth)?;
+        Ok(Parsed::new(group_of(self.alloc, inner.value)?, inner.height, inner.rest))
     }
 
     /// `-e`: after the punctuation.
@@ -222,7 +227,7 @@ impl<
         &self,
         operator: UnaryOperator,
         tokens: &'t [Token],
-    ) -> Result<(Expr, usize, &'t [Token]), ReadError>
+    ) -> Result<Parsed<'t, Expr>, ReadError>
         requires deep { 0 < self.now.depth }
         requires reads { ReadsExpressions (self.now.depth - 1)
             (F.pre self.now.reader) (F.post self.now.reader) }
@@ -230,8 +235,8 @@ impl<
             (spec.sign self.now.depth (spec.expression (self.now.depth - 1)) operator
             (kinds tokens.now)) }
     {
-        let (inner, height, rest) = self.below(0, tokens)?;
-        let (inner, height) = raise(self.depth, inner, height)?;
-        Ok((unary_of(self.alloc, operator, inner)?, height, rest))
+        let inner = self.below(0, tokens)?.raise(self.depth)?;
+        let made = unary_of(self.alloc, operator, inner.value)?;
+        Ok(Parsed::new(made, inner.height, inner.rest))
     }
 }

@@ -11,6 +11,7 @@ ghost use Rattle.strc_grammar.specs.Reading.{Gives};
 use crate::expression::{LOWEST_PRECEDENCE, closed, expression};
 use crate::held::beside;
 use crate::lookahead::{is_punctuation, name, peek, tail, unexpected};
+use crate::parsed::Parsed;
 use std::alloc::Global;
 use strc_grammar::ReadError;
 use strc_lex::token::{Keyword, Punctuation, Token, TokenKind};
@@ -22,14 +23,14 @@ fn initial(
     alloc: Global,
     depth: usize,
     tokens: &[Token],
-) -> Result<(Option<Expr>, usize, &[Token]), ReadError>
+) -> Result<Parsed<'_, Option<Expr>>, ReadError>
     ensures { Gives (parsed (option_map expr_view)) result (spec.initial depth (kinds tokens.now)) }
 {
     if !is_punctuation(Punctuation::Assign, tokens) {
-        return Ok((None, 0, tokens));
+        return Ok(Parsed::new(None, 0, tokens));
     }
-    let (value, height, rest) = expression(alloc, depth, LOWEST_PRECEDENCE, tail(tokens))?;
-    Ok((Some(value), height, rest))
+    let read = expression(alloc, depth, LOWEST_PRECEDENCE, tail(tokens))?;
+    Ok(Parsed::new(Some(read.value), read.height, read.rest))
 }
 
 /// `x` or `x = e`, with the height of e or 0.
@@ -38,12 +39,13 @@ fn variable(
     alloc: Global,
     depth: usize,
     tokens: &[Token],
-) -> Result<(Variable, usize, &[Token]), ReadError>
+) -> Result<Parsed<'_, Variable>, ReadError>
     ensures { Gives (parsed variable_view) result (spec.variable depth (kinds tokens.now)) }
 {
     let (name, rest) = name(tokens)?;
-    let (initial, height, rest) = initial(alloc, depth, rest)?;
-    Ok((Variable { name, initial }, height, rest))
+    let read = initial(alloc, depth, rest)?;
+    let initial = read.value;
+    Ok(Parsed::new(Variable { name, initial }, read.height, read.rest))
 }
 
 /// Variables with commas between them, and the height of the highest initialiser or 0.
@@ -52,13 +54,13 @@ fn variables(
     alloc: Global,
     depth: usize,
     tokens: &[Token],
-) -> Result<(Vec<Variable>, usize, &[Token]), ReadError>
+) -> Result<Parsed<'_, Vec<Variable>>, ReadError>
     ensures { Gives (parsed_all variable_view) result (spec.variables depth (kinds tokens.now)) }
 {
-    let (first, height, rest) = variable(alloc, depth, tokens)?;
+    let first = variable(alloc, depth, tokens)?;
     let mut found = Vec::new(alloc);
-    found.push(first)?;
-    more_variables(alloc, depth, found, height, rest)
+    found.push(first.value)?;
+    more_variables(alloc, depth, found, first.height, first.rest)
 }
 
 /// The same after these.
@@ -69,7 +71,7 @@ fn more_variables<'t>(
     first: Vec<Variable>,
     height: usize,
     tokens: &'t [Token],
-) -> Result<(Vec<Variable>, usize, &'t [Token]), ReadError>
+) -> Result<Parsed<'t, Vec<Variable>>, ReadError>
     ensures { Gives (parsed_all variable_view) result
         (spec.more_variables depth (map variable_view first.items, height)
         (kinds tokens.entry.now)) }
@@ -78,12 +80,12 @@ fn more_variables<'t>(
     let mut highest = height;
     let mut rest = tokens;
     while is_punctuation(Punctuation::Comma, rest) {
-        let (next, height, after) = variable(alloc, depth, tail(rest))?;
-        found.push(next)?;
-        highest = highest.max(height);
-        rest = after;
+        let next = variable(alloc, depth, tail(rest))?;
+        found.push(next.value)?;
+        highest = highest.max(next.height);
+        rest = next.rest;
     }
-    Ok((found, highest, rest))
+    Ok(Parsed::new(found, highest, rest))
 }
 
 /// `int` or `int[n]`: after the keyword.
@@ -92,14 +94,18 @@ fn int_type(
     alloc: Global,
     depth: usize,
     tokens: &[Token],
-) -> Result<(VariableType, usize, &[Token]), ReadError>
+) -> Result<Parsed<'_, VariableType>, ReadError>
     ensures { Gives (parsed type_view) result (spec.int_type depth (kinds tokens.now)) }
 {
     if !is_punctuation(Punctuation::OpenBracket, tokens) {
-        return Ok((VariableType::Int, 0, tokens));
+        return Ok(Parsed::new(VariableType::Int, 0, tokens));
     }
-    let (length, height, rest) = closed(alloc, depth, Punctuation::CloseBracket, tail(tokens))?;
-    Ok((VariableType::Array(length), height, rest))
+    let length = closed(alloc, depth, Punctuation::CloseBracket, tail(tokens))?;
+    Ok(Parsed::new(
+        VariableType::Array(length.value),
+        length.height,
+        length.rest,
+    ))
 }
 
 /// The type of variables, and the height of its length or 0.
@@ -108,11 +114,15 @@ fn variable_type(
     alloc: Global,
     depth: usize,
     tokens: &[Token],
-) -> Result<(VariableType, usize, &[Token]), ReadError>
+) -> Result<Parsed<'_, VariableType>, ReadError>
     ensures { Gives (parsed type_view) result (spec.variable_type depth (kinds tokens.now)) }
 {
     match peek(tokens) {
-        Some(TokenKind::Keyword(Keyword::Boolean)) => Ok((VariableType::Boolean, 0, tail(tokens))),
+        Some(TokenKind::Keyword(Keyword::Boolean)) => Ok(Parsed::new(
+            VariableType::Boolean,
+            0,
+            tail(tokens),
+        )),
         Some(TokenKind::Keyword(Keyword::Int)) => int_type(alloc, depth, tail(tokens)),
         _ => Err(unexpected(tokens)),
     }
@@ -124,11 +134,12 @@ pub fn declared(
     alloc: Global,
     depth: usize,
     tokens: &[Token],
-) -> Result<(Variables, usize, &[Token]), ReadError>
+) -> Result<Parsed<'_, Variables>, ReadError>
     ensures { Gives (parsed declared_view) result (spec.declared depth (kinds tokens.now)) }
 {
-    let (kind, height, rest) = variable_type(alloc, depth, tokens)?;
-    let (kind, variables) = beside(kind, variables(alloc, depth, rest))?;
-    let (variables, highest, rest) = variables;
-    Ok((Variables { kind, variables }, height.max(highest), rest))
+    let read = variable_type(alloc, depth, tokens)?;
+    let (kind, others) = beside(read.value, variables(alloc, depth, read.rest))?;
+    let variables = others.value;
+    let height = read.height.max(others.height);
+    Ok(Parsed::new(Variables { kind, variables }, height, others.rest))
 }

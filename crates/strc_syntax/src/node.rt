@@ -67,7 +67,9 @@ pub fn binary_of(
     ensures { IfOk result (λ e. expr_view e ≡ tree.Binary operator (expr_view left)
         (expr_view right)) }
 {
-    Ok(Expr::Binary(operator, Box::new(alloc, left)?, Box::new(alloc, right)?))
+    let (right, left) = boxed_after(alloc, right, left)?;
+    let (left, right) = boxed_after(alloc, left, right)?;
+    Ok(Expr::Binary(operator, left, right))
 }
 
 pub fn conditional_of(
@@ -79,11 +81,10 @@ pub fn conditional_of(
     ensures { IfOk result (λ e. expr_view e ≡ tree.Conditional (expr_view condition)
         (expr_view chosen) (expr_view other)) }
 {
-    Ok(Expr::Conditional(
-        Box::new(alloc, condition)?,
-        Box::new(alloc, chosen)?,
-        Box::new(alloc, other)?,
-    ))
+    let (condition, chosen, other) = boxed(alloc, condition, chosen, other)?;
+    let (parts, condition) = boxed_after(alloc, (chosen, other), condition)?;
+    let (chosen, other) = parts;
+    Ok(Expr::Conditional(condition, chosen, other))
 }
 
 #[tactic(auto, using(crate::proofs::Views::stmt_view_block))]
@@ -96,7 +97,8 @@ pub fn block_of(body: Vec<Stmt>) -> Stmt
 pub fn if_of(alloc: Global, condition: Expr, chosen: Stmt) -> Result<Stmt, AllocError>
     ensures { IfOk result (λ s. stmt_view s ≡ tree.If (expr_view condition) (stmt_view chosen)) }
 {
-    Ok(Stmt::If(condition, Box::new(alloc, chosen)?))
+    let (condition, chosen) = boxed_after(alloc, condition, chosen)?;
+    Ok(Stmt::If(condition, chosen))
 }
 
 /// The last two parts in boxes, beside the first one. It is generic, so that what is dropped where
@@ -115,6 +117,18 @@ fn boxed<A: Drop, B: Drop, C: Drop>(
     Ok((first, second, third))
 }
 
+/// The last part in a box, beside the first one.
+fn boxed_after<A: Drop, B: Drop>(
+    alloc: Global,
+    first: A,
+    second: B,
+) -> Result<(A, Box<B>), AllocError>
+    ensures { IfOk result (λ parts. (parts.0 ≡ first) × (box_value parts.1 ≡ second)) }
+{
+    let second = Box::new(alloc, second)?;
+    Ok((first, second))
+}
+
 pub fn if_else_of(
     alloc: Global,
     condition: Expr,
@@ -131,7 +145,8 @@ pub fn if_else_of(
 pub fn while_of(alloc: Global, condition: Expr, body: Stmt) -> Result<Stmt, AllocError>
     ensures { IfOk result (λ s. stmt_view s ≡ tree.While (expr_view condition) (stmt_view body)) }
 {
-    Ok(Stmt::While(condition, Box::new(alloc, body)?))
+    let (condition, body) = boxed_after(alloc, condition, body)?;
+    Ok(Stmt::While(condition, body))
 }
 
 pub fn for_of(

@@ -281,7 +281,7 @@ pub enum StepOperator {
     DecrementAfter,
 }
 
-/// An operator between its operands, from the loosest to the tightest.
+/// An operator between its operands, from the lowest precedence to the highest.
 #[derive(Clone, Copy, PartialEq, Eq)]
 pub enum BinaryOperator {
     /// `||`

@@ -3,7 +3,7 @@ use Rattle.strc_lex.specs.Trivia.{IsTrivia}
 use Rattle.strc_lex.specs.Text.{LexesBetween}
 use Rattle.strc_lex.proofs.lexer.lex.Given as goal
 
--- what was passed is trivia_runs and the tokens so far, and no trivia of a trivia_run begins here
+-- what was passed is trivia and the tokens so far, and no trivia of a run of trivia begins here
 abbrev pub invariant-loop-at : goal.invariant-loop-at
 invariant-loop-at l = record {
   front : LexesBetween l.text 0 l.tokens.items l.at;

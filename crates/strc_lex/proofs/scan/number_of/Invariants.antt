@@ -4,7 +4,7 @@ use Rattle.strc_lex.specs.Characters as spec_of
 use Rattle.strc_lex.specs.Text.{number_from}
 use Rattle.strc_lex.proofs.scan.number_of.Given as goal
 
--- the rest of the digits, behind the number so far, writes the whole
+-- the rest of the digits, after the number so far, writes the whole
 abbrev pub invariant-loop-digit : goal.invariant-loop-digit
 invariant-loop-digit l = record {
   whole : number_from l.number (drop l.digit-index l.digits) ≡ number_from 0 l.digits;

@@ -19,8 +19,8 @@ loop-kind-init c =
 
 pub returns : goal.returns
 returns c =
-    goes_to no_rate (rate_turn c.args.limit) _ (map rate_view c.loop-kind.found.items, c.loop-kind.highest) (kinds c.loop-kind.rest.now)
-    c.loop-kind.invariant _ (no_rate_ends _ (sym c.rate_kind.ensures ∙ c.in_default.is))
+    rw c.new.ensures (goes_to no_rate (rate_turn c.args.limit) _ (map rate_view c.loop-kind.found.items, c.loop-kind.highest) (kinds c.loop-kind.rest.now)
+    c.loop-kind.invariant _ (no_rate_ends _ (sym c.rate_kind.ensures ∙ c.in_default.is)))
 
 pub returns-in_err-rate : goal.returns-in_err-rate
 returns-in_err-rate c =
@@ -35,16 +35,16 @@ loop-kind-preserved c =
     let front = map rate_view c.loop-kind.found.items in
     let stands : rate_kind (kinds c.loop-kind.rest.now) ≡ Some c.in-Some.kind = sym c.rate_kind.ensures ∙ c.in-Some.is in
     let read = rw c.deref.ensures.value at c.in_ok-rate.ensures in
-    let made : RateTree = record { kind = c.in-Some.kind; rate = c.in_ok-rate.rate } in
-    let next : tree.Rate = record { kind = c.in-Some.kind; rate = expr_view c.in_ok-rate.rate } in
+    let made : RateTree = record { kind = c.in-Some.kind; rate = c.in_ok-rate.rate.value } in
+    let next : tree.Rate = record { kind = c.in-Some.kind; rate = expr_view c.in_ok-rate.rate.value } in
     let e : map rate_view c.push.new.self.items ≡ front ++ next ∷ [] = rw c.in_ok-push.ensures.items (map_push rate_view c.loop-kind.found.items made) in
     let one : rate_turn c.args.limit (front, c.loop-kind.highest) (kinds c.loop-kind.rest.now)
-    ≡ Ok ((front ++ next ∷ [], max c.loop-kind.highest c.in_ok-rate.height), kinds c.in_ok-rate.after.now) =
-    rate_turn_at c.args.limit front c.loop-kind.highest _ c.in-Some.kind (expr_view c.in_ok-rate.rate) _ _ stands read in
-    let less : length (kinds c.in_ok-rate.after.now) < length (kinds c.loop-kind.rest.now) = rate_shorter _ _ _ _ _ _ _ stands read in
-    let high : c.max-highest.result ≡ max c.loop-kind.highest c.in_ok-rate.height = search rules in
+    ≡ Ok ((front ++ next ∷ [], max c.loop-kind.highest c.in_ok-rate.rate.height), kinds c.in_ok-rate.rate.rest.now) =
+    rate_turn_at c.args.limit front c.loop-kind.highest _ c.in-Some.kind (expr_view c.in_ok-rate.rate.value) _ _ stands read in
+    let less : length (kinds c.in_ok-rate.rate.rest.now) < length (kinds c.loop-kind.rest.now) = rate_shorter _ _ _ _ _ _ _ stands read in
+    let high : c.max-highest.result ≡ max c.loop-kind.highest c.in_ok-rate.rate.height = search rules in
     rw (e, high) (goes_on no_rate (rate_turn c.args.limit) _ (front, c.loop-kind.highest) (kinds c.loop-kind.rest.now) c.loop-kind.invariant
-    (front ++ next ∷ [], max c.loop-kind.highest c.in_ok-rate.height) (kinds c.in_ok-rate.after.now) less (no_rate_stays _ _ stands) one)
+    (front ++ next ∷ [], max c.loop-kind.highest c.in_ok-rate.rate.height) (kinds c.in_ok-rate.rate.rest.now) less (no_rate_stays _ _ stands) one)
 
 pub loop-kind-smaller : goal.loop-kind-smaller
 loop-kind-smaller c =

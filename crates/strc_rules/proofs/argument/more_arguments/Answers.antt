@@ -24,16 +24,16 @@ returns-in_err-next c =
 pub loop-alloc-preserved : goal.loop-alloc-preserved
 unfolding one_taller next_argument
 loop-alloc-preserved c =
-    let next = c.in_ok-next.next in
+    let next = c.in_ok-next.next.value in
     let front = map expr_view c.loop-alloc.found.items in
     let comma = sym c.is_punctuation.ensures ∙ c.loop-alloc-test.true in
     let read = rw c.tail.ensures at c.in_ok-next.ensures in
-    let less : length (kinds c.in_ok-next.after.now) < length (kinds c.loop-alloc.rest.now) =
+    let less : length (kinds c.in_ok-next.next.rest.now) < length (kinds c.loop-alloc.rest.now) =
     omega (arith, past_comma _ comma, expression_within c.args.depth lowest_precedence _ _ _ _ read) in
     let e : map expr_view c.push.new.self.items ≡ front ++ expr_view next ∷ [] =
     rw c.in_ok-push.ensures.items (map_push _ c.loop-alloc.found.items next) in
     let one : one_taller (next_argument c.args.depth) (front, c.loop-alloc.highest) (kinds c.loop-alloc.rest.now)
-    ≡ Ok ((front ++ expr_view next ∷ [], max c.loop-alloc.highest c.in_ok-next.height), kinds c.in_ok-next.after.now) = rw read refl in
+    ≡ Ok ((front ++ expr_view next ∷ [], max c.loop-alloc.highest c.in_ok-next.next.height), kinds c.in_ok-next.next.rest.now) = rw read refl in
     rw (e, c.max-highest.ensures) (goes_on no_comma (one_taller (next_argument c.args.depth)) _ (front, c.loop-alloc.highest)
     (kinds c.loop-alloc.rest.now) c.loop-alloc.invariant _ _ less (no_comma_stays _ comma) one)
 
@@ -45,5 +45,5 @@ loop-alloc-smaller c =
 
 pub returns : goal.returns
 returns c =
-    goes_to no_comma (one_taller (next_argument c.args.depth)) _ (map expr_view c.loop-alloc.found.items, c.loop-alloc.highest)
-    (kinds c.loop-alloc.rest.now) c.loop-alloc.invariant _ (no_comma_ends _ (sym c.is_punctuation.ensures ∙ c.loop-alloc-test.false))
+    rw c.new.ensures (goes_to no_comma (one_taller (next_argument c.args.depth)) _ (map expr_view c.loop-alloc.found.items, c.loop-alloc.highest)
+    (kinds c.loop-alloc.rest.now) c.loop-alloc.invariant _ (no_comma_ends _ (sym c.is_punctuation.ensures ∙ c.loop-alloc-test.false)))

@@ -1,11 +1,16 @@
-use Rattle.std.proofs.Common.{◌≡◌, ◌-◌, map}
+use Rattle.std.proofs.Common.{◌-◌, length, map}
 use Rattle.strc_syntax.specs.View.{member_view}
 use Rattle.strc_grammar.specs.Grammar.{kinds}
-use Rattle.strc_grammar.specs.Reading.{repeated, brace, one_taller}
+use Rattle.strc_grammar.specs.Reading.{brace, one_taller}
 use Rattle.strc_grammar.specs.Streams.{members, member, statement}
+use Rattle.strc_rules.proofs.Loops.{Going}
 use Rattle.strc_parse.proofs.control.StatementRules.members.Given as goal
 
-abbrev pub invariant-loop-turn : goal.invariant-loop-turn
-invariant-loop-turn g l =
-    members (l.self.depth - 1) (statement (l.self.depth - 1)) (kinds l.fn.tokens)
-    ≡ repeated brace (one_taller (member (l.self.depth - 1) (statement (l.self.depth - 1)))) (l._turn-end - l._turn) (map member_view l.found.items, l.highest) (kinds l.rest)
+abbrev pub invariant-loop-rest : goal.invariant-loop-rest
+invariant-loop-rest g l =
+    Going brace (one_taller (member (l.self.depth - 1) (statement (l.self.depth - 1))))
+    (members (l.self.depth - 1) (statement (l.self.depth - 1)) (kinds l.fn.tokens))
+    (map member_view l.found.items, l.highest) (kinds l.rest)
+
+abbrev pub decreases-loop-rest : goal.decreases-loop-rest
+decreases-loop-rest g l = length (kinds l.rest)

@@ -10,7 +10,7 @@ use Rattle.strc_parse.proofs.control.StatementRules.statements.Goals as goal
 
 pub returns-then-is_punctuation : goal.returns-then-is_punctuation
 returns-then-is_punctuation g c =
-    rw c.tail.ensures (repeated_ends brace (one_taller (statement (c.args.self.now.depth - 1))) (length c.args.tokens.now) c.loop-turn._turn (map stmt_view c.loop-turn.found.items, c.loop-turn.highest)
+    rw (c.new.ensures, c.tail.ensures) (repeated_ends brace (one_taller (statement (c.args.self.now.depth - 1))) (length c.args.tokens.now) c.loop-turn._turn (map stmt_view c.loop-turn.found.items, c.loop-turn.highest)
     (kinds c.loop-turn.rest.now) _ c.loop-turn.invariant _ c.loop-turn-test.true (brace_closes _ (sym c.is_punctuation.ensures ∙ c.if-is_punctuation.true)))
 
 pub returns-in_err-next : goal.returns-in_err-next
@@ -24,11 +24,11 @@ returns-in_err-next g c =
 pub loop-turn-preserved : goal.loop-turn-preserved
 unfolding one_taller
 loop-turn-preserved g c =
-    let next = c.in_ok-next.next in
+    let next = c.in_ok-next.next.value in
     let front = map stmt_view c.loop-turn.found.items in
     let e : map stmt_view c.push.new.self.items ≡ front ++ stmt_view next ∷ [] = rw c.in_ok-push.ensures.items (map_push _ c.loop-turn.found.items next) in
     let one : one_taller (statement (c.args.self.now.depth - 1)) (front, c.loop-turn.highest) (kinds c.loop-turn.rest.now)
-    ≡ Ok ((front ++ stmt_view next ∷ [], max c.loop-turn.highest c.in_ok-next.height), kinds c.in_ok-next.after.now) = rw c.in_ok-next.ensures refl in
+    ≡ Ok ((front ++ stmt_view next ∷ [], max c.loop-turn.highest c.in_ok-next.next.height), kinds c.in_ok-next.next.rest.now) = rw c.in_ok-next.ensures refl in
     rw (e, c.max-highest.ensures) (repeated_on brace (one_taller (statement (c.args.self.now.depth - 1))) (length c.args.tokens.now) c.loop-turn._turn (front, c.loop-turn.highest)
     (kinds c.loop-turn.rest.now) _ c.loop-turn.invariant _ _ c.loop-turn-test.true (brace_stays _ (sym c.is_punctuation.ensures ∙ c.if-is_punctuation.false)) one)
 

@@ -14,12 +14,12 @@ pub loop-operator-preserved : goal.loop-operator-preserved
 loop-operator-preserved g c =
     let stands : operator c.args.rank (kinds c.loop-operator.rest.now) ≡ Some c.in-Some.operator = search rules in
     let read = rw c.tail.ensures at (rw c.in_ok-held.ensures.1 at c.below.ensures) in
-    let less : length (kinds c.in_ok-held.right.2.now) < length (kinds c.loop-operator.rest.now) =
+    let less : length (kinds c.in_ok-held.right.rest.now) < length (kinds c.loop-operator.rest.now) =
     omega (arith, past_operator _ _ _ stands, expression_within _ _ _ _ _ _ read) in
-    let made : expr_view c.in_ok-left.left ≡ tree.Binary c.in-Some.operator (expr_view c.loop-operator.left) (expr_view c.in_ok-held.right.0) = search rules in
+    let made : expr_view c.in_ok-left.left ≡ tree.Binary c.in-Some.operator (expr_view c.loop-operator.left) (expr_view c.in_ok-held.right.value) = search rules in
     rw made (chains_on c.args.self.now.depth (expression (c.args.self.now.depth - 1)) c.args.rank _ (expr_view c.loop-operator.left) c.loop-operator.height
-    (kinds c.loop-operator.rest.now) c.loop-operator.invariant c.in-Some.operator (expr_view c.in_ok-held.right.0) c.in_ok-held.right.1 c.in_ok-parts.higher
-    (kinds c.in_ok-held.right.2.now) stands read (search rules) less)
+    (kinds c.loop-operator.rest.now) c.loop-operator.invariant c.in-Some.operator (expr_view c.in_ok-held.right.value) c.in_ok-held.right.height c.in_ok-parts.higher
+    (kinds c.in_ok-held.right.rest.now) stands read (search rules) less)
 
 pub loop-operator-smaller : goal.loop-operator-smaller
 loop-operator-smaller g c =
@@ -42,4 +42,4 @@ returns-in_err-parts g c =
     let read = rw c.tail.ensures at (rw c.in_ok-held.ensures.1 at c.below.ensures) in
     rw (p.1, p.2) (chain_rises c.args.self.now.depth (expression (c.args.self.now.depth - 1)) c.args.rank _ (expr_view c.loop-operator.left) c.loop-operator.height
     (kinds c.loop-operator.rest.now) c.loop-operator.invariant c.in_err-parts.field-0.0 c.in-Some.operator
-    (expr_view c.in_ok-held.right.0) c.in_ok-held.right.1 (kinds c.in_ok-held.right.2.now) stands read (rw c.max.ensures at c.in_err-parts.ensures))
+    (expr_view c.in_ok-held.right.value) c.in_ok-held.right.height (kinds c.in_ok-held.right.rest.now) stands read (rw c.max.ensures at c.in_err-parts.ensures))

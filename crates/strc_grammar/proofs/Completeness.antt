@@ -12,35 +12,35 @@ use Rattle.strc_grammar.specs.declared.error.Fault.{Fault}
 use Rattle.strc_grammar.specs.declared.error.Fault.TheVariants.{Nesting}
 use Rattle.strc_grammar.specs.Reading.{◌>>=◌, is_punctuation, is_keyword, expect, expect_keyword, raised}
 
-pub record Again (depth height : ℕ) {X : Type 0} (x : X) (read : Result X Fault) : Type 0 where
+pub record Complete (depth height : ℕ) {X : Type 0} (x : X) (read : Result X Fault) : Type 0 where
   pub fits : height ≤ depth → read ≡ Ok x
   pub over : depth < height → read ≡ Err Nesting
 
--- a step behind a tree that was read again
-pub Again-then : (depth height next : ℕ) {X Y : Type 0} (x : X) (y : Y) (read : Result X Fault) (f : X → Result Y Fault) → Again depth height x read → height ≤ next
-    → (height ≤ depth → Again depth next y (f x)) → Again depth next y (read >>= f)
-Again-then depth height next x y read f again le then = record {
-  fits = λ h. let low : height ≤ depth = omega arith in rw (again.fits low) ((then low).fits h);
+-- a step after a tree that was read again
+pub Complete-then : (depth height next : ℕ) {X Y : Type 0} (x : X) (y : Y) (read : Result X Fault) (f : X → Result Y Fault) → Complete depth height x read → height ≤ next
+    → (height ≤ depth → Complete depth next y (f x)) → Complete depth next y (read >>= f)
+Complete-then depth height next x y read f complete le then = record {
+  fits = λ h. let low : height ≤ depth = omega arith in rw (complete.fits low) ((then low).fits h);
   over = λ h. elim (cases_lt depth height) [
-    | inl lt ↦ rw (again.over lt) refl
-    | inr low ↦ rw (again.fits low) ((then low).over h)
+    | inl lt ↦ rw (complete.over lt) refl
+    | inr low ↦ rw (complete.fits low) ((then low).over h)
   ];
 }
 
 -- the same one depth below, for a part of a node
-pub Again-inside : (d height next : ℕ) {X Y : Type 0} (x : X) (y : Y) (read : Result X Fault) (f : X → Result Y Fault) → Again d height x read → height + 1 ≤ next
-    → (height ≤ d → Again (suc d) next y (f x)) → Again (suc d) next y (read >>= f)
-Again-inside d height next x y read f again le then = record {
-  fits = λ h. let low : height ≤ d = omega arith in rw (again.fits low) ((then low).fits h);
+pub Complete-inside : (d height next : ℕ) {X Y : Type 0} (x : X) (y : Y) (read : Result X Fault) (f : X → Result Y Fault) → Complete d height x read → height + 1 ≤ next
+    → (height ≤ d → Complete (suc d) next y (f x)) → Complete (suc d) next y (read >>= f)
+Complete-inside d height next x y read f complete le then = record {
+  fits = λ h. let low : height ≤ d = omega arith in rw (complete.fits low) ((then low).fits h);
   over = λ h. elim (cases_lt d height) [
-    | inl lt ↦ rw (again.over lt) refl
-    | inr low ↦ rw (again.fits low) ((then low).over h)
+    | inl lt ↦ rw (complete.over lt) refl
+    | inr low ↦ rw (complete.fits low) ((then low).over h)
   ];
 }
 
 -- a leaf, which any depth above 0 has
-pub Again-leaf : (d : ℕ) {X : Type 0} (x : X) (read : Result X Fault) → read ≡ Ok x → Again (suc d) 1 x read
-Again-leaf d x read e = record { fits = λ h. e; over = λ h. absurd (omega arith) }
+pub Complete-leaf : (d : ℕ) {X : Type 0} (x : X) (read : Result X Fault) → read ≡ Ok x → Complete (suc d) 1 x read
+Complete-leaf d x read e = record { fits = λ h. e; over = λ h. absurd (omega arith) }
 
 pub expect_punctuation : (wanted : Punctuation) (rest : List TokenKind) → expect wanted (token.Punctuation wanted ∷ rest) ≡ Ok rest
 unfolding expect is_punctuation
@@ -59,8 +59,8 @@ unfolding raised
 raised_high depth height le = rw (le-ltb height depth le) refl
 
 -- a node above a part that was read
-pub Again-raised : (depth height : ℕ) {Y : Type 0} (y : Y) (f : ℕ → Result Y Fault) → f (height + 1) ≡ Ok y → Again depth (height + 1) y (raised depth height >>= f)
-Again-raised depth height y f e = record {
+pub Complete-raised : (depth height : ℕ) {Y : Type 0} (y : Y) (f : ℕ → Result Y Fault) → f (height + 1) ≡ Ok y → Complete depth (height + 1) y (raised depth height >>= f)
+Complete-raised depth height y f e = record {
   fits = λ h. let lt : height < depth = omega arith in rw (raised_low depth height lt) e;
   over = λ h. let le : depth ≤ height = omega arith in rw (raised_high depth height le) refl;
 }

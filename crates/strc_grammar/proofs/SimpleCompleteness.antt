@@ -15,11 +15,11 @@ use Rattle.strc_syntax.specs.declared.tree.AssignOperator.{AssignOperator}
 use Rattle.strc_syntax.specs.declared.tree.AssignOperator.TheVariants as assign
 use Rattle.strc_syntax.specs.Tree as tree
 use Rattle.strc_grammar.specs.Grammar.{binary_punctuation, assign_punctuation, expr_spelled, each_spelled, highest, type_spelled, initial_spelled, variable_spelled, next_spelled, variables_spelled, declared_spelled, part_spelled, condition_spelled, bracketed_spelled, heading_spelled, lowest_precedence, IsExpr, IsOptional, IsVariableType, IsVariable, AreVariables, IsStep, IsFirst, expr_height, optional_height, type_height, variable_height, declared_height, stmt_height}
-use Rattle.strc_grammar.specs.Reading.{◌>>=◌, punctuation_at, is_punctuation, is_keyword, name, brace, initial, variable, no_comma, next_variable, more_variables, variables, int_type, variable_type, declared, declare, evaluate, assign_to, assign_element, assign_at, assignment, after_value, simple, optional, part, ended, bracketed, argument, condition, last_part, behind_first, for_heading}
-use Rattle.strc_grammar.specs.Streams.{Inner, worded_statement, shallow}
-use Rattle.strc_grammar.proofs.Again.{Again, Again-then, Again-inside, Again-leaf, Again-raised, expect_punctuation}
-use Rattle.strc_grammar.proofs.ExpressionAgain.{Stops, Stops-semicolon, Stops-comma, Stops-bracket, Stops-square, Stops-assign, expr_length, height_some, expression_again, closed_again, found}
-use Rattle.strc_grammar.proofs.Lists.{TallAgain, each_taller_again}
+use Rattle.strc_grammar.specs.Reading.{◌>>=◌, punctuation_at, is_punctuation, is_keyword, name, brace, initial, variable, no_comma, next_variable, more_variables, variables, int_type, variable_type, declared, declare, evaluate, assign_to, assign_element, assign_at, assignment, after_value, simple, optional, part, ended, bracketed, argument, condition, last_part, after_first, for_heading}
+use Rattle.strc_grammar.specs.Streams.{Inner, keyword_statement, shallow}
+use Rattle.strc_grammar.proofs.Completeness.{Complete, Complete-then, Complete-inside, Complete-leaf, Complete-raised, expect_punctuation}
+use Rattle.strc_grammar.proofs.ExpressionCompleteness.{Stops, Stops-semicolon, Stops-comma, Stops-bracket, Stops-square, Stops-assign, expr_length, height_some, expression_completeness, closed_completeness, found}
+use Rattle.strc_grammar.proofs.Lists.{TallCompleteness, each_taller_completeness}
 
 -- what follows an expression that is a statement, an initialiser or a part of a `for`
 pub record Ends (rest : List TokenKind) : Type 0 where
@@ -40,31 +40,31 @@ unfolding assign_at punctuation_at is_punctuation
 Ends-comma rest = record { stops = Stops-comma lowest_precedence rest; no_assign = refl; no_initial = refl }
 
 -- the higher of two parts that were read
-pub Again-max : (d low high : ℕ) {Y : Type 0} (y : Y) (read : Result Y Fault) → low ≤ d → Again d high y read → Again d (max low high) y read
-Again-max d low high y read le again = record { fits = λ h. again.fits (omega arith); over = λ h. again.over (omega arith) }
+pub Complete-max : (d low high : ℕ) {Y : Type 0} (y : Y) (read : Result Y Fault) → low ≤ d → Complete d high y read → Complete d (max low high) y read
+Complete-max d low high y read le complete = record { fits = λ h. complete.fits (omega arith); over = λ h. complete.over (omega arith) }
 
-pub Again-done : (d height : ℕ) {Y : Type 0} (y : Y) (read : Result Y Fault) → height ≤ d → read ≡ Ok y → Again d height y read
-Again-done d height y read le e = record { fits = λ h. e; over = λ h. absurd (omega arith) }
+pub Complete-done : (d height : ℕ) {Y : Type 0} (y : Y) (read : Result Y Fault) → height ≤ d → read ≡ Ok y → Complete d height y read
+Complete-done d height y read le e = record { fits = λ h. e; over = λ h. absurd (omega arith) }
 
 -- ---- declarations of variables
 
-initial_again : (begun : Option tree.Expr) → IsOptional begun → (d : ℕ) (rest : List TokenKind) → Ends rest
-    → Again d (optional_height begun) (begun, optional_height begun, rest) (initial d (initial_spelled begun rest))
+initial_completeness : (begun : Option tree.Expr) → IsOptional begun → (d : ℕ) (rest : List TokenKind) → Ends rest
+    → Complete d (optional_height begun) (begun, optional_height begun, rest) (initial d (initial_spelled begun rest))
 unfolding initial is_punctuation
-initial_again None shape d rest ends = rw ends.no_initial (Again-done d 0 (None, 0, rest) _ (omega arith) refl)
-initial_again (Some e) shape d rest ends =
-    Again-then d (expr_height e) (expr_height e) (found e rest) (Some e, expr_height e, rest) _ _ (expression_again e shape d rest ends.stops) (omega arith)
-    (λ low. Again-done d (expr_height e) (Some e, expr_height e, rest) _ low refl)
+initial_completeness None shape d rest ends = rw ends.no_initial (Complete-done d 0 (None, 0, rest) _ (omega arith) refl)
+initial_completeness (Some e) shape d rest ends =
+    Complete-then d (expr_height e) (expr_height e) (found e rest) (Some e, expr_height e, rest) _ _ (expression_completeness e shape d rest ends.stops) (omega arith)
+    (λ low. Complete-done d (expr_height e) (Some e, expr_height e, rest) _ low refl)
 
 abbrev seen_as : tree.Variable → List TokenKind → tree.Variable × ℕ × List TokenKind
 seen_as v rest = (v, variable_height v, rest)
 
-variable_again : (v : tree.Variable) → IsVariable v → (d : ℕ) (rest : List TokenKind) → Ends rest
-    → Again d (variable_height v) (seen_as v rest) (variable d (variable_spelled v rest))
+variable_completeness : (v : tree.Variable) → IsVariable v → (d : ℕ) (rest : List TokenKind) → Ends rest
+    → Complete d (variable_height v) (seen_as v rest) (variable d (variable_spelled v rest))
 unfolding variable name
-variable_again v shape d rest ends =
-    Again-then d (variable_height v) (variable_height v) (v.initial, variable_height v, rest) (seen_as v rest) _ _ (initial_again v.initial shape d rest ends) (omega arith)
-    (λ low. Again-done d (variable_height v) (seen_as v rest) _ low refl)
+variable_completeness v shape d rest ends =
+    Complete-then d (variable_height v) (variable_height v) (v.initial, variable_height v, rest) (seen_as v rest) _ _ (initial_completeness v.initial shape d rest ends) (omega arith)
+    (λ low. Complete-done d (variable_height v) (seen_as v rest) _ low refl)
 
 pub initial_length : (begun : Option tree.Expr) (rest : List TokenKind) → optional_height begun + length rest ≤ length (initial_spelled begun rest)
 initial_length None rest = omega arith
@@ -90,74 +90,74 @@ pub declared_length : (kind : tree.VariableType) (vs : List tree.Variable) (rest
 declared_length kind vs rest = omega (arith, type_length kind (variables_spelled vs rest), variables_length vs rest)
 
 module _ (d : ℕ) where
-  abbrev IsNextAgain : tree.Variable → Type 0
-  IsNextAgain v = TallAgain next_spelled variable_height (next_variable d) no_comma Ends d v
+  abbrev IsNextCompleteness : tree.Variable → Type 0
+  IsNextCompleteness v = TallCompleteness next_spelled variable_height (next_variable d) no_comma Ends d v
 
-  next_again : (v : tree.Variable) → IsVariable v → IsNextAgain v
+  next_completeness : (v : tree.Variable) → IsVariable v → IsNextCompleteness v
   unfolding next_variable no_comma is_punctuation
-  next_again v shape = record {
-    reads = λ rest ends. variable_again v shape d rest ends;
+  next_completeness v shape = record {
+    reads = λ rest ends. variable_completeness v shape d rest ends;
     stays = λ rest. refl;
     follows = λ rest. Ends-comma (variable_spelled v rest);
     long = λ rest. omega (arith, variable_length v rest);
   }
 
-  nexts_again : (others : List tree.Variable) → AllByRecursion IsVariable others → AllByRecursion IsNextAgain others
-  nexts_again [] shape = tt
-  nexts_again (v ∷ others) shape = (next_again v shape.0, nexts_again others shape.1)
+  nexts_completeness : (others : List tree.Variable) → AllByRecursion IsVariable others → AllByRecursion IsNextCompleteness others
+  nexts_completeness [] shape = tt
+  nexts_completeness (v ∷ others) shape = (next_completeness v shape.0, nexts_completeness others shape.1)
 
-  follow : (others : List tree.Variable) → AllByRecursion IsNextAgain others → (rest : List TokenKind) → Ends rest → Ends (each_spelled next_spelled others rest)
-  follow [] again rest ends = ends
-  follow (v ∷ others) again rest ends = again.0.follows (each_spelled next_spelled others rest)
+  follow : (others : List tree.Variable) → AllByRecursion IsNextCompleteness others → (rest : List TokenKind) → Ends rest → Ends (each_spelled next_spelled others rest)
+  follow [] complete rest ends = ends
+  follow (v ∷ others) complete rest ends = complete.0.follows (each_spelled next_spelled others rest)
 
-  variables_again : (vs : List tree.Variable) → AreVariables vs → (rest : List TokenKind) → Ends rest → no_comma rest ≡ Some rest
-      → Again d (highest variable_height vs) ((vs, highest variable_height vs), rest) (variables d (variables_spelled vs rest))
+  variables_completeness : (vs : List tree.Variable) → AreVariables vs → (rest : List TokenKind) → Ends rest → no_comma rest ≡ Some rest
+      → Complete d (highest variable_height vs) ((vs, highest variable_height vs), rest) (variables d (variables_spelled vs rest))
   unfolding variables more_variables
-  variables_again [] shape rest ends stop = absurd shape
-  variables_again (v ∷ others) shape rest ends stop =
-      let behind = each_spelled next_spelled others rest in
+  variables_completeness [] shape rest ends stop = absurd shape
+  variables_completeness (v ∷ others) shape rest ends stop =
+      let past = each_spelled next_spelled others rest in
       let high : ℕ = max (variable_height v) (highest variable_height others) in
-      let again = nexts_again others shape.1 in
-      let follows : Ends behind = follow others again rest ends in
-      Again-then d (variable_height v) high (seen_as v behind) ((v ∷ others, high), rest) _ _ (variable_again v shape.0 d behind follows) (omega arith)
-      (λ low. Again-max d (variable_height v) (highest variable_height others) ((v ∷ others, high), rest) _ low
-      (each_taller_again next_spelled variable_height (next_variable d) no_comma Ends d others again (v ∷ []) (variable_height v) (length behind + 1) rest rest stop ends (omega arith)))
+      let complete = nexts_completeness others shape.1 in
+      let follows : Ends past = follow others complete rest ends in
+      Complete-then d (variable_height v) high (seen_as v past) ((v ∷ others, high), rest) _ _ (variable_completeness v shape.0 d past follows) (omega arith)
+      (λ low. Complete-max d (variable_height v) (highest variable_height others) ((v ∷ others, high), rest) _ low
+      (each_taller_completeness next_spelled variable_height (next_variable d) no_comma Ends d others complete (v ∷ []) (variable_height v) (length past + 1) rest rest stop ends (omega arith)))
 
   -- the type stands before a name
-  type_again : (kind : tree.VariableType) → IsVariableType kind → (rest : List TokenKind) → is_punctuation punctuation.OpenBracket rest ≡ false
-      → Again d (type_height kind) (kind, type_height kind, rest) (variable_type d (type_spelled kind rest))
+  type_completeness : (kind : tree.VariableType) → IsVariableType kind → (rest : List TokenKind) → is_punctuation punctuation.OpenBracket rest ≡ false
+      → Complete d (type_height kind) (kind, type_height kind, rest) (variable_type d (type_spelled kind rest))
   unfolding variable_type int_type is_punctuation
-  type_again tree.Boolean shape rest none = Again-done d 0 (tree.Boolean, 0, rest) _ (omega arith) refl
-  type_again tree.Int shape rest none = rw none (Again-done d 0 (tree.Int, 0, rest) _ (omega arith) refl)
-  type_again (tree.Array size) shape rest none =
-      Again-then d (expr_height size) (expr_height size) (found size rest) (tree.Array size, expr_height size, rest) _ _
-      (closed_again size shape d punctuation.CloseBracket rest (Stops-square lowest_precedence rest)) (omega arith)
-      (λ low. Again-done d (expr_height size) (tree.Array size, expr_height size, rest) _ low refl)
+  type_completeness tree.Boolean shape rest none = Complete-done d 0 (tree.Boolean, 0, rest) _ (omega arith) refl
+  type_completeness tree.Int shape rest none = rw none (Complete-done d 0 (tree.Int, 0, rest) _ (omega arith) refl)
+  type_completeness (tree.Array size) shape rest none =
+      Complete-then d (expr_height size) (expr_height size) (found size rest) (tree.Array size, expr_height size, rest) _ _
+      (closed_completeness size shape d punctuation.CloseBracket rest (Stops-square lowest_precedence rest)) (omega arith)
+      (λ low. Complete-done d (expr_height size) (tree.Array size, expr_height size, rest) _ low refl)
 
   no_index_before : (vs : List tree.Variable) → AreVariables vs → (rest : List TokenKind) → is_punctuation punctuation.OpenBracket (variables_spelled vs rest) ≡ false
   unfolding is_punctuation
   no_index_before [] shape rest = absurd shape
   no_index_before (v ∷ others) shape rest = refl
 
-  pub declared_again : (kind : tree.VariableType) (vs : List tree.Variable) → IsVariableType kind → AreVariables vs → (rest : List TokenKind) → Ends rest → no_comma rest ≡ Some rest
-      → Again d (declared_height kind vs) ((kind, vs), declared_height kind vs, rest) (declared d (declared_spelled kind vs rest))
+  pub declared_completeness : (kind : tree.VariableType) (vs : List tree.Variable) → IsVariableType kind → AreVariables vs → (rest : List TokenKind) → Ends rest → no_comma rest ≡ Some rest
+      → Complete d (declared_height kind vs) ((kind, vs), declared_height kind vs, rest) (declared d (declared_spelled kind vs rest))
   unfolding declared
-  declared_again kind vs typed shape rest ends stop =
-      let behind = variables_spelled vs rest in
+  declared_completeness kind vs typed shape rest ends stop =
+      let past = variables_spelled vs rest in
       let high : ℕ = declared_height kind vs in
-      Again-then d (type_height kind) high (kind, type_height kind, behind) ((kind, vs), high, rest) _ _ (type_again kind typed behind (no_index_before vs shape rest)) (omega arith) (λ low.
-      Again-max d (type_height kind) (highest variable_height vs) ((kind, vs), high, rest) _ low
-      (Again-then d (highest variable_height vs) (highest variable_height vs) ((vs, highest variable_height vs), rest) ((kind, vs), high, rest) _ _ (variables_again vs shape rest ends stop) (omega arith)
-      (λ also. Again-done d (highest variable_height vs) ((kind, vs), high, rest) _ also refl)))
+      Complete-then d (type_height kind) high (kind, type_height kind, past) ((kind, vs), high, rest) _ _ (type_completeness kind typed past (no_index_before vs shape rest)) (omega arith) (λ low.
+      Complete-max d (type_height kind) (highest variable_height vs) ((kind, vs), high, rest) _ low
+      (Complete-then d (highest variable_height vs) (highest variable_height vs) ((vs, highest variable_height vs), rest) ((kind, vs), high, rest) _ _ (variables_completeness vs shape rest ends stop) (omega arith)
+      (λ also. Complete-done d (highest variable_height vs) ((kind, vs), high, rest) _ also refl)))
 
 no_comma_semicolon : (rest : List TokenKind) → no_comma (token.Punctuation punctuation.Semicolon ∷ rest) ≡ Some (token.Punctuation punctuation.Semicolon ∷ rest)
 unfolding no_comma is_punctuation
 no_comma_semicolon rest = refl
 
 -- a declaration before its semicolon
-pub fields_again : (kind : tree.VariableType) (vs : List tree.Variable) → IsVariableType kind → AreVariables vs → (d : ℕ) (rest : List TokenKind)
-    → Again d (declared_height kind vs) ((kind, vs), declared_height kind vs, token.Punctuation punctuation.Semicolon ∷ rest) (declared d (declared_spelled kind vs (token.Punctuation punctuation.Semicolon ∷ rest)))
-fields_again kind vs typed shape d rest = declared_again d kind vs typed shape (token.Punctuation punctuation.Semicolon ∷ rest) (Ends-semicolon rest) (no_comma_semicolon rest)
+pub fields_completeness : (kind : tree.VariableType) (vs : List tree.Variable) → IsVariableType kind → AreVariables vs → (d : ℕ) (rest : List TokenKind)
+    → Complete d (declared_height kind vs) ((kind, vs), declared_height kind vs, token.Punctuation punctuation.Semicolon ∷ rest) (declared d (declared_spelled kind vs (token.Punctuation punctuation.Semicolon ∷ rest)))
+fields_completeness kind vs typed shape d rest = declared_completeness d kind vs typed shape (token.Punctuation punctuation.Semicolon ∷ rest) (Ends-semicolon rest) (no_comma_semicolon rest)
 
 -- ---- how an expression begins
 
@@ -175,7 +175,7 @@ unfolding shallow part brace is_punctuation is_keyword
 opens_name x rest = record { no_semicolon = refl; no_bracket = refl; no_brace = refl; no_else = refl; is_part = λ depth. refl; is_ended = λ depth inner. refl }
 
 pub opens : (e : tree.Expr) (rest : List TokenKind) → Opens (expr_spelled e rest)
-unfolding shallow worded_statement part brace is_punctuation is_keyword
+unfolding shallow keyword_statement part brace is_punctuation is_keyword
 opens (tree.Number value) rest = record { no_semicolon = refl; no_bracket = refl; no_brace = refl; no_else = refl; is_part = λ depth. refl; is_ended = λ depth inner. refl }
 opens (tree.Truth true) rest = record { no_semicolon = refl; no_bracket = refl; no_brace = refl; no_else = refl; is_part = λ depth. refl; is_ended = λ depth inner. refl }
 opens (tree.Truth false) rest = record { no_semicolon = refl; no_bracket = refl; no_brace = refl; no_else = refl; is_part = λ depth. refl; is_ended = λ depth inner. refl }
@@ -225,52 +225,52 @@ module _ (d : ℕ) (rest : List TokenKind) (ends : Ends rest) where
   less : suc d - 1 ≡ d
   less = omega arith
 
-  evaluate_again : (e : tree.Expr) → IsExpr e → Again (suc d) (stmt_height (tree.Evaluate e)) (made (tree.Evaluate e) rest) (simple (suc d) (expr_spelled e rest))
+  evaluate_completeness : (e : tree.Expr) → IsExpr e → Complete (suc d) (stmt_height (tree.Evaluate e)) (made (tree.Evaluate e) rest) (simple (suc d) (expr_spelled e rest))
   unfolding simple after_value evaluate
-  evaluate_again e shape =
-      rw less (Again-inside d (expr_height e) (expr_height e + 1) (found e rest) (made (tree.Evaluate e) rest) _ _ (expression_again e shape d rest ends.stops) (omega arith)
-      (λ low. rw ends.no_assign (Again-raised (suc d) (expr_height e) (made (tree.Evaluate e) rest) _ refl)))
+  evaluate_completeness e shape =
+      rw less (Complete-inside d (expr_height e) (expr_height e + 1) (found e rest) (made (tree.Evaluate e) rest) _ _ (expression_completeness e shape d rest ends.stops) (omega arith)
+      (λ low. rw ends.no_assign (Complete-raised (suc d) (expr_height e) (made (tree.Evaluate e) rest) _ refl)))
 
-  -- behind the operator
-  to_again : (x : List ℕ) (o : AssignOperator) (e : tree.Expr) → IsExpr e
-      → Again (suc d) (expr_height e + 1) (made (tree.Assign x o e) rest) (assign_to (suc d) x o (expr_spelled e rest))
+  -- after the operator
+  to_completeness : (x : List ℕ) (o : AssignOperator) (e : tree.Expr) → IsExpr e
+      → Complete (suc d) (expr_height e + 1) (made (tree.Assign x o e) rest) (assign_to (suc d) x o (expr_spelled e rest))
   unfolding assign_to
-  to_again x o e shape =
-      rw less (Again-inside d (expr_height e) (expr_height e + 1) (found e rest) (made (tree.Assign x o e) rest) _ _ (expression_again e shape d rest ends.stops) (omega arith)
-      (λ low. Again-raised (suc d) (expr_height e) (made (tree.Assign x o e) rest) _ refl))
+  to_completeness x o e shape =
+      rw less (Complete-inside d (expr_height e) (expr_height e + 1) (found e rest) (made (tree.Assign x o e) rest) _ _ (expression_completeness e shape d rest ends.stops) (omega arith)
+      (λ low. Complete-raised (suc d) (expr_height e) (made (tree.Assign x o e) rest) _ refl))
 
-  element_again : (x : List ℕ) (at : tree.Expr) (o : AssignOperator) (e : tree.Expr) → IsExpr e
-      → Again (suc d) (max (expr_height at + 1) (expr_height e) + 1) (made (tree.AssignElement x at o e) rest) (assign_element (suc d) x at (expr_height at + 1) o (expr_spelled e rest))
+  element_completeness : (x : List ℕ) (at : tree.Expr) (o : AssignOperator) (e : tree.Expr) → IsExpr e
+      → Complete (suc d) (max (expr_height at + 1) (expr_height e) + 1) (made (tree.AssignElement x at o e) rest) (assign_element (suc d) x at (expr_height at + 1) o (expr_spelled e rest))
   unfolding assign_element
-  element_again x at o e shape =
-      rw less (Again-inside d (expr_height e) (max (expr_height at + 1) (expr_height e) + 1) (found e rest) (made (tree.AssignElement x at o e) rest) _ _
-      (expression_again e shape d rest ends.stops) (omega arith)
-      (λ low. Again-raised (suc d) (max (expr_height at + 1) (expr_height e)) (made (tree.AssignElement x at o e) rest) _ refl))
+  element_completeness x at o e shape =
+      rw less (Complete-inside d (expr_height e) (max (expr_height at + 1) (expr_height e) + 1) (found e rest) (made (tree.AssignElement x at o e) rest) _ _
+      (expression_completeness e shape d rest ends.stops) (omega arith)
+      (λ low. Complete-raised (suc d) (max (expr_height at + 1) (expr_height e)) (made (tree.AssignElement x at o e) rest) _ refl))
 
-  assign_again : (x : List ℕ) (o : AssignOperator) (e : tree.Expr) → IsExpr e
-      → Again (suc d) (stmt_height (tree.Assign x o e)) (made (tree.Assign x o e) rest) (simple (suc d) (part_spelled (tree.Assign x o e) rest))
+  assign_completeness : (x : List ℕ) (o : AssignOperator) (e : tree.Expr) → IsExpr e
+      → Complete (suc d) (stmt_height (tree.Assign x o e)) (made (tree.Assign x o e) rest) (simple (suc d) (part_spelled (tree.Assign x o e) rest))
   unfolding simple after_value assignment
-  assign_again x o e shape =
-      let behind = expr_spelled e rest in
-      rw less (Again-inside d 1 (expr_height e + 1) (found (tree.Read x) (token.Punctuation (assign_punctuation o) ∷ behind)) (made (tree.Assign x o e) rest) _ _
-      (expression_again (tree.Read x) tt d (token.Punctuation (assign_punctuation o) ∷ behind) (Stops-assign o lowest_precedence behind)) (omega (arith, height_some e))
-      (λ low. rw (assign_at_punctuation o behind) (to_again x o e shape)))
+  assign_completeness x o e shape =
+      let past = expr_spelled e rest in
+      rw less (Complete-inside d 1 (expr_height e + 1) (found (tree.Read x) (token.Punctuation (assign_punctuation o) ∷ past)) (made (tree.Assign x o e) rest) _ _
+      (expression_completeness (tree.Read x) tt d (token.Punctuation (assign_punctuation o) ∷ past) (Stops-assign o lowest_precedence past)) (omega (arith, height_some e))
+      (λ low. rw (assign_at_punctuation o past) (to_completeness x o e shape)))
 
-  assign_element_again : (x : List ℕ) (at : tree.Expr) (o : AssignOperator) (e : tree.Expr) → IsExpr at → IsExpr e
-      → Again (suc d) (stmt_height (tree.AssignElement x at o e)) (made (tree.AssignElement x at o e) rest) (simple (suc d) (part_spelled (tree.AssignElement x at o e) rest))
+  assign_element_completeness : (x : List ℕ) (at : tree.Expr) (o : AssignOperator) (e : tree.Expr) → IsExpr at → IsExpr e
+      → Complete (suc d) (stmt_height (tree.AssignElement x at o e)) (made (tree.AssignElement x at o e) rest) (simple (suc d) (part_spelled (tree.AssignElement x at o e) rest))
   unfolding simple after_value assignment
-  assign_element_again x at o e at_shape shape =
-      let behind = expr_spelled e rest in
-      rw less (Again-inside d (expr_height at + 1) (max (expr_height at + 1) (expr_height e) + 1) (found (tree.Element x at) (token.Punctuation (assign_punctuation o) ∷ behind)) (made (tree.AssignElement x at o e) rest) _ _
-      (expression_again (tree.Element x at) at_shape d (token.Punctuation (assign_punctuation o) ∷ behind) (Stops-assign o lowest_precedence behind)) (omega arith)
-      (λ low. rw (assign_at_punctuation o behind) (element_again x at o e shape)))
+  assign_element_completeness x at o e at_shape shape =
+      let past = expr_spelled e rest in
+      rw less (Complete-inside d (expr_height at + 1) (max (expr_height at + 1) (expr_height e) + 1) (found (tree.Element x at) (token.Punctuation (assign_punctuation o) ∷ past)) (made (tree.AssignElement x at o e) rest) _ _
+      (expression_completeness (tree.Element x at) at_shape d (token.Punctuation (assign_punctuation o) ∷ past) (Stops-assign o lowest_precedence past)) (omega arith)
+      (λ low. rw (assign_at_punctuation o past) (element_completeness x at o e shape)))
 
-  simple_again : (s : tree.Stmt) → IsStep s → (s ≡ tree.Empty → ⊥) → Again (suc d) (stmt_height s) (made s rest) (simple (suc d) (part_spelled s rest))
-  simple_again tree.Empty shape some = absurd (some refl)
-  simple_again (tree.Evaluate e) shape some = evaluate_again e shape
-  simple_again (tree.Assign x o e) shape some = assign_again x o e shape
-  simple_again (tree.AssignElement x at o e) shape some = assign_element_again x at o e shape.0 shape.1
-  simple_again _ shape some = absurd shape
+  simple_completeness : (s : tree.Stmt) → IsStep s → (s ≡ tree.Empty → ⊥) → Complete (suc d) (stmt_height s) (made s rest) (simple (suc d) (part_spelled s rest))
+  simple_completeness tree.Empty shape some = absurd (some refl)
+  simple_completeness (tree.Evaluate e) shape some = evaluate_completeness e shape
+  simple_completeness (tree.Assign x o e) shape some = assign_completeness x o e shape
+  simple_completeness (tree.AssignElement x at o e) shape some = assign_element_completeness x at o e shape.0 shape.1
+  simple_completeness _ shape some = absurd shape
 
 -- ---- the parts of a `for`, and statements with a semicolon
 
@@ -286,124 +286,124 @@ end_bracket : IsEnd punctuation.CloseParen
 end_bracket = record { ends = Ends-bracket; stays = λ tokens opened. opened.no_bracket }
 
 module _ (d : ℕ) (m : Punctuation) (is_end : IsEnd m) (rest : List TokenKind) where
-  abbrev behind : List TokenKind
-  behind = token.Punctuation m ∷ rest
+  abbrev past : List TokenKind
+  past = token.Punctuation m ∷ rest
 
-  nothing_again : Again (suc d) 1 (made tree.Empty behind) (optional (suc d) m behind)
+  nothing_completeness : Complete (suc d) 1 (made tree.Empty past) (optional (suc d) m past)
   unfolding optional is_punctuation
-  nothing_again = rw (true_same punctuation_type m m refl) (Again-leaf d _ _ refl)
+  nothing_completeness = rw (true_same punctuation_type m m refl) (Complete-leaf d _ _ refl)
 
-  something_again : (s : tree.Stmt) → IsStep s → (s ≡ tree.Empty → ⊥) → Again (suc d) (stmt_height s) (made s behind) (optional (suc d) m (part_spelled s behind))
+  something_completeness : (s : tree.Stmt) → IsStep s → (s ≡ tree.Empty → ⊥) → Complete (suc d) (stmt_height s) (made s past) (optional (suc d) m (part_spelled s past))
   unfolding optional
-  something_again s shape some =
-      rw (is_end.stays (part_spelled s behind) (opens_step s shape some behind)) (simple_again d behind (is_end.ends rest) s shape some)
+  something_completeness s shape some =
+      rw (is_end.stays (part_spelled s past) (opens_step s shape some past)) (simple_completeness d past (is_end.ends rest) s shape some)
 
-  optional_again : (s : tree.Stmt) → IsStep s → Again (suc d) (stmt_height s) (made s behind) (optional (suc d) m (part_spelled s behind))
-  optional_again tree.Empty shape = nothing_again
-  optional_again (tree.Evaluate e) shape = something_again (tree.Evaluate e) shape (λ same. absurd cc)
-  optional_again (tree.Assign x o e) shape = something_again (tree.Assign x o e) shape (λ same. absurd cc)
-  optional_again (tree.AssignElement x at o e) shape = something_again (tree.AssignElement x at o e) shape (λ same. absurd cc)
-  optional_again _ shape = absurd shape
+  optional_completeness : (s : tree.Stmt) → IsStep s → Complete (suc d) (stmt_height s) (made s past) (optional (suc d) m (part_spelled s past))
+  optional_completeness tree.Empty shape = nothing_completeness
+  optional_completeness (tree.Evaluate e) shape = something_completeness (tree.Evaluate e) shape (λ same. absurd cc)
+  optional_completeness (tree.Assign x o e) shape = something_completeness (tree.Assign x o e) shape (λ same. absurd cc)
+  optional_completeness (tree.AssignElement x at o e) shape = something_completeness (tree.AssignElement x at o e) shape (λ same. absurd cc)
+  optional_completeness _ shape = absurd shape
 
 module _ (d : ℕ) (rest : List TokenKind) where
-  declare_again : (kind : tree.VariableType) (vs : List tree.Variable) → IsFirst (tree.Declare kind vs)
-      → Again (suc d) (stmt_height (tree.Declare kind vs)) (made (tree.Declare kind vs) (token.Punctuation punctuation.Semicolon ∷ rest)) (declare (suc d) (declared_spelled kind vs (token.Punctuation punctuation.Semicolon ∷ rest)))
+  declare_completeness : (kind : tree.VariableType) (vs : List tree.Variable) → IsFirst (tree.Declare kind vs)
+      → Complete (suc d) (stmt_height (tree.Declare kind vs)) (made (tree.Declare kind vs) (token.Punctuation punctuation.Semicolon ∷ rest)) (declare (suc d) (declared_spelled kind vs (token.Punctuation punctuation.Semicolon ∷ rest)))
   unfolding declare
-  declare_again kind vs shape =
-      let behind : List TokenKind = token.Punctuation punctuation.Semicolon ∷ rest in
-      rw (less d behind (Ends-semicolon rest)) (Again-inside d (declared_height kind vs) (declared_height kind vs + 1) ((kind, vs), declared_height kind vs, behind) (made (tree.Declare kind vs) behind) _ _
-      (fields_again kind vs shape.0 shape.1 d rest) (omega arith)
-      (λ low. Again-raised (suc d) (declared_height kind vs) (made (tree.Declare kind vs) behind) _ refl))
+  declare_completeness kind vs shape =
+      let past : List TokenKind = token.Punctuation punctuation.Semicolon ∷ rest in
+      rw (less d past (Ends-semicolon rest)) (Complete-inside d (declared_height kind vs) (declared_height kind vs + 1) ((kind, vs), declared_height kind vs, past) (made (tree.Declare kind vs) past) _ _
+      (fields_completeness kind vs shape.0 shape.1 d rest) (omega arith)
+      (λ low. Complete-raised (suc d) (declared_height kind vs) (made (tree.Declare kind vs) past) _ refl))
 
   step_part : (s : tree.Stmt) → IsStep s → (s ≡ tree.Empty → ⊥)
-      → Again (suc d) (stmt_height s) (made s (token.Punctuation punctuation.Semicolon ∷ rest)) (part (suc d) (part_spelled s (token.Punctuation punctuation.Semicolon ∷ rest)))
+      → Complete (suc d) (stmt_height s) (made s (token.Punctuation punctuation.Semicolon ∷ rest)) (part (suc d) (part_spelled s (token.Punctuation punctuation.Semicolon ∷ rest)))
   step_part s shape some =
-      rw ((opens_step s shape some (token.Punctuation punctuation.Semicolon ∷ rest)).is_part (suc d)) (optional_again d punctuation.Semicolon end_semicolon rest s shape)
+      rw ((opens_step s shape some (token.Punctuation punctuation.Semicolon ∷ rest)).is_part (suc d)) (optional_completeness d punctuation.Semicolon end_semicolon rest s shape)
 
-  part_again : (s : tree.Stmt) → IsFirst s → Again (suc d) (stmt_height s) (made s (token.Punctuation punctuation.Semicolon ∷ rest)) (part (suc d) (part_spelled s (token.Punctuation punctuation.Semicolon ∷ rest)))
+  part_completeness : (s : tree.Stmt) → IsFirst s → Complete (suc d) (stmt_height s) (made s (token.Punctuation punctuation.Semicolon ∷ rest)) (part (suc d) (part_spelled s (token.Punctuation punctuation.Semicolon ∷ rest)))
   unfolding part
-  part_again tree.Empty shape = nothing_again d punctuation.Semicolon end_semicolon rest
-  part_again (tree.Declare tree.Boolean vs) shape = declare_again tree.Boolean vs shape
-  part_again (tree.Declare tree.Int vs) shape = declare_again tree.Int vs shape
-  part_again (tree.Declare (tree.Array size) vs) shape = declare_again (tree.Array size) vs shape
-  part_again (tree.Evaluate e) shape = step_part (tree.Evaluate e) shape (λ same. absurd cc)
-  part_again (tree.Assign x o e) shape = step_part (tree.Assign x o e) shape (λ same. absurd cc)
-  part_again (tree.AssignElement x at o e) shape = step_part (tree.AssignElement x at o e) shape (λ same. absurd cc)
-  part_again _ shape = absurd shape
+  part_completeness tree.Empty shape = nothing_completeness d punctuation.Semicolon end_semicolon rest
+  part_completeness (tree.Declare tree.Boolean vs) shape = declare_completeness tree.Boolean vs shape
+  part_completeness (tree.Declare tree.Int vs) shape = declare_completeness tree.Int vs shape
+  part_completeness (tree.Declare (tree.Array size) vs) shape = declare_completeness (tree.Array size) vs shape
+  part_completeness (tree.Evaluate e) shape = step_part (tree.Evaluate e) shape (λ same. absurd cc)
+  part_completeness (tree.Assign x o e) shape = step_part (tree.Assign x o e) shape (λ same. absurd cc)
+  part_completeness (tree.AssignElement x at o e) shape = step_part (tree.AssignElement x at o e) shape (λ same. absurd cc)
+  part_completeness _ shape = absurd shape
 
-  pub ended_again : (s : tree.Stmt) → IsFirst s → Again (suc d) (stmt_height s) (made s rest) (ended (suc d) (part_spelled s (token.Punctuation punctuation.Semicolon ∷ rest)))
+  pub ended_completeness : (s : tree.Stmt) → IsFirst s → Complete (suc d) (stmt_height s) (made s rest) (ended (suc d) (part_spelled s (token.Punctuation punctuation.Semicolon ∷ rest)))
   unfolding ended
-  ended_again s shape =
-      Again-then (suc d) (stmt_height s) (stmt_height s) (made s (token.Punctuation punctuation.Semicolon ∷ rest)) (made s rest) _ _ (part_again s shape) (omega arith)
-      (λ low. rw (expect_punctuation punctuation.Semicolon rest) (Again-done (suc d) (stmt_height s) (made s rest) _ low refl))
+  ended_completeness s shape =
+      Complete-then (suc d) (stmt_height s) (stmt_height s) (made s (token.Punctuation punctuation.Semicolon ∷ rest)) (made s rest) _ _ (part_completeness s shape) (omega arith)
+      (λ low. rw (expect_punctuation punctuation.Semicolon rest) (Complete-done (suc d) (stmt_height s) (made s rest) _ low refl))
 
-  last_again : (s : tree.Stmt) → IsStep s → Again (suc d) (stmt_height s) (made s rest) (last_part (suc d) (part_spelled s (token.Punctuation punctuation.CloseParen ∷ rest)))
+  last_completeness : (s : tree.Stmt) → IsStep s → Complete (suc d) (stmt_height s) (made s rest) (last_part (suc d) (part_spelled s (token.Punctuation punctuation.CloseParen ∷ rest)))
   unfolding last_part
-  last_again s shape =
-      Again-then (suc d) (stmt_height s) (stmt_height s) (made s (token.Punctuation punctuation.CloseParen ∷ rest)) (made s rest) _ _ (optional_again d punctuation.CloseParen end_bracket rest s shape) (omega arith)
-      (λ low. rw (expect_punctuation punctuation.CloseParen rest) (Again-done (suc d) (stmt_height s) (made s rest) _ low refl))
+  last_completeness s shape =
+      Complete-then (suc d) (stmt_height s) (stmt_height s) (made s (token.Punctuation punctuation.CloseParen ∷ rest)) (made s rest) _ _ (optional_completeness d punctuation.CloseParen end_bracket rest s shape) (omega arith)
+      (λ low. rw (expect_punctuation punctuation.CloseParen rest) (Complete-done (suc d) (stmt_height s) (made s rest) _ low refl))
 
 module _ (d : ℕ) (rest : List TokenKind) where
-  condition_again : (tested : Option tree.Expr) → IsOptional tested
-      → Again d (optional_height tested) (tested, optional_height tested, rest) (condition d (condition_spelled tested (token.Punctuation punctuation.Semicolon ∷ rest)))
+  condition_completeness : (tested : Option tree.Expr) → IsOptional tested
+      → Complete d (optional_height tested) (tested, optional_height tested, rest) (condition d (condition_spelled tested (token.Punctuation punctuation.Semicolon ∷ rest)))
   unfolding condition is_punctuation
-  condition_again None shape = Again-done d 0 (None, 0, rest) _ (omega arith) refl
-  condition_again (Some e) shape =
+  condition_completeness None shape = Complete-done d 0 (None, 0, rest) _ (omega arith) refl
+  condition_completeness (Some e) shape =
       let stays : is_punctuation punctuation.Semicolon (expr_spelled e (token.Punctuation punctuation.Semicolon ∷ rest)) ≡ false = (opens e (token.Punctuation punctuation.Semicolon ∷ rest)).no_semicolon in
-      rw stays (Again-then d (expr_height e) (expr_height e) (found e rest) (Some e, expr_height e, rest) _ _ (closed_again e shape d punctuation.Semicolon rest (Stops-semicolon lowest_precedence rest)) (omega arith)
-      (λ low. Again-done d (expr_height e) (Some e, expr_height e, rest) _ low refl))
+      rw stays (Complete-then d (expr_height e) (expr_height e) (found e rest) (Some e, expr_height e, rest) _ _ (closed_completeness e shape d punctuation.Semicolon rest (Stops-semicolon lowest_precedence rest)) (omega arith)
+      (λ low. Complete-done d (expr_height e) (Some e, expr_height e, rest) _ low refl))
 
 -- the height of what stands in the brackets of a `for`
 abbrev pub heading_height : tree.Stmt → Option tree.Expr → tree.Stmt → ℕ
 heading_height begun tested stepped = max (stmt_height begun) (max (optional_height tested) (stmt_height stepped))
 
 module _ (d : ℕ) (rest : List TokenKind) where
-  behind_again : (tested : Option tree.Expr) (stepped : tree.Stmt) → IsOptional tested → IsStep stepped
-      → Again (suc d) (max (optional_height tested) (stmt_height stepped)) ((tested, stepped), max (optional_height tested) (stmt_height stepped), rest)
-      (behind_first (suc d) (condition_spelled tested (token.Punctuation punctuation.Semicolon ∷ part_spelled stepped (token.Punctuation punctuation.CloseParen ∷ rest))))
-  unfolding behind_first
-  behind_again tested stepped is_tested is_step =
+  past_completeness : (tested : Option tree.Expr) (stepped : tree.Stmt) → IsOptional tested → IsStep stepped
+      → Complete (suc d) (max (optional_height tested) (stmt_height stepped)) ((tested, stepped), max (optional_height tested) (stmt_height stepped), rest)
+      (after_first (suc d) (condition_spelled tested (token.Punctuation punctuation.Semicolon ∷ part_spelled stepped (token.Punctuation punctuation.CloseParen ∷ rest))))
+  unfolding after_first
+  past_completeness tested stepped is_tested is_step =
       let stepping : List TokenKind = part_spelled stepped (token.Punctuation punctuation.CloseParen ∷ rest) in
       let high : ℕ = max (optional_height tested) (stmt_height stepped) in
       let all : (Option tree.Expr × tree.Stmt) × ℕ × List TokenKind = ((tested, stepped), high, rest) in
-      Again-then (suc d) (optional_height tested) high (tested, optional_height tested, stepping) all _ _ (condition_again (suc d) stepping tested is_tested) (omega arith) (λ one.
-      Again-then (suc d) (stmt_height stepped) high (made stepped rest) all _ _ (last_again d rest stepped is_step) (omega arith) (λ two.
-      Again-done (suc d) high all _ (omega arith) refl))
+      Complete-then (suc d) (optional_height tested) high (tested, optional_height tested, stepping) all _ _ (condition_completeness (suc d) stepping tested is_tested) (omega arith) (λ one.
+      Complete-then (suc d) (stmt_height stepped) high (made stepped rest) all _ _ (last_completeness d rest stepped is_step) (omega arith) (λ two.
+      Complete-done (suc d) high all _ (omega arith) refl))
 
-  pub heading_again : (begun : tree.Stmt) (tested : Option tree.Expr) (stepped : tree.Stmt) → IsFirst begun → IsOptional tested → IsStep stepped
-      → Again (suc d) (heading_height begun tested stepped) ((begun, tested, stepped), heading_height begun tested stepped, rest) (for_heading (suc d) (heading_spelled begun tested stepped rest))
+  pub heading_completeness : (begun : tree.Stmt) (tested : Option tree.Expr) (stepped : tree.Stmt) → IsFirst begun → IsOptional tested → IsStep stepped
+      → Complete (suc d) (heading_height begun tested stepped) ((begun, tested, stepped), heading_height begun tested stepped, rest) (for_heading (suc d) (heading_spelled begun tested stepped rest))
   unfolding for_heading
-  heading_again begun tested stepped is_first is_tested is_step =
+  heading_completeness begun tested stepped is_first is_tested is_step =
       let testing : List TokenKind = condition_spelled tested (token.Punctuation punctuation.Semicolon ∷ part_spelled stepped (token.Punctuation punctuation.CloseParen ∷ rest)) in
       let high : ℕ = heading_height begun tested stepped in
       let after : ℕ = max (optional_height tested) (stmt_height stepped) in
       let all : (tree.Stmt × Option tree.Expr × tree.Stmt) × ℕ × List TokenKind = ((begun, tested, stepped), high, rest) in
       rw (expect_punctuation punctuation.OpenParen (part_spelled begun (token.Punctuation punctuation.Semicolon ∷ testing)))
-      (Again-then (suc d) (stmt_height begun) high (made begun testing) all _ _ (ended_again d testing begun is_first) (omega arith) (λ one.
-      Again-then (suc d) after high ((tested, stepped), after, rest) all _ _ (behind_again tested stepped is_tested is_step) (omega arith) (λ two.
-      Again-done (suc d) high all _ (omega arith) refl)))
+      (Complete-then (suc d) (stmt_height begun) high (made begun testing) all _ _ (ended_completeness d testing begun is_first) (omega arith) (λ one.
+      Complete-then (suc d) after high ((tested, stepped), after, rest) all _ _ (past_completeness tested stepped is_tested is_step) (omega arith) (λ two.
+      Complete-done (suc d) high all _ (omega arith) refl)))
 
   -- an expression in brackets, one depth below
-  pub bracketed_again : (e : tree.Expr) → IsExpr e → Again d (expr_height e) (found e rest) (bracketed (suc d) (bracketed_spelled e rest))
+  pub bracketed_completeness : (e : tree.Expr) → IsExpr e → Complete d (expr_height e) (found e rest) (bracketed (suc d) (bracketed_spelled e rest))
   unfolding bracketed
-  bracketed_again e shape =
+  bracketed_completeness e shape =
       let less : suc d - 1 ≡ d = omega arith in
-      rw (expect_punctuation punctuation.OpenParen (expr_spelled e (token.Punctuation punctuation.CloseParen ∷ rest)), less) (closed_again e shape d punctuation.CloseParen rest (Stops-bracket lowest_precedence rest))
+      rw (expect_punctuation punctuation.OpenParen (expr_spelled e (token.Punctuation punctuation.CloseParen ∷ rest)), less) (closed_completeness e shape d punctuation.CloseParen rest (Stops-bracket lowest_precedence rest))
 
 module _ (d : ℕ) (rest : List TokenKind) where
-  argument_again : (e : tree.Expr) → IsExpr e → Again (suc d) (expr_height e + 1) (e, expr_height e + 1, rest) (argument (suc d) (bracketed_spelled e (token.Punctuation punctuation.Semicolon ∷ rest)))
+  argument_completeness : (e : tree.Expr) → IsExpr e → Complete (suc d) (expr_height e + 1) (e, expr_height e + 1, rest) (argument (suc d) (bracketed_spelled e (token.Punctuation punctuation.Semicolon ∷ rest)))
   unfolding argument
-  argument_again e shape =
-      Again-inside d (expr_height e) (expr_height e + 1) (found e (token.Punctuation punctuation.Semicolon ∷ rest)) (e, expr_height e + 1, rest) _ _ (bracketed_again d (token.Punctuation punctuation.Semicolon ∷ rest) e shape) (omega arith)
-      (λ low. rw (expect_punctuation punctuation.Semicolon rest) (Again-raised (suc d) (expr_height e) (e, expr_height e + 1, rest) _ refl))
+  argument_completeness e shape =
+      Complete-inside d (expr_height e) (expr_height e + 1) (found e (token.Punctuation punctuation.Semicolon ∷ rest)) (e, expr_height e + 1, rest) _ _ (bracketed_completeness d (token.Punctuation punctuation.Semicolon ∷ rest) e shape) (omega arith)
+      (λ low. rw (expect_punctuation punctuation.Semicolon rest) (Complete-raised (suc d) (expr_height e) (e, expr_height e + 1, rest) _ refl))
 
   -- a statement made of such an expression
   pub of_argument : (e : tree.Expr) → IsExpr e → (make : tree.Expr → tree.Stmt)
-      → Again (suc d) (expr_height e + 1) {X = tree.Stmt × ℕ × List TokenKind} (make e, expr_height e + 1, rest)
+      → Complete (suc d) (expr_height e + 1) {X = tree.Stmt × ℕ × List TokenKind} (make e, expr_height e + 1, rest)
       (argument (suc d) (bracketed_spelled e (token.Punctuation punctuation.Semicolon ∷ rest)) >>= λ read. Ok (make read.0, read.1, read.2))
   of_argument e shape make =
-      Again-then (suc d) (expr_height e + 1) (expr_height e + 1) (e, expr_height e + 1, rest) (make e, expr_height e + 1, rest) _ _ (argument_again e shape) (omega arith)
-      (λ low. Again-done (suc d) (expr_height e + 1) (make e, expr_height e + 1, rest) _ low refl)
+      Complete-then (suc d) (expr_height e + 1) (expr_height e + 1) (e, expr_height e + 1, rest) (make e, expr_height e + 1, rest) _ _ (argument_completeness e shape) (omega arith)
+      (λ low. Complete-done (suc d) (expr_height e + 1) (make e, expr_height e + 1, rest) _ low refl)
 
 -- ---- how a statement with a semicolon begins
 
@@ -422,7 +422,7 @@ step_begins s shape some = record {
 }
 
 pub begins : (s : tree.Stmt) → IsFirst s → Begins s
-unfolding shallow worded_statement brace is_punctuation is_keyword
+unfolding shallow keyword_statement brace is_punctuation is_keyword
 begins tree.Empty shape = record { no_brace = λ rest. refl; no_else = λ rest. refl; is_ended = λ depth inner rest. refl }
 begins (tree.Declare tree.Boolean vs) shape = record { no_brace = λ rest. refl; no_else = λ rest. refl; is_ended = λ depth inner rest. refl }
 begins (tree.Declare tree.Int vs) shape = record { no_brace = λ rest. refl; no_else = λ rest. refl; is_ended = λ depth inner rest. refl }

@@ -1,6 +1,6 @@
 -- What is read as members of a filter is that, and these are its tokens: by what holds of the reader of the statements
 -- in them.
-use Rattle.std.proofs.Common.{◌≡◌, ℕ, suc, ◌+◌, ◌-◌, ◌≤◌, max, Bool, true, false, List, [], ◌∷◌, ◌++◌, length, Option, Some, None, Ok, refl, sym, ap, ◌∙◌, arith, inl, inr}
+use Rattle.std.proofs.Common.{◌≡◌, ℕ, suc, ◌+◌, ◌-◌, ◌<◌, ◌≤◌, max, Bool, true, false, List, [], ◌∷◌, ◌++◌, length, Option, Some, None, Ok, refl, sym, ap, ◌∙◌, arith, inl, inr}
 use Rattle.std.specs.Prelude.{◌||◌}
 use Rattle.std.proofs.lemmas.Bool.{cases_Bool}
 use Rattle.std.specs.List.{AllByRecursion, list_any}
@@ -17,13 +17,13 @@ use Rattle.strc_syntax.specs.Tree as tree
 use Rattle.strc_grammar.specs.Grammar.{declared_spelled, block_spelled, rate_keyword, rate_spelled, each_spelled, member_spelled, lowest_precedence, IsExpr, AreStmts, AreRates, IsMember, row_height, rate_height, member_height, highest}
 use Rattle.strc_grammar.specs.Reading.{◌>>=◌, Read, tail, repeated, one_taller, brace, expression, declared}
 use Rattle.strc_grammar.specs.Streams.{Inner, statements, rate_kind, has_rate, rate_of, rate_by, rate_turn, no_rate_by, no_rate, rates, braced, init, phase, fields, member, members}
-use Rattle.strc_grammar.proofs.ExpressionAgain.{expr_length}
-use Rattle.strc_grammar.proofs.SimpleAgain.{declared_length}
-use Rattle.strc_grammar.proofs.StatementAgain.{rates_length, member_length}
-use Rattle.strc_grammar.proofs.Holds.{Holds, Holds-then, Holds-on, Holds-expect, Stopped, repeated_holds, brace_is, each_spelled-push, highest-push, All-push}
-use Rattle.strc_grammar.proofs.ExpressionHolds.{ExprRead, expression_holds}
-use Rattle.strc_grammar.proofs.SimpleHolds.{DeclaredRead, declared_holds}
-use Rattle.strc_grammar.proofs.StatementHolds.{StmtRead, BodyRead, statements_holds}
+use Rattle.strc_grammar.proofs.ExpressionCompleteness.{expr_length}
+use Rattle.strc_grammar.proofs.SimpleCompleteness.{declared_length}
+use Rattle.strc_grammar.proofs.StatementCompleteness.{rates_length, member_length}
+use Rattle.strc_grammar.proofs.Soundness.{Sound, Sound-ok, Sound-then, Sound-on, Sound-expect, Stopped, repeated_soundness, brace_is, each_spelled-push, highest-push, All-push}
+use Rattle.strc_grammar.proofs.ExpressionSoundness.{ExprRead, expression_soundness}
+use Rattle.strc_grammar.proofs.SimpleSoundness.{DeclaredRead, declared_soundness}
+use Rattle.strc_grammar.proofs.StatementSoundness.{StmtRead, BodyRead, statements_soundness}
 
 abbrev count : List TokenKind → ℕ
 count ts = length ts
@@ -68,12 +68,12 @@ module _ (limit : ℕ) (all : List TokenKind) (so_far : List tree.Rate × ℕ) (
   abbrev pushed : RateKind → tree.Expr × ℕ × List TokenKind → Read (List tree.Rate × ℕ)
   pushed kind x = Ok ((so_far.0 ++ record { kind = kind; rate = x.0 } ∷ [], max so_far.1 x.1), x.2)
 
-  new_rate : (kind : RateKind) → tokens ≡ rate_keyword kind ∷ tail tokens → has_rate kind so_far.0 ≡ false → Holds Next limit all (expression limit lowest_precedence (tail tokens) >>= pushed kind)
+  new_rate : (kind : RateKind) → tokens ≡ rate_keyword kind ∷ tail tokens → has_rate kind so_far.0 ≡ false → Sound Next limit all (expression limit lowest_precedence (tail tokens) >>= pushed kind)
   new_rate kind stands fresh =
       let one : length tokens ≡ suc (length (tail tokens)) = ap count stands in
-      Holds-then (ExprRead limit lowest_precedence (tail tokens)) Next limit all (expression limit lowest_precedence (tail tokens)) (pushed kind)
-      (Holds-on (ExprRead limit lowest_precedence (tail tokens)) (ExprRead limit lowest_precedence (tail tokens)) limit limit (tail tokens) all (expression limit lowest_precedence (tail tokens)) (omega arith) (omega arith)
-      (expression_holds limit lowest_precedence (tail tokens)) (λ x h. h)) (λ x read. (
+      Sound-then (ExprRead limit lowest_precedence (tail tokens)) Next limit all (expression limit lowest_precedence (tail tokens)) (pushed kind)
+      (Sound-on (ExprRead limit lowest_precedence (tail tokens)) (ExprRead limit lowest_precedence (tail tokens)) limit limit (tail tokens) all (expression limit lowest_precedence (tail tokens)) (omega arith) (omega arith)
+      (expression_soundness limit lowest_precedence (tail tokens)) (λ x h. h)) (λ x read. (
         record {
           spelled = kept.spelled ∙ ap (λ (ts : List TokenKind). each_spelled rate_spelled so_far.0 ts) (stands ∙ ap (λ (ts : List TokenKind). rate_keyword kind ∷ ts) read.spelled)
               ∙ sym (each_spelled-push rate_spelled so_far.0 (record { kind = kind; rate = x.0 }) x.2);
@@ -84,18 +84,18 @@ module _ (limit : ℕ) (all : List TokenKind) (so_far : List tree.Rate × ℕ) (
         omega (arith, ap count read.spelled, expr_length x.0 x.2),
       ))
 
-  rate_by_holds : (o : Option RateKind) → rate_kind tokens ≡ o → Holds Next limit all (rate_by limit so_far tokens o)
+  rate_by_soundness : (o : Option RateKind) → rate_kind tokens ≡ o → Sound Next limit all (rate_by limit so_far tokens o)
   unfolding rate_of
-  rate_by_holds None e = le
-  rate_by_holds (Some kind) e =
+  rate_by_soundness None e = le
+  rate_by_soundness (Some kind) e =
       elim (cases_Bool (has_rate kind so_far.0)) [
         | inl is ↦ rw is le
         | inr is ↦ rw is (new_rate kind (kind_is kind tokens e) is)
       ]
 
-  rate_turn_holds : Holds Next limit all (rate_turn limit so_far tokens)
+  rate_turn_soundness : Sound Next limit all (rate_turn limit so_far tokens)
   unfolding rate_turn
-  rate_turn_holds = rate_by_holds (rate_kind tokens) refl
+  rate_turn_soundness = rate_by_soundness (rate_kind tokens) refl
 
 no_rate_by_is : (o : Option RateKind) (tokens after : List TokenKind) → no_rate_by tokens o ≡ Some after → tokens ≡ after
 no_rate_by_is None tokens after e = cc
@@ -105,12 +105,12 @@ no_rate_is : (tokens after : List TokenKind) → no_rate tokens ≡ Some after �
 unfolding no_rate
 no_rate_is tokens after e = no_rate_by_is (rate_kind tokens) tokens after e
 
-rates_holds : (limit : ℕ) (tokens : List TokenKind) → Holds (λ x. RatesRead limit tokens x.0 x.1) limit tokens (rates limit tokens)
+rates_soundness : (limit : ℕ) (tokens : List TokenKind) → Sound (λ x. RatesRead limit tokens x.0 x.1) limit tokens (rates limit tokens)
 unfolding rates
-rates_holds limit tokens =
-    Holds-on (Stopped no_rate (rate_turn limit) (RatesRead limit tokens) limit tokens) (λ x. RatesRead limit tokens x.0 x.1) limit limit tokens tokens
+rates_soundness limit tokens =
+    Sound-on (Stopped no_rate (rate_turn limit) (RatesRead limit tokens) limit tokens) (λ x. RatesRead limit tokens x.0 x.1) limit limit tokens tokens
     (repeated no_rate (rate_turn limit) (length tokens + 1) ([], 0) tokens) (omega arith) (omega arith)
-    (repeated_holds no_rate (rate_turn limit) (RatesRead limit tokens) limit tokens (λ s ts kept le goes. rate_turn_holds limit tokens s ts kept le) (length tokens + 1) ([], 0) tokens
+    (repeated_soundness no_rate (rate_turn limit) (RatesRead limit tokens) limit tokens (λ s ts kept le goes. rate_turn_soundness limit tokens s ts kept le) (length tokens + 1) ([], 0) tokens
     (record { spelled = refl; shape = tt; high = refl; low = omega arith }) (omega arith))
     (λ x stopped. record {
       spelled = stopped.1.spelled ∙ ap (λ (ts : List TokenKind). each_spelled rate_spelled x.0.0 ts) (no_rate_is stopped.0 x.1 stopped.2);
@@ -157,26 +157,26 @@ record RowRead (limit : ℕ) (all : List TokenKind) (so_far : List tree.Member �
   high : so_far.1 ≡ highest member_height so_far.0
   low : so_far.1 ≤ limit
 
-fields_holds : (limit : ℕ) (tokens : List TokenKind) → Holds (MemberRead limit tokens) limit tokens (fields limit tokens)
+fields_soundness : (limit : ℕ) (tokens : List TokenKind) → Sound (MemberRead limit tokens) limit tokens (fields limit tokens)
 unfolding fields
-fields_holds limit tokens =
-    Holds-then (DeclaredRead limit tokens) (MemberRead limit tokens) limit tokens (declared limit tokens) _ (declared_holds limit tokens) (λ x read.
+fields_soundness limit tokens =
+    Sound-then (DeclaredRead limit tokens) (MemberRead limit tokens) limit tokens (declared limit tokens) _ (declared_soundness limit tokens) (λ x read.
     let le : length x.2 ≤ length tokens = omega (arith, ap count read.spelled, declared_length x.0.0 x.0.1 x.2) in
-    Holds-expect (MemberRead limit tokens) limit tokens punctuation.Semicolon x.2 _ le (λ rest e. record {
+    Sound-expect (MemberRead limit tokens) limit tokens punctuation.Semicolon x.2 _ le (λ rest e. record {
       spelled = read.spelled ∙ ap (λ (ts : List TokenKind). declared_spelled x.0.0 x.0.1 ts) e;
       shape = (read.typed, read.shape);
       high = read.high;
       low = read.low;
     }))
 
-module _ (d : ℕ) (inner : Inner) (holds : (tokens : List TokenKind) → Holds (StmtRead d tokens) (d - 1) tokens (inner tokens)) where
-  pub braced_holds : (tokens : List TokenKind) → Holds (BlockRead d tokens) (d - 1) tokens (braced inner tokens)
+module _ (d : ℕ) (inner : Inner) (sound : (tokens : List TokenKind) → Sound (StmtRead d tokens) (d - 1) tokens (inner tokens)) where
+  pub braced_soundness : (tokens : List TokenKind) → Sound (BlockRead d tokens) (d - 1) tokens (braced inner tokens)
   unfolding braced
-  braced_holds tokens =
-      Holds-expect (BlockRead d tokens) (d - 1) tokens punctuation.OpenBrace tokens _ (omega arith) (λ opened e.
+  braced_soundness tokens =
+      Sound-expect (BlockRead d tokens) (d - 1) tokens punctuation.OpenBrace tokens _ (omega arith) (λ opened e.
       let one : length tokens ≡ suc (length opened) = ap count e in
-      Holds-then (BodyRead d opened) (BlockRead d tokens) (d - 1) tokens (statements inner opened) _
-      (Holds-on (BodyRead d opened) (BodyRead d opened) (d - 1) (d - 1) opened tokens (statements inner opened) (omega arith) (omega arith) (statements_holds d inner holds opened) (λ x h. h))
+      Sound-then (BodyRead d opened) (BlockRead d tokens) (d - 1) tokens (statements inner opened) _
+      (Sound-on (BodyRead d opened) (BodyRead d opened) (d - 1) (d - 1) opened tokens (statements inner opened) (omega arith) (omega arith) (statements_soundness d inner sound opened) (λ x h. h))
       (λ x body. record {
         spelled = e ∙ ap (λ (ts : List TokenKind). token.Punctuation punctuation.OpenBrace ∷ ts) body.spelled;
         shape = body.shape;
@@ -184,12 +184,12 @@ module _ (d : ℕ) (inner : Inner) (holds : (tokens : List TokenKind) → Holds 
         low = body.low;
       }))
 
-  init_holds : (behind : List TokenKind) → Holds (MemberRead d (token.Keyword keyword.Init ∷ behind)) (d - 1) (token.Keyword keyword.Init ∷ behind) (init inner behind)
+  init_soundness : (past : List TokenKind) → Sound (MemberRead d (token.Keyword keyword.Init ∷ past)) (d - 1) (token.Keyword keyword.Init ∷ past) (init inner past)
   unfolding init
-  init_holds behind =
-      let all : List TokenKind = token.Keyword keyword.Init ∷ behind in
-      Holds-then (BlockRead d behind) (MemberRead d all) (d - 1) all (braced inner behind) _
-      (Holds-on (BlockRead d behind) (BlockRead d behind) (d - 1) (d - 1) behind all (braced inner behind) (omega arith) (omega arith) (braced_holds behind) (λ x h. h))
+  init_soundness past =
+      let all : List TokenKind = token.Keyword keyword.Init ∷ past in
+      Sound-then (BlockRead d past) (MemberRead d all) (d - 1) all (braced inner past) _
+      (Sound-on (BlockRead d past) (BlockRead d past) (d - 1) (d - 1) past all (braced inner past) (omega arith) (omega arith) (braced_soundness past) (λ x h. h))
       (λ x block. record {
         spelled = ap (λ (ts : List TokenKind). token.Keyword keyword.Init ∷ ts) block.spelled;
         shape = block.shape;
@@ -197,14 +197,14 @@ module _ (d : ℕ) (inner : Inner) (holds : (tokens : List TokenKind) → Holds 
         low = block.low;
       })
 
-  phase_holds : (tokens : List TokenKind) → Holds (PhaseRead d tokens) (d - 1) tokens (phase d inner tokens)
+  phase_soundness : (tokens : List TokenKind) → Sound (PhaseRead d tokens) (d - 1) tokens (phase d inner tokens)
   unfolding phase
-  phase_holds tokens =
-      Holds-then (λ x. RatesRead d tokens x.0 x.1) (PhaseRead d tokens) (d - 1) tokens (rates d tokens) _
-      (Holds-on (λ x. RatesRead d tokens x.0 x.1) (λ x. RatesRead d tokens x.0 x.1) d (d - 1) tokens tokens (rates d tokens) (omega arith) (omega arith) (rates_holds d tokens) (λ x h. h)) (λ found rated.
+  phase_soundness tokens =
+      Sound-then (λ x. RatesRead d tokens x.0 x.1) (PhaseRead d tokens) (d - 1) tokens (rates d tokens) _
+      (Sound-on (λ x. RatesRead d tokens x.0 x.1) (λ x. RatesRead d tokens x.0 x.1) d (d - 1) tokens tokens (rates d tokens) (omega arith) (omega arith) (rates_soundness d tokens) (λ x h. h)) (λ found rated.
       let short : length found.1 ≤ length tokens = omega (arith, ap count rated.spelled, rates_length found.0.0 found.1) in
-      Holds-then (BlockRead d found.1) (PhaseRead d tokens) (d - 1) tokens (braced inner found.1) _
-      (Holds-on (BlockRead d found.1) (BlockRead d found.1) (d - 1) (d - 1) found.1 tokens (braced inner found.1) (omega arith) (omega arith) (braced_holds found.1) (λ x h. h))
+      Sound-then (BlockRead d found.1) (PhaseRead d tokens) (d - 1) tokens (braced inner found.1) _
+      (Sound-on (BlockRead d found.1) (BlockRead d found.1) (d - 1) (d - 1) found.1 tokens (braced inner found.1) (omega arith) (omega arith) (braced_soundness found.1) (λ x h. h))
       (λ x block. record {
         spelled = rated.spelled ∙ ap (λ (ts : List TokenKind). each_spelled rate_spelled found.0.0 ts) block.spelled;
         rated = rated.shape;
@@ -213,16 +213,16 @@ module _ (d : ℕ) (inner : Inner) (holds : (tokens : List TokenKind) → Holds 
         low = omega (arith, rated.low, block.low);
       }))
 
-  -- a member made of rates and a block, behind its keyword
-  phase_member : (w : Keyword) (make : List tree.Rate → tree.Stmts → tree.Member) (behind : List TokenKind)
+  -- a member made of rates and a block, after its keyword
+  phase_member : (w : Keyword) (make : List tree.Rate → tree.Stmts → tree.Member) (past : List TokenKind)
       → ((rated : List tree.Rate) (block : tree.Stmts) (rest : List TokenKind) → token.Keyword w ∷ each_spelled rate_spelled rated (block_spelled block rest) ≡ member_spelled (make rated block) rest)
       → ((rated : List tree.Rate) (block : tree.Stmts) → AreRates rated → AreStmts block → IsMember (make rated block))
       → ((rated : List tree.Rate) (block : tree.Stmts) → member_height (make rated block) ≡ max (highest rate_height rated) (row_height block))
-      → Holds (MemberRead d (token.Keyword w ∷ behind)) (d - 1) (token.Keyword w ∷ behind) (phase d inner behind >>= λ read. Ok (make read.0.0 read.0.1, read.1, read.2))
-  phase_member w make behind spells shapes heights =
-      let all : List TokenKind = token.Keyword w ∷ behind in
-      Holds-then (PhaseRead d behind) (MemberRead d all) (d - 1) all (phase d inner behind) _
-      (Holds-on (PhaseRead d behind) (PhaseRead d behind) (d - 1) (d - 1) behind all (phase d inner behind) (omega arith) (omega arith) (phase_holds behind) (λ x h. h))
+      → Sound (MemberRead d (token.Keyword w ∷ past)) (d - 1) (token.Keyword w ∷ past) (phase d inner past >>= λ read. Ok (make read.0.0 read.0.1, read.1, read.2))
+  phase_member w make past spells shapes heights =
+      let all : List TokenKind = token.Keyword w ∷ past in
+      Sound-then (PhaseRead d past) (MemberRead d all) (d - 1) all (phase d inner past) _
+      (Sound-on (PhaseRead d past) (PhaseRead d past) (d - 1) (d - 1) past all (phase d inner past) (omega arith) (omega arith) (phase_soundness past) (λ x h. h))
       (λ x read. record {
         spelled = ap (λ (ts : List TokenKind). token.Keyword w ∷ ts) read.spelled ∙ spells x.0.0 x.0.1 x.2;
         shape = shapes x.0.0 x.0.1 read.rated read.shape;
@@ -230,24 +230,33 @@ module _ (d : ℕ) (inner : Inner) (holds : (tokens : List TokenKind) → Holds 
         low = read.low;
       })
 
-  fields_member : (tokens : List TokenKind) → Holds (MemberRead d tokens) (d - 1) tokens (fields d tokens)
-  fields_member tokens = Holds-on (MemberRead d tokens) (MemberRead d tokens) d (d - 1) tokens tokens (fields d tokens) (omega arith) (omega arith) (fields_holds d tokens) (λ x h. h)
+  fields_member : (tokens : List TokenKind) → Sound (MemberRead d tokens) (d - 1) tokens (fields d tokens)
+  fields_member tokens = Sound-on (MemberRead d tokens) (MemberRead d tokens) d (d - 1) tokens tokens (fields d tokens) (omega arith) (omega arith) (fields_soundness d tokens) (λ x h. h)
 
-  member_holds : (tokens : List TokenKind) → Holds (MemberRead d tokens) (d - 1) tokens (member d inner tokens)
+  member_soundness : (tokens : List TokenKind) → Sound (MemberRead d tokens) (d - 1) tokens (member d inner tokens)
   unfolding member
-  member_holds (token.Keyword keyword.Boolean ∷ rest) = fields_member (token.Keyword keyword.Boolean ∷ rest)
-  member_holds (token.Keyword keyword.Int ∷ rest) = fields_member (token.Keyword keyword.Int ∷ rest)
-  member_holds (token.Keyword keyword.Init ∷ rest) = init_holds rest
-  member_holds (token.Keyword keyword.Prework ∷ rest) = phase_member keyword.Prework tree.Prework rest (λ rated block after. refl) (λ rated block a b. (a, b)) (λ rated block. refl)
-  member_holds (token.Keyword keyword.Work ∷ rest) = phase_member keyword.Work tree.Work rest (λ rated block after. refl) (λ rated block a b. (a, b)) (λ rated block. refl)
-  member_holds _ = omega arith
+  member_soundness (token.Keyword keyword.Boolean ∷ rest) = fields_member (token.Keyword keyword.Boolean ∷ rest)
+  member_soundness (token.Keyword keyword.Int ∷ rest) = fields_member (token.Keyword keyword.Int ∷ rest)
+  member_soundness (token.Keyword keyword.Init ∷ rest) = init_soundness rest
+  member_soundness (token.Keyword keyword.Prework ∷ rest) = phase_member keyword.Prework tree.Prework rest (λ rated block after. refl) (λ rated block a b. (a, b)) (λ rated block. refl)
+  member_soundness (token.Keyword keyword.Work ∷ rest) = phase_member keyword.Work tree.Work rest (λ rated block after. refl) (λ rated block a b. (a, b)) (λ rated block. refl)
+  member_soundness _ = omega arith
 
-  turn_holds : (all : List TokenKind) (so_far : List tree.Member × ℕ) (tokens : List TokenKind) → RowRead d all so_far tokens → length tokens ≤ length all
-      → Holds (λ x. RowRead d all x.0 x.1 × (length x.1 ≤ length all)) (d - 1) all (one_taller (member d inner) so_far tokens)
+  -- a member has a token or more
+  pub member_shorter : (tokens : List TokenKind) (value : tree.Member) (height : ℕ)
+      (after : List TokenKind) → member d inner tokens ≡ Ok (value, height, after)
+      → length after < length tokens
+  member_shorter tokens value height after is =
+      let read = Sound-ok (MemberRead d tokens) (d - 1) tokens (member d inner tokens)
+      (value, height, after) is (member_soundness tokens) in
+      omega (arith, ap count read.spelled, member_length value read.shape after)
+
+  turn_soundness : (all : List TokenKind) (so_far : List tree.Member × ℕ) (tokens : List TokenKind) → RowRead d all so_far tokens → length tokens ≤ length all
+      → Sound (λ x. RowRead d all x.0 x.1 × (length x.1 ≤ length all)) (d - 1) all (one_taller (member d inner) so_far tokens)
   unfolding one_taller
-  turn_holds all so_far tokens kept le =
-      Holds-then (MemberRead d tokens) (λ x. RowRead d all x.0 x.1 × (length x.1 ≤ length all)) (d - 1) all (member d inner tokens) _
-      (Holds-on (MemberRead d tokens) (MemberRead d tokens) (d - 1) (d - 1) tokens all (member d inner tokens) le (omega arith) (member_holds tokens) (λ x h. h)) (λ x read. (
+  turn_soundness all so_far tokens kept le =
+      Sound-then (MemberRead d tokens) (λ x. RowRead d all x.0 x.1 × (length x.1 ≤ length all)) (d - 1) all (member d inner tokens) _
+      (Sound-on (MemberRead d tokens) (MemberRead d tokens) (d - 1) (d - 1) tokens all (member d inner tokens) le (omega arith) (member_soundness tokens) (λ x h. h)) (λ x read. (
         record {
           spelled = kept.spelled ∙ ap (λ (ts : List TokenKind). each_spelled member_spelled so_far.0 ts) read.spelled ∙ sym (each_spelled-push member_spelled so_far.0 x.0 x.2);
           shape = All-push IsMember so_far.0 x.0 kept.shape read.shape;
@@ -257,12 +266,12 @@ module _ (d : ℕ) (inner : Inner) (holds : (tokens : List TokenKind) → Holds 
         omega (arith, ap count read.spelled, member_length x.0 read.shape x.2),
       ))
 
-  pub members_holds : (tokens : List TokenKind) → Holds (MembersRead d tokens) (d - 1) tokens (members d inner tokens)
+  pub members_soundness : (tokens : List TokenKind) → Sound (MembersRead d tokens) (d - 1) tokens (members d inner tokens)
   unfolding members
-  members_holds tokens =
-      Holds-on (Stopped brace (one_taller (member d inner)) (RowRead d tokens) (d - 1) tokens) (MembersRead d tokens) (d - 1) (d - 1) tokens tokens
-      (repeated brace (one_taller (member d inner)) (length tokens) ([], 0) tokens) (omega arith) (omega arith)
-      (repeated_holds brace (one_taller (member d inner)) (RowRead d tokens) (d - 1) tokens (λ s ts kept le goes. turn_holds tokens s ts kept le) (length tokens) ([], 0) tokens
+  members_soundness tokens =
+      Sound-on (Stopped brace (one_taller (member d inner)) (RowRead d tokens) (d - 1) tokens) (MembersRead d tokens) (d - 1) (d - 1) tokens tokens
+      (repeated brace (one_taller (member d inner)) (length tokens + 1) ([], 0) tokens) (omega arith) (omega arith)
+      (repeated_soundness brace (one_taller (member d inner)) (RowRead d tokens) (d - 1) tokens (λ s ts kept le goes. turn_soundness tokens s ts kept le) (length tokens + 1) ([], 0) tokens
       (record { spelled = refl; shape = tt; high = refl; low = omega arith }) (omega arith))
       (λ x stopped. record {
         spelled = stopped.1.spelled ∙ ap (λ (ts : List TokenKind). each_spelled member_spelled x.0.0 ts) (brace_is stopped.0 x.1 stopped.2);

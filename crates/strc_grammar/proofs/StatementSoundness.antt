@@ -15,11 +15,11 @@ use Rattle.strc_grammar.specs.Grammar.{part_spelled, bracketed_spelled, heading_
 use Rattle.strc_grammar.specs.Reading.{◌>>=◌, tail, is_keyword, repeated, brace, one_taller, bracketed, argument, ended, for_heading}
 use Rattle.strc_syntax.specs.Tree.{row}
 use Rattle.strc_grammar.specs.Streams.{Inner, statements, block, other_branch, after_branch, branch, while_loop, for_loop}
-use Rattle.strc_grammar.proofs.ExpressionAgain.{expr_length}
-use Rattle.strc_grammar.proofs.SimpleAgain.{heading_length}
-use Rattle.strc_grammar.proofs.StatementAgain.{NoElse, stmt_length}
-use Rattle.strc_grammar.proofs.Holds.{Holds, Holds-then, Holds-on, Holds-raised, Stopped, repeated_holds, brace_is, each_spelled-push, highest-push, All-push}
-use Rattle.strc_grammar.proofs.SimpleHolds.{EndedRead, ended_holds, HeadingRead, heading_holds, BracketedRead, bracketed_holds, ArgumentRead, argument_holds}
+use Rattle.strc_grammar.proofs.ExpressionCompleteness.{expr_length}
+use Rattle.strc_grammar.proofs.SimpleCompleteness.{heading_length}
+use Rattle.strc_grammar.proofs.StatementCompleteness.{NoElse, stmt_length}
+use Rattle.strc_grammar.proofs.Soundness.{Sound, Sound-then, Sound-on, Sound-raised, Stopped, repeated_soundness, brace_is, each_spelled-push, highest-push, All-push}
+use Rattle.strc_grammar.proofs.SimpleSoundness.{EndedRead, ended_soundness, HeadingRead, heading_soundness, BracketedRead, bracketed_soundness, ArgumentRead, argument_soundness}
 
 abbrev count : List TokenKind → ℕ
 count ts = length ts
@@ -74,9 +74,9 @@ not_both : {P : Type 0} (b : Bool) → b ≡ false → b ≡ true → P
 not_both b is_false is_true = absurd cc
 
 module _ (d : ℕ) where
-  pub ended_stmt : (tokens : List TokenKind) → Holds (StmtRead (suc d) tokens) d tokens (ended (suc d) tokens)
+  pub ended_stmt : (tokens : List TokenKind) → Sound (StmtRead (suc d) tokens) d tokens (ended (suc d) tokens)
   ended_stmt tokens =
-      Holds-on (EndedRead IsFirst punctuation.Semicolon (suc d) tokens) (StmtRead (suc d) tokens) d d tokens tokens (ended (suc d) tokens) (omega arith) (omega arith) (ended_holds d tokens)
+      Sound-on (EndedRead IsFirst punctuation.Semicolon (suc d) tokens) (StmtRead (suc d) tokens) d d tokens tokens (ended (suc d) tokens) (omega arith) (omega arith) (ended_soundness d tokens)
       (λ x read. record {
         spelled = read.spelled ∙ first_spelled x.0 read.shape x.2;
         shape = first_shape x.0 read.shape;
@@ -85,13 +85,13 @@ module _ (d : ℕ) where
         free = λ takes. not_both (takes_else x.0) (first_takes x.0 read.shape) takes;
       })
 
-  pub argument_stmt : (w : Keyword) (make : tree.Expr → tree.Stmt) (behind : List TokenKind) → ((e : tree.Expr) → stmt_height (make e) ≡ expr_height e + 1) → ((e : tree.Expr) → IsExpr e → IsStmt (make e))
+  pub argument_stmt : (w : Keyword) (make : tree.Expr → tree.Stmt) (past : List TokenKind) → ((e : tree.Expr) → stmt_height (make e) ≡ expr_height e + 1) → ((e : tree.Expr) → IsExpr e → IsStmt (make e))
       → ((e : tree.Expr) (rest : List TokenKind) → token.Keyword w ∷ bracketed_spelled e (token.Punctuation punctuation.Semicolon ∷ rest) ≡ stmt_spelled (make e) rest) → ((e : tree.Expr) → takes_else (make e) ≡ false)
-      → Holds (StmtRead (suc d) (token.Keyword w ∷ behind)) d (token.Keyword w ∷ behind) (argument (suc d) behind >>= λ x. Ok (make x.0, x.1, x.2))
-  argument_stmt w make behind heights shapes spells takes_none =
-      let all : List TokenKind = token.Keyword w ∷ behind in
-      Holds-then (ArgumentRead (suc d) behind) (StmtRead (suc d) all) d all (argument (suc d) behind) _
-      (Holds-on (ArgumentRead (suc d) behind) (ArgumentRead (suc d) behind) d d behind all (argument (suc d) behind) (omega arith) (omega arith) (argument_holds d behind) (λ x h. h))
+      → Sound (StmtRead (suc d) (token.Keyword w ∷ past)) d (token.Keyword w ∷ past) (argument (suc d) past >>= λ x. Ok (make x.0, x.1, x.2))
+  argument_stmt w make past heights shapes spells takes_none =
+      let all : List TokenKind = token.Keyword w ∷ past in
+      Sound-then (ArgumentRead (suc d) past) (StmtRead (suc d) all) d all (argument (suc d) past) _
+      (Sound-on (ArgumentRead (suc d) past) (ArgumentRead (suc d) past) d d past all (argument (suc d) past) (omega arith) (omega arith) (argument_soundness d past) (λ x h. h))
       (λ x read. record {
         spelled = ap (λ (ts : List TokenKind). token.Keyword w ∷ ts) read.spelled ∙ spells x.0 x.2;
         shape = shapes x.0 read.shape;
@@ -128,13 +128,13 @@ high_row : (items : List tree.Stmt) → highest stmt_height items ≡ row_height
 high_row [] = refl
 high_row (s ∷ others) = ap (λ (n : ℕ). max (stmt_height s) n) (high_row others)
 
-module _ (d : ℕ) (inner : Inner) (holds : (tokens : List TokenKind) → Holds (StmtRead d tokens) (d - 1) tokens (inner tokens)) where
-  turn_holds : (all : List TokenKind) (so_far : List tree.Stmt × ℕ) (tokens : List TokenKind) → RowRead d all so_far tokens → length tokens ≤ length all
-      → Holds (λ x. RowRead d all x.0 x.1 × (length x.1 ≤ length all)) (d - 1) all (one_taller inner so_far tokens)
+module _ (d : ℕ) (inner : Inner) (sound : (tokens : List TokenKind) → Sound (StmtRead d tokens) (d - 1) tokens (inner tokens)) where
+  turn_soundness : (all : List TokenKind) (so_far : List tree.Stmt × ℕ) (tokens : List TokenKind) → RowRead d all so_far tokens → length tokens ≤ length all
+      → Sound (λ x. RowRead d all x.0 x.1 × (length x.1 ≤ length all)) (d - 1) all (one_taller inner so_far tokens)
   unfolding one_taller
-  turn_holds all so_far tokens kept le =
-      Holds-then (StmtRead d tokens) (λ x. RowRead d all x.0 x.1 × (length x.1 ≤ length all)) (d - 1) all (inner tokens) _
-      (Holds-on (StmtRead d tokens) (StmtRead d tokens) (d - 1) (d - 1) tokens all (inner tokens) le (omega arith) (holds tokens) (λ x h. h)) (λ x read. (
+  turn_soundness all so_far tokens kept le =
+      Sound-then (StmtRead d tokens) (λ x. RowRead d all x.0 x.1 × (length x.1 ≤ length all)) (d - 1) all (inner tokens) _
+      (Sound-on (StmtRead d tokens) (StmtRead d tokens) (d - 1) (d - 1) tokens all (inner tokens) le (omega arith) (sound tokens) (λ x h. h)) (λ x read. (
         record {
           spelled = kept.spelled ∙ ap (λ (ts : List TokenKind). each_spelled stmt_spelled so_far.0 ts) read.spelled ∙ sym (each_spelled-push stmt_spelled so_far.0 x.0 x.2);
           shape = All-push IsStmt so_far.0 x.0 kept.shape read.shape;
@@ -144,12 +144,12 @@ module _ (d : ℕ) (inner : Inner) (holds : (tokens : List TokenKind) → Holds 
         omega (arith, StmtRead-long read),
       ))
 
-  pub statements_holds : (tokens : List TokenKind) → Holds (BodyRead d tokens) (d - 1) tokens (statements inner tokens)
+  pub statements_soundness : (tokens : List TokenKind) → Sound (BodyRead d tokens) (d - 1) tokens (statements inner tokens)
   unfolding statements
-  statements_holds tokens =
-      Holds-on (Stopped brace (one_taller inner) (RowRead d tokens) (d - 1) tokens) (BodyRead d tokens) (d - 1) (d - 1) tokens tokens (repeated brace (one_taller inner) (length tokens) ([], 0) tokens)
+  statements_soundness tokens =
+      Sound-on (Stopped brace (one_taller inner) (RowRead d tokens) (d - 1) tokens) (BodyRead d tokens) (d - 1) (d - 1) tokens tokens (repeated brace (one_taller inner) (length tokens) ([], 0) tokens)
       (omega arith) (omega arith)
-      (repeated_holds brace (one_taller inner) (RowRead d tokens) (d - 1) tokens (λ s ts kept le goes. turn_holds tokens s ts kept le) (length tokens) ([], 0) tokens
+      (repeated_soundness brace (one_taller inner) (RowRead d tokens) (d - 1) tokens (λ s ts kept le goes. turn_soundness tokens s ts kept le) (length tokens) ([], 0) tokens
       (record { spelled = refl; shape = tt; high = refl; low = omega arith }) (omega arith))
       (λ x stopped. record {
         spelled = stopped.1.spelled ∙ ap (λ (ts : List TokenKind). each_spelled stmt_spelled x.0.0 ts) (brace_is stopped.0 x.1 stopped.2) ∙ spelled_row x.0.0 (token.Punctuation punctuation.CloseBrace ∷ x.1);
@@ -158,13 +158,13 @@ module _ (d : ℕ) (inner : Inner) (holds : (tokens : List TokenKind) → Holds 
         low = stopped.1.low;
       })
 
-  pub block_holds : (behind : List TokenKind) → Holds (StmtRead (suc d) (token.Punctuation punctuation.OpenBrace ∷ behind)) d (token.Punctuation punctuation.OpenBrace ∷ behind) (block (suc d) inner behind)
+  pub block_soundness : (past : List TokenKind) → Sound (StmtRead (suc d) (token.Punctuation punctuation.OpenBrace ∷ past)) d (token.Punctuation punctuation.OpenBrace ∷ past) (block (suc d) inner past)
   unfolding block
-  block_holds behind =
-      let all : List TokenKind = token.Punctuation punctuation.OpenBrace ∷ behind in
-      Holds-then (BodyRead d behind) (StmtRead (suc d) all) d all (statements inner behind) _
-      (Holds-on (BodyRead d behind) (BodyRead d behind) (d - 1) d behind all (statements inner behind) (omega arith) (omega arith) (statements_holds behind) (λ x h. h)) (λ x body.
-      Holds-raised (StmtRead (suc d) all) d all (suc d) x.0.1 _
+  block_soundness past =
+      let all : List TokenKind = token.Punctuation punctuation.OpenBrace ∷ past in
+      Sound-then (BodyRead d past) (StmtRead (suc d) all) d all (statements inner past) _
+      (Sound-on (BodyRead d past) (BodyRead d past) (d - 1) d past all (statements inner past) (omega arith) (omega arith) (statements_soundness past) (λ x h. h)) (λ x body.
+      Sound-raised (StmtRead (suc d) all) d all (suc d) x.0.1 _
       (λ lt. record {
         spelled = ap (λ (ts : List TokenKind). token.Punctuation punctuation.OpenBrace ∷ ts) body.spelled;
         shape = body.shape;
@@ -176,24 +176,24 @@ module _ (d : ℕ) (inner : Inner) (holds : (tokens : List TokenKind) → Holds 
 
   -- ---- branches and loops
 
-  -- a statement behind a token or more
-  further : (all tokens : List TokenKind) → length tokens + 1 ≤ length all → Holds (StmtRead d tokens) d all (inner tokens)
-  further all tokens le = Holds-on (StmtRead d tokens) (StmtRead d tokens) (d - 1) d tokens all (inner tokens) (omega arith) (omega arith) (holds tokens) (λ x h. h)
+  -- a statement after a token or more
+  further : (all tokens : List TokenKind) → length tokens + 1 ≤ length all → Sound (StmtRead d tokens) d all (inner tokens)
+  further all tokens le = Sound-on (StmtRead d tokens) (StmtRead d tokens) (d - 1) d tokens all (inner tokens) (omega arith) (omega arith) (sound tokens) (λ x h. h)
 
-  -- a condition behind its keyword
-  tested : (w : Keyword) (behind : List TokenKind) → Holds (BracketedRead d behind) d (token.Keyword w ∷ behind) (bracketed (suc d) behind)
-  tested w behind =
-      Holds-on (BracketedRead d behind) (BracketedRead d behind) d d behind (token.Keyword w ∷ behind) (bracketed (suc d) behind) (omega arith) (omega arith) (bracketed_holds d behind) (λ x h. h)
+  -- a condition after its keyword
+  tested : (w : Keyword) (past : List TokenKind) → Sound (BracketedRead d past) d (token.Keyword w ∷ past) (bracketed (suc d) past)
+  tested w past =
+      Sound-on (BracketedRead d past) (BracketedRead d past) d d past (token.Keyword w ∷ past) (bracketed (suc d) past) (omega arith) (omega arith) (bracketed_soundness d past) (λ x h. h)
 
-  bracketed_long : {behind : List TokenKind} {x : tree.Expr × ℕ × List TokenKind} → BracketedRead d behind x → x.1 + length x.2 + 2 ≤ length behind
-  bracketed_long {behind} {x} read = omega (arith, read.high, ap count read.spelled, expr_length x.0 (token.Punctuation punctuation.CloseParen ∷ x.2))
+  bracketed_long : {past : List TokenKind} {x : tree.Expr × ℕ × List TokenKind} → BracketedRead d past x → x.1 + length x.2 + 2 ≤ length past
+  bracketed_long {past} {x} read = omega (arith, read.high, ap count read.spelled, expr_length x.0 (token.Punctuation punctuation.CloseParen ∷ x.2))
 
-  other_holds : (all tokens : List TokenKind) (c : tree.Expr) (a : tree.Stmt) (h : ℕ) → all ≡ token.Keyword keyword.If ∷ bracketed_spelled c (stmt_spelled a (token.Keyword keyword.Else ∷ tokens)) → IsExpr c → IsStmt a
-      → takes_else a ≡ false → h ≡ max (expr_height c) (stmt_height a) → h ≤ d → length tokens + 1 ≤ length all → Holds (StmtRead (suc d) all) d all (other_branch (suc d) inner c a h tokens)
+  other_soundness : (all tokens : List TokenKind) (c : tree.Expr) (a : tree.Stmt) (h : ℕ) → all ≡ token.Keyword keyword.If ∷ bracketed_spelled c (stmt_spelled a (token.Keyword keyword.Else ∷ tokens)) → IsExpr c → IsStmt a
+      → takes_else a ≡ false → h ≡ max (expr_height c) (stmt_height a) → h ≤ d → length tokens + 1 ≤ length all → Sound (StmtRead (suc d) all) d all (other_branch (suc d) inner c a h tokens)
   unfolding other_branch
-  other_holds all tokens c a h spelled is_expr is_stmt closed high low long =
-      Holds-then (StmtRead d tokens) (StmtRead (suc d) all) d all (inner tokens) _ (further all tokens long) (λ x other.
-      Holds-raised (StmtRead (suc d) all) d all (suc d) (max h x.1) _
+  other_soundness all tokens c a h spelled is_expr is_stmt closed high low long =
+      Sound-then (StmtRead d tokens) (StmtRead (suc d) all) d all (inner tokens) _ (further all tokens long) (λ x other.
+      Sound-raised (StmtRead (suc d) all) d all (suc d) (max h x.1) _
       (λ lt. record {
         spelled = spelled ∙ ap (λ (ts : List TokenKind). token.Keyword keyword.If ∷ bracketed_spelled c (stmt_spelled a (token.Keyword keyword.Else ∷ ts))) other.spelled;
         shape = (is_expr, closed, is_stmt, other.shape);
@@ -209,14 +209,14 @@ module _ (d : ℕ) (inner : Inner) (holds : (tokens : List TokenKind) → Holds 
         | inr none ↦ none
       ]
 
-  pub branch_holds : (behind : List TokenKind) → Holds (StmtRead (suc d) (token.Keyword keyword.If ∷ behind)) d (token.Keyword keyword.If ∷ behind) (branch (suc d) inner behind)
+  pub branch_soundness : (past : List TokenKind) → Sound (StmtRead (suc d) (token.Keyword keyword.If ∷ past)) d (token.Keyword keyword.If ∷ past) (branch (suc d) inner past)
   unfolding branch after_branch
-  branch_holds behind =
-      let all : List TokenKind = token.Keyword keyword.If ∷ behind in
+  branch_soundness past =
+      let all : List TokenKind = token.Keyword keyword.If ∷ past in
       let Q : tree.Stmt × ℕ × List TokenKind → Type 0 = StmtRead (suc d) all in
-      Holds-then (BracketedRead d behind) Q d all (bracketed (suc d) behind) _ (tested keyword.If behind) (λ c condition.
-      let one : c.1 + length c.2 + 2 ≤ length behind = bracketed_long condition in
-      Holds-then (StmtRead d c.2) Q d all (inner c.2) _ (further all c.2 (omega arith)) (λ a chosen.
+      Sound-then (BracketedRead d past) Q d all (bracketed (suc d) past) _ (tested keyword.If past) (λ c condition.
+      let one : c.1 + length c.2 + 2 ≤ length past = bracketed_long condition in
+      Sound-then (StmtRead d c.2) Q d all (inner c.2) _ (further all c.2 (omega arith)) (λ a chosen.
       let two : a.1 + length a.2 ≤ length c.2 = StmtRead-long chosen in
       let spelled : all ≡ token.Keyword keyword.If ∷ bracketed_spelled c.0 (stmt_spelled a.0 a.2) =
       ap (λ (ts : List TokenKind). token.Keyword keyword.If ∷ ts) (condition.spelled ∙ ap (λ (ts : List TokenKind). bracketed_spelled c.0 ts) chosen.spelled) in
@@ -224,11 +224,11 @@ module _ (d : ℕ) (inner : Inner) (holds : (tokens : List TokenKind) → Holds 
         | inl is ↦
             let stands = keyword_is keyword.Else a.2 is in
             let less : length a.2 ≡ suc (length (tail a.2)) = ap count stands in
-            let read = other_holds all (tail a.2) c.0 a.0 (max c.1 a.1) (spelled ∙ ap (λ (ts : List TokenKind). token.Keyword keyword.If ∷ bracketed_spelled c.0 (stmt_spelled a.0 ts)) stands) condition.shape chosen.shape
+            let read = other_soundness all (tail a.2) c.0 a.0 (max c.1 a.1) (spelled ∙ ap (λ (ts : List TokenKind). token.Keyword keyword.If ∷ bracketed_spelled c.0 (stmt_spelled a.0 ts)) stands) condition.shape chosen.shape
             (not_taking a.0 a.2 chosen.free is) (omega (arith, condition.high, chosen.high)) (omega (arith, condition.low, chosen.low)) (omega arith) in
             rw is read
         | inr is ↦
-            let read = Holds-raised Q d all (suc d) (max c.1 a.1) (λ high. Ok (tree.If c.0 a.0, high, a.2))
+            let read = Sound-raised Q d all (suc d) (max c.1 a.1) (λ high. Ok (tree.If c.0 a.0, high, a.2))
             (λ lt. record {
               spelled = spelled;
               shape = (condition.shape, chosen.shape);
@@ -239,15 +239,15 @@ module _ (d : ℕ) (inner : Inner) (holds : (tokens : List TokenKind) → Holds 
             rw is read
       ]))
 
-  pub while_holds : (behind : List TokenKind) → Holds (StmtRead (suc d) (token.Keyword keyword.While ∷ behind)) d (token.Keyword keyword.While ∷ behind) (while_loop (suc d) inner behind)
+  pub while_soundness : (past : List TokenKind) → Sound (StmtRead (suc d) (token.Keyword keyword.While ∷ past)) d (token.Keyword keyword.While ∷ past) (while_loop (suc d) inner past)
   unfolding while_loop
-  while_holds behind =
-      let all : List TokenKind = token.Keyword keyword.While ∷ behind in
+  while_soundness past =
+      let all : List TokenKind = token.Keyword keyword.While ∷ past in
       let Q : tree.Stmt × ℕ × List TokenKind → Type 0 = StmtRead (suc d) all in
-      Holds-then (BracketedRead d behind) Q d all (bracketed (suc d) behind) _ (tested keyword.While behind) (λ c condition.
-      let one : c.1 + length c.2 + 2 ≤ length behind = bracketed_long condition in
-      Holds-then (StmtRead d c.2) Q d all (inner c.2) _ (further all c.2 (omega arith)) (λ x body.
-      Holds-raised Q d all (suc d) (max c.1 x.1) _
+      Sound-then (BracketedRead d past) Q d all (bracketed (suc d) past) _ (tested keyword.While past) (λ c condition.
+      let one : c.1 + length c.2 + 2 ≤ length past = bracketed_long condition in
+      Sound-then (StmtRead d c.2) Q d all (inner c.2) _ (further all c.2 (omega arith)) (λ x body.
+      Sound-raised Q d all (suc d) (max c.1 x.1) _
       (λ lt. record {
         spelled = ap (λ (ts : List TokenKind). token.Keyword keyword.While ∷ ts) (condition.spelled ∙ ap (λ (ts : List TokenKind). bracketed_spelled c.0 ts) body.spelled);
         shape = (condition.shape, body.shape);
@@ -256,16 +256,16 @@ module _ (d : ℕ) (inner : Inner) (holds : (tokens : List TokenKind) → Holds 
         free = body.free;
       }) (λ le. absurd (omega (arith, condition.low, body.low)))))
 
-  pub for_holds : (behind : List TokenKind) → Holds (StmtRead (suc d) (token.Keyword keyword.For ∷ behind)) d (token.Keyword keyword.For ∷ behind) (for_loop (suc d) inner behind)
+  pub for_soundness : (past : List TokenKind) → Sound (StmtRead (suc d) (token.Keyword keyword.For ∷ past)) d (token.Keyword keyword.For ∷ past) (for_loop (suc d) inner past)
   unfolding for_loop
-  for_holds behind =
-      let all : List TokenKind = token.Keyword keyword.For ∷ behind in
+  for_soundness past =
+      let all : List TokenKind = token.Keyword keyword.For ∷ past in
       let Q : tree.Stmt × ℕ × List TokenKind → Type 0 = StmtRead (suc d) all in
-      Holds-then (HeadingRead (suc d) behind) Q d all (for_heading (suc d) behind) _
-      (Holds-on (HeadingRead (suc d) behind) (HeadingRead (suc d) behind) d d behind all (for_heading (suc d) behind) (omega arith) (omega arith) (heading_holds d behind) (λ x h. h)) (λ h heading.
-      let one : h.1 + length h.2 + 2 ≤ length behind = omega (arith, heading.high, ap count heading.spelled, heading_length h.0.0 h.0.1 h.0.2 heading.begun heading.stepped h.2) in
-      Holds-then (StmtRead d h.2) Q d all (inner h.2) _ (further all h.2 (omega arith)) (λ x body.
-      Holds-raised Q d all (suc d) (max h.1 x.1) _
+      Sound-then (HeadingRead (suc d) past) Q d all (for_heading (suc d) past) _
+      (Sound-on (HeadingRead (suc d) past) (HeadingRead (suc d) past) d d past all (for_heading (suc d) past) (omega arith) (omega arith) (heading_soundness d past) (λ x h. h)) (λ h heading.
+      let one : h.1 + length h.2 + 2 ≤ length past = omega (arith, heading.high, ap count heading.spelled, heading_length h.0.0 h.0.1 h.0.2 heading.begun heading.stepped h.2) in
+      Sound-then (StmtRead d h.2) Q d all (inner h.2) _ (further all h.2 (omega arith)) (λ x body.
+      Sound-raised Q d all (suc d) (max h.1 x.1) _
       (λ lt. record {
         spelled = ap (λ (ts : List TokenKind). token.Keyword keyword.For ∷ ts) (heading.spelled ∙ ap (λ (ts : List TokenKind). heading_spelled h.0.0 h.0.1 h.0.2 ts) body.spelled);
         shape = (heading.begun, heading.tested, heading.stepped, body.shape);

@@ -14,26 +14,32 @@ use Rattle.std.specs.List.{AllByRecursion}
 use Rattle.strc_lex.specs.declared.token.Punctuation.TheVariants as punctuation
 use Rattle.strc_grammar.specs.Grammar.{each_spelled, highest}
 use Rattle.strc_grammar.specs.Reading.{◌>>=◌, Read, tail, unexpected, is_punctuation, is_keyword, expect, expect_keyword, name, raised, repeated_by, repeated, brace}
-use Rattle.strc_grammar.proofs.Again.{raised_low, raised_high}
+use Rattle.strc_grammar.proofs.Completeness.{raised_low, raised_high}
 
 -- What was read is good; a refused token is within; and where trees nest too deep, there are as many tokens.
-abbrev pub Holds : {R : Type 0} → (R → Type 0) → ℕ → List TokenKind → Result R Fault → Type 0
-Holds Good deep tokens (Ok x) = Good x
-Holds Good deep tokens (Err (Unexpected left)) = left ≤ length tokens
-Holds Good deep tokens (Err Nesting) = deep ≤ length tokens
+abbrev pub Sound : {R : Type 0} → (R → Type 0) → ℕ → List TokenKind → Result R Fault → Type 0
+Sound Good deep tokens (Ok x) = Good x
+Sound Good deep tokens (Err (Unexpected left)) = left ≤ length tokens
+Sound Good deep tokens (Err Nesting) = deep ≤ length tokens
 
-pub Holds-then : {A B : Type 0} (P : A → Type 0) (Q : B → Type 0) (deep : ℕ) (tokens : List TokenKind) (r : Result A Fault) (f : A → Result B Fault) → Holds P deep tokens r
-    → ((x : A) → P x → Holds Q deep tokens (f x)) → Holds Q deep tokens (r >>= f)
-Holds-then P Q deep tokens (Ok x) f holds then = then x holds
-Holds-then P Q deep tokens (Err (Unexpected left)) f holds then = holds
-Holds-then P Q deep tokens (Err Nesting) f holds then = holds
+-- what was read is good
+pub Sound-ok : {A : Type 0} (P : A → Type 0) (deep : ℕ) (tokens : List TokenKind) (r : Result A Fault)
+    (x : A) → r ≡ Ok x → Sound P deep tokens r → P x
+Sound-ok P deep tokens (Err e) x is sound = absurd cc
+Sound-ok P deep tokens (Ok y) x is sound = let same : y ≡ x = cc in rw same at sound
+
+pub Sound-then : {A B : Type 0} (P : A → Type 0) (Q : B → Type 0) (deep : ℕ) (tokens : List TokenKind) (r : Result A Fault) (f : A → Result B Fault) → Sound P deep tokens r
+    → ((x : A) → P x → Sound Q deep tokens (f x)) → Sound Q deep tokens (r >>= f)
+Sound-then P Q deep tokens (Ok x) f sound then = then x sound
+Sound-then P Q deep tokens (Err (Unexpected left)) f sound then = sound
+Sound-then P Q deep tokens (Err Nesting) f sound then = sound
 
 -- a reading further on
-pub Holds-on : {A : Type 0} (P Q : A → Type 0) (inner deep : ℕ) (rest tokens : List TokenKind) (r : Result A Fault) → length rest ≤ length tokens → deep + length rest ≤ inner + length tokens
-    → Holds P inner rest r → ((x : A) → P x → Q x) → Holds Q deep tokens r
-Holds-on P Q inner deep rest tokens (Ok x) le room holds then = then x holds
-Holds-on P Q inner deep rest tokens (Err (Unexpected left)) le room holds then = omega arith
-Holds-on P Q inner deep rest tokens (Err Nesting) le room holds then = omega arith
+pub Sound-on : {A : Type 0} (P Q : A → Type 0) (inner deep : ℕ) (rest tokens : List TokenKind) (r : Result A Fault) → length rest ≤ length tokens → deep + length rest ≤ inner + length tokens
+    → Sound P inner rest r → ((x : A) → P x → Q x) → Sound Q deep tokens r
+Sound-on P Q inner deep rest tokens (Ok x) le room sound then = then x sound
+Sound-on P Q inner deep rest tokens (Err (Unexpected left)) le room sound then = omega arith
+Sound-on P Q inner deep rest tokens (Err Nesting) le room sound then = omega arith
 
 punctuation_cases : (wanted found : Punctuation) (rest : List TokenKind)
     → ((token.Punctuation found ∷ rest ≡ token.Punctuation wanted ∷ rest) × (expect wanted (token.Punctuation found ∷ rest) ≡ Ok rest)) ⊎ (expect wanted (token.Punctuation found ∷ rest) ≡ unexpected (token.Punctuation found ∷ rest))
@@ -84,51 +90,51 @@ name_cases (token.StringLiteral t ∷ rest) = inr refl
 name_cases (token.Keyword w ∷ rest) = inr refl
 
 module _ {B : Type 0} (Q : B → Type 0) (deep : ℕ) (all : List TokenKind) where
-  pub Holds-expect : (wanted : Punctuation) (tokens : List TokenKind) (f : List TokenKind → Result B Fault) → length tokens ≤ length all
-      → ((rest : List TokenKind) → tokens ≡ token.Punctuation wanted ∷ rest → Holds Q deep all (f rest)) → Holds Q deep all (expect wanted tokens >>= f)
-  Holds-expect wanted tokens f le then =
+  pub Sound-expect : (wanted : Punctuation) (tokens : List TokenKind) (f : List TokenKind → Result B Fault) → length tokens ≤ length all
+      → ((rest : List TokenKind) → tokens ≡ token.Punctuation wanted ∷ rest → Sound Q deep all (f rest)) → Sound Q deep all (expect wanted tokens >>= f)
+  Sound-expect wanted tokens f le then =
       elim (expect_cases wanted tokens) [
-        | inl found ↦ subst (λ (r : Result (List TokenKind) Fault). Holds Q deep all (r >>= f)) (sym found.2) (then found.0 found.1)
-        | inr e ↦ subst (λ (r : Result (List TokenKind) Fault). Holds Q deep all (r >>= f)) (sym e) le
+        | inl found ↦ subst (λ (r : Result (List TokenKind) Fault). Sound Q deep all (r >>= f)) (sym found.2) (then found.0 found.1)
+        | inr e ↦ subst (λ (r : Result (List TokenKind) Fault). Sound Q deep all (r >>= f)) (sym e) le
       ]
 
-  pub Holds-expect_keyword : (wanted : Keyword) (tokens : List TokenKind) (f : List TokenKind → Result B Fault) → length tokens ≤ length all
-      → ((rest : List TokenKind) → tokens ≡ token.Keyword wanted ∷ rest → Holds Q deep all (f rest)) → Holds Q deep all (expect_keyword wanted tokens >>= f)
-  Holds-expect_keyword wanted tokens f le then =
+  pub Sound-expect_keyword : (wanted : Keyword) (tokens : List TokenKind) (f : List TokenKind → Result B Fault) → length tokens ≤ length all
+      → ((rest : List TokenKind) → tokens ≡ token.Keyword wanted ∷ rest → Sound Q deep all (f rest)) → Sound Q deep all (expect_keyword wanted tokens >>= f)
+  Sound-expect_keyword wanted tokens f le then =
       elim (expect_keyword_cases wanted tokens) [
-        | inl found ↦ subst (λ (r : Result (List TokenKind) Fault). Holds Q deep all (r >>= f)) (sym found.2) (then found.0 found.1)
-        | inr e ↦ subst (λ (r : Result (List TokenKind) Fault). Holds Q deep all (r >>= f)) (sym e) le
+        | inl found ↦ subst (λ (r : Result (List TokenKind) Fault). Sound Q deep all (r >>= f)) (sym found.2) (then found.0 found.1)
+        | inr e ↦ subst (λ (r : Result (List TokenKind) Fault). Sound Q deep all (r >>= f)) (sym e) le
       ]
 
-  pub Holds-name : (tokens : List TokenKind) (f : List ℕ × List TokenKind → Result B Fault) → length tokens ≤ length all
-      → ((x : List ℕ) (rest : List TokenKind) → tokens ≡ token.Name x ∷ rest → Holds Q deep all (f (x, rest))) → Holds Q deep all (name tokens >>= f)
-  Holds-name tokens f le then =
+  pub Sound-name : (tokens : List TokenKind) (f : List ℕ × List TokenKind → Result B Fault) → length tokens ≤ length all
+      → ((x : List ℕ) (rest : List TokenKind) → tokens ≡ token.Name x ∷ rest → Sound Q deep all (f (x, rest))) → Sound Q deep all (name tokens >>= f)
+  Sound-name tokens f le then =
       elim (name_cases tokens) [
-        | inl found ↦ subst (λ (r : Result (List ℕ × List TokenKind) Fault). Holds Q deep all (r >>= f)) (sym found.3) (then found.0 found.1 found.2)
-        | inr e ↦ subst (λ (r : Result (List ℕ × List TokenKind) Fault). Holds Q deep all (r >>= f)) (sym e) le
+        | inl found ↦ subst (λ (r : Result (List ℕ × List TokenKind) Fault). Sound Q deep all (r >>= f)) (sym found.3) (then found.0 found.1 found.2)
+        | inr e ↦ subst (λ (r : Result (List ℕ × List TokenKind) Fault). Sound Q deep all (r >>= f)) (sym e) le
       ]
 
-  pub Holds-raised : (depth height : ℕ) (f : ℕ → Result B Fault) → (height < depth → Holds Q deep all (f (height + 1))) → (depth ≤ height → deep ≤ length all)
-      → Holds Q deep all (raised depth height >>= f)
-  Holds-raised depth height f then room =
+  pub Sound-raised : (depth height : ℕ) (f : ℕ → Result B Fault) → (height < depth → Sound Q deep all (f (height + 1))) → (depth ≤ height → deep ≤ length all)
+      → Sound Q deep all (raised depth height >>= f)
+  Sound-raised depth height f then room =
       elim (cases_lt height depth) [
-        | inl lt ↦ subst (λ (r : Result ℕ Fault). Holds Q deep all (r >>= f)) (sym (raised_low depth height lt)) (then lt)
-        | inr le ↦ subst (λ (r : Result ℕ Fault). Holds Q deep all (r >>= f)) (sym (raised_high depth height le)) (room le)
+        | inl lt ↦ subst (λ (r : Result ℕ Fault). Sound Q deep all (r >>= f)) (sym (raised_low depth height lt)) (then lt)
+        | inr le ↦ subst (λ (r : Result ℕ Fault). Sound Q deep all (r >>= f)) (sym (raised_high depth height le)) (room le)
       ]
 
 -- a punctuation mark that ends what is read
-pub Holds-last : (deep : ℕ) (all : List TokenKind) (wanted : Punctuation) (tokens : List TokenKind) → length tokens ≤ length all → (P : List TokenKind → Type 0) → ((rest : List TokenKind) → tokens ≡ token.Punctuation wanted ∷ rest → P rest)
-    → Holds P deep all (expect wanted tokens)
-Holds-last deep all wanted tokens le P then =
+pub Sound-last : (deep : ℕ) (all : List TokenKind) (wanted : Punctuation) (tokens : List TokenKind) → length tokens ≤ length all → (P : List TokenKind → Type 0) → ((rest : List TokenKind) → tokens ≡ token.Punctuation wanted ∷ rest → P rest)
+    → Sound P deep all (expect wanted tokens)
+Sound-last deep all wanted tokens le P then =
     elim (expect_cases wanted tokens) [
-      | inl found ↦ subst (λ (r : Result (List TokenKind) Fault). Holds P deep all r) (sym found.2) (then found.0 found.1)
-      | inr e ↦ subst (λ (r : Result (List TokenKind) Fault). Holds P deep all r) (sym e) le
+      | inl found ↦ subst (λ (r : Result (List TokenKind) Fault). Sound P deep all r) (sym found.2) (then found.0 found.1)
+      | inr e ↦ subst (λ (r : Result (List TokenKind) Fault). Sound P deep all r) (sym e) le
     ]
 
-pub name_holds : (deep : ℕ) (tokens : List TokenKind) → Holds (λ x. tokens ≡ token.Name x.0 ∷ x.1) deep tokens (name tokens)
+pub name_soundness : (deep : ℕ) (tokens : List TokenKind) → Sound (λ x. tokens ≡ token.Name x.0 ∷ x.1) deep tokens (name tokens)
 unfolding name
-name_holds deep (token.Name x ∷ rest) = refl
-name_holds deep _ = omega arith
+name_soundness deep (token.Name x ∷ rest) = refl
+name_soundness deep _ = omega arith
 
 -- ---- loops
 
@@ -139,20 +145,20 @@ module _ {S : Type 0} (stop : List TokenKind → Option (List TokenKind)) (turn 
 
   abbrev pub Turns : Type 0
   Turns = (so_far : S) (tokens : List TokenKind) → Kept so_far tokens → length tokens ≤ length all → stop tokens ≡ None
-      → Holds (λ x. Kept x.0 x.1 × (length x.1 ≤ length all)) deep all (turn so_far tokens)
+      → Sound (λ x. Kept x.0 x.1 × (length x.1 ≤ length all)) deep all (turn so_far tokens)
 
-  repeated_by_holds : (goes_on : S → List TokenKind → Read S) → ((so_far : S) (tokens : List TokenKind) → Kept so_far tokens → length tokens ≤ length all → Holds Stopped deep all (goes_on so_far tokens))
+  repeated_by_soundness : (goes_on : S → List TokenKind → Read S) → ((so_far : S) (tokens : List TokenKind) → Kept so_far tokens → length tokens ≤ length all → Sound Stopped deep all (goes_on so_far tokens))
       → Turns → (so_far : S) (tokens : List TokenKind) → Kept so_far tokens → length tokens ≤ length all → (o : Option (List TokenKind)) → stop tokens ≡ o
-      → Holds Stopped deep all (repeated_by turn goes_on so_far tokens o)
-  repeated_by_holds goes_on goes turns so_far tokens kept le None e =
-      Holds-then (λ x. Kept x.0 x.1 × (length x.1 ≤ length all)) Stopped deep all (turn so_far tokens) _ (turns so_far tokens kept le e) (λ x next. goes x.0 x.1 next.0 next.1)
-  repeated_by_holds goes_on goes turns so_far tokens kept le (Some after) e = (tokens, kept, e)
+      → Sound Stopped deep all (repeated_by turn goes_on so_far tokens o)
+  repeated_by_soundness goes_on goes turns so_far tokens kept le None e =
+      Sound-then (λ x. Kept x.0 x.1 × (length x.1 ≤ length all)) Stopped deep all (turn so_far tokens) _ (turns so_far tokens kept le e) (λ x next. goes x.0 x.1 next.0 next.1)
+  repeated_by_soundness goes_on goes turns so_far tokens kept le (Some after) e = (tokens, kept, e)
 
-  pub repeated_holds : Turns → (n : ℕ) (so_far : S) (tokens : List TokenKind) → Kept so_far tokens → length tokens ≤ length all → Holds Stopped deep all (repeated stop turn n so_far tokens)
+  pub repeated_soundness : Turns → (n : ℕ) (so_far : S) (tokens : List TokenKind) → Kept so_far tokens → length tokens ≤ length all → Sound Stopped deep all (repeated stop turn n so_far tokens)
   unfolding repeated
-  repeated_holds turns zero so_far tokens kept le = le
-  repeated_holds turns (suc n) so_far tokens kept le =
-      repeated_by_holds (repeated stop turn n) (λ s rest k l. repeated_holds turns n s rest k l) turns so_far tokens kept le (stop tokens) refl
+  repeated_soundness turns zero so_far tokens kept le = le
+  repeated_soundness turns (suc n) so_far tokens kept le =
+      repeated_by_soundness (repeated stop turn n) (λ s rest k l. repeated_soundness turns n s rest k l) turns so_far tokens kept le (stop tokens) refl
 
 -- a punctuation mark that stands first
 pub punctuation_is : (wanted : Punctuation) (tokens : List TokenKind) → is_punctuation wanted tokens ≡ true → tokens ≡ token.Punctuation wanted ∷ tail tokens

@@ -13,11 +13,11 @@ use Rattle.strc_syntax.specs.Tree as tree
 use Rattle.strc_grammar.specs.Grammar.{each_spelled, highest, part_spelled, bracketed_spelled, brackets_spelled, next_argument_spelled, listed_spelled, arguments_spelled, rate_spelled, block_spelled, stmt_spelled, row_spelled, composition_spelled, child_spelled, member_spelled, members_spelled, IsExpr, IsOptional, IsFirst, IsStep, takes_else, IsStmt, AreStmts, IsComposition, IsChild, IsMember, AreMembers, expr_height, arguments_height, rate_height, stmt_height, row_height, composition_height, child_height, member_height, members_height}
 use Rattle.strc_grammar.specs.Reading.{is_punctuation, is_keyword, brace}
 use Rattle.strc_syntax.specs.Tree.{row}
-use Rattle.strc_grammar.specs.Streams.{statements, block, other_branch, after_branch, branch, while_loop, for_loop, worded_statement, shallow, statement}
-use Rattle.strc_grammar.proofs.Again.{Again, Again-then, Again-inside, Again-raised}
-use Rattle.strc_grammar.proofs.ExpressionAgain.{expr_length, found}
-use Rattle.strc_grammar.proofs.Lists.{TallAgain, each_taller_again}
-use Rattle.strc_grammar.proofs.SimpleAgain.{made, ended_again, heading_height, heading_again, bracketed_again, begins, declared_length, part_length, heading_length, stmt_height_some}
+use Rattle.strc_grammar.specs.Streams.{statements, block, other_branch, after_branch, branch, while_loop, for_loop, keyword_statement, shallow, statement}
+use Rattle.strc_grammar.proofs.Completeness.{Complete, Complete-then, Complete-inside, Complete-raised}
+use Rattle.strc_grammar.proofs.ExpressionCompleteness.{expr_length, found}
+use Rattle.strc_grammar.proofs.Lists.{TallCompleteness, each_taller_completeness}
+use Rattle.strc_grammar.proofs.SimpleCompleteness.{made, ended_completeness, heading_height, heading_completeness, bracketed_completeness, begins, declared_length, part_length, heading_length, stmt_height_some}
 
 -- ---- how a statement begins
 
@@ -117,8 +117,8 @@ mutual
   stmt_length (tree.AssignElement x at o e) shape rest = omega (arith, part_length (tree.AssignElement x at o e) shape (token.Punctuation punctuation.Semicolon ∷ rest))
   stmt_length (tree.If c a) shape rest = omega (arith, bracketed_length c (stmt_spelled a rest), stmt_length a shape.1 rest)
   stmt_length (tree.IfElse c a b) shape rest =
-      let behind : List TokenKind = token.Keyword keyword.Else ∷ stmt_spelled b rest in
-      omega (arith, bracketed_length c (stmt_spelled a behind), stmt_length a shape.2 behind, stmt_length b shape.3 rest)
+      let past : List TokenKind = token.Keyword keyword.Else ∷ stmt_spelled b rest in
+      omega (arith, bracketed_length c (stmt_spelled a past), stmt_length a shape.2 past, stmt_length b shape.3 rest)
   stmt_length (tree.While c body) shape rest = omega (arith, bracketed_length c (stmt_spelled body rest), stmt_length body shape.1 rest)
   stmt_length (tree.For begun tested stepped body) shape rest =
       omega (arith, heading_length begun tested stepped shape.0 shape.2 (stmt_spelled body rest), stmt_length body shape.3 rest)
@@ -179,37 +179,37 @@ listed_height tree.Done = refl
 listed_height (tree.Then s others) = ap (λ (n : ℕ). max (stmt_height s) n) (listed_height others)
 
 -- read again before what doesn't go on with an `else` that the statement would take
-pub record StmtAgain (s : tree.Stmt) : Type 0 where
+pub record StmtCompleteness (s : tree.Stmt) : Type 0 where
   pub shape : IsStmt s
-  pub reads : (depth : ℕ) (rest : List TokenKind) → (takes_else s ≡ true → NoElse rest) → Again depth (stmt_height s) (made s rest) (statement depth (stmt_spelled s rest))
+  pub reads : (depth : ℕ) (rest : List TokenKind) → (takes_else s ≡ true → NoElse rest) → Complete depth (stmt_height s) (made s rest) (statement depth (stmt_spelled s rest))
 
 module _ (d : ℕ) where
-  abbrev IsRowAgain : tree.Stmt → Type 0
-  IsRowAgain s = TallAgain stmt_spelled stmt_height (statement d) brace NoElse d s
+  abbrev IsRowCompleteness : tree.Stmt → Type 0
+  IsRowCompleteness s = TallCompleteness stmt_spelled stmt_height (statement d) brace NoElse d s
 
-  one_again : (s : tree.Stmt) → StmtAgain s → IsRowAgain s
-  one_again s again = record {
-    reads = λ rest free. again.reads d rest (λ takes. free);
-    stays = λ rest. no_brace_before s again.shape rest;
-    follows = λ rest. no_else_before s again.shape rest;
-    long = λ rest. omega (arith, stmt_length s again.shape rest, stmt_height_some s);
+  one_completeness : (s : tree.Stmt) → StmtCompleteness s → IsRowCompleteness s
+  one_completeness s complete = record {
+    reads = λ rest free. complete.reads d rest (λ takes. free);
+    stays = λ rest. no_brace_before s complete.shape rest;
+    follows = λ rest. no_else_before s complete.shape rest;
+    long = λ rest. omega (arith, stmt_length s complete.shape rest, stmt_height_some s);
   }
 
-  all_again : (items : List tree.Stmt) → AllByRecursion StmtAgain items → AllByRecursion IsRowAgain items
-  all_again [] again = tt
-  all_again (s ∷ others) again = (one_again s again.0, all_again others again.1)
+  all_completeness : (items : List tree.Stmt) → AllByRecursion StmtCompleteness items → AllByRecursion IsRowCompleteness items
+  all_completeness [] complete = tt
+  all_completeness (s ∷ others) complete = (one_completeness s complete.0, all_completeness others complete.1)
 
   pub brace_closing : (rest : List TokenKind) → brace (token.Punctuation punctuation.CloseBrace ∷ rest) ≡ Some rest
   unfolding brace is_punctuation
   brace_closing rest = refl
 
-  pub row_again : (body : tree.Stmts) → AllByRecursion StmtAgain (listed body) → (rest : List TokenKind)
-      → Again d (row_height body) ((listed body, row_height body), rest) (statements (statement d) (row_spelled body (token.Punctuation punctuation.CloseBrace ∷ rest)))
+  pub row_completeness : (body : tree.Stmts) → AllByRecursion StmtCompleteness (listed body) → (rest : List TokenKind)
+      → Complete d (row_height body) ((listed body, row_height body), rest) (statements (statement d) (row_spelled body (token.Punctuation punctuation.CloseBrace ∷ rest)))
   unfolding statements
-  row_again body again rest =
+  row_completeness body complete rest =
       let end : List TokenKind = token.Punctuation punctuation.CloseBrace ∷ rest in
       let tokens : List TokenKind = each_spelled stmt_spelled (listed body) end in
-      let read = each_taller_again stmt_spelled stmt_height (statement d) brace NoElse d (listed body) (all_again (listed body) again) [] 0 (length tokens) end rest
+      let read = each_taller_completeness stmt_spelled stmt_height (statement d) brace NoElse d (listed body) (all_completeness (listed body) complete) [] 0 (length tokens) end rest
       (brace_closing rest) (no_else_brace rest) (omega arith) in
       let none : max 0 (row_height body) ≡ row_height body = omega arith in
       rw (spelled_listed body end, listed_height body, none) at read
@@ -217,72 +217,72 @@ module _ (d : ℕ) where
 -- ---- statements with others in them
 
 module _ (d : ℕ) (rest : List TokenKind) where
-  pub block_again : (body : tree.Stmts) → AllByRecursion StmtAgain (listed body)
-      → Again (suc d) (row_height body + 1) (made (tree.Block body) rest) (shallow (suc d) (statement d) (stmt_spelled (tree.Block body) rest))
+  pub block_completeness : (body : tree.Stmts) → AllByRecursion StmtCompleteness (listed body)
+      → Complete (suc d) (row_height body + 1) (made (tree.Block body) rest) (shallow (suc d) (statement d) (stmt_spelled (tree.Block body) rest))
   unfolding shallow block
-  block_again body again =
-      Again-inside d (row_height body) (row_height body + 1) ((listed body, row_height body), rest) (made (tree.Block body) rest) _ _ (row_again d body again rest) (omega arith)
-      (λ low. rw (row_listed body) (Again-raised (suc d) (row_height body) (made (tree.Block body) rest) _ refl))
+  block_completeness body complete =
+      Complete-inside d (row_height body) (row_height body + 1) ((listed body, row_height body), rest) (made (tree.Block body) rest) _ _ (row_completeness d body complete rest) (omega arith)
+      (λ low. rw (row_listed body) (Complete-raised (suc d) (row_height body) (made (tree.Block body) rest) _ refl))
 
-  pub if_again : (c : tree.Expr) (a : tree.Stmt) → IsExpr c → StmtAgain a → NoElse rest
-      → Again (suc d) (stmt_height (tree.If c a)) (made (tree.If c a) rest) (shallow (suc d) (statement d) (stmt_spelled (tree.If c a) rest))
-  unfolding shallow worded_statement branch after_branch
-  if_again c a shape again free =
+  pub if_completeness : (c : tree.Expr) (a : tree.Stmt) → IsExpr c → StmtCompleteness a → NoElse rest
+      → Complete (suc d) (stmt_height (tree.If c a)) (made (tree.If c a) rest) (shallow (suc d) (statement d) (stmt_spelled (tree.If c a) rest))
+  unfolding shallow keyword_statement branch after_branch
+  if_completeness c a shape complete free =
       let high : ℕ = stmt_height (tree.If c a) in
-      Again-inside d (expr_height c) high (found c (stmt_spelled a rest)) (made (tree.If c a) rest) _ _ (bracketed_again d (stmt_spelled a rest) c shape) (omega arith) (λ one.
-      Again-inside d (stmt_height a) high (made a rest) (made (tree.If c a) rest) _ _ (again.reads d rest (λ takes. free)) (omega arith) (λ two.
-      rw free (Again-raised (suc d) (max (expr_height c) (stmt_height a)) (made (tree.If c a) rest) _ refl)))
+      Complete-inside d (expr_height c) high (found c (stmt_spelled a rest)) (made (tree.If c a) rest) _ _ (bracketed_completeness d (stmt_spelled a rest) c shape) (omega arith) (λ one.
+      Complete-inside d (stmt_height a) high (made a rest) (made (tree.If c a) rest) _ _ (complete.reads d rest (λ takes. free)) (omega arith) (λ two.
+      rw free (Complete-raised (suc d) (max (expr_height c) (stmt_height a)) (made (tree.If c a) rest) _ refl)))
 
-  other_again : (c : tree.Expr) (a b : tree.Stmt) → StmtAgain b → (takes_else b ≡ true → NoElse rest) → expr_height c ≤ d → stmt_height a ≤ d
-      → Again (suc d) (stmt_height (tree.IfElse c a b)) (made (tree.IfElse c a b) rest) (other_branch (suc d) (statement d) c a (max (expr_height c) (stmt_height a)) (stmt_spelled b rest))
+  other_completeness : (c : tree.Expr) (a b : tree.Stmt) → StmtCompleteness b → (takes_else b ≡ true → NoElse rest) → expr_height c ≤ d → stmt_height a ≤ d
+      → Complete (suc d) (stmt_height (tree.IfElse c a b)) (made (tree.IfElse c a b) rest) (other_branch (suc d) (statement d) c a (max (expr_height c) (stmt_height a)) (stmt_spelled b rest))
   unfolding other_branch
-  other_again c a b again free one two =
+  other_completeness c a b complete free one two =
       let high : ℕ = stmt_height (tree.IfElse c a b) in
-      Again-inside d (stmt_height b) high (made b rest) (made (tree.IfElse c a b) rest) _ _ (again.reads d rest free) (omega arith) (λ three.
-      Again-raised (suc d) (max (max (expr_height c) (stmt_height a)) (stmt_height b)) (made (tree.IfElse c a b) rest) _ refl)
+      Complete-inside d (stmt_height b) high (made b rest) (made (tree.IfElse c a b) rest) _ _ (complete.reads d rest free) (omega arith) (λ three.
+      Complete-raised (suc d) (max (max (expr_height c) (stmt_height a)) (stmt_height b)) (made (tree.IfElse c a b) rest) _ refl)
 
-  pub if_else_again : (c : tree.Expr) (a b : tree.Stmt) → IsExpr c → takes_else a ≡ false → StmtAgain a → StmtAgain b → (takes_else b ≡ true → NoElse rest)
-      → Again (suc d) (stmt_height (tree.IfElse c a b)) (made (tree.IfElse c a b) rest) (shallow (suc d) (statement d) (stmt_spelled (tree.IfElse c a b) rest))
-  unfolding shallow worded_statement branch after_branch is_keyword
-  if_else_again c a b shape closed again others free =
+  pub if_else_completeness : (c : tree.Expr) (a b : tree.Stmt) → IsExpr c → takes_else a ≡ false → StmtCompleteness a → StmtCompleteness b → (takes_else b ≡ true → NoElse rest)
+      → Complete (suc d) (stmt_height (tree.IfElse c a b)) (made (tree.IfElse c a b) rest) (shallow (suc d) (statement d) (stmt_spelled (tree.IfElse c a b) rest))
+  unfolding shallow keyword_statement branch after_branch is_keyword
+  if_else_completeness c a b shape closed complete others free =
       let high : ℕ = stmt_height (tree.IfElse c a b) in
-      let behind : List TokenKind = token.Keyword keyword.Else ∷ stmt_spelled b rest in
-      Again-inside d (expr_height c) high (found c (stmt_spelled a behind)) (made (tree.IfElse c a b) rest) _ _ (bracketed_again d (stmt_spelled a behind) c shape) (omega arith) (λ one.
-      Again-inside d (stmt_height a) high (made a behind) (made (tree.IfElse c a b) rest) _ _ (again.reads d behind (λ takes. absurd cc)) (omega arith) (λ two.
-      other_again c a b others free one two))
+      let past : List TokenKind = token.Keyword keyword.Else ∷ stmt_spelled b rest in
+      Complete-inside d (expr_height c) high (found c (stmt_spelled a past)) (made (tree.IfElse c a b) rest) _ _ (bracketed_completeness d (stmt_spelled a past) c shape) (omega arith) (λ one.
+      Complete-inside d (stmt_height a) high (made a past) (made (tree.IfElse c a b) rest) _ _ (complete.reads d past (λ takes. absurd cc)) (omega arith) (λ two.
+      other_completeness c a b others free one two))
 
-  pub while_again : (c : tree.Expr) (body : tree.Stmt) → IsExpr c → StmtAgain body → (takes_else body ≡ true → NoElse rest)
-      → Again (suc d) (stmt_height (tree.While c body)) (made (tree.While c body) rest) (shallow (suc d) (statement d) (stmt_spelled (tree.While c body) rest))
-  unfolding shallow worded_statement while_loop
-  while_again c body shape again free =
+  pub while_completeness : (c : tree.Expr) (body : tree.Stmt) → IsExpr c → StmtCompleteness body → (takes_else body ≡ true → NoElse rest)
+      → Complete (suc d) (stmt_height (tree.While c body)) (made (tree.While c body) rest) (shallow (suc d) (statement d) (stmt_spelled (tree.While c body) rest))
+  unfolding shallow keyword_statement while_loop
+  while_completeness c body shape complete free =
       let high : ℕ = stmt_height (tree.While c body) in
-      Again-inside d (expr_height c) high (found c (stmt_spelled body rest)) (made (tree.While c body) rest) _ _ (bracketed_again d (stmt_spelled body rest) c shape) (omega arith) (λ one.
-      Again-inside d (stmt_height body) high (made body rest) (made (tree.While c body) rest) _ _ (again.reads d rest free) (omega arith) (λ two.
-      Again-raised (suc d) (max (expr_height c) (stmt_height body)) (made (tree.While c body) rest) _ refl))
+      Complete-inside d (expr_height c) high (found c (stmt_spelled body rest)) (made (tree.While c body) rest) _ _ (bracketed_completeness d (stmt_spelled body rest) c shape) (omega arith) (λ one.
+      Complete-inside d (stmt_height body) high (made body rest) (made (tree.While c body) rest) _ _ (complete.reads d rest free) (omega arith) (λ two.
+      Complete-raised (suc d) (max (expr_height c) (stmt_height body)) (made (tree.While c body) rest) _ refl))
 
-  pub for_again : (begun : tree.Stmt) (tested : Option tree.Expr) (stepped body : tree.Stmt) → IsFirst begun → IsOptional tested → IsStep stepped → StmtAgain body → (takes_else body ≡ true → NoElse rest)
-      → Again (suc d) (stmt_height (tree.For begun tested stepped body)) (made (tree.For begun tested stepped body) rest) (shallow (suc d) (statement d) (stmt_spelled (tree.For begun tested stepped body) rest))
-  unfolding shallow worded_statement for_loop
-  for_again begun tested stepped body is_first is_tested is_step again free =
+  pub for_completeness : (begun : tree.Stmt) (tested : Option tree.Expr) (stepped body : tree.Stmt) → IsFirst begun → IsOptional tested → IsStep stepped → StmtCompleteness body → (takes_else body ≡ true → NoElse rest)
+      → Complete (suc d) (stmt_height (tree.For begun tested stepped body)) (made (tree.For begun tested stepped body) rest) (shallow (suc d) (statement d) (stmt_spelled (tree.For begun tested stepped body) rest))
+  unfolding shallow keyword_statement for_loop
+  for_completeness begun tested stepped body is_first is_tested is_step complete free =
       let high : ℕ = stmt_height (tree.For begun tested stepped body) in
       let all = made (tree.For begun tested stepped body) rest in
-      Again-then (suc d) (heading_height begun tested stepped) high ((begun, tested, stepped), heading_height begun tested stepped, stmt_spelled body rest) all _ _
-      (heading_again d (stmt_spelled body rest) begun tested stepped is_first is_tested is_step) (omega arith) (λ one.
-      Again-inside d (stmt_height body) high (made body rest) all _ _ (again.reads d rest free) (omega arith) (λ two.
-      Again-raised (suc d) (max (heading_height begun tested stepped) (stmt_height body)) all _ refl))
+      Complete-then (suc d) (heading_height begun tested stepped) high ((begun, tested, stepped), heading_height begun tested stepped, stmt_spelled body rest) all _ _
+      (heading_completeness d (stmt_spelled body rest) begun tested stepped is_first is_tested is_step) (omega arith) (λ one.
+      Complete-inside d (stmt_height body) high (made body rest) all _ _ (complete.reads d rest free) (omega arith) (λ two.
+      Complete-raised (suc d) (max (heading_height begun tested stepped) (stmt_height body)) all _ refl))
 
-  pub part_statement : (s : tree.Stmt) → IsFirst s → Again (suc d) (stmt_height s) (made s rest) (shallow (suc d) (statement d) (part_spelled s (token.Punctuation punctuation.Semicolon ∷ rest)))
-  part_statement s shape = rw ((begins s shape).is_ended (suc d) (statement d) rest) (ended_again d rest s shape)
+  pub part_statement : (s : tree.Stmt) → IsFirst s → Complete (suc d) (stmt_height s) (made s rest) (shallow (suc d) (statement d) (part_spelled s (token.Punctuation punctuation.Semicolon ∷ rest)))
+  part_statement s shape = rw ((begins s shape).is_ended (suc d) (statement d) rest) (ended_completeness d rest s shape)
 
 -- ---- statements at every depth
 
 abbrev pub IsShallow : tree.Stmt → Type 0
-IsShallow s = (d : ℕ) (rest : List TokenKind) → (takes_else s ≡ true → NoElse rest) → Again (suc d) (stmt_height s) (made s rest) (shallow (suc d) (statement d) (stmt_spelled s rest))
+IsShallow s = (d : ℕ) (rest : List TokenKind) → (takes_else s ≡ true → NoElse rest) → Complete (suc d) (stmt_height s) (made s rest) (shallow (suc d) (statement d) (stmt_spelled s rest))
 
-at_depth : (s : tree.Stmt) → IsShallow s → (depth : ℕ) (rest : List TokenKind) → (takes_else s ≡ true → NoElse rest) → Again depth (stmt_height s) (made s rest) (statement depth (stmt_spelled s rest))
+at_depth : (s : tree.Stmt) → IsShallow s → (depth : ℕ) (rest : List TokenKind) → (takes_else s ≡ true → NoElse rest) → Complete depth (stmt_height s) (made s rest) (statement depth (stmt_spelled s rest))
 unfolding statement
-at_depth s again zero rest free = record { fits = λ h. absurd (omega (arith, stmt_height_some s)); over = λ h. refl }
-at_depth s again (suc d) rest free = again d rest free
+at_depth s complete zero rest free = record { fits = λ h. absurd (omega (arith, stmt_height_some s)); over = λ h. refl }
+at_depth s complete (suc d) rest free = complete d rest free
 
-pub always : (s : tree.Stmt) → IsStmt s → IsShallow s → StmtAgain s
-always s shape again = record { shape = shape; reads = at_depth s again }
+pub always : (s : tree.Stmt) → IsStmt s → IsShallow s → StmtCompleteness s
+always s shape complete = record { shape = shape; reads = at_depth s complete }

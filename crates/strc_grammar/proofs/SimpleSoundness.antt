@@ -10,11 +10,11 @@ use Rattle.strc_syntax.specs.declared.tree.AssignOperator.{AssignOperator}
 use Rattle.strc_syntax.specs.declared.tree.AssignOperator.TheVariants as assign
 use Rattle.strc_syntax.specs.Tree as tree
 use Rattle.strc_grammar.specs.Grammar.{assign_punctuation, expr_spelled, highest, type_spelled, initial_spelled, variable_spelled, next_spelled, variables_spelled, declared_spelled, part_spelled, condition_spelled, bracketed_spelled, heading_spelled, lowest_precedence, IsExpr, IsOptional, IsVariableType, IsVariable, AreVariables, IsStep, IsFirst, expr_height, optional_height, type_height, variable_height, declared_height, stmt_height}
-use Rattle.strc_grammar.specs.Reading.{tail, punctuation_at, is_punctuation, closed, expression, one_taller, repeated, initial, variable, no_comma, next_variable, more_variables, variables, int_type, variable_type, declared, declare, evaluate, assign_to, assign_element, assign_at, assign_by, assignment, after_value_by, after_value, simple, optional, part, ended, bracketed, argument, condition, last_part, behind_first, for_heading}
-use Rattle.strc_grammar.proofs.ExpressionAgain.{expr_length}
-use Rattle.strc_grammar.proofs.SimpleAgain.{variable_length, type_length, heading_height, part_length, step_first, condition_length, stmt_height_some}
-use Rattle.strc_grammar.proofs.Holds.{Holds, Holds-then, Holds-on, Holds-expect, Holds-name, Holds-raised, Stopped, repeated_holds, punctuation_is, each_spelled-push, highest-push, All-push}
-use Rattle.strc_grammar.proofs.ExpressionHolds.{ExprRead, ClosedRead, closed_holds, expression_holds}
+use Rattle.strc_grammar.specs.Reading.{tail, punctuation_at, is_punctuation, closed, expression, one_taller, repeated, initial, variable, no_comma, next_variable, more_variables, variables, int_type, variable_type, declared, declare, evaluate, assign_to, assign_element, assign_at, assign_by, assignment, after_value_by, after_value, simple, optional, part, ended, bracketed, argument, condition, last_part, after_first, for_heading}
+use Rattle.strc_grammar.proofs.ExpressionCompleteness.{expr_length}
+use Rattle.strc_grammar.proofs.SimpleCompleteness.{variable_length, type_length, heading_height, part_length, step_first, condition_length, stmt_height_some}
+use Rattle.strc_grammar.proofs.Soundness.{Sound, Sound-then, Sound-on, Sound-expect, Sound-name, Sound-raised, Stopped, repeated_soundness, punctuation_is, each_spelled-push, highest-push, All-push}
+use Rattle.strc_grammar.proofs.ExpressionSoundness.{ExprRead, ClosedRead, closed_soundness, expression_soundness}
 
 abbrev count : List TokenKind → ℕ
 count ts = length ts
@@ -28,24 +28,24 @@ record InitialRead (depth : ℕ) (tokens : List TokenKind) (x : Option tree.Expr
   low : x.1 ≤ depth
 
 -- an expression somewhere within these tokens
-within : (d deep : ℕ) (all tokens : List TokenKind) → length tokens ≤ length all → deep + length tokens ≤ d + length all → Holds (ExprRead d lowest_precedence tokens) deep all (expression d lowest_precedence tokens)
-within d deep all tokens le room = Holds-on (ExprRead d lowest_precedence tokens) (ExprRead d lowest_precedence tokens) d deep tokens all (expression d lowest_precedence tokens) le room (expression_holds d lowest_precedence tokens) (λ x h. h)
+within : (d deep : ℕ) (all tokens : List TokenKind) → length tokens ≤ length all → deep + length tokens ≤ d + length all → Sound (ExprRead d lowest_precedence tokens) deep all (expression d lowest_precedence tokens)
+within d deep all tokens le room = Sound-on (ExprRead d lowest_precedence tokens) (ExprRead d lowest_precedence tokens) d deep tokens all (expression d lowest_precedence tokens) le room (expression_soundness d lowest_precedence tokens) (λ x h. h)
 
 -- the same with the punctuation that closes it
 closed_within : (d deep : ℕ) (m : Punctuation) (all tokens : List TokenKind) → length tokens ≤ length all → deep + length tokens ≤ d + length all
-    → Holds (ClosedRead d m tokens) deep all (closed (expression d) m tokens)
+    → Sound (ClosedRead d m tokens) deep all (closed (expression d) m tokens)
 closed_within d deep m all tokens le room =
-    Holds-on (ClosedRead d m tokens) (ClosedRead d m tokens) d deep tokens all (closed (expression d) m tokens) le room (closed_holds d (expression d) (expression_holds d) m tokens) (λ x h. h)
+    Sound-on (ClosedRead d m tokens) (ClosedRead d m tokens) d deep tokens all (closed (expression d) m tokens) le room (closed_soundness d (expression d) (expression_soundness d) m tokens) (λ x h. h)
 
-initial_holds : (depth : ℕ) (tokens : List TokenKind) → Holds (InitialRead depth tokens) depth tokens (initial depth tokens)
+initial_soundness : (depth : ℕ) (tokens : List TokenKind) → Sound (InitialRead depth tokens) depth tokens (initial depth tokens)
 unfolding initial
-initial_holds depth tokens =
+initial_soundness depth tokens =
     let Q : Option tree.Expr × ℕ × List TokenKind → Type 0 = InitialRead depth tokens in
     elim (cases_Bool (is_punctuation punctuation.Assign tokens)) [
       | inl is ↦
           let stands = punctuation_is punctuation.Assign tokens is in
           let one : length tokens ≡ suc (length (tail tokens)) = ap count stands in
-          let read = Holds-then (ExprRead depth lowest_precedence (tail tokens)) Q depth tokens (expression depth lowest_precedence (tail tokens)) (λ value. Ok (Some value.0, value.1, value.2))
+          let read = Sound-then (ExprRead depth lowest_precedence (tail tokens)) Q depth tokens (expression depth lowest_precedence (tail tokens)) (λ value. Ok (Some value.0, value.1, value.2))
           (within depth depth tokens (tail tokens) (omega arith) (omega arith))
           (λ x value. record {
             spelled = stands ∙ ap (λ (ts : List TokenKind). token.Punctuation punctuation.Assign ∷ ts) value.spelled;
@@ -66,13 +66,13 @@ record VariableRead (depth : ℕ) (tokens : List TokenKind) (x : tree.Variable �
   high : x.1 ≡ variable_height x.0
   low : x.1 ≤ depth
 
-variable_holds : (depth : ℕ) (tokens : List TokenKind) → Holds (VariableRead depth tokens) depth tokens (variable depth tokens)
+variable_soundness : (depth : ℕ) (tokens : List TokenKind) → Sound (VariableRead depth tokens) depth tokens (variable depth tokens)
 unfolding variable
-variable_holds depth tokens =
-    Holds-name (VariableRead depth tokens) depth tokens tokens _ (omega arith) (λ x rest e.
+variable_soundness depth tokens =
+    Sound-name (VariableRead depth tokens) depth tokens tokens _ (omega arith) (λ x rest e.
     let one : length tokens ≡ suc (length rest) = ap count e in
-    Holds-then (InitialRead depth rest) (VariableRead depth tokens) depth tokens (initial depth rest) _
-    (Holds-on (InitialRead depth rest) (InitialRead depth rest) depth depth rest tokens (initial depth rest) (omega arith) (omega arith) (initial_holds depth rest) (λ y h. h)) (λ y begun.
+    Sound-then (InitialRead depth rest) (VariableRead depth tokens) depth tokens (initial depth rest) _
+    (Sound-on (InitialRead depth rest) (InitialRead depth rest) depth depth rest tokens (initial depth rest) (omega arith) (omega arith) (initial_soundness depth rest) (λ y h. h)) (λ y begun.
     record { spelled = e ∙ ap (λ (ts : List TokenKind). token.Name x ∷ ts) begun.spelled; shape = begun.shape; high = begun.high; low = begun.low }))
 
 -- the variables so far, the height of the highest, and what follows them
@@ -108,14 +108,14 @@ no_comma_is tokens after e =
     ]
 
 module _ (depth : ℕ) (all : List TokenKind) where
-  next_holds : (so_far : List tree.Variable × ℕ) (tokens : List TokenKind) → VariablesRead depth all so_far tokens → length tokens ≤ length all → no_comma tokens ≡ None
-      → Holds (λ x. VariablesRead depth all x.0 x.1 × (length x.1 ≤ length all)) depth all (one_taller (next_variable depth) so_far tokens)
+  next_soundness : (so_far : List tree.Variable × ℕ) (tokens : List TokenKind) → VariablesRead depth all so_far tokens → length tokens ≤ length all → no_comma tokens ≡ None
+      → Sound (λ x. VariablesRead depth all x.0 x.1 × (length x.1 ≤ length all)) depth all (one_taller (next_variable depth) so_far tokens)
   unfolding one_taller next_variable
-  next_holds so_far tokens kept le goes =
+  next_soundness so_far tokens kept le goes =
       let stands = comma_is tokens goes in
       let one : length tokens ≡ suc (length (tail tokens)) = ap count stands in
-      Holds-then (VariableRead depth (tail tokens)) (λ x. VariablesRead depth all x.0 x.1 × (length x.1 ≤ length all)) depth all (variable depth (tail tokens)) _
-      (Holds-on (VariableRead depth (tail tokens)) (VariableRead depth (tail tokens)) depth depth (tail tokens) all (variable depth (tail tokens)) (omega arith) (omega arith) (variable_holds depth (tail tokens)) (λ x h. h)) (λ x read. (
+      Sound-then (VariableRead depth (tail tokens)) (λ x. VariablesRead depth all x.0 x.1 × (length x.1 ≤ length all)) depth all (variable depth (tail tokens)) _
+      (Sound-on (VariableRead depth (tail tokens)) (VariableRead depth (tail tokens)) depth depth (tail tokens) all (variable depth (tail tokens)) (omega arith) (omega arith) (variable_soundness depth (tail tokens)) (λ x h. h)) (λ x read. (
         record {
           spelled = kept.spelled ∙ ap (λ (ts : List TokenKind). variables_spelled so_far.0 ts) (stands ∙ ap (λ (ts : List TokenKind). token.Punctuation punctuation.Comma ∷ ts) read.spelled)
               ∙ sym (variables_spelled-push so_far.0 x.0 x.2 kept.shape);
@@ -126,20 +126,20 @@ module _ (depth : ℕ) (all : List TokenKind) where
         omega (arith, ap count read.spelled, variable_length x.0 x.2),
       ))
 
-  more_holds : (so_far : List tree.Variable × ℕ) (tokens : List TokenKind) → VariablesRead depth all so_far tokens → length tokens ≤ length all
-      → Holds (λ x. VariablesRead depth all x.0 x.1) depth all (more_variables depth so_far tokens)
+  more_soundness : (so_far : List tree.Variable × ℕ) (tokens : List TokenKind) → VariablesRead depth all so_far tokens → length tokens ≤ length all
+      → Sound (λ x. VariablesRead depth all x.0 x.1) depth all (more_variables depth so_far tokens)
   unfolding more_variables
-  more_holds so_far tokens kept le =
-      Holds-on (Stopped no_comma (one_taller (next_variable depth)) (VariablesRead depth all) depth all) (λ x. VariablesRead depth all x.0 x.1) depth depth all all
+  more_soundness so_far tokens kept le =
+      Sound-on (Stopped no_comma (one_taller (next_variable depth)) (VariablesRead depth all) depth all) (λ x. VariablesRead depth all x.0 x.1) depth depth all all
       (repeated no_comma (one_taller (next_variable depth)) (length tokens + 1) so_far tokens) (omega arith) (omega arith)
-      (repeated_holds no_comma (one_taller (next_variable depth)) (VariablesRead depth all) depth all next_holds (length tokens + 1) so_far tokens kept le)
+      (repeated_soundness no_comma (one_taller (next_variable depth)) (VariablesRead depth all) depth all next_soundness (length tokens + 1) so_far tokens kept le)
       (λ x stopped. subst (λ (ts : List TokenKind). VariablesRead depth all x.0 ts) (no_comma_is stopped.0 x.1 stopped.2) stopped.1)
 
-variables_holds : (depth : ℕ) (tokens : List TokenKind) → Holds (λ x. VariablesRead depth tokens x.0 x.1) depth tokens (variables depth tokens)
+variables_soundness : (depth : ℕ) (tokens : List TokenKind) → Sound (λ x. VariablesRead depth tokens x.0 x.1) depth tokens (variables depth tokens)
 unfolding variables
-variables_holds depth tokens =
-    Holds-then (VariableRead depth tokens) (λ x. VariablesRead depth tokens x.0 x.1) depth tokens (variable depth tokens) _ (variable_holds depth tokens) (λ x read.
-    more_holds depth tokens (x.0 ∷ [], x.1) x.2 (record { spelled = read.spelled; shape = (read.shape, tt); high = omega (arith, read.high); low = read.low })
+variables_soundness depth tokens =
+    Sound-then (VariableRead depth tokens) (λ x. VariablesRead depth tokens x.0 x.1) depth tokens (variable depth tokens) _ (variable_soundness depth tokens) (λ x read.
+    more_soundness depth tokens (x.0 ∷ [], x.1) x.2 (record { spelled = read.spelled; shape = (read.shape, tt); high = omega (arith, read.high); low = read.low })
     (omega (arith, ap count read.spelled, variable_length x.0 x.2)))
 
 record TypeRead (depth : ℕ) (tokens : List TokenKind) (x : tree.VariableType × ℕ × List TokenKind) : Type 0 where
@@ -148,17 +148,17 @@ record TypeRead (depth : ℕ) (tokens : List TokenKind) (x : tree.VariableType �
   high : x.1 ≡ type_height x.0
   low : x.1 ≤ depth
 
-int_type_holds : (depth : ℕ) (behind : List TokenKind) → Holds (TypeRead depth (token.Keyword keyword.Int ∷ behind)) depth (token.Keyword keyword.Int ∷ behind) (int_type depth behind)
+int_type_soundness : (depth : ℕ) (past : List TokenKind) → Sound (TypeRead depth (token.Keyword keyword.Int ∷ past)) depth (token.Keyword keyword.Int ∷ past) (int_type depth past)
 unfolding int_type
-int_type_holds depth behind =
-    let all : List TokenKind = token.Keyword keyword.Int ∷ behind in
+int_type_soundness depth past =
+    let all : List TokenKind = token.Keyword keyword.Int ∷ past in
     let Q : tree.VariableType × ℕ × List TokenKind → Type 0 = TypeRead depth all in
-    elim (cases_Bool (is_punctuation punctuation.OpenBracket behind)) [
+    elim (cases_Bool (is_punctuation punctuation.OpenBracket past)) [
       | inl is ↦
-          let stands = punctuation_is punctuation.OpenBracket behind is in
-          let one : length behind ≡ suc (length (tail behind)) = ap count stands in
-          let read = Holds-then (ClosedRead depth punctuation.CloseBracket (tail behind)) Q depth all (closed (expression depth) punctuation.CloseBracket (tail behind)) (λ size. Ok (tree.Array size.0, size.1, size.2))
-          (closed_within depth depth punctuation.CloseBracket all (tail behind) (omega arith) (omega arith))
+          let stands = punctuation_is punctuation.OpenBracket past is in
+          let one : length past ≡ suc (length (tail past)) = ap count stands in
+          let read = Sound-then (ClosedRead depth punctuation.CloseBracket (tail past)) Q depth all (closed (expression depth) punctuation.CloseBracket (tail past)) (λ size. Ok (tree.Array size.0, size.1, size.2))
+          (closed_within depth depth punctuation.CloseBracket all (tail past) (omega arith) (omega arith))
           (λ x size. record {
             spelled = ap (λ (ts : List TokenKind). token.Keyword keyword.Int ∷ ts) (stands ∙ ap (λ (ts : List TokenKind). token.Punctuation punctuation.OpenBracket ∷ ts) size.spelled);
             shape = size.shape;
@@ -167,15 +167,15 @@ int_type_holds depth behind =
           }) in
           rw is read
       | inr is ↦
-          let none : Q (tree.Int, 0, behind) = record { spelled = refl; shape = tt; high = refl; low = omega arith } in
+          let none : Q (tree.Int, 0, past) = record { spelled = refl; shape = tt; high = refl; low = omega arith } in
           rw is none
     ]
 
-type_holds : (depth : ℕ) (tokens : List TokenKind) → Holds (TypeRead depth tokens) depth tokens (variable_type depth tokens)
+type_soundness : (depth : ℕ) (tokens : List TokenKind) → Sound (TypeRead depth tokens) depth tokens (variable_type depth tokens)
 unfolding variable_type
-type_holds depth (token.Keyword keyword.Boolean ∷ rest) = record { spelled = refl; shape = tt; high = refl; low = omega arith }
-type_holds depth (token.Keyword keyword.Int ∷ rest) = int_type_holds depth rest
-type_holds depth _ = omega arith
+type_soundness depth (token.Keyword keyword.Boolean ∷ rest) = record { spelled = refl; shape = tt; high = refl; low = omega arith }
+type_soundness depth (token.Keyword keyword.Int ∷ rest) = int_type_soundness depth rest
+type_soundness depth _ = omega arith
 
 -- a declaration, the height of its highest expression and what follows it
 pub record DeclaredRead (depth : ℕ) (tokens : List TokenKind) (x : (tree.VariableType × List tree.Variable) × ℕ × List TokenKind) : Type 0 where
@@ -185,13 +185,13 @@ pub record DeclaredRead (depth : ℕ) (tokens : List TokenKind) (x : (tree.Varia
   pub high : x.1 ≡ declared_height x.0.0 x.0.1
   pub low : x.1 ≤ depth
 
-pub declared_holds : (depth : ℕ) (tokens : List TokenKind) → Holds (DeclaredRead depth tokens) depth tokens (declared depth tokens)
+pub declared_soundness : (depth : ℕ) (tokens : List TokenKind) → Sound (DeclaredRead depth tokens) depth tokens (declared depth tokens)
 unfolding declared
-declared_holds depth tokens =
-    Holds-then (TypeRead depth tokens) (DeclaredRead depth tokens) depth tokens (variable_type depth tokens) _ (type_holds depth tokens) (λ kind typed.
+declared_soundness depth tokens =
+    Sound-then (TypeRead depth tokens) (DeclaredRead depth tokens) depth tokens (variable_type depth tokens) _ (type_soundness depth tokens) (λ kind typed.
     let le : length kind.2 ≤ length tokens = omega (arith, ap count typed.spelled, type_length kind.0 kind.2) in
-    Holds-then (λ x. VariablesRead depth kind.2 x.0 x.1) (DeclaredRead depth tokens) depth tokens (variables depth kind.2) _
-    (Holds-on (λ x. VariablesRead depth kind.2 x.0 x.1) (λ x. VariablesRead depth kind.2 x.0 x.1) depth depth kind.2 tokens (variables depth kind.2) le (omega arith) (variables_holds depth kind.2) (λ x h. h)) (λ x read.
+    Sound-then (λ x. VariablesRead depth kind.2 x.0 x.1) (DeclaredRead depth tokens) depth tokens (variables depth kind.2) _
+    (Sound-on (λ x. VariablesRead depth kind.2 x.0 x.1) (λ x. VariablesRead depth kind.2 x.0 x.1) depth depth kind.2 tokens (variables depth kind.2) le (omega arith) (variables_soundness depth kind.2) (λ x h. h)) (λ x read.
     record {
       spelled = typed.spelled ∙ ap (λ (ts : List TokenKind). type_spelled kind.0 ts) read.spelled;
       typed = typed.shape;
@@ -226,20 +226,20 @@ module _ (d : ℕ) (all : List TokenKind) where
   abbrev IsStepRead : tree.Stmt × ℕ × List TokenKind → Type 0
   IsStepRead = PartRead IsStep (suc d) all
 
-  evaluate_holds : (e : tree.Expr) (h : ℕ) (rest : List TokenKind) → all ≡ expr_spelled e rest → IsExpr e → h ≡ expr_height e → h ≤ d → Holds IsStepRead d all (evaluate (suc d) e h rest)
+  evaluate_soundness : (e : tree.Expr) (h : ℕ) (rest : List TokenKind) → all ≡ expr_spelled e rest → IsExpr e → h ≡ expr_height e → h ≤ d → Sound IsStepRead d all (evaluate (suc d) e h rest)
   unfolding evaluate
-  evaluate_holds e h rest spelled shape high low =
-      Holds-raised IsStepRead d all (suc d) h _
+  evaluate_soundness e h rest spelled shape high low =
+      Sound-raised IsStepRead d all (suc d) h _
       (λ lt. record { spelled = spelled; shape = shape; high = ap (λ (n : ℕ). n + 1) high; low = omega arith })
       (λ le. absurd (omega arith))
 
-  assign_holds : (x : List ℕ) (o : AssignOperator) (behind : List TokenKind) → all ≡ token.Name x ∷ token.Punctuation (assign_punctuation o) ∷ behind → Holds IsStepRead d all (assign_to (suc d) x o behind)
+  assign_soundness : (x : List ℕ) (o : AssignOperator) (past : List TokenKind) → all ≡ token.Name x ∷ token.Punctuation (assign_punctuation o) ∷ past → Sound IsStepRead d all (assign_to (suc d) x o past)
   unfolding assign_to
-  assign_holds x o behind stands =
-      let two : length all ≡ suc (suc (length behind)) = ap count stands in
-      let read : Holds (ExprRead d lowest_precedence behind) d all (expression (suc d - 1) lowest_precedence behind) = rw less (within d d all behind (omega arith) (omega arith)) in
-      Holds-then (ExprRead d lowest_precedence behind) IsStepRead d all (expression (suc d - 1) lowest_precedence behind) _ read (λ v value.
-      Holds-raised IsStepRead d all (suc d) v.1 _
+  assign_soundness x o past stands =
+      let two : length all ≡ suc (suc (length past)) = ap count stands in
+      let read : Sound (ExprRead d lowest_precedence past) d all (expression (suc d - 1) lowest_precedence past) = rw less (within d d all past (omega arith) (omega arith)) in
+      Sound-then (ExprRead d lowest_precedence past) IsStepRead d all (expression (suc d - 1) lowest_precedence past) _ read (λ v value.
+      Sound-raised IsStepRead d all (suc d) v.1 _
       (λ lt. record {
         spelled = stands ∙ ap (λ (ts : List TokenKind). token.Name x ∷ token.Punctuation (assign_punctuation o) ∷ ts) value.spelled;
         shape = value.shape;
@@ -247,14 +247,14 @@ module _ (d : ℕ) (all : List TokenKind) where
         low = omega arith;
       }) (λ le. absurd (omega (arith, value.low))))
 
-  element_holds : (x : List ℕ) (at : tree.Expr) (o : AssignOperator) (behind : List TokenKind) → all ≡ expr_spelled (tree.Element x at) (token.Punctuation (assign_punctuation o) ∷ behind) → IsExpr at
-      → (h : ℕ) → h ≡ expr_height at + 1 → h ≤ d → Holds IsStepRead d all (assign_element (suc d) x at h o behind)
+  element_soundness : (x : List ℕ) (at : tree.Expr) (o : AssignOperator) (past : List TokenKind) → all ≡ expr_spelled (tree.Element x at) (token.Punctuation (assign_punctuation o) ∷ past) → IsExpr at
+      → (h : ℕ) → h ≡ expr_height at + 1 → h ≤ d → Sound IsStepRead d all (assign_element (suc d) x at h o past)
   unfolding assign_element
-  element_holds x at o behind stands shape h high low =
-      let some : length behind + 1 ≤ length all = omega (arith, ap count stands, expr_length (tree.Element x at) (token.Punctuation (assign_punctuation o) ∷ behind)) in
-      let read : Holds (ExprRead d lowest_precedence behind) d all (expression (suc d - 1) lowest_precedence behind) = rw less (within d d all behind (omega arith) (omega arith)) in
-      Holds-then (ExprRead d lowest_precedence behind) IsStepRead d all (expression (suc d - 1) lowest_precedence behind) _ read (λ v value.
-      Holds-raised IsStepRead d all (suc d) (max h v.1) _
+  element_soundness x at o past stands shape h high low =
+      let some : length past + 1 ≤ length all = omega (arith, ap count stands, expr_length (tree.Element x at) (token.Punctuation (assign_punctuation o) ∷ past)) in
+      let read : Sound (ExprRead d lowest_precedence past) d all (expression (suc d - 1) lowest_precedence past) = rw less (within d d all past (omega arith) (omega arith)) in
+      Sound-then (ExprRead d lowest_precedence past) IsStepRead d all (expression (suc d - 1) lowest_precedence past) _ read (λ v value.
+      Sound-raised IsStepRead d all (suc d) (max h v.1) _
       (λ lt. record {
         spelled = stands ∙ ap (λ (ts : List TokenKind). expr_spelled (tree.Element x at) (token.Punctuation (assign_punctuation o) ∷ ts)) value.spelled;
         shape = (shape, value.shape);
@@ -262,56 +262,56 @@ module _ (d : ℕ) (all : List TokenKind) where
         low = omega arith;
       }) (λ le. absurd (omega (arith, value.low))))
 
-  assignment_holds : (e : tree.Expr) (h : ℕ) (o : AssignOperator) (behind : List TokenKind) → all ≡ expr_spelled e behind → behind ≡ token.Punctuation (assign_punctuation o) ∷ tail behind → IsExpr e → h ≡ expr_height e → h ≤ d
-      → Holds IsStepRead d all (assign_by (suc d) e h o behind)
-  assignment_holds (tree.Read x) h o behind spelled stands shape high low =
-      assign_holds x o (tail behind) (spelled ∙ ap (λ (ts : List TokenKind). token.Name x ∷ ts) stands)
-  assignment_holds (tree.Element x at) h o behind spelled stands shape high low =
-      element_holds x at o (tail behind) (spelled ∙ ap (λ (ts : List TokenKind). expr_spelled (tree.Element x at) ts) stands) shape h high low
-  assignment_holds e h o behind spelled stands shape high low = evaluate_holds e h behind spelled shape high low
+  assignment_soundness : (e : tree.Expr) (h : ℕ) (o : AssignOperator) (past : List TokenKind) → all ≡ expr_spelled e past → past ≡ token.Punctuation (assign_punctuation o) ∷ tail past → IsExpr e → h ≡ expr_height e → h ≤ d
+      → Sound IsStepRead d all (assign_by (suc d) e h o past)
+  assignment_soundness (tree.Read x) h o past spelled stands shape high low =
+      assign_soundness x o (tail past) (spelled ∙ ap (λ (ts : List TokenKind). token.Name x ∷ ts) stands)
+  assignment_soundness (tree.Element x at) h o past spelled stands shape high low =
+      element_soundness x at o (tail past) (spelled ∙ ap (λ (ts : List TokenKind). expr_spelled (tree.Element x at) ts) stands) shape h high low
+  assignment_soundness e h o past spelled stands shape high low = evaluate_soundness e h past spelled shape high low
 
-  after_value_holds : (e : tree.Expr) (h : ℕ) (behind : List TokenKind) → all ≡ expr_spelled e behind → IsExpr e → h ≡ expr_height e → h ≤ d → (o : Option AssignOperator) → assign_at behind ≡ o
-      → Holds IsStepRead d all (after_value_by (suc d) e h behind o)
+  after_value_soundness : (e : tree.Expr) (h : ℕ) (past : List TokenKind) → all ≡ expr_spelled e past → IsExpr e → h ≡ expr_height e → h ≤ d → (o : Option AssignOperator) → assign_at past ≡ o
+      → Sound IsStepRead d all (after_value_by (suc d) e h past o)
   unfolding assignment
-  after_value_holds e h behind spelled shape high low None is = evaluate_holds e h behind spelled shape high low
-  after_value_holds e h behind spelled shape high low (Some o) is = assignment_holds e h o behind spelled (assign_is o behind is) shape high low
+  after_value_soundness e h past spelled shape high low None is = evaluate_soundness e h past spelled shape high low
+  after_value_soundness e h past spelled shape high low (Some o) is = assignment_soundness e h o past spelled (assign_is o past is) shape high low
 
-  simple_holds : Holds IsStepRead d all (simple (suc d) all)
+  simple_soundness : Sound IsStepRead d all (simple (suc d) all)
   unfolding simple after_value
-  simple_holds =
-      let read : Holds (ExprRead d lowest_precedence all) d all (expression (suc d - 1) lowest_precedence all) = rw less (within d d all all (omega arith) (omega arith)) in
-      Holds-then (ExprRead d lowest_precedence all) IsStepRead d all (expression (suc d - 1) lowest_precedence all) _ read (λ v value.
-      after_value_holds v.0 v.1 v.2 value.spelled value.shape value.high value.low (assign_at v.2) refl)
+  simple_soundness =
+      let read : Sound (ExprRead d lowest_precedence all) d all (expression (suc d - 1) lowest_precedence all) = rw less (within d d all all (omega arith) (omega arith)) in
+      Sound-then (ExprRead d lowest_precedence all) IsStepRead d all (expression (suc d - 1) lowest_precedence all) _ read (λ v value.
+      after_value_soundness v.0 v.1 v.2 value.spelled value.shape value.high value.low (assign_at v.2) refl)
 
-  optional_holds : (m : Punctuation) → Holds IsStepRead d all (optional (suc d) m all)
+  optional_soundness : (m : Punctuation) → Sound IsStepRead d all (optional (suc d) m all)
   unfolding optional
-  optional_holds m =
+  optional_soundness m =
       elim (cases_Bool (is_punctuation m all)) [
         | inl is ↦
             let none : IsStepRead (tree.Empty, 1, all) = record { spelled = refl; shape = tt; high = refl; low = omega arith } in
             rw is none
-        | inr is ↦ rw is simple_holds
+        | inr is ↦ rw is simple_soundness
       ]
 
-  declare_holds : Holds (PartRead IsFirst (suc d) all) d all (declare (suc d) all)
+  declare_soundness : Sound (PartRead IsFirst (suc d) all) d all (declare (suc d) all)
   unfolding declare
-  declare_holds =
-      let read : Holds (DeclaredRead d all) d all (declared (suc d - 1) all) = rw less (declared_holds d all) in
-      Holds-then (DeclaredRead d all) (PartRead IsFirst (suc d) all) d all (declared (suc d - 1) all) _ read (λ x found.
-      Holds-raised (PartRead IsFirst (suc d) all) d all (suc d) x.1 _
+  declare_soundness =
+      let read : Sound (DeclaredRead d all) d all (declared (suc d - 1) all) = rw less (declared_soundness d all) in
+      Sound-then (DeclaredRead d all) (PartRead IsFirst (suc d) all) d all (declared (suc d - 1) all) _ read (λ x found.
+      Sound-raised (PartRead IsFirst (suc d) all) d all (suc d) x.1 _
       (λ lt. record { spelled = found.spelled; shape = (found.typed, found.shape); high = ap (λ (n : ℕ). n + 1) found.high; low = omega arith })
       (λ le. absurd (omega (arith, found.low))))
 
-  undeclared : Holds (PartRead IsFirst (suc d) all) d all (optional (suc d) punctuation.Semicolon all)
+  undeclared : Sound (PartRead IsFirst (suc d) all) d all (optional (suc d) punctuation.Semicolon all)
   undeclared =
-      Holds-on IsStepRead (PartRead IsFirst (suc d) all) d d all all (optional (suc d) punctuation.Semicolon all) (omega arith) (omega arith) (optional_holds punctuation.Semicolon)
+      Sound-on IsStepRead (PartRead IsFirst (suc d) all) d d all all (optional (suc d) punctuation.Semicolon all) (omega arith) (omega arith) (optional_soundness punctuation.Semicolon)
       (λ x read. record { spelled = read.spelled; shape = step_first x.0 read.shape; high = read.high; low = read.low })
 
-part_holds : (d : ℕ) (tokens : List TokenKind) → Holds (PartRead IsFirst (suc d) tokens) d tokens (part (suc d) tokens)
+part_soundness : (d : ℕ) (tokens : List TokenKind) → Sound (PartRead IsFirst (suc d) tokens) d tokens (part (suc d) tokens)
 unfolding part
-part_holds d (token.Keyword keyword.Boolean ∷ rest) = declare_holds d (token.Keyword keyword.Boolean ∷ rest)
-part_holds d (token.Keyword keyword.Int ∷ rest) = declare_holds d (token.Keyword keyword.Int ∷ rest)
-part_holds d tokens = undeclared d tokens
+part_soundness d (token.Keyword keyword.Boolean ∷ rest) = declare_soundness d (token.Keyword keyword.Boolean ∷ rest)
+part_soundness d (token.Keyword keyword.Int ∷ rest) = declare_soundness d (token.Keyword keyword.Int ∷ rest)
+part_soundness d tokens = undeclared d tokens
 
 -- ---- the parts of a `for`, and statements with a semicolon
 
@@ -322,20 +322,20 @@ pub record EndedRead (Shape : tree.Stmt → Type 0) (m : Punctuation) (depth : �
   pub high : x.1 ≡ stmt_height x.0
   pub low : x.1 ≤ depth
 
-pub ended_holds : (d : ℕ) (tokens : List TokenKind) → Holds (EndedRead IsFirst punctuation.Semicolon (suc d) tokens) d tokens (ended (suc d) tokens)
+pub ended_soundness : (d : ℕ) (tokens : List TokenKind) → Sound (EndedRead IsFirst punctuation.Semicolon (suc d) tokens) d tokens (ended (suc d) tokens)
 unfolding ended
-ended_holds d tokens =
+ended_soundness d tokens =
     let Q : tree.Stmt × ℕ × List TokenKind → Type 0 = EndedRead IsFirst punctuation.Semicolon (suc d) tokens in
-    Holds-then (PartRead IsFirst (suc d) tokens) Q d tokens (part (suc d) tokens) _ (part_holds d tokens) (λ x read.
-    Holds-expect Q d tokens punctuation.Semicolon x.2 _ (omega (arith, ap count read.spelled, part_length x.0 read.shape x.2, stmt_height_some x.0)) (λ rest e.
+    Sound-then (PartRead IsFirst (suc d) tokens) Q d tokens (part (suc d) tokens) _ (part_soundness d tokens) (λ x read.
+    Sound-expect Q d tokens punctuation.Semicolon x.2 _ (omega (arith, ap count read.spelled, part_length x.0 read.shape x.2, stmt_height_some x.0)) (λ rest e.
     record { spelled = read.spelled ∙ ap (λ (ts : List TokenKind). part_spelled x.0 ts) e; shape = read.shape; high = read.high; low = read.low }))
 
-last_holds : (d : ℕ) (tokens : List TokenKind) → Holds (EndedRead IsStep punctuation.CloseParen (suc d) tokens) d tokens (last_part (suc d) tokens)
+last_soundness : (d : ℕ) (tokens : List TokenKind) → Sound (EndedRead IsStep punctuation.CloseParen (suc d) tokens) d tokens (last_part (suc d) tokens)
 unfolding last_part
-last_holds d tokens =
+last_soundness d tokens =
     let Q : tree.Stmt × ℕ × List TokenKind → Type 0 = EndedRead IsStep punctuation.CloseParen (suc d) tokens in
-    Holds-then (PartRead IsStep (suc d) tokens) Q d tokens (optional (suc d) punctuation.CloseParen tokens) _ (optional_holds d tokens punctuation.CloseParen) (λ x read.
-    Holds-expect Q d tokens punctuation.CloseParen x.2 _ (omega (arith, ap count read.spelled, part_length x.0 (step_first x.0 read.shape) x.2, stmt_height_some x.0)) (λ rest e.
+    Sound-then (PartRead IsStep (suc d) tokens) Q d tokens (optional (suc d) punctuation.CloseParen tokens) _ (optional_soundness d tokens punctuation.CloseParen) (λ x read.
+    Sound-expect Q d tokens punctuation.CloseParen x.2 _ (omega (arith, ap count read.spelled, part_length x.0 (step_first x.0 read.shape) x.2, stmt_height_some x.0)) (λ rest e.
     record { spelled = read.spelled ∙ ap (λ (ts : List TokenKind). part_spelled x.0 ts) e; shape = read.shape; high = read.high; low = read.low }))
 
 record ConditionRead (depth : ℕ) (tokens : List TokenKind) (x : Option tree.Expr × ℕ × List TokenKind) : Type 0 where
@@ -344,16 +344,16 @@ record ConditionRead (depth : ℕ) (tokens : List TokenKind) (x : Option tree.Ex
   high : x.1 ≡ optional_height x.0
   low : x.1 ≤ depth
 
-condition_holds : (depth : ℕ) (tokens : List TokenKind) → Holds (ConditionRead depth tokens) depth tokens (condition depth tokens)
+condition_soundness : (depth : ℕ) (tokens : List TokenKind) → Sound (ConditionRead depth tokens) depth tokens (condition depth tokens)
 unfolding condition
-condition_holds depth tokens =
+condition_soundness depth tokens =
     let Q : Option tree.Expr × ℕ × List TokenKind → Type 0 = ConditionRead depth tokens in
     elim (cases_Bool (is_punctuation punctuation.Semicolon tokens)) [
       | inl is ↦
           let none : Q (None, 0, tail tokens) = record { spelled = punctuation_is punctuation.Semicolon tokens is; shape = tt; high = refl; low = omega arith } in
           rw is none
       | inr is ↦
-          let read = Holds-then (ClosedRead depth punctuation.Semicolon tokens) Q depth tokens (closed (expression depth) punctuation.Semicolon tokens) (λ value. Ok (Some value.0, value.1, value.2))
+          let read = Sound-then (ClosedRead depth punctuation.Semicolon tokens) Q depth tokens (closed (expression depth) punctuation.Semicolon tokens) (λ value. Ok (Some value.0, value.1, value.2))
           (closed_within depth depth punctuation.Semicolon tokens tokens (omega arith) (omega arith))
           (λ x value. record { spelled = value.spelled; shape = value.shape; high = value.high; low = value.low }) in
           rw is read
@@ -368,15 +368,15 @@ record BehindRead (depth : ℕ) (tokens : List TokenKind) (x : (Option tree.Expr
   low : x.1 ≤ depth
 
 -- at least one token stands before these
-behind_holds : (d : ℕ) (all tokens : List TokenKind) → length tokens + 1 ≤ length all → Holds (BehindRead (suc d) tokens) d all (behind_first (suc d) tokens)
-unfolding behind_first
-behind_holds d all tokens le =
+past_soundness : (d : ℕ) (all tokens : List TokenKind) → length tokens + 1 ≤ length all → Sound (BehindRead (suc d) tokens) d all (after_first (suc d) tokens)
+unfolding after_first
+past_soundness d all tokens le =
     let Q : (Option tree.Expr × tree.Stmt) × ℕ × List TokenKind → Type 0 = BehindRead (suc d) tokens in
-    Holds-then (ConditionRead (suc d) tokens) Q d all (condition (suc d) tokens) _
-    (Holds-on (ConditionRead (suc d) tokens) (ConditionRead (suc d) tokens) (suc d) d tokens all (condition (suc d) tokens) (omega arith) (omega arith) (condition_holds (suc d) tokens) (λ y h. h)) (λ y tested.
+    Sound-then (ConditionRead (suc d) tokens) Q d all (condition (suc d) tokens) _
+    (Sound-on (ConditionRead (suc d) tokens) (ConditionRead (suc d) tokens) (suc d) d tokens all (condition (suc d) tokens) (omega arith) (omega arith) (condition_soundness (suc d) tokens) (λ y h. h)) (λ y tested.
     let three : length y.2 ≤ length tokens = omega (arith, ap count tested.spelled, condition_length y.0 (token.Punctuation punctuation.Semicolon ∷ y.2)) in
-    Holds-then (EndedRead IsStep punctuation.CloseParen (suc d) y.2) Q d all (last_part (suc d) y.2) _
-    (Holds-on (EndedRead IsStep punctuation.CloseParen (suc d) y.2) (EndedRead IsStep punctuation.CloseParen (suc d) y.2) d d y.2 all (last_part (suc d) y.2) (omega arith) (omega arith) (last_holds d y.2) (λ z h. h)) (λ z stepped.
+    Sound-then (EndedRead IsStep punctuation.CloseParen (suc d) y.2) Q d all (last_part (suc d) y.2) _
+    (Sound-on (EndedRead IsStep punctuation.CloseParen (suc d) y.2) (EndedRead IsStep punctuation.CloseParen (suc d) y.2) d d y.2 all (last_part (suc d) y.2) (omega arith) (omega arith) (last_soundness d y.2) (λ z h. h)) (λ z stepped.
     record {
       spelled = tested.spelled ∙ ap (λ (ts : List TokenKind). condition_spelled y.0 (token.Punctuation punctuation.Semicolon ∷ ts)) stepped.spelled;
       tested = tested.shape;
@@ -394,23 +394,23 @@ pub record HeadingRead (depth : ℕ) (tokens : List TokenKind) (x : (tree.Stmt �
   pub high : x.1 ≡ heading_height x.0.0 x.0.1 x.0.2
   pub low : x.1 ≤ depth
 
-pub heading_holds : (d : ℕ) (tokens : List TokenKind) → Holds (HeadingRead (suc d) tokens) d tokens (for_heading (suc d) tokens)
+pub heading_soundness : (d : ℕ) (tokens : List TokenKind) → Sound (HeadingRead (suc d) tokens) d tokens (for_heading (suc d) tokens)
 unfolding for_heading
-heading_holds d tokens =
+heading_soundness d tokens =
     let Q : (tree.Stmt × Option tree.Expr × tree.Stmt) × ℕ × List TokenKind → Type 0 = HeadingRead (suc d) tokens in
-    Holds-expect Q d tokens punctuation.OpenParen tokens _ (omega arith) (λ opened e.
+    Sound-expect Q d tokens punctuation.OpenParen tokens _ (omega arith) (λ opened e.
     let one : length tokens ≡ suc (length opened) = ap count e in
-    Holds-then (EndedRead IsFirst punctuation.Semicolon (suc d) opened) Q d tokens (ended (suc d) opened) _
-    (Holds-on (EndedRead IsFirst punctuation.Semicolon (suc d) opened) (EndedRead IsFirst punctuation.Semicolon (suc d) opened) d d opened tokens (ended (suc d) opened) (omega arith) (omega arith) (ended_holds d opened) (λ x h. h)) (λ x begun.
+    Sound-then (EndedRead IsFirst punctuation.Semicolon (suc d) opened) Q d tokens (ended (suc d) opened) _
+    (Sound-on (EndedRead IsFirst punctuation.Semicolon (suc d) opened) (EndedRead IsFirst punctuation.Semicolon (suc d) opened) d d opened tokens (ended (suc d) opened) (omega arith) (omega arith) (ended_soundness d opened) (λ x h. h)) (λ x begun.
     let two : length x.2 ≤ length opened = omega (arith, ap count begun.spelled, part_length x.0 begun.shape (token.Punctuation punctuation.Semicolon ∷ x.2), stmt_height_some x.0) in
-    Holds-then (BehindRead (suc d) x.2) Q d tokens (behind_first (suc d) x.2) _ (behind_holds d tokens x.2 (omega arith)) (λ y behind.
+    Sound-then (BehindRead (suc d) x.2) Q d tokens (after_first (suc d) x.2) _ (past_soundness d tokens x.2 (omega arith)) (λ y past.
     record {
-      spelled = e ∙ ap (λ (ts : List TokenKind). token.Punctuation punctuation.OpenParen ∷ ts) (begun.spelled ∙ ap (λ (ts : List TokenKind). part_spelled x.0 (token.Punctuation punctuation.Semicolon ∷ ts)) behind.spelled);
+      spelled = e ∙ ap (λ (ts : List TokenKind). token.Punctuation punctuation.OpenParen ∷ ts) (begun.spelled ∙ ap (λ (ts : List TokenKind). part_spelled x.0 (token.Punctuation punctuation.Semicolon ∷ ts)) past.spelled);
       begun = begun.shape;
-      tested = behind.tested;
-      stepped = behind.stepped;
-      high = omega (arith, begun.high, behind.high);
-      low = omega (arith, begun.low, behind.low);
+      tested = past.tested;
+      stepped = past.stepped;
+      high = omega (arith, begun.high, past.high);
+      low = omega (arith, begun.low, past.low);
     })))
 
 -- ---- an expression in brackets
@@ -429,23 +429,23 @@ pub record ArgumentRead (depth : ℕ) (tokens : List TokenKind) (x : tree.Expr �
   pub high : x.1 ≡ expr_height x.0 + 1
   pub low : x.1 ≤ depth
 
-pub bracketed_holds : (d : ℕ) (tokens : List TokenKind) → Holds (BracketedRead d tokens) d tokens (bracketed (suc d) tokens)
+pub bracketed_soundness : (d : ℕ) (tokens : List TokenKind) → Sound (BracketedRead d tokens) d tokens (bracketed (suc d) tokens)
 unfolding bracketed
-bracketed_holds d tokens =
-    Holds-expect (BracketedRead d tokens) d tokens punctuation.OpenParen tokens _ (omega arith) (λ inside e.
+bracketed_soundness d tokens =
+    Sound-expect (BracketedRead d tokens) d tokens punctuation.OpenParen tokens _ (omega arith) (λ inside e.
     let one : length tokens ≡ suc (length inside) = ap count e in
     let same : suc d - 1 ≡ d = omega arith in
-    rw same (Holds-on (ClosedRead d punctuation.CloseParen inside) (BracketedRead d tokens) d d inside tokens (closed (expression d) punctuation.CloseParen inside) (omega arith) (omega arith)
-    (closed_holds d (expression d) (expression_holds d) punctuation.CloseParen inside)
+    rw same (Sound-on (ClosedRead d punctuation.CloseParen inside) (BracketedRead d tokens) d d inside tokens (closed (expression d) punctuation.CloseParen inside) (omega arith) (omega arith)
+    (closed_soundness d (expression d) (expression_soundness d) punctuation.CloseParen inside)
     (λ x value. record { spelled = e ∙ ap (λ (ts : List TokenKind). token.Punctuation punctuation.OpenParen ∷ ts) value.spelled; shape = value.shape; high = value.high; low = value.low })))
 
-pub argument_holds : (d : ℕ) (tokens : List TokenKind) → Holds (ArgumentRead (suc d) tokens) d tokens (argument (suc d) tokens)
+pub argument_soundness : (d : ℕ) (tokens : List TokenKind) → Sound (ArgumentRead (suc d) tokens) d tokens (argument (suc d) tokens)
 unfolding argument
-argument_holds d tokens =
+argument_soundness d tokens =
     let Q : tree.Expr × ℕ × List TokenKind → Type 0 = ArgumentRead (suc d) tokens in
-    Holds-then (BracketedRead d tokens) Q d tokens (bracketed (suc d) tokens) _ (bracketed_holds d tokens) (λ x value.
+    Sound-then (BracketedRead d tokens) Q d tokens (bracketed (suc d) tokens) _ (bracketed_soundness d tokens) (λ x value.
     let long : length x.2 ≤ length tokens = omega (arith, ap count value.spelled, expr_length x.0 (token.Punctuation punctuation.CloseParen ∷ x.2)) in
-    Holds-expect Q d tokens punctuation.Semicolon x.2 _ long (λ rest e.
-    Holds-raised Q d tokens (suc d) x.1 _
+    Sound-expect Q d tokens punctuation.Semicolon x.2 _ long (λ rest e.
+    Sound-raised Q d tokens (suc d) x.1 _
     (λ lt. record { spelled = value.spelled ∙ ap (λ (ts : List TokenKind). bracketed_spelled x.0 ts) e; shape = value.shape; high = ap (λ (n : ℕ). n + 1) value.high; low = omega arith })
     (λ le. absurd (omega (arith, value.low)))))

@@ -17,9 +17,9 @@ use Rattle.strc_syntax.specs.declared.tree.BinaryOperator.TheVariants as binary
 use Rattle.strc_syntax.specs.Tree as tree
 use Rattle.strc_grammar.specs.Grammar.{unary_punctuation, binary_punctuation, step_spelled, expr_spelled, precedence, lowest_precedence, rank, IsExpr, IsOptional, expr_height}
 use Rattle.strc_syntax.specs.Tree.{read_of, step_of_place}
-use Rattle.strc_grammar.specs.Reading.{◌>>=◌, Below, Tall, tail, punctuation_at, is_punctuation, binary_of, of_rank, operator, step_after, closed, index, after_place_by, after_place, after_name, step_first, pop_brackets, peek_brackets, group, sign, marked, worded, operand, chain_by, chain, climb, choice, lowest_binary_precedence, conditional, ranked, expression, raised}
-use Rattle.strc_grammar.proofs.ExpressionAgain.{expr_length, height_some, index_spelled, place_height}
-use Rattle.strc_grammar.proofs.Holds.{Holds, Holds-then, Holds-on, Holds-expect, Holds-name, Holds-raised, punctuation_is}
+use Rattle.strc_grammar.specs.Reading.{◌>>=◌, Below, Tall, tail, punctuation_at, is_punctuation, binary_of, of_rank, operator, step_after, closed, index, after_place_by, after_place, after_name, step_first, pop_brackets, peek_brackets, group, sign, punctuation_operand, keyword_operand, operand, chain_by, chain, climb, choice, lowest_binary_precedence, conditional, ranked, expression, raised}
+use Rattle.strc_grammar.proofs.ExpressionCompleteness.{expr_length, height_some, index_spelled, place_height}
+use Rattle.strc_grammar.proofs.Soundness.{Sound, Sound-then, Sound-on, Sound-expect, Sound-name, Sound-raised, punctuation_is}
 
 abbrev count : List TokenKind → ℕ
 count ts = length ts
@@ -40,7 +40,7 @@ ExprRead-some {depth} {r} {tokens} {x} read = omega (arith, height_some x.0, rea
 
 -- ---- what stands first
 
-step_is : (o : StepOperator) (target : List TokenKind → List TokenKind) (behind : List TokenKind) → step_after behind ≡ Some o → target behind ≡ step_spelled o target (tail behind)
+step_is : (o : StepOperator) (target : List TokenKind → List TokenKind) (past : List TokenKind) → step_after past ≡ Some o → target past ≡ step_spelled o target (tail past)
 unfolding step_after punctuation_at
 step_is o target (token.Punctuation punctuation.PlusPlus ∷ rest) e =
     let same : step.IncrementAfter ≡ o = cc in subst (λ (p : StepOperator). target (token.Punctuation punctuation.PlusPlus ∷ rest) ≡ step_spelled p target rest) same refl
@@ -142,16 +142,16 @@ pub ClosedRead-long : {depth : ℕ} {m : Punctuation} {tokens : List TokenKind} 
 ClosedRead-long {depth} {m} {tokens} {x} read = omega (arith, expr_length x.0 (token.Punctuation m ∷ x.2), read.high, ap count read.spelled)
 
 abbrev IsReader : ℕ → Below → Type 0
-IsReader d below = (r : ℕ) (tokens : List TokenKind) → Holds (ExprRead d r tokens) d tokens (below r tokens)
+IsReader d below = (r : ℕ) (tokens : List TokenKind) → Sound (ExprRead d r tokens) d tokens (below r tokens)
 
-pub closed_holds : (d : ℕ) (below : Below) → IsReader d below → (m : Punctuation) (tokens : List TokenKind) → Holds (ClosedRead d m tokens) d tokens (closed below m tokens)
+pub closed_soundness : (d : ℕ) (below : Below) → IsReader d below → (m : Punctuation) (tokens : List TokenKind) → Sound (ClosedRead d m tokens) d tokens (closed below m tokens)
 unfolding closed
-closed_holds d below holds m tokens =
-    Holds-then (ExprRead d lowest_precedence tokens) (ClosedRead d m tokens) d tokens (below lowest_precedence tokens) _ (holds lowest_precedence tokens) (λ x read.
-    Holds-expect (ClosedRead d m tokens) d tokens m x.2 _ (omega (arith, ExprRead-long read)) (λ rest e.
+closed_soundness d below sound m tokens =
+    Sound-then (ExprRead d lowest_precedence tokens) (ClosedRead d m tokens) d tokens (below lowest_precedence tokens) _ (sound lowest_precedence tokens) (λ x read.
+    Sound-expect (ClosedRead d m tokens) d tokens m x.2 _ (omega (arith, ExprRead-long read)) (λ rest e.
     record { spelled = read.spelled ∙ ap (λ (ts : List TokenKind). expr_spelled x.0 ts) e; shape = read.shape; high = read.high; low = read.low }))
 
--- an index, or nothing, behind a name
+-- an index, or nothing, after a name
 record IndexRead (depth : ℕ) (tokens : List TokenKind) (x : Option tree.Expr × ℕ × List TokenKind) : Type 0 where
   spelled : tokens ≡ index_spelled x.0 x.2
   shape : IsOptional x.0
@@ -159,58 +159,58 @@ record IndexRead (depth : ℕ) (tokens : List TokenKind) (x : Option tree.Expr �
   low : x.1 ≤ depth
 
 module _ (d : ℕ) where
-  after_place_by_holds : (x : List ℕ) (at : Option tree.Expr) (all behind : List TokenKind) → all ≡ token.Name x ∷ index_spelled at behind → IsOptional at → place_height at ≤ suc d
-      → (o : Option StepOperator) → step_after behind ≡ o → Holds (ExprRead (suc d) 0 all) (suc d) all (after_place_by (suc d) x at (place_height at) behind o)
-  after_place_by_holds x at all behind is shape low None e = record {
-    spelled = is ∙ place_spelled x at behind;
+  after_place_by_soundness : (x : List ℕ) (at : Option tree.Expr) (all past : List TokenKind) → all ≡ token.Name x ∷ index_spelled at past → IsOptional at → place_height at ≤ suc d
+      → (o : Option StepOperator) → step_after past ≡ o → Sound (ExprRead (suc d) 0 all) (suc d) all (after_place_by (suc d) x at (place_height at) past o)
+  after_place_by_soundness x at all past is shape low None e = record {
+    spelled = is ∙ place_spelled x at past;
     shape = place_shape x at shape;
     ranked = omega (arith, place_rank x at);
     high = place_high x at;
     low = low;
   }
-  after_place_by_holds x at all behind is shape low (Some o) e =
-      Holds-raised (ExprRead (suc d) 0 all) (suc d) all (suc d) (place_height at) (λ high. Ok (step_of_place o x at, high, tail behind))
+  after_place_by_soundness x at all past is shape low (Some o) e =
+      Sound-raised (ExprRead (suc d) 0 all) (suc d) all (suc d) (place_height at) (λ high. Ok (step_of_place o x at, high, tail past))
       (λ lt. record {
-        spelled = is ∙ step_is o (λ after. token.Name x ∷ index_spelled at after) behind e ∙ step_of_place_spelled o x at (tail behind);
+        spelled = is ∙ step_is o (λ after. token.Name x ∷ index_spelled at after) past e ∙ step_of_place_spelled o x at (tail past);
         shape = step_of_place_shape o x at shape;
         ranked = omega (arith, step_of_place_rank o x at);
         high = step_of_place_high o x at;
         low = omega arith;
-      }) (λ le. omega (arith, ap count is, index_length at behind))
+      }) (λ le. omega (arith, ap count is, index_length at past))
 
-  after_place_holds : (x : List ℕ) (all : List TokenKind) (read : Option tree.Expr × ℕ × List TokenKind) → all ≡ token.Name x ∷ index_spelled read.0 read.2 → IsOptional read.0
-      → read.1 ≡ place_height read.0 → read.1 ≤ suc d → Holds (ExprRead (suc d) 0 all) (suc d) all (after_place (suc d) x read.0 read.1 read.2)
+  after_place_soundness : (x : List ℕ) (all : List TokenKind) (read : Option tree.Expr × ℕ × List TokenKind) → all ≡ token.Name x ∷ index_spelled read.0 read.2 → IsOptional read.0
+      → read.1 ≡ place_height read.0 → read.1 ≤ suc d → Sound (ExprRead (suc d) 0 all) (suc d) all (after_place (suc d) x read.0 read.1 read.2)
   unfolding after_place
-  after_place_holds x all read is shape high low =
-      rw high (after_place_by_holds x read.0 all read.2 is shape (omega arith) (step_after read.2) refl)
+  after_place_soundness x all read is shape high low =
+      rw high (after_place_by_soundness x read.0 all read.2 is shape (omega arith) (step_after read.2) refl)
 
-  pop_holds : (behind : List TokenKind) → Holds (ExprRead (suc d) 0 (token.Keyword keyword.Pop ∷ behind)) (suc d) (token.Keyword keyword.Pop ∷ behind) (pop_brackets behind)
+  pop_soundness : (past : List TokenKind) → Sound (ExprRead (suc d) 0 (token.Keyword keyword.Pop ∷ past)) (suc d) (token.Keyword keyword.Pop ∷ past) (pop_brackets past)
   unfolding pop_brackets
-  pop_holds behind =
-      let all : List TokenKind = token.Keyword keyword.Pop ∷ behind in
-      Holds-expect (ExprRead (suc d) 0 all) (suc d) all punctuation.OpenParen behind _ (omega arith) (λ inside e.
-      Holds-expect (ExprRead (suc d) 0 all) (suc d) all punctuation.CloseParen inside _ (omega (arith, ap count e)) (λ rest f.
+  pop_soundness past =
+      let all : List TokenKind = token.Keyword keyword.Pop ∷ past in
+      Sound-expect (ExprRead (suc d) 0 all) (suc d) all punctuation.OpenParen past _ (omega arith) (λ inside e.
+      Sound-expect (ExprRead (suc d) 0 all) (suc d) all punctuation.CloseParen inside _ (omega (arith, ap count e)) (λ rest f.
       record { spelled = ap (λ (ts : List TokenKind). token.Keyword keyword.Pop ∷ ts) (e ∙ ap (λ (ts : List TokenKind). token.Punctuation punctuation.OpenParen ∷ ts) f); shape = tt; ranked = omega arith; high = refl; low = omega arith }))
 
-  module _ (below : Below) (holds : IsReader d below) where
+  module _ (below : Below) (sound : IsReader d below) where
     -- an expression and the punctuation that closes it, somewhere within these tokens, in a node of its own
-    enclosed_holds : {B : Type 0} (Q : B → Type 0) (m : Punctuation) (all tokens : List TokenKind) (make : tree.Expr → ℕ → List TokenKind → Result B Fault) → length tokens + 1 ≤ length all
-        → ((x : tree.Expr × ℕ × List TokenKind) → ClosedRead d m tokens x → Holds Q (suc d) all (make x.0 (x.1 + 1) x.2))
-        → Holds Q (suc d) all (closed below m tokens >>= λ value. raised (suc d) value.1 >>= λ height. make value.0 height value.2)
-    enclosed_holds Q m all tokens make le then =
-        Holds-then (ClosedRead d m tokens) Q (suc d) all (closed below m tokens) _
-        (Holds-on (ClosedRead d m tokens) (ClosedRead d m tokens) d (suc d) tokens all (closed below m tokens) (omega arith) (omega arith) (closed_holds d below holds m tokens) (λ x h. h)) (λ x read.
-        Holds-raised Q (suc d) all (suc d) x.1 (λ height. make x.0 height x.2) (λ lt. then x read) (λ le. absurd (omega (arith, read.low))))
+    enclosed_soundness : {B : Type 0} (Q : B → Type 0) (m : Punctuation) (all tokens : List TokenKind) (make : tree.Expr → ℕ → List TokenKind → Result B Fault) → length tokens + 1 ≤ length all
+        → ((x : tree.Expr × ℕ × List TokenKind) → ClosedRead d m tokens x → Sound Q (suc d) all (make x.0 (x.1 + 1) x.2))
+        → Sound Q (suc d) all (closed below m tokens >>= λ value. raised (suc d) value.1 >>= λ height. make value.0 height value.2)
+    enclosed_soundness Q m all tokens make le then =
+        Sound-then (ClosedRead d m tokens) Q (suc d) all (closed below m tokens) _
+        (Sound-on (ClosedRead d m tokens) (ClosedRead d m tokens) d (suc d) tokens all (closed below m tokens) (omega arith) (omega arith) (closed_soundness d below sound m tokens) (λ x h. h)) (λ x read.
+        Sound-raised Q (suc d) all (suc d) x.1 (λ height. make x.0 height x.2) (λ lt. then x read) (λ le. absurd (omega (arith, read.low))))
 
-    index_holds : (tokens : List TokenKind) → Holds (IndexRead (suc d) tokens) (suc d) tokens (index (suc d) below tokens)
+    index_soundness : (tokens : List TokenKind) → Sound (IndexRead (suc d) tokens) (suc d) tokens (index (suc d) below tokens)
     unfolding index
-    index_holds tokens =
+    index_soundness tokens =
         let Q : Option tree.Expr × ℕ × List TokenKind → Type 0 = IndexRead (suc d) tokens in
         elim (cases_Bool (is_punctuation punctuation.OpenBracket tokens)) [
           | inl is ↦
               let stands = punctuation_is punctuation.OpenBracket tokens is in
               let one : length tokens ≡ suc (length (tail tokens)) = ap count stands in
-              let read = enclosed_holds Q punctuation.CloseBracket tokens (tail tokens) (λ value height after. Ok (Some value, height, after)) (omega arith)
+              let read = enclosed_soundness Q punctuation.CloseBracket tokens (tail tokens) (λ value height after. Ok (Some value, height, after)) (omega arith)
               (λ x closed. record {
                 spelled = stands ∙ ap (λ (ts : List TokenKind). token.Punctuation punctuation.OpenBracket ∷ ts) closed.spelled;
                 shape = closed.shape;
@@ -223,26 +223,26 @@ module _ (d : ℕ) where
               rw is none
         ]
 
-    after_name_holds : (x : List ℕ) (behind : List TokenKind) → Holds (ExprRead (suc d) 0 (token.Name x ∷ behind)) (suc d) (token.Name x ∷ behind) (after_name (suc d) below x behind)
+    after_name_soundness : (x : List ℕ) (past : List TokenKind) → Sound (ExprRead (suc d) 0 (token.Name x ∷ past)) (suc d) (token.Name x ∷ past) (after_name (suc d) below x past)
     unfolding after_name
-    after_name_holds x behind =
-        let all : List TokenKind = token.Name x ∷ behind in
-        Holds-then (IndexRead (suc d) behind) (ExprRead (suc d) 0 all) (suc d) all (index (suc d) below behind) _
-        (Holds-on (IndexRead (suc d) behind) (IndexRead (suc d) behind) (suc d) (suc d) behind all (index (suc d) below behind) (omega arith) (omega arith) (index_holds behind) (λ r h. h))
-        (λ r at. after_place_holds x all r (ap (λ (ts : List TokenKind). token.Name x ∷ ts) at.spelled) at.shape at.high at.low)
+    after_name_soundness x past =
+        let all : List TokenKind = token.Name x ∷ past in
+        Sound-then (IndexRead (suc d) past) (ExprRead (suc d) 0 all) (suc d) all (index (suc d) below past) _
+        (Sound-on (IndexRead (suc d) past) (IndexRead (suc d) past) (suc d) (suc d) past all (index (suc d) below past) (omega arith) (omega arith) (index_soundness past) (λ r h. h))
+        (λ r at. after_place_soundness x all r (ap (λ (ts : List TokenKind). token.Name x ∷ ts) at.spelled) at.shape at.high at.low)
 
-    step_first_holds : (m : Punctuation) (o : StepOperator) (behind : List TokenKind)
+    step_first_soundness : (m : Punctuation) (o : StepOperator) (past : List TokenKind)
         → ((target : List TokenKind → List TokenKind) (rest : List TokenKind) → token.Punctuation m ∷ target rest ≡ step_spelled o target rest)
-        → Holds (ExprRead (suc d) 0 (token.Punctuation m ∷ behind)) (suc d) (token.Punctuation m ∷ behind) (step_first (suc d) below o behind)
+        → Sound (ExprRead (suc d) 0 (token.Punctuation m ∷ past)) (suc d) (token.Punctuation m ∷ past) (step_first (suc d) below o past)
     unfolding step_first
-    step_first_holds m o behind spells =
-        let all : List TokenKind = token.Punctuation m ∷ behind in
+    step_first_soundness m o past spells =
+        let all : List TokenKind = token.Punctuation m ∷ past in
         let Q : tree.Expr × ℕ × List TokenKind → Type 0 = ExprRead (suc d) 0 all in
-        Holds-name Q (suc d) all behind _ (omega arith) (λ x after e.
-        let one : length behind ≡ suc (length after) = ap count e in
-        Holds-then (IndexRead (suc d) after) Q (suc d) all (index (suc d) below after) _
-        (Holds-on (IndexRead (suc d) after) (IndexRead (suc d) after) (suc d) (suc d) after all (index (suc d) below after) (omega arith) (omega arith) (index_holds after) (λ r h. h)) (λ r at.
-        Holds-raised Q (suc d) all (suc d) r.1 _
+        Sound-name Q (suc d) all past _ (omega arith) (λ x after e.
+        let one : length past ≡ suc (length after) = ap count e in
+        Sound-then (IndexRead (suc d) after) Q (suc d) all (index (suc d) below after) _
+        (Sound-on (IndexRead (suc d) after) (IndexRead (suc d) after) (suc d) (suc d) after all (index (suc d) below after) (omega arith) (omega arith) (index_soundness after) (λ r h. h)) (λ r at.
+        Sound-raised Q (suc d) all (suc d) r.1 _
         (λ lt. record {
           spelled = ap (λ (ts : List TokenKind). token.Punctuation m ∷ ts) (e ∙ ap (λ (ts : List TokenKind). token.Name x ∷ ts) at.spelled)
               ∙ spells (λ rest. token.Name x ∷ index_spelled r.0 rest) r.2 ∙ step_of_place_spelled o x r.0 r.2;
@@ -252,13 +252,13 @@ module _ (d : ℕ) where
           low = omega arith;
         }) (λ le. omega (arith, at.high, ap count at.spelled, index_length r.0 r.2))))
 
-    peek_holds : (behind : List TokenKind) → Holds (ExprRead (suc d) 0 (token.Keyword keyword.Peek ∷ behind)) (suc d) (token.Keyword keyword.Peek ∷ behind) (peek_brackets (suc d) below behind)
+    peek_soundness : (past : List TokenKind) → Sound (ExprRead (suc d) 0 (token.Keyword keyword.Peek ∷ past)) (suc d) (token.Keyword keyword.Peek ∷ past) (peek_brackets (suc d) below past)
     unfolding peek_brackets
-    peek_holds behind =
-        let all : List TokenKind = token.Keyword keyword.Peek ∷ behind in
+    peek_soundness past =
+        let all : List TokenKind = token.Keyword keyword.Peek ∷ past in
         let Q : tree.Expr × ℕ × List TokenKind → Type 0 = ExprRead (suc d) 0 all in
-        Holds-expect Q (suc d) all punctuation.OpenParen behind _ (omega arith) (λ inside e.
-        enclosed_holds Q punctuation.CloseParen all inside (λ value height after. Ok (tree.Peek value, height, after)) (omega (arith, ap count e)) (λ x at. record {
+        Sound-expect Q (suc d) all punctuation.OpenParen past _ (omega arith) (λ inside e.
+        enclosed_soundness Q punctuation.CloseParen all inside (λ value height after. Ok (tree.Peek value, height, after)) (omega (arith, ap count e)) (λ x at. record {
           spelled = ap (λ (ts : List TokenKind). token.Keyword keyword.Peek ∷ ts) (e ∙ ap (λ (ts : List TokenKind). token.Punctuation punctuation.OpenParen ∷ ts) at.spelled);
           shape = at.shape;
           ranked = omega arith;
@@ -266,11 +266,11 @@ module _ (d : ℕ) where
           low = omega (arith, at.low);
         }))
 
-    group_holds : (behind : List TokenKind) → Holds (ExprRead (suc d) 0 (token.Punctuation punctuation.OpenParen ∷ behind)) (suc d) (token.Punctuation punctuation.OpenParen ∷ behind) (group (suc d) below behind)
+    group_soundness : (past : List TokenKind) → Sound (ExprRead (suc d) 0 (token.Punctuation punctuation.OpenParen ∷ past)) (suc d) (token.Punctuation punctuation.OpenParen ∷ past) (group (suc d) below past)
     unfolding group
-    group_holds behind =
-        let all : List TokenKind = token.Punctuation punctuation.OpenParen ∷ behind in
-        enclosed_holds (ExprRead (suc d) 0 all) punctuation.CloseParen all behind (λ value height after. Ok (tree.Group value, height, after)) (omega arith) (λ x inner. record {
+    group_soundness past =
+        let all : List TokenKind = token.Punctuation punctuation.OpenParen ∷ past in
+        enclosed_soundness (ExprRead (suc d) 0 all) punctuation.CloseParen all past (λ value height after. Ok (tree.Group value, height, after)) (omega arith) (λ x inner. record {
           spelled = ap (λ (ts : List TokenKind). token.Punctuation punctuation.OpenParen ∷ ts) inner.spelled;
           shape = inner.shape;
           ranked = omega arith;
@@ -278,48 +278,48 @@ module _ (d : ℕ) where
           low = omega (arith, inner.low);
         })
 
-    sign_holds : (m : Punctuation) (o : UnaryOperator) (behind : List TokenKind) → m ≡ unary_punctuation o
-        → Holds (ExprRead (suc d) 0 (token.Punctuation m ∷ behind)) (suc d) (token.Punctuation m ∷ behind) (sign (suc d) below o behind)
+    sign_soundness : (m : Punctuation) (o : UnaryOperator) (past : List TokenKind) → m ≡ unary_punctuation o
+        → Sound (ExprRead (suc d) 0 (token.Punctuation m ∷ past)) (suc d) (token.Punctuation m ∷ past) (sign (suc d) below o past)
     unfolding sign
-    sign_holds m o behind is =
-        let all : List TokenKind = token.Punctuation m ∷ behind in
-        Holds-then (ExprRead d 0 behind) (ExprRead (suc d) 0 all) (suc d) all (below 0 behind) _
-        (Holds-on (ExprRead d 0 behind) (ExprRead d 0 behind) d (suc d) behind all (below 0 behind) (omega arith) (omega arith) (holds 0 behind) (λ x h. h)) (λ x read.
-        Holds-raised (ExprRead (suc d) 0 all) (suc d) all (suc d) x.1 _
+    sign_soundness m o past is =
+        let all : List TokenKind = token.Punctuation m ∷ past in
+        Sound-then (ExprRead d 0 past) (ExprRead (suc d) 0 all) (suc d) all (below 0 past) _
+        (Sound-on (ExprRead d 0 past) (ExprRead d 0 past) d (suc d) past all (below 0 past) (omega arith) (omega arith) (sound 0 past) (λ x h. h)) (λ x read.
+        Sound-raised (ExprRead (suc d) 0 all) (suc d) all (suc d) x.1 _
         (λ lt. record {
-          spelled = ap (λ (k : Punctuation). token.Punctuation k ∷ behind) is ∙ ap (λ (ts : List TokenKind). token.Punctuation (unary_punctuation o) ∷ ts) read.spelled;
+          spelled = ap (λ (k : Punctuation). token.Punctuation k ∷ past) is ∙ ap (λ (ts : List TokenKind). token.Punctuation (unary_punctuation o) ∷ ts) read.spelled;
           shape = (omega (arith, read.ranked), read.shape);
           ranked = omega arith;
           high = ap (λ (n : ℕ). n + 1) read.high;
           low = omega arith;
         }) (λ le. absurd (omega (arith, read.low))))
 
-    marked_holds : (m : Punctuation) (behind : List TokenKind) → Holds (ExprRead (suc d) 0 (token.Punctuation m ∷ behind)) (suc d) (token.Punctuation m ∷ behind) (marked (suc d) below m (token.Punctuation m ∷ behind))
-    unfolding marked
-    marked_holds punctuation.OpenParen behind = group_holds behind
-    marked_holds punctuation.Minus behind = sign_holds punctuation.Minus unary.Negate behind refl
-    marked_holds punctuation.Not behind = sign_holds punctuation.Not unary.Not behind refl
-    marked_holds punctuation.Tilde behind = sign_holds punctuation.Tilde unary.Complement behind refl
-    marked_holds punctuation.PlusPlus behind = step_first_holds punctuation.PlusPlus step.IncrementFirst behind (λ target rest. refl)
-    marked_holds punctuation.MinusMinus behind = step_first_holds punctuation.MinusMinus step.DecrementFirst behind (λ target rest. refl)
-    marked_holds _ behind = omega arith
+    punctuation_operand_soundness : (m : Punctuation) (past : List TokenKind) → Sound (ExprRead (suc d) 0 (token.Punctuation m ∷ past)) (suc d) (token.Punctuation m ∷ past) (punctuation_operand (suc d) below m (token.Punctuation m ∷ past))
+    unfolding punctuation_operand
+    punctuation_operand_soundness punctuation.OpenParen past = group_soundness past
+    punctuation_operand_soundness punctuation.Minus past = sign_soundness punctuation.Minus unary.Negate past refl
+    punctuation_operand_soundness punctuation.Not past = sign_soundness punctuation.Not unary.Not past refl
+    punctuation_operand_soundness punctuation.Tilde past = sign_soundness punctuation.Tilde unary.Complement past refl
+    punctuation_operand_soundness punctuation.PlusPlus past = step_first_soundness punctuation.PlusPlus step.IncrementFirst past (λ target rest. refl)
+    punctuation_operand_soundness punctuation.MinusMinus past = step_first_soundness punctuation.MinusMinus step.DecrementFirst past (λ target rest. refl)
+    punctuation_operand_soundness _ past = omega arith
 
-    worded_holds : (w : Keyword) (behind : List TokenKind) → Holds (ExprRead (suc d) 0 (token.Keyword w ∷ behind)) (suc d) (token.Keyword w ∷ behind) (worded (suc d) below w (token.Keyword w ∷ behind))
-    unfolding worded
-    worded_holds keyword.True behind = record { spelled = refl; shape = tt; ranked = omega arith; high = refl; low = omega arith }
-    worded_holds keyword.False behind = record { spelled = refl; shape = tt; ranked = omega arith; high = refl; low = omega arith }
-    worded_holds keyword.Pop behind = pop_holds behind
-    worded_holds keyword.Peek behind = peek_holds behind
-    worded_holds _ behind = omega arith
+    keyword_operand_soundness : (w : Keyword) (past : List TokenKind) → Sound (ExprRead (suc d) 0 (token.Keyword w ∷ past)) (suc d) (token.Keyword w ∷ past) (keyword_operand (suc d) below w (token.Keyword w ∷ past))
+    unfolding keyword_operand
+    keyword_operand_soundness keyword.True past = record { spelled = refl; shape = tt; ranked = omega arith; high = refl; low = omega arith }
+    keyword_operand_soundness keyword.False past = record { spelled = refl; shape = tt; ranked = omega arith; high = refl; low = omega arith }
+    keyword_operand_soundness keyword.Pop past = pop_soundness past
+    keyword_operand_soundness keyword.Peek past = peek_soundness past
+    keyword_operand_soundness _ past = omega arith
 
-    operand_holds : (tokens : List TokenKind) → Holds (ExprRead (suc d) 0 tokens) (suc d) tokens (operand (suc d) below tokens)
+    operand_soundness : (tokens : List TokenKind) → Sound (ExprRead (suc d) 0 tokens) (suc d) tokens (operand (suc d) below tokens)
     unfolding operand
-    operand_holds [] = omega arith
-    operand_holds (token.Number n ∷ rest) = record { spelled = refl; shape = tt; ranked = omega arith; high = refl; low = omega arith }
-    operand_holds (token.StringLiteral t ∷ rest) = omega arith
-    operand_holds (token.Name x ∷ rest) = after_name_holds x rest
-    operand_holds (token.Punctuation m ∷ rest) = marked_holds m rest
-    operand_holds (token.Keyword w ∷ rest) = worded_holds w rest
+    operand_soundness [] = omega arith
+    operand_soundness (token.Number n ∷ rest) = record { spelled = refl; shape = tt; ranked = omega arith; high = refl; low = omega arith }
+    operand_soundness (token.StringLiteral t ∷ rest) = omega arith
+    operand_soundness (token.Name x ∷ rest) = after_name_soundness x rest
+    operand_soundness (token.Punctuation m ∷ rest) = punctuation_operand_soundness m rest
+    operand_soundness (token.Keyword w ∷ rest) = keyword_operand_soundness w rest
 
     -- ---- operators between operands
 
@@ -339,54 +339,54 @@ module _ (d : ℕ) where
         }
 
     abbrev Goes : ℕ → List TokenKind → (tree.Expr → ℕ → List TokenKind → Tall tree.Expr) → Type 0
-    Goes r all goes_on = (e : tree.Expr) (h : ℕ) (rest : List TokenKind) → ExprRead (suc d) (suc r) all (e, h, rest) → Holds (ExprRead (suc d) (suc r) all) (suc d) all (goes_on e h rest)
+    Goes r all goes_on = (e : tree.Expr) (h : ℕ) (rest : List TokenKind) → ExprRead (suc d) (suc r) all (e, h, rest) → Sound (ExprRead (suc d) (suc r) all) (suc d) all (goes_on e h rest)
 
-    chain_by_holds : (goes_on : tree.Expr → ℕ → List TokenKind → Tall tree.Expr) (r : ℕ) (all tokens : List TokenKind) (left : tree.Expr) (h : ℕ) → Goes r all goes_on
+    chain_by_soundness : (goes_on : tree.Expr → ℕ → List TokenKind → Tall tree.Expr) (r : ℕ) (all tokens : List TokenKind) (left : tree.Expr) (h : ℕ) → Goes r all goes_on
         → ExprRead (suc d) (suc r) all (left, h, tokens) → (o : Option BinaryOperator) → operator (suc r) tokens ≡ o
-        → Holds (ExprRead (suc d) (suc r) all) (suc d) all (chain_by (suc d) below (suc r) goes_on left h tokens o)
-    chain_by_holds goes_on r all tokens left h goes lefts None e = lefts
-    chain_by_holds goes_on r all tokens left h goes lefts (Some o) e =
+        → Sound (ExprRead (suc d) (suc r) all) (suc d) all (chain_by (suc d) below (suc r) goes_on left h tokens o)
+    chain_by_soundness goes_on r all tokens left h goes lefts None e = lefts
+    chain_by_soundness goes_on r all tokens left h goes lefts (Some o) e =
         let is = operator_is (suc r) tokens o e in
         let one : length tokens ≡ suc (length (tail tokens)) = ap (λ (ts : List TokenKind). length ts) is.0 in
         let long : h + length tokens ≤ length all = ExprRead-long lefts in
         let some : 1 ≤ h = ExprRead-some lefts in
         let less : suc r - 1 ≡ r = omega arith in
-        let read : Holds (ExprRead d r (tail tokens)) (suc d) all (below (suc r - 1) (tail tokens)) =
-        rw less (Holds-on (ExprRead d r (tail tokens)) (ExprRead d r (tail tokens)) d (suc d) (tail tokens) all (below r (tail tokens)) (omega arith) (omega arith) (holds r (tail tokens)) (λ x h. h)) in
-        Holds-then (ExprRead d r (tail tokens)) (ExprRead (suc d) (suc r) all) (suc d) all (below (suc r - 1) (tail tokens)) _ read (λ x right.
+        let read : Sound (ExprRead d r (tail tokens)) (suc d) all (below (suc r - 1) (tail tokens)) =
+        rw less (Sound-on (ExprRead d r (tail tokens)) (ExprRead d r (tail tokens)) d (suc d) (tail tokens) all (below r (tail tokens)) (omega arith) (omega arith) (sound r (tail tokens)) (λ x h. h)) in
+        Sound-then (ExprRead d r (tail tokens)) (ExprRead (suc d) (suc r) all) (suc d) all (below (suc r - 1) (tail tokens)) _ read (λ x right.
         let right_long : x.1 + length x.2 ≤ length (tail tokens) = ExprRead-long right in
-        Holds-raised (ExprRead (suc d) (suc r) all) (suc d) all (suc d) (max h x.1) _
+        Sound-raised (ExprRead (suc d) (suc r) all) (suc d) all (suc d) (max h x.1) _
         (λ lt. goes (tree.Binary o left x.0) (max h x.1 + 1) x.2 (joined r all tokens left h o x lefts is.0 is.1 right lt))
         (λ le. omega arith))
 
-    chain_holds : (turns r : ℕ) (all tokens : List TokenKind) (left : tree.Expr) (h : ℕ) → ExprRead (suc d) (suc r) all (left, h, tokens)
-        → Holds (ExprRead (suc d) (suc r) all) (suc d) all (chain (suc d) below (suc r) turns left h tokens)
+    chain_soundness : (turns r : ℕ) (all tokens : List TokenKind) (left : tree.Expr) (h : ℕ) → ExprRead (suc d) (suc r) all (left, h, tokens)
+        → Sound (ExprRead (suc d) (suc r) all) (suc d) all (chain (suc d) below (suc r) turns left h tokens)
     unfolding chain
-    chain_holds zero r all tokens left h lefts = lefts
-    chain_holds (suc turns) r all tokens left h lefts =
-        chain_by_holds (chain (suc d) below (suc r) turns) r all tokens left h (λ e k rest read. chain_holds turns r all rest e k read) lefts (operator (suc r) tokens) refl
+    chain_soundness zero r all tokens left h lefts = lefts
+    chain_soundness (suc turns) r all tokens left h lefts =
+        chain_by_soundness (chain (suc d) below (suc r) turns) r all tokens left h (λ e k rest read. chain_soundness turns r all rest e k read) lefts (operator (suc r) tokens) refl
 
-    climb_holds : (r : ℕ) (tokens : List TokenKind) → Holds (ExprRead (suc d) r tokens) (suc d) tokens (climb (suc d) below r tokens)
+    climb_soundness : (r : ℕ) (tokens : List TokenKind) → Sound (ExprRead (suc d) r tokens) (suc d) tokens (climb (suc d) below r tokens)
     unfolding climb
-    climb_holds zero tokens = operand_holds tokens
-    climb_holds (suc r) tokens =
-        Holds-then (ExprRead (suc d) r tokens) (ExprRead (suc d) (suc r) tokens) (suc d) tokens (climb (suc d) below r tokens) _ (climb_holds r tokens) (λ x read.
-        chain_holds (length x.2) r tokens x.2 x.0 x.1 (record { spelled = read.spelled; shape = read.shape; ranked = omega (arith, read.ranked); high = read.high; low = read.low }))
+    climb_soundness zero tokens = operand_soundness tokens
+    climb_soundness (suc r) tokens =
+        Sound-then (ExprRead (suc d) r tokens) (ExprRead (suc d) (suc r) tokens) (suc d) tokens (climb (suc d) below r tokens) _ (climb_soundness r tokens) (λ x read.
+        chain_soundness (length x.2) r tokens x.2 x.0 x.1 (record { spelled = read.spelled; shape = read.shape; ranked = omega (arith, read.ranked); high = read.high; low = read.low }))
 
     -- ---- the choice between two
 
-    choice_holds : (all tokens : List TokenKind) (c : tree.Expr) (h : ℕ) → all ≡ expr_spelled c (token.Punctuation punctuation.Question ∷ tokens) → IsExpr c → rank c < lowest_precedence → h ≡ expr_height c → h ≤ suc d
-        → Holds (ExprRead (suc d) lowest_precedence all) (suc d) all (choice (suc d) below c h tokens)
+    choice_soundness : (all tokens : List TokenKind) (c : tree.Expr) (h : ℕ) → all ≡ expr_spelled c (token.Punctuation punctuation.Question ∷ tokens) → IsExpr c → rank c < lowest_precedence → h ≡ expr_height c → h ≤ suc d
+        → Sound (ExprRead (suc d) lowest_precedence all) (suc d) all (choice (suc d) below c h tokens)
     unfolding choice
-    choice_holds all tokens c h spelled shape ranked high low =
+    choice_soundness all tokens c h spelled shape ranked high low =
         let Q : tree.Expr × ℕ × List TokenKind → Type 0 = ExprRead (suc d) lowest_precedence all in
         let long : h + length tokens + 1 ≤ length all = omega (arith, high, ap count spelled, expr_length c (token.Punctuation punctuation.Question ∷ tokens)) in
-        Holds-then (ClosedRead d punctuation.Colon tokens) Q (suc d) all (closed below punctuation.Colon tokens) _
-        (Holds-on (ClosedRead d punctuation.Colon tokens) (ClosedRead d punctuation.Colon tokens) d (suc d) tokens all (closed below punctuation.Colon tokens) (omega arith) (omega arith) (closed_holds d below holds punctuation.Colon tokens) (λ x k. k)) (λ x chosen.
+        Sound-then (ClosedRead d punctuation.Colon tokens) Q (suc d) all (closed below punctuation.Colon tokens) _
+        (Sound-on (ClosedRead d punctuation.Colon tokens) (ClosedRead d punctuation.Colon tokens) d (suc d) tokens all (closed below punctuation.Colon tokens) (omega arith) (omega arith) (closed_soundness d below sound punctuation.Colon tokens) (λ x k. k)) (λ x chosen.
         let nearer : x.1 + length x.2 + 1 ≤ length tokens = ClosedRead-long chosen in
-        Holds-then (ExprRead d lowest_precedence x.2) Q (suc d) all (below lowest_precedence x.2) _
-        (Holds-on (ExprRead d lowest_precedence x.2) (ExprRead d lowest_precedence x.2) d (suc d) x.2 all (below lowest_precedence x.2) (omega arith) (omega arith) (holds lowest_precedence x.2) (λ y k. k)) (λ y other.
-        Holds-raised Q (suc d) all (suc d) (max h (max x.1 y.1)) _
+        Sound-then (ExprRead d lowest_precedence x.2) Q (suc d) all (below lowest_precedence x.2) _
+        (Sound-on (ExprRead d lowest_precedence x.2) (ExprRead d lowest_precedence x.2) d (suc d) x.2 all (below lowest_precedence x.2) (omega arith) (omega arith) (sound lowest_precedence x.2) (λ y k. k)) (λ y other.
+        Sound-raised Q (suc d) all (suc d) (max h (max x.1 y.1)) _
         (λ lt. record {
           spelled = spelled ∙ ap (λ (ts : List TokenKind). expr_spelled c (token.Punctuation punctuation.Question ∷ ts)) (chosen.spelled ∙ ap (λ (ts : List TokenKind). expr_spelled x.0 (token.Punctuation punctuation.Colon ∷ ts)) other.spelled);
           shape = (ranked, shape, chosen.shape, other.shape);
@@ -395,32 +395,32 @@ module _ (d : ℕ) where
           low = omega arith;
         }) (λ le. omega (arith, chosen.low, other.low))))
 
-    conditional_holds : (tokens : List TokenKind) → Holds (ExprRead (suc d) lowest_precedence tokens) (suc d) tokens (conditional (suc d) below tokens)
+    conditional_soundness : (tokens : List TokenKind) → Sound (ExprRead (suc d) lowest_precedence tokens) (suc d) tokens (conditional (suc d) below tokens)
     unfolding conditional
-    conditional_holds tokens =
-        Holds-then (ExprRead (suc d) lowest_binary_precedence tokens) (ExprRead (suc d) lowest_precedence tokens) (suc d) tokens (climb (suc d) below lowest_binary_precedence tokens) _ (climb_holds lowest_binary_precedence tokens) (λ x read.
+    conditional_soundness tokens =
+        Sound-then (ExprRead (suc d) lowest_binary_precedence tokens) (ExprRead (suc d) lowest_precedence tokens) (suc d) tokens (climb (suc d) below lowest_binary_precedence tokens) _ (climb_soundness lowest_binary_precedence tokens) (λ x read.
         elim (cases_Bool (is_punctuation punctuation.Question x.2)) [
           | inl is ↦
               let spelled = read.spelled ∙ ap (λ (ts : List TokenKind). expr_spelled x.0 ts) (punctuation_is punctuation.Question x.2 is) in
-              let chosen = choice_holds tokens (tail x.2) x.0 x.1 spelled read.shape (omega (arith, read.ranked)) read.high read.low in
+              let chosen = choice_soundness tokens (tail x.2) x.0 x.1 spelled read.shape (omega (arith, read.ranked)) read.high read.low in
               rw is chosen
           | inr is ↦
               let alone : ExprRead (suc d) lowest_precedence tokens (x.0, x.1, x.2) = record { spelled = read.spelled; shape = read.shape; ranked = omega (arith, read.ranked); high = read.high; low = read.low } in
               rw is alone
         ])
 
-    ranked_holds : (r : ℕ) (tokens : List TokenKind) → Holds (ExprRead (suc d) r tokens) (suc d) tokens (ranked (suc d) below r tokens)
+    ranked_soundness : (r : ℕ) (tokens : List TokenKind) → Sound (ExprRead (suc d) r tokens) (suc d) tokens (ranked (suc d) below r tokens)
     unfolding ranked
-    ranked_holds r tokens =
+    ranked_soundness r tokens =
         elim (cases_Bool (eqb r lowest_precedence)) [
           | inl is ↦
-              let whole = subst (λ (n : ℕ). Holds (ExprRead (suc d) n tokens) (suc d) tokens (conditional (suc d) below tokens)) (sym (eqb-true r lowest_precedence is)) (conditional_holds tokens) in
+              let whole = subst (λ (n : ℕ). Sound (ExprRead (suc d) n tokens) (suc d) tokens (conditional (suc d) below tokens)) (sym (eqb-true r lowest_precedence is)) (conditional_soundness tokens) in
               rw is whole
-          | inr is ↦ rw is (climb_holds r tokens)
+          | inr is ↦ rw is (climb_soundness r tokens)
         ]
 
 -- what is read at a depth and a rank
-pub expression_holds : (depth r : ℕ) (tokens : List TokenKind) → Holds (ExprRead depth r tokens) depth tokens (expression depth r tokens)
+pub expression_soundness : (depth r : ℕ) (tokens : List TokenKind) → Sound (ExprRead depth r tokens) depth tokens (expression depth r tokens)
 unfolding expression
-expression_holds zero r tokens = omega arith
-expression_holds (suc d) r tokens = ranked_holds d (expression d) (λ k rest. expression_holds d k rest) r tokens
+expression_soundness zero r tokens = omega arith
+expression_soundness (suc d) r tokens = ranked_soundness d (expression d) (λ k rest. expression_soundness d k rest) r tokens

@@ -11,12 +11,12 @@ use Rattle.strc_syntax.specs.Tree as tree
 use Rattle.strc_grammar.specs.Grammar.{row_spelled, block_spelled, each_spelled, member_spelled, kind_keyword, parameters_spelled, listed_parameters_spelled, next_parameter_spelled, stream_spelled, declaration_spelled, spelling, AreStmts, IsMember, IsStream, IsTree, row_height, member_height, highest, stream_height, declaration_height, height}
 use Rattle.strc_grammar.specs.Reading.{is_keyword, name}
 use Rattle.strc_grammar.specs.Streams.{heading, filter, composite, stream, declaration, at_end, declarations}
-use Rattle.strc_grammar.proofs.Again.{Again, Again-then, expect_punctuation}
-use Rattle.strc_grammar.proofs.Lists.{ItemAgain, each_again}
-use Rattle.strc_grammar.proofs.SimpleAgain.{Again-done}
-use Rattle.strc_grammar.proofs.ArgumentAgain.{parameters_again, stream_type_again, kind_stands, kind_is_no_filter}
-use Rattle.strc_grammar.proofs.StatementAgain.{listed, row_listed, row_length, member_length}
-use Rattle.strc_grammar.proofs.TreeAgain.{statements_again, members_again}
+use Rattle.strc_grammar.proofs.Completeness.{Complete, Complete-then, expect_punctuation}
+use Rattle.strc_grammar.proofs.Lists.{ItemCompleteness, each_completeness}
+use Rattle.strc_grammar.proofs.SimpleCompleteness.{Complete-done}
+use Rattle.strc_grammar.proofs.ArgumentCompleteness.{parameters_completeness, stream_type_completeness, kind_stands, kind_is_no_filter}
+use Rattle.strc_grammar.proofs.StatementCompleteness.{listed, row_listed, row_length, member_length}
+use Rattle.strc_grammar.proofs.TreeCompleteness.{statements_completeness, members_completeness}
 
 nexts_length : (others : List (List ℕ)) (rest : List TokenKind) → length rest ≤ length (each_spelled next_parameter_spelled others rest)
 nexts_length [] rest = omega arith
@@ -42,43 +42,43 @@ declaration_length x given (tree.Filter i o items) shape rest =
 declaration_length x given (tree.Composite types kind block) shape rest =
     omega (arith, row_length block shape (token.Punctuation punctuation.CloseBrace ∷ rest), parameters_length given (block_spelled block rest))
 
-heading_again : (x : List ℕ) (given : Option (List (List ℕ))) (rest : List TokenKind)
+heading_completeness : (x : List ℕ) (given : Option (List (List ℕ))) (rest : List TokenKind)
     → heading (token.Name x ∷ parameters_spelled given (token.Punctuation punctuation.OpenBrace ∷ rest)) ≡ Ok ((x, given), rest)
 unfolding heading name
-heading_again x given rest = rw (parameters_again given rest, expect_punctuation punctuation.OpenBrace rest) refl
+heading_completeness x given rest = rw (parameters_completeness given rest, expect_punctuation punctuation.OpenBrace rest) refl
 
 -- a declaration that was read
 abbrev declared : List ℕ → Option (List (List ℕ)) → tree.Stream → tree.Declaration
 declared x given s = record { name = x; parameters = given; stream = s }
 
 module _ (limit : ℕ) (x : List ℕ) (given : Option (List (List ℕ))) (rest : List TokenKind) where
-  filter_again : (types : StreamType) (items : List tree.Member) → AllByRecursion IsMember items
-      → Again limit (highest member_height items) (declared x given (tree.Filter types.input types.output items), rest)
+  filter_completeness : (types : StreamType) (items : List tree.Member) → AllByRecursion IsMember items
+      → Complete limit (highest member_height items) (declared x given (tree.Filter types.input types.output items), rest)
       (filter limit types (token.Name x ∷ parameters_spelled given (token.Punctuation punctuation.OpenBrace ∷ each_spelled member_spelled items (token.Punctuation punctuation.CloseBrace ∷ rest))))
   unfolding filter
-  filter_again types items shape =
+  filter_completeness types items shape =
       let high : ℕ = highest member_height items in
-      rw (heading_again x given (each_spelled member_spelled items (token.Punctuation punctuation.CloseBrace ∷ rest)))
-      (Again-then limit high high ((items, high), rest) _ _ _ (members_again items shape limit rest) (omega arith) (λ low. Again-done limit high _ _ low refl))
+      rw (heading_completeness x given (each_spelled member_spelled items (token.Punctuation punctuation.CloseBrace ∷ rest)))
+      (Complete-then limit high high ((items, high), rest) _ _ _ (members_completeness items shape limit rest) (omega arith) (λ low. Complete-done limit high _ _ low refl))
 
-  composite_again : (types : StreamType) (kind : CompositeKind) (block : tree.Stmts) → AreStmts block
-      → Again limit (row_height block) (declared x given (tree.Composite types kind block), rest) (composite limit types kind (token.Name x ∷ parameters_spelled given (block_spelled block rest)))
+  composite_completeness : (types : StreamType) (kind : CompositeKind) (block : tree.Stmts) → AreStmts block
+      → Complete limit (row_height block) (declared x given (tree.Composite types kind block), rest) (composite limit types kind (token.Name x ∷ parameters_spelled given (block_spelled block rest)))
   unfolding composite
-  composite_again types kind block shape =
+  composite_completeness types kind block shape =
       let high : ℕ = row_height block in
-      rw (heading_again x given (row_spelled block (token.Punctuation punctuation.CloseBrace ∷ rest)))
-      (Again-then limit high high ((listed block, high), rest) (declared x given (tree.Composite types kind block), rest) _ _ (statements_again block shape limit rest) (omega arith)
-      (λ low. rw (row_listed block) (Again-done limit high (declared x given (tree.Composite types kind block), rest) _ low refl)))
+      rw (heading_completeness x given (row_spelled block (token.Punctuation punctuation.CloseBrace ∷ rest)))
+      (Complete-then limit high high ((listed block, high), rest) (declared x given (tree.Composite types kind block), rest) _ _ (statements_completeness block shape limit rest) (omega arith)
+      (λ low. rw (row_listed block) (Complete-done limit high (declared x given (tree.Composite types kind block), rest) _ low refl)))
 
-  declaration_reads : (s : tree.Stream) → IsStream s → Again limit (stream_height s) (declared x given s, rest) (declaration limit (stream_spelled x given s rest))
+  declaration_reads : (s : tree.Stream) → IsStream s → Complete limit (stream_height s) (declared x given s, rest) (declaration limit (stream_spelled x given s rest))
   unfolding declaration stream is_keyword
   declaration_reads (tree.Filter i o items) shape =
       let types : StreamType = record { input = i; output = o } in
-      let behind : List TokenKind = token.Name x ∷ parameters_spelled given (token.Punctuation punctuation.OpenBrace ∷ each_spelled member_spelled items (token.Punctuation punctuation.CloseBrace ∷ rest)) in
-      rw (stream_type_again types (token.Keyword keyword.Filter ∷ behind)) (filter_again types items shape)
+      let past : List TokenKind = token.Name x ∷ parameters_spelled given (token.Punctuation punctuation.OpenBrace ∷ each_spelled member_spelled items (token.Punctuation punctuation.CloseBrace ∷ rest)) in
+      rw (stream_type_completeness types (token.Keyword keyword.Filter ∷ past)) (filter_completeness types items shape)
   declaration_reads (tree.Composite types kind block) shape =
-      let behind : List TokenKind = token.Name x ∷ parameters_spelled given (block_spelled block rest) in
-      rw (stream_type_again types (kind_keyword kind ∷ behind), kind_is_no_filter kind behind, kind_stands kind behind) (composite_again types kind block shape)
+      let past : List TokenKind = token.Name x ∷ parameters_spelled given (block_spelled block rest) in
+      rw (stream_type_completeness types (kind_keyword kind ∷ past), kind_is_no_filter kind past, kind_stands kind past) (composite_completeness types kind block shape)
 
   declaration_stays : (s : tree.Stream) → at_end (stream_spelled x given s rest) ≡ None
   unfolding at_end
@@ -86,10 +86,10 @@ module _ (limit : ℕ) (x : List ℕ) (given : Option (List (List ℕ))) (rest :
   declaration_stays (tree.Composite types kind block) = refl
 
 module _ (limit : ℕ) where
-  abbrev IsDeclarationAgain : tree.Declaration → Type 0
-  IsDeclarationAgain d = ItemAgain declaration_spelled declaration_height (declaration limit) at_end limit d
+  abbrev IsDeclarationCompleteness : tree.Declaration → Type 0
+  IsDeclarationCompleteness d = ItemCompleteness declaration_spelled declaration_height (declaration limit) at_end limit d
 
-  declarations_facts : (program : List tree.Declaration) → IsTree program → AllByRecursion IsDeclarationAgain program
+  declarations_facts : (program : List tree.Declaration) → IsTree program → AllByRecursion IsDeclarationCompleteness program
   declarations_facts [] shape = tt
   declarations_facts (d ∷ others) shape = (
     record {
@@ -101,7 +101,7 @@ module _ (limit : ℕ) where
   )
 
   -- a whole program
-  pub program_again : (program : List tree.Declaration) → IsTree program → Again limit (height program) (program, []) (declarations limit (spelling program))
+  pub program_completeness : (program : List tree.Declaration) → IsTree program → Complete limit (height program) (program, []) (declarations limit (spelling program))
   unfolding declarations at_end
-  program_again program shape =
-      each_again declaration_spelled declaration_height (declaration limit) at_end limit program (declarations_facts program shape) [] (length (spelling program) + 1) [] [] refl (omega arith)
+  program_completeness program shape =
+      each_completeness declaration_spelled declaration_height (declaration limit) at_end limit program (declarations_facts program shape) [] (length (spelling program) + 1) [] [] refl (omega arith)
