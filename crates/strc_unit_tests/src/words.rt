@@ -1,54 +1,66 @@
 // The forms of the command line.
 
+use std::alloc::{AllocError, Global};
 use std::test::Fail;
 use strc_cli::line::{Command, Line, LineFault};
 use strc_cli::words::{command, usage_error};
 
-// The parts of a line: the file, the rounds and the main stream.
-fn parts(line: &Line) -> (Option<&str>, Option<u32>, Option<&str>) {
-    let Command::Run { rounds, main } = &line.command;
-    let file = line.file.as_ref().map(|file| file.as_str());
-    (file, *rounds, main.as_ref().map(|main| main.as_str()))
+// What is asked for, in one line: the command and its values, `-` where one isn't given.
+fn told(alloc: Global, line: &Line) -> Result<String, AllocError> {
+    let file = name_of(&line.file);
+    match &line.command {
+        Command::Run {
+            rounds: Some(rounds),
+            main,
+        } => format!(in alloc; "run {file} {rounds} {}", name_of(main)),
+        Command::Run { rounds: None, main } => format!(in alloc; "run {file} - {}", name_of(main)),
+        Command::Check { main } => format!(in alloc; "check {file} {}", name_of(main)),
+        Command::Plan { main } => format!(in alloc; "plan {file} {}", name_of(main)),
+    }
+}
+
+fn name_of(name: &Option<String>) -> &str {
+    match name {
+        Some(name) => name.as_str(),
+        None => "-",
+    }
 }
 
 #[test]
 fn each_form_is_understood(rt: HostRuntime) -> Result<(), Fail> {
-    let bare = command(rt.alloc(), &["strc"])?;
-    let (file, rounds, main) = parts(&bare);
-    assert!(rt; file.is_none() && main.is_none());
-    assert_eq!(rt; rounds, Some(5));
-
-    let plain = command(rt.alloc(), &["strc", "run", "a.str"])?;
-    let (file, rounds, main) = parts(&plain);
-    assert_eq!(rt; file, Some("a.str"));
-    assert!(rt; rounds.is_none() && main.is_none());
-
-    let full = command(
-        rt.alloc(),
-        &[
-            "strc",
-            "run",
-            "--rounds",
-            "4294967295",
-            "a.str",
-            "--main",
-            "M",
-        ],
-    )?;
-    let (file, rounds, main) = parts(&full);
-    assert_eq!(rt; file, Some("a.str"));
-    assert_eq!(rt; rounds, Some(4294967295));
-    assert_eq!(rt; main, Some("M"));
-
-    let none = command(rt.alloc(), &["strc", "run", "a.str", "--rounds=0"])?;
-    let (_file, rounds, _main) = parts(&none);
-    assert_eq!(rt; rounds, Some(0));
+    let lines: [(&[&str], &str); 9] = [
+        (&["strc"], "run - 5 -"),
+        (&["strc", "run", "a.str"], "run a.str - -"),
+        (&["strc", "run", "a.str", "--rounds=0"], "run a.str 0 -"),
+        (&["strc", "run", "--main", "M", "a.str"], "run a.str - M"),
+        (
+            &[
+                "strc",
+                "run",
+                "--rounds",
+                "4294967295",
+                "a.str",
+                "--main",
+                "M",
+            ],
+            "run a.str 4294967295 M",
+        ),
+        (&["strc", "check", "a.str"], "check a.str -"),
+        (&["strc", "check", "a.str", "--main", "M"], "check a.str M"),
+        (&["strc", "plan", "a.str"], "plan a.str -"),
+        (&["strc", "plan", "--main=M", "a.str"], "plan a.str M"),
+    ];
+    for (words, wanted) in lines {
+        let line = command(rt.alloc(), words)?;
+        let found = told(rt.alloc(), &line)?;
+        assert_eq!(rt; found.as_str(), wanted, "at {words:?}");
+    }
     Ok(())
 }
 
 #[test]
 fn other_words_are_not(rt: HostRuntime) -> Result<(), Fail> {
-    let lines: [&[&str]; 8] = [
+    let lines: [&[&str]; 12] = [
         &["strc", "go"],
         &["strc", "run"],
         &["strc", "run", "a.str", "b.str"],
@@ -57,6 +69,10 @@ fn other_words_are_not(rt: HostRuntime) -> Result<(), Fail> {
         &["strc", "run", "a.str", "--rounds", "many"],
         &["strc", "run", "a.str", "--rounds"],
         &["strc", "run", "a.str", "--ways", "2"],
+        &["strc", "check"],
+        &["strc", "check", "a.str", "--rounds", "2"],
+        &["strc", "plan", "--main", "M"],
+        &["strc", "plan", "a.str", "b.str"],
     ];
     for words in lines {
         let fault = command(rt.alloc(), words).err();
