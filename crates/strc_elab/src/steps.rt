@@ -155,8 +155,8 @@ impl Place<'_> {
         }
     }
 
-    /// Declares variables: their type, and then each checked and evaluated before the next one, which sees it. Those of
-    /// the same block stand from `start` on.
+    /// Declares variables: their type, and then each checked and evaluated before the next one,
+    /// which sees it. Those of the same block have numbers from `start` on.
     pub(crate) fn declare(
         &self,
         start: u32,
