@@ -1,4 +1,4 @@
--- Words that have no fault name `run`, its FILE, and a number where they give one.
+-- Words that have no fault name a subcommand, its FILE, and for `run` a number where they give one.
 use Rattle.std.proofs.Common.{append-nil, ◌≡◌, ◌∙◌, ℕ, zero, suc, Bool, true, false, cond, not, ◌&&◌, refl, sym, ap, subst, List, [], ◌∷◌, ◌++◌, length, Option, Some, None, is_some, ◌⊎◌, inl, inr, arith, codes, rules}
 use Rattle.std.specs.Prelude.{slice_get, option_map, option_and_then, fold, find, pos, IfSome, IsSome, unwrap_or, ◌||◌, ◌==◌, ◌<◌, ◌^◌, encode_utf8, drop}
 use Rattle.std.specs.Str.{bytes_eq, chars}
@@ -13,7 +13,8 @@ use Rattle.clap.specs.Facts.{explicit_source, parser_of_value, unwrap_or_range}
 use Rattle.clap.specs.ValueTests.{accepts}
 use Rattle.clap.specs.Walk.{Held, Names, Row, Rule, Step, Text, Waiting, Walk, Outcome, action_of, after_flag, after_step, answers_to, arg_by_id, arg_by_index, arg_by_long, arg_by_short, at_row, attached_value, bundle, bundle_met, bundle_step, finished, first_of, flag_met, has_row, is_pending, long_met, long_or_other, long_word, more_values, most_values, nothing_held, one_of, option_met, option_word, plain_word, positional_held, reacted, reading_by, row_text, rows_after, settled, settled_rows, short_met, short_or_plain, stop_after, subcommand_met, subcommand_or_other, takes_several, takes_values, to_positional, used, used_by_id, values_or_missing, walk, walk_from, walked, walked_from, with_default, with_values, without, word_met}
 use Rattle.clap.specs.Walk as walking
-use Rattle.clap.specs.Simple.{Shape, built, built_leaf, entered, inherited, marked_built, names_of, subcommand_of, with_leaf_noted}
+use Rattle.clap.specs.Simple.{App, Shape, built, built_leaf, entered, inherited, marked_built}
+use Rattle.clap.specs.Simple.{names_of, subcommand_of, with_leaf_noted}
 use Rattle.clap.specs.Kinds.{Kinds, check_kinds, or_else, range_kinds, values_kinds, value_kinds}
 use Rattle.clap.specs.Takes.{is_given}
 use Rattle.clap.specs.Values.{IsSignedIn, refused_kind}
@@ -26,7 +27,8 @@ use Rattle.clap.specs.declared.builder.value_parser.Reading.{Reading}
 use Rattle.clap.specs.declared.builder.value_parser.Reading.TheVariants.{WithoutMinus}
 use Rattle.clap.specs.declared.builder.value_parser.ValueParser.{ValueParser}
 use Rattle.clap.specs.declared.builder.value_parser.ValueParser.TheVariants.{Signed}
-use Rattle.strc_cli.specs.Lines.{IsNumberOf, IsRun, Writes32, faults, run_app, strc_app}
+use Rattle.strc_cli.specs.Lines.{IsCommand, IsNumberOf, Writes32, check_app, faults}
+use Rattle.strc_cli.specs.Lines.{plan_app, run_app, strc_app}
 
 -- ---- faults of two steps
 
@@ -334,22 +336,27 @@ module _ (shape : Shape) (plain : Each IsPlainRule shape.rules) (once : shape.ar
 
 -- ---- where the program's words stop
 
-abbrev StopsAtRun : Option (Text × List Text) → Type 0
-StopsAtRun stopped = IfSome stopped (λ p. p.0 ≡ codes "run")
+-- the name of a subcommand
+abbrev IsName : Text → Type 0
+IsName name = (name ≡ codes "run") ⊎ ((name ≡ codes "check") ⊎ (name ≡ codes "plan"))
+
+abbrev StopsAtName : Option (Text × List Text) → Type 0
+StopsAtName stopped = IfSome stopped (λ p. IsName p.0)
 
 abbrev NeverStops : Step → Type 0
 NeverStops (walking.subcommand name) = ⊥
 NeverStops step = Unit {0}
 
-stays_at_run : (rules : List Rule) (word : Text) (w : Walk) (held : Held) (step : Step) → NeverStops step → StopsAtRun w.stopped
-    → StopsAtRun (after_step rules word w held step).stopped
-stays_at_run rules word w held (walking.next waiting) never at_run = at_run
-stays_at_run rules word w held (walking.trailing position) never at_run = at_run
-stays_at_run rules word w held (walking.subcommand name) never at_run = absurd never
-stays_at_run rules word w held walking.value never at_run = go (arg_by_index rules w.position)
+stays_at_name : (rules : List Rule) (word : Text) (w : Walk) (held : Held) (step : Step)
+    → NeverStops step → StopsAtName w.stopped
+    → StopsAtName (after_step rules word w held step).stopped
+stays_at_name rules word w held (walking.next waiting) never at_name = at_name
+stays_at_name rules word w held (walking.trailing position) never at_name = at_name
+stays_at_name rules word w held (walking.subcommand name) never at_name = absurd never
+stays_at_name rules word w held walking.value never at_name = go (arg_by_index rules w.position)
   where
-    go : (found : Option Rule) → StopsAtRun (to_positional rules found word w held).stopped
-    go None = at_run
+    go : (found : Option Rule) → StopsAtName (to_positional rules found word w held).stopped
+    go None = at_name
     go (Some rule) = tt
 
 plain_never : (rules : List Rule) (waiting : Waiting) (word : Text) (held : Held) → NeverStops (plain_word rules waiting word held).1
@@ -377,69 +384,95 @@ names = names_of (built strc_app)
 abbrev top : Shape
 top = (built strc_app).top
 
--- a subcommand that is met and has no fault is `run`
-met_run : (waiting : Waiting) (word name : Text) (held : Held) → subcommand_met names waiting word ≡ Some name → other_fault top (Some name) word held ≡ [] → name ≡ codes "run"
-met_run walking.idle word name held met none = go (answers_to word (codes "run", [])) (answers_to word (codes "help", [])) met none
+-- a subcommand that is met and has no fault is one of the three: `help` has a fault
+met_name : (waiting : Waiting) (word name : Text) (held : Held)
+    → subcommand_met names waiting word ≡ Some name
+    → other_fault top (Some name) word held ≡ [] → IsName name
+met_name walking.idle word name held met none =
+    go (answers_to word (codes "run", [])) (answers_to word (codes "check", []))
+    (answers_to word (codes "plan", []))
+    (answers_to word (codes "help", [])) met none
   where
-    go : (is_run is_help : Bool)
-        → option_map {T = Text × List Text} (λ s. s.0) (cond is_run (Some (codes "run", [])) (cond is_help (Some (codes "help", [])) None)) ≡ Some name
-        → other_fault top (Some name) word held ≡ [] → name ≡ codes "run"
-    go true is_help met none = cc
-    go false true met none =
+    go : (is_run is_check is_plan is_help : Bool)
+        → option_map {T = Text × List Text} (λ s. s.0)
+        (cond is_run (Some (codes "run", [])) (cond is_check (Some (codes "check", []))
+        (cond is_plan (Some (codes "plan", []))
+        (cond is_help (Some (codes "help", [])) None)))) ≡ Some name
+        → other_fault top (Some name) word held ≡ [] → IsName name
+    go true is_check is_plan is_help met none = inl cc
+    go false true is_plan is_help met none = inr (inl cc)
+    go false false true is_help met none = inr (inr cc)
+    go false false false true met none =
         let is : name ≡ codes "help" = cc in
         let bad = subst (λ (n : Text). other_fault top (Some n) word held ≡ []) is none in cc
-    go false false met none = cc
-met_run (walking.option id) word name held met none = cc
-met_run walking.positional word name held met none = cc
+    go false false false false met none = cc
+met_name (walking.option id) word name held met none = cc
+met_name walking.positional word name held met none = cc
 
-met_at_run : (word : Text) (w : Walk) (position : ℕ) (held : Held) (name : Option Text) (waiting : Waiting) → subcommand_met names waiting word ≡ name
-    → other_fault top name word held ≡ [] → StopsAtRun w.stopped
-    → StopsAtRun (after_step top.rules word w (subcommand_or_other top.rules name waiting position word held).0
+met_at_name : (word : Text) (w : Walk) (position : ℕ) (held : Held) (name : Option Text)
+    (waiting : Waiting) → subcommand_met names waiting word ≡ name
+    → other_fault top name word held ≡ [] → StopsAtName w.stopped
+    → StopsAtName
+    (after_step top.rules word w (subcommand_or_other top.rules name waiting position word held).0
     (subcommand_or_other top.rules name waiting position word held).1).stopped
-met_at_run word w position held (Some name) waiting met none at_run = met_run waiting word name held met none
-met_at_run word w position held None waiting met none at_run = go (bytes_eq word (45 ∷ 45 ∷ []))
+met_at_name word w position held (Some name) waiting met none at_name =
+    met_name waiting word name held met none
+met_at_name word w position held None waiting met none at_name = go (bytes_eq word (45 ∷ 45 ∷ []))
   where
-    go : (b : Bool) → StopsAtRun (after_step top.rules word w
+    go : (b : Bool) → StopsAtName (after_step top.rules word w
         (if b then (held, walking.trailing position) else long_or_other top.rules waiting word (long_of word) held).0
         (if b then (held, walking.trailing position) else long_or_other top.rules waiting word (long_of word) held).1).stopped
-    go true = at_run
-    go false = stays_at_run top.rules word w _ _ (other_never top.rules waiting word (long_of word) held) at_run
+    go true = at_name
+    go false =
+        stays_at_name top.rules word w _ _
+        (other_never top.rules waiting word (long_of word) held) at_name
 
-word_at_run : (is_trailing : Bool) (w : Walk) (word : Text) → word_fault top names is_trailing w.waiting word w.held ≡ [] → StopsAtRun w.stopped
-    → StopsAtRun (after_step top.rules word w (word_met top.rules names is_trailing w.waiting w.position word w.held).0
+word_at_name : (is_trailing : Bool) (w : Walk) (word : Text)
+    → word_fault top names is_trailing w.waiting word w.held ≡ [] → StopsAtName w.stopped
+    → StopsAtName
+    (after_step top.rules word w
+    (word_met top.rules names is_trailing w.waiting w.position word w.held).0
     (word_met top.rules names is_trailing w.waiting w.position word w.held).1).stopped
-word_at_run true w word none at_run = stays_at_run top.rules word w w.held walking.value tt at_run
-word_at_run false w word none at_run = met_at_run word w w.position w.held (subcommand_met names w.waiting word) w.waiting refl none at_run
+word_at_name true w word none at_name =
+    stays_at_name top.rules word w w.held walking.value tt at_name
+word_at_name false w word none at_name =
+    met_at_name word w w.position w.held
+    (subcommand_met names w.waiting word) w.waiting refl none at_name
 
-turn_at_run : (w : Walk) (word : Text) → turn_fault top names w word ≡ [] → StopsAtRun w.stopped → StopsAtRun (walked top.rules names w word).stopped
+turn_at_name : (w : Walk) (word : Text) → turn_fault top names w word ≡ [] → StopsAtName w.stopped
+    → StopsAtName (walked top.rules names w word).stopped
 unfolding walked
-turn_at_run w word none at_run = go w.stopped at_run none
+turn_at_name w word none at_name = go w.stopped at_name none
   where
-    go : (stopped : Option (Text × List Text)) → StopsAtRun stopped
+    go : (stopped : Option (Text × List Text)) → StopsAtName stopped
         → (if is_some stopped then [] else or_else (word_fault top names w.is_trailing w.waiting word w.held)
         (step_fault top w.position (word_met top.rules names w.is_trailing w.waiting w.position word w.held).0
         (word_met top.rules names w.is_trailing w.waiting w.position word w.held).1)) ≡ []
-        → StopsAtRun (walked_from top.rules names stopped w word).stopped
+        → StopsAtName (walked_from top.rules names stopped w word).stopped
     go (Some p) here none = here
     go None here none =
         let met = word_met top.rules names w.is_trailing w.waiting w.position word w.held in
-        word_at_run w.is_trailing w word (none_first (word_fault top names w.is_trailing w.waiting word w.held) (step_fault top w.position met.0 met.1) none) at_run
+        word_at_name w.is_trailing w word
+        (none_first (word_fault top names w.is_trailing w.waiting word w.held)
+        (step_fault top w.position met.0 met.1) none) at_name
 
-walk_at_run : (words : List Text) (w : Walk) → walk_fault top names w words ≡ [] → StopsAtRun w.stopped → StopsAtRun (fold (walked top.rules names) w words).stopped
+walk_at_name : (words : List Text) (w : Walk) → walk_fault top names w words ≡ []
+    → StopsAtName w.stopped → StopsAtName (fold (walked top.rules names) w words).stopped
 unfolding walk_fault
-walk_at_run [] w none at_run = at_run
-walk_at_run (word ∷ words) w none at_run =
+walk_at_name [] w none at_name = at_name
+walk_at_name (word ∷ words) w none at_name =
     let one = turn_fault top names w word in
     let other = walk_fault top names (walked top.rules names w word) words in
-    walk_at_run words (walked top.rules names w word) (none_second one other none) (turn_at_run w word (none_first one other none) at_run)
+    walk_at_name words (walked top.rules names w word) (none_second one other none)
+    (turn_at_name w word (none_first one other none) at_name)
 
--- ---- what the words of `run` give
+-- ---- what the words of a subcommand give
 
-abbrev run : Shape
-run = built_leaf (inherited (with_leaf_noted (marked_built strc_app.top)) run_app.top)
+abbrev shape_of : App → Shape
+shape_of app = built_leaf (inherited (with_leaf_noted (marked_built strc_app.top)) app.top)
 
-plain_rules : Each IsPlainRule run.rules
-plain_rules = (
+plain_run : Each IsPlainRule (shape_of run_app).rules
+plain_run = (
   inl (record { action = refl; range = refl; number = λ is value passes. cc }),
   (
     inl (record { action = refl; range = refl; number = λ is value passes. (refl, passes) }),
@@ -448,6 +481,18 @@ plain_rules = (
       (inr refl, tt),
     ),
   ),
+)
+
+plain_check : Each IsPlainRule (shape_of check_app).rules
+plain_check = (
+  inl (record { action = refl; range = refl; number = λ is value passes. cc }),
+  (inl (record { action = refl; range = refl; number = λ is value passes. cc }), (inr refl, tt)),
+)
+
+plain_plan : Each IsPlainRule (shape_of plan_app).rules
+plain_plan = (
+  inl (record { action = refl; range = refl; number = λ is value passes. cc }),
+  (inl (record { action = refl; range = refl; number = λ is value passes. cc }), (inr refl, tt)),
 )
 
 no_defaults : (rules : List Rule) → Each (λ rule. rule.defaults ≡ []) rules → (rows : List Row) → fold with_default rows rules ≡ rows
@@ -541,43 +586,95 @@ faultless_level shape names words has below none =
       checks = none_second fills checks (none_second settles (or_else fills checks) third);
     }
 
--- the words after `run`, where they have no fault
-runs : (words : List Text) → level_fault run [] nothing_held words false [] ≡ []
-    → IsRun (Some (codes "run", rows_after run.rules [] words))
+-- the rows of the words after a subcommand, where they have no fault
+rows_good : (shape : Shape) → Each IsPlainRule shape.rules
+    → Each (λ (rule : Rule). rule.defaults ≡ []) shape.rules
+    → shape.args_override_self ≡ false → (words : List Text)
+    → IsFaultless shape [] words false [] → Each IsGood (rows_after shape.rules [] words)
+rows_good shape plain bare once words faultless =
+    let end = (walk shape.rules [] nothing_held words).held in
+    let met = walk_good shape plain once words (walk_from nothing_held) faultless.walks tt in
+    let settles =
+    subst (λ (again : Bool). settle_fault shape.rules again end ≡ []) once faultless.settles in
+    let good = settled_good shape.rules plain end settles met in
+    subst (Each IsGood) (sym (no_defaults shape.rules bare (settled shape.rules end).rows)) good
+
+-- the words after `run`
+runs : (words : List Text) → level_fault (shape_of run_app) [] nothing_held words false [] ≡ []
+    → IsCommand (Some (codes "run", rows_after (shape_of run_app).rules [] words))
 runs words none =
+    let run = shape_of run_app in
     let faultless = faultless_level run [] words false [] none in
     let rows = rows_after run.rules [] words in
-    let end = (walk run.rules [] nothing_held words).held in
-    let met = walk_good run plain_rules refl words (walk_from nothing_held) faultless.walks tt in
-    let good = settled_good run.rules plain_rules end faultless.settles met in
-    let same : rows ≡ (settled run.rules end).rows = no_defaults run.rules (refl, (refl, (refl, (refl, tt)))) (settled run.rules end).rows in
-    let all : Each IsGood rows = subst (Each IsGood) (sym same) good in
-    let read = number_read rows all in
+    let good = rows_good run plain_run (refl, (refl, (refl, (refl, tt)))) refl words faultless in
     record {
+      name = codes "run";
       rows = rows;
-      run = refl;
-      file = given_file rows all (file_given (is_given (codes "FILE") rows) faultless.checks);
-      number = read.0;
-      reads = read.1;
+      is = refl;
+      known = inl (refl, number_read rows good);
+      file = given_file rows good (file_given (is_given (codes "FILE") rows) faultless.checks);
     }
 
--- words that have no fault enter `run`
-enters : (stopped : Option (Text × List Text)) → StopsAtRun stopped → is_some (entered (built strc_app) stopped) ≡ true → entered_fault (built strc_app) stopped ≡ []
-    → IsRun (entered (built strc_app) stopped)
-enters None at_run is none = cc
-enters (Some (name, words)) at_run is none =
-    subst (λ (text : Text). IsRun (entered (built strc_app) (Some (text, words)))) (sym at_run)
-    (runs words (subst (λ (text : Text). entered_fault (built strc_app) (Some (text, words)) ≡ []) at_run none))
+-- those after `check`
+checks : (words : List Text) → level_fault (shape_of check_app) [] nothing_held words false [] ≡ []
+    → IsCommand (Some (codes "check", rows_after (shape_of check_app).rules [] words))
+checks words none =
+    let check = shape_of check_app in
+    let faultless = faultless_level check [] words false [] none in
+    let rows = rows_after check.rules [] words in
+    let good = rows_good check plain_check (refl, (refl, (refl, tt))) refl words faultless in
+    record {
+      name = codes "check";
+      rows = rows;
+      is = refl;
+      known = inr (inl refl);
+      file = given_file rows good (file_given (is_given (codes "FILE") rows) faultless.checks);
+    }
+
+-- those after `plan`
+plans : (words : List Text) → level_fault (shape_of plan_app) [] nothing_held words false [] ≡ []
+    → IsCommand (Some (codes "plan", rows_after (shape_of plan_app).rules [] words))
+plans words none =
+    let plan = shape_of plan_app in
+    let faultless = faultless_level plan [] words false [] none in
+    let rows = rows_after plan.rules [] words in
+    let good = rows_good plan plain_plan (refl, (refl, (refl, tt))) refl words faultless in
+    record {
+      name = codes "plan";
+      rows = rows;
+      is = refl;
+      known = inr (inr refl);
+      file = given_file rows good (file_given (is_given (codes "FILE") rows) faultless.checks);
+    }
+
+-- what was met of this name, where it has no fault, is a command
+abbrev Enters : List Text → Text → Type 0
+Enters words name =
+    entered_fault (built strc_app) (Some (name, words)) ≡ []
+    → IsCommand (entered (built strc_app) (Some (name, words)))
+
+enters_name : (words : List Text) (name : Text) → IsName name → Enters words name
+enters_name words name (inl is) = subst (Enters words) (sym is) (runs words)
+enters_name words name (inr (inl is)) = subst (Enters words) (sym is) (checks words)
+enters_name words name (inr (inr is)) = subst (Enters words) (sym is) (plans words)
+
+-- words that have no fault enter a subcommand
+enters : (stopped : Option (Text × List Text)) → StopsAtName stopped
+    → is_some (entered (built strc_app) stopped) ≡ true
+    → entered_fault (built strc_app) stopped ≡ [] → IsCommand (entered (built strc_app) stopped)
+enters None at_name is none = cc
+enters (Some (name, words)) at_name is none = enters_name words name at_name none
 
 subcommand_given : (rows : List Row) (has : Bool) → check_fault top rows has ≡ [] → has ≡ true
 subcommand_given rows true none = refl
 subcommand_given rows false none = cc
 
-pub faultless_runs : (words : List Text) → faults words ≡ [] → IsRun (subcommand_of strc_app words)
-faultless_runs words none =
+pub faultless_command : (words : List Text) → faults words ≡ []
+    → IsCommand (subcommand_of strc_app words)
+faultless_command words none =
     let stopped = stop_after top.rules names (drop 1 words) in
     let has = is_some (entered (built strc_app) stopped) in
     let faultless = faultless_level top names (drop 1 words) has (entered_fault (built strc_app) stopped) none in
-    enters stopped (walk_at_run (drop 1 words) (walk_from nothing_held) faultless.walks tt)
+    enters stopped (walk_at_name (drop 1 words) (walk_from nothing_held) faultless.walks tt)
     (subcommand_given (rows_after top.rules names (drop 1 words)) has faultless.checks)
     faultless.enters

@@ -1,5 +1,6 @@
 -- What the reading of a line's matches has found.
-use Rattle.std.proofs.Common.{◌≡◌, ◌∙◌, ◌^◌, ◌<◌, ℕ, refl, sym, ap, subst, true, List, Option, Some, None, Result, Ok, Err, is_some, codes}
+use Rattle.std.proofs.Common.{◌≡◌, ◌∙◌, ◌^◌, ◌<◌, ℕ, refl, sym, subst, true, List, Option, Some}
+use Rattle.std.proofs.Common.{None, Result, Ok, Err, is_some, codes, inl, inr}
 use Rattle.std.specs.Prelude.{option_map}
 use Rattle.std.specs.Str.Parse.{ExplainsUnsignedError, HasUnsignedDigitsIfOk, ParsesUnsigned}
 use Rattle.std.specs.declared.num.ParseIntError.{ParseIntError}
@@ -9,7 +10,7 @@ use Rattle.clap.specs.Simple.{subcommand_rows_of}
 use Rattle.clap.specs.declared.parser.matches.ArgMatches.{ArgMatches}
 use Rattle.clap.specs.declared.parser.matches.ArgMatches.TheViews.{out-ArgMatches, out-SubCommand}
 use Rattle.clap.specs.Walk.{Row, Text, first_of, one_of, rows_of}
-use Rattle.strc_cli.specs.Lines.{IsNumberOf, IsRun}
+use Rattle.strc_cli.specs.Lines.{IsCommand, IsKnown, IsNumberOf}
 
 some_same : {A : Type 0} (one other : A) → Some one ≡ Some other → one ≡ other
 some_same one other is = cc
@@ -21,24 +22,45 @@ met_both : {B : Type 0} (met : Option B) (name : B → Text) (rows : B → List 
 met_both None name rows text all named found = cc
 met_both (Some b) name rows text all named found = rw (some_same _ _ named, some_same _ _ found) refl
 
-pub run_met : (matches : ArgMatches) (rows : List Row) → subcommand_name_of matches ≡ Some (codes "run")
-    → option_map (λ (p : Text × List Row). p.1) (subcommand_rows_of matches) ≡ Some rows → subcommand_rows_of matches ≡ Some (codes "run", rows)
-run_met matches rows = met_both (out-ArgMatches matches).subcommand (λ b. (out-SubCommand (box_value b)).name.now)
-    (λ b. rows_of (found_of (out-SubCommand (box_value b)).matches)) (codes "run") rows
+pub subcommand_met : (matches : ArgMatches) (name : Text) (rows : List Row)
+    → subcommand_name_of matches ≡ Some name
+    → option_map (λ (p : Text × List Row). p.1) (subcommand_rows_of matches) ≡ Some rows
+    → subcommand_rows_of matches ≡ Some (name, rows)
+subcommand_met matches name rows =
+    met_both (out-ArgMatches matches).subcommand (λ b. (out-SubCommand (box_value b)).name.now)
+    (λ b. rows_of (found_of (out-SubCommand (box_value b)).matches)) name rows
 
--- a run that was met is one that has these rows
-same_rows : (met : Option (Text × List Row)) (found : List Row) → met ≡ Some (codes "run", found) → (run : IsRun met) → run.rows ≡ found
-same_rows met found is run = ap (λ (p : Text × List Row). p.1) (some_same _ _ (sym run.run ∙ is))
+-- a command that was met is one that has this name and these rows
+same_met : (met : Option (Text × List Row)) (name : Text) (found : List Row)
+    → met ≡ Some (name, found)
+    → (command : IsCommand met)
+    → ◌≡◌ {A = Text × List Row} (command.name, command.rows) (name, found)
+same_met met name found is command = some_same _ _ (sym command.is ∙ is)
 
-pub no_file : (met : Option (Text × List Row)) (found : List Row) → met ≡ Some (codes "run", found) → first_of (codes "FILE") found ≡ None → IsRun met → ⊥
-no_file met found is none run =
-    let given : is_some (first_of (codes "FILE") found) ≡ true = subst (λ (rows : List Row). is_some (first_of (codes "FILE") rows) ≡ true) (same_rows met found is run) run.file in
+pub no_file : (met : Option (Text × List Row)) (name : Text) (found : List Row)
+    → met ≡ Some (name, found)
+    → first_of (codes "FILE") found ≡ None → IsCommand met → ⊥
+no_file met name found is none command =
+    let given : is_some (first_of (codes "FILE") found) ≡ true =
+    subst (λ (p : Text × List Row). is_some (first_of (codes "FILE") p.1) ≡ true)
+    (same_met met name found is command) command.file in
     cc
 
-pub no_number : (met : Option (Text × List Row)) (found : List Row) → met ≡ Some (codes "run", found)
-    → ((number : Option ℕ) → IsNumberOf (one_of (codes "rounds") found) number → ⊥) → IsRun met → ⊥
-no_number met found is none run =
-    none run.number (subst (λ (rows : List Row). IsNumberOf (one_of (codes "rounds") rows) run.number) (same_rows met found is run) run.reads)
+pub not_known : (met : Option (Text × List Row)) (name : Text) (found : List Row)
+    → met ≡ Some (name, found)
+    → (IsKnown name found → ⊥) → IsCommand met → ⊥
+not_known met name found is none command =
+    none
+    (subst (λ (p : Text × List Row). IsKnown p.0 p.1) (same_met met name found is command)
+    command.known)
+
+-- `run` with a text that is no number is no subcommand that is known
+pub no_number : (name : Text) (rows : List Row) → name ≡ codes "run"
+    → ((number : Option ℕ) → IsNumberOf (one_of (codes "rounds") rows) number → ⊥)
+    → IsKnown name rows → ⊥
+no_number name rows run none (inl (is, (number, reads))) = none number reads
+no_number name rows run none (inr (inl is)) = cc
+no_number name rows run none (inr (inr is)) = cc
 
 -- how a text is read as a number of 32 bits
 abbrev pub Gives : Text → Result ℕ ParseIntError → Type 0

@@ -1,6 +1,7 @@
--- What the words of a command line ask for. Behind the program's name they are `run FILE [--rounds N] [--main NAME]`,
+-- What the words of a command line ask for. After the program's name they are
+-- `run FILE [--rounds N] [--main NAME]`, `check FILE [--main NAME]` or `plan FILE [--main NAME]`,
 -- and are read as the crate `clap` reads the words of a command: `strc_app` describes ours.
-use Rattle.std.specs.Prelude.{◌≡◌, ℕ, ◌<◌, ◌^◌, pos, true, List, []}
+use Rattle.std.specs.Prelude.{◌≡◌, ◌⊎◌, ℕ, ◌<◌, ◌^◌, pos, true, List, []}
 use Rattle.std.specs.Prelude.{Option, Some, None, IsSome, option_map, string_bytes, codes}
 use Rattle.std.specs.Str.Parse.{IsNumeral, digits_value, without_leading_plus}
 use Rattle.clap.specs.Walk.{Row, Rule, Text, first_of, one_of}
@@ -13,8 +14,9 @@ use Rattle.clap.specs.declared.error.kind.ErrorKind.TheVariants.{OutOfMemory}
 use Rattle.strc_cli.specs.declared.line.Line.{Line}
 use Rattle.strc_cli.specs.declared.line.LineFault.{LineFault}
 use Rattle.strc_cli.specs.declared.line.LineFault.TheVariants as fault
+use Rattle.strc_cli.specs.declared.line.Command.{Command}
 use Rattle.strc_cli.specs.declared.line.Command.TheVariants as command
-use Rattle.strc_cli.specs.Answering.{main_of, rounds_of}
+use Rattle.strc_cli.specs.Answering.{main_of}
 
 -- without words the text comes from standard input, and five rounds are run
 abbrev pub default_line : Line
@@ -40,11 +42,19 @@ main_rule = record (new_rule (codes "main")) { long = Some (codes "main"); value
 abbrev pub run_app : App
 run_app = with_rule (with_rule (with_rule (new_app (codes "run")) file_rule) rounds_rule) main_rule
 
+-- the words of `check`
+abbrev pub check_app : App
+check_app = with_rule (with_rule (new_app (codes "check")) file_rule) main_rule
+
+-- the words of `plan`
+abbrev pub plan_app : App
+plan_app = with_rule (with_rule (new_app (codes "plan")) file_rule) main_rule
+
 -- the words of the program, which wants a subcommand
 abbrev pub strc_app : App
 strc_app =
     let strc = on_top (λ shape. record shape { subcommand_required = true }) (new_app (codes "strc")) in
-    with_subcommand strc run_app.top
+    with_subcommand (with_subcommand (with_subcommand strc run_app.top) check_app.top) plan_app.top
 
 -- decimal digits, with a plus sign before them or none, that write this number of 32 bits
 abbrev pub Writes32 : Text → ℕ → Type 0
@@ -58,24 +68,40 @@ IsNumberOf None None = Unit {0}
 IsNumberOf (Some text) (Some number) = Writes32 text number
 IsNumberOf text number = ⊥
 
--- the line has what was found for FILE, `--rounds` and `--main`
-pub record IsLineOf (rows : List Row) (line : Line) : Type 0 where
+-- this command is that of the name and of what was found for its options, whatever its main stream;
+-- `run` alone has a number of rounds
+abbrev pub IsCommandOf : Text → List Row → Command → Type 0
+IsCommandOf name rows (command.Run rounds main) =
+    (name ≡ codes "run") × IsNumberOf (one_of (codes "rounds") rows) rounds
+IsCommandOf name rows (command.Check main) = name ≡ codes "check"
+IsCommandOf name rows (command.Plan main) = name ≡ codes "plan"
+
+-- the line has what was found for a subcommand's FILE and options
+pub record IsLineOf (name : Text) (rows : List Row) (line : Line) : Type 0 where
   pub given : IsSome line.file
   pub file : option_map string_bytes line.file ≡ first_of (codes "FILE") rows
-  pub rounds : IsNumberOf (one_of (codes "rounds") rows) (rounds_of line.command)
+  pub command : IsCommandOf name rows line.command
   pub main : main_of line.command ≡ first_of (codes "main") rows
 
--- the subcommand that was met is `run`, and the line has what was found for its arguments
+-- a subcommand was met, and the line has what was found for its arguments
 abbrev pub IsLineIn : Option (Text × List Row) → Line → Type 0
-IsLineIn met line = (rows : List Row) × (met ≡ Some (codes "run", rows)) × IsLineOf rows line
+IsLineIn met line =
+    (name : Text) × (rows : List Row) × (met ≡ Some (name, rows)) × IsLineOf name rows line
 
--- `run` was met, with a FILE, and with a number where one is given
-pub record IsRun (met : Option (Text × List Row)) : Type 0 where
+-- the name is that of a subcommand: `run`, with a number where one is given, `check` or `plan`
+abbrev pub IsKnown : Text → List Row → Type 0
+IsKnown name rows =
+    ((name ≡ codes "run")
+    × ((number : Option ℕ) × IsNumberOf (one_of (codes "rounds") rows) number))
+    ⊎ ((name ≡ codes "check") ⊎ (name ≡ codes "plan"))
+
+-- one of the subcommands was met, with a FILE
+pub record IsCommand (met : Option (Text × List Row)) : Type 0 where
+  pub name : Text
   pub rows : List Row
-  pub run : met ≡ Some (codes "run", rows)
+  pub is : met ≡ Some (name, rows)
+  pub known : IsKnown name rows
   pub file : IsSome (first_of (codes "FILE") rows)
-  pub number : Option ℕ
-  pub reads : IsNumberOf (one_of (codes "rounds") rows) number
 
 -- the kinds of error that the words may come to, other than out of memory; none where the words are taken
 abbrev pub faults : List Text → Kinds

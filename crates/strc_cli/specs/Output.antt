@@ -1,9 +1,13 @@
--- The text that is written: the words of a run and its fault line, or the line of a refusal.
-use Rattle.std.specs.Prelude.{ℕ, ◌-◌, Bool, false, not, Option, Some, None, length, slice_get, List, [], ◌∷◌, ◌++◌, codes, decimal, if◌then◌else◌}
+-- The text that is written: the words of a run and its fault line, the lines of a check or a plan,
+-- or the line of a refusal.
+use Rattle.std.specs.Prelude.{ℕ, ◌+◌, ◌-◌, Bool, false, not, Option, Some, None, length, slice_get}
+use Rattle.std.specs.Prelude.{List, [], ◌∷◌, ◌++◌, codes, decimal, if◌then◌else◌}
 use Rattle.std.specs.Fmt.{signed_decimal}
 use Rattle.strc_semantics.specs.declared.word.Word.{Word}
 use Rattle.strc_semantics.specs.declared.fault.Cause.{Cause}
 use Rattle.strc_semantics.specs.declared.fault.Cause.TheVariants as cause
+use Rattle.strc_graph.specs.NodeView.{node_names}
+use Rattle.strc_run.specs.declared.plan.Plan.{Plan}
 use Rattle.strc_run.specs.declared.outcome.Outcome.{Outcome}
 use Rattle.strc_run.specs.declared.outcome.Outcome.TheVariants as outcome
 use Rattle.strc_run.specs.declared.outcome.Fault.{Fault}
@@ -51,6 +55,27 @@ abbrev pub outcome_text : Outcome → List ℕ
 outcome_text (outcome.Done words) = words_text words.items
 outcome_text (outcome.Fault fault words) = words_text words.items ++ closing words.items ++ fault_line fault
 
+-- `ok nodes 6 channels 6`
+abbrev pub check_line : ℕ → ℕ → List ℕ
+check_line nodes channels =
+    codes "ok nodes " ++ decimal nodes ++ codes " channels " ++ decimal channels ++ line_end
+
+-- `node 2 Sum round 2`
+abbrev pub node_line : ℕ → List ℕ → ℕ → List ℕ
+node_line node name count =
+    codes "node " ++ decimal node ++ codes " " ++ name ++ codes " round " ++ decimal count
+    ++ line_end
+
+-- the lines of nodes with these names and counts, the first of which has this number
+abbrev pub node_lines : ℕ → List (List ℕ) → List ℕ → List ℕ
+node_lines node (name ∷ names) (count ∷ counts) =
+    node_line node name count ++ node_lines (node + 1) names counts
+node_lines node names counts = []
+
+-- all that is written of a plan: a line for each node, with how often it fires in a round
+abbrev pub plan_text : Plan → List ℕ
+plan_text plan = node_lines 0 (node_names plan.graph) plan.round_counts
+
 -- the number and the name of a refusal, with its fields, each after its name
 abbrev pub refusal_words : Refusal → List ℕ
 refusal_words refusal.NotYet = codes "E0 NotYet"
@@ -73,6 +98,9 @@ refusal_words (refusal.RateLimit node) = codes "E16 RateLimit" ++ codes " node "
 refusal_words refusal.TwoInputs = codes "E17 TwoInputs"
 refusal_words refusal.TwoOutputs = codes "E18 TwoOutputs"
 refusal_words refusal.Disconnected = codes "E19 Disconnected"
+refusal_words refusal.CountsTooLarge = codes "E20 CountsTooLarge"
+refusal_words (refusal.Inconsistent channel) =
+    codes "E21 Inconsistent" ++ codes " channel " ++ decimal channel
 refusal_words refusal.NoMemory = codes "E25 NoMemory"
 refusal_words refusal.Nesting = codes "E26 Nesting"
 refusal_words refusal.RoundsNeeded = codes "S5 RoundsNeeded"

@@ -5,18 +5,22 @@ use Rattle.strc_cli.specs.declared.execute.CliError.{CliError}
 use Rattle.strc_cli.specs.declared.execute.CliError.TheVariants as error
 use Rattle.strc_cli.specs.declared.execute.Status.{Status}
 use Rattle.strc_cli.specs.declared.execute.Status.TheVariants as status
-use Rattle.strc_cli.specs.declared.execute.Stop.{Stop}
-use Rattle.strc_cli.specs.declared.execute.Stop.TheVariants as stop
-use Rattle.strc_run.specs.declared.outcome.Outcome.{Outcome}
+use Rattle.strc_cli.specs.declared.answer.Answer.{Answer}
+use Rattle.strc_cli.specs.declared.answer.Answer.TheVariants as answer
+use Rattle.strc_cli.specs.declared.answer.Stop.{Stop}
+use Rattle.strc_cli.specs.declared.answer.Stop.TheVariants as stop
+use Rattle.strc_cli.specs.declared.line.Command.{Command}
 use Rattle.strc_run.specs.declared.outcome.Outcome.TheVariants as outcome
 use Rattle.strc_run.specs.declared.refusal.Refusal.{Refusal}
 use Rattle.strc_run.specs.declared.refusal.Refusal.TheVariants as refusal
 use Rattle.strc_cli.specs.Answering.{IsAnswered}
-use Rattle.strc_cli.specs.Output.{outcome_text, refusal_line, line_end}
+use Rattle.strc_cli.specs.Output.{check_line, outcome_text, plan_text, refusal_line, line_end}
 
--- all that is written: what the run printed, or one line
-abbrev pub answer_text : Result Outcome Stop → List ℕ
-answer_text (Ok outcome) = outcome_text outcome
+-- all that is written: what the run printed, the lines of a plan, or one line
+abbrev pub answer_text : Result Answer Stop → List ℕ
+answer_text (Ok (answer.Ran outcome)) = outcome_text outcome
+answer_text (Ok (answer.Checked nodes channels)) = check_line nodes channels
+answer_text (Ok (answer.Planned plan)) = plan_text plan
 answer_text (Err (stop.Refused refused)) = refusal_line refused
 answer_text (Err stop.NoMemory) = codes "refused S3 NoMemory" ++ line_end
 
@@ -25,9 +29,11 @@ refusal_status refusal.NoMemory = status.NoMemory
 refusal_status refused = status.Refused
 
 -- the status that belongs to what is written
-abbrev pub answer_status : Result Outcome Stop → Status
-answer_status (Ok (outcome.Done words)) = status.Done
-answer_status (Ok (outcome.Fault fault words)) = status.Fault
+abbrev pub answer_status : Result Answer Stop → Status
+answer_status (Ok (answer.Ran (outcome.Done words))) = status.Done
+answer_status (Ok (answer.Ran (outcome.Fault fault words))) = status.Fault
+answer_status (Ok (answer.Checked nodes channels)) = status.Done
+answer_status (Ok (answer.Planned plan)) = status.Done
 answer_status (Err (stop.Refused refused)) = refusal_status refused
 answer_status (Err stop.NoMemory) = status.NoMemory
 
@@ -65,12 +71,14 @@ Writes bytes (Err error.Read) before after = ⊥
 Writes bytes (Err error.Memory) before after = ⊥
 
 -- how telling an answer went: written whole, with its status; or in part, for a failure of the device; or not at all
-abbrev pub TellsAnswer : Result Outcome Stop → Result Status CliError → Device → Device → Type 0
+abbrev pub TellsAnswer : Result Answer Stop → Result Status CliError → Device → Device → Type 0
 TellsAnswer answer (Ok status) before after = (status ≡ answer_status answer) × Wrote (answer_text answer) before after
 TellsAnswer answer (Err error.Write) before after = FailedIn (answer_text answer) before after
 TellsAnswer answer (Err error.Read) before after = ⊥
 TellsAnswer answer (Err error.Memory) before after = WroteNothing before after
 
 -- what is reported is the answer for this text and command
-abbrev pub Executes : List ℕ → Option (List ℕ) → Option ℕ → Result Status CliError → Device → Device → Type 0
-Executes text main rounds result before after = (answer : Result Outcome Stop) × IsAnswered text main rounds answer × TellsAnswer answer result before after
+abbrev pub Executes : List ℕ → Command → Result Status CliError → Device → Device → Type 0
+Executes text command result before after =
+    (answer : Result Answer Stop) × IsAnswered text command answer
+    × TellsAnswer answer result before after

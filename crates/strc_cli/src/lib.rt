@@ -1,11 +1,13 @@
 // Takes the words of the command line, a program's text and its input.
-// Gives the printed numbers, or one named fault and the numbers before its round, or one named
-// refusal.
-// The theorem to rely on: `execute` reports exactly the answer of a text: an outcome of its rounds,
-// or a refusal that holds.
-// Stands on strc_run, which compiles and runs a text, and on clap for the command line.
+// Gives the printed numbers, or one named fault and the numbers before its round; or how large the
+// program's graph is, or how often its nodes fire; or one named refusal.
+// The theorem to rely on: `execute` reports exactly the answer of a text and a command: an outcome
+// of its rounds, the size of its graph, its counts, or a refusal that holds.
+// Stands on strc_run, which compiles and runs a text, on strc_graph and strc_balance, whose graph
+// and counts it writes, and on clap for the command line.
 #![tactic(auto)]
 
+mod answer;
 pub mod device;
 pub mod execute;
 pub mod line;

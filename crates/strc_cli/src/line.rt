@@ -10,6 +10,16 @@ pub enum Command {
         /// The name of the main stream, where one is given.
         main: Option<String>,
     },
+    /// Tell how large the program's flat graph is.
+    Check {
+        /// The name of the main stream, where one is given.
+        main: Option<String>,
+    },
+    /// Tell how often each node fires in a round.
+    Plan {
+        /// The name of the main stream, where one is given.
+        main: Option<String>,
+    },
 }
 
 /// A line of words that was understood.

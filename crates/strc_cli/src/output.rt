@@ -1,4 +1,5 @@
-// What is written: the words and the fault line, or the line of a refusal.
+// What is written: the words and the fault line, the lines of a check or a plan, or the line of a
+// refusal.
 
 ghost use Rattle.std.specs.Prelude.{◌≡◌, ◌++◌, IfOk, OnOk, codes, decimal};
 ghost use Rattle.strc_cli.specs.Output as spec;
@@ -6,6 +7,7 @@ ghost use Rattle.strc_cli.specs.Output as spec;
 use crate::text::{push_bytes, push_integer, push_number};
 use std::alloc::{AllocError, Global};
 use strc_run::outcome::{Fault, Outcome};
+use strc_run::plan::Plan;
 use strc_run::refusal::Refusal;
 use strc_semantics::fault::Cause;
 use strc_semantics::word::Word;
@@ -75,6 +77,52 @@ fn cause_name(cause: Cause) -> &'static [u8]
     }
 }
 
+/// The line that tells how many nodes and channels there are.
+pub(crate) fn check_text(
+    alloc: Global,
+    nodes: usize,
+    channels: usize,
+) -> Result<Vec<u8>, AllocError>
+    ensures { IfOk result (λ text. text.items ≡ spec.check_line nodes channels) }
+{
+    let mut text = Vec::new(alloc);
+    push_bytes(&mut text, b"ok nodes ")?;
+    push_number(&mut text, nodes as u64)?;
+    push_bytes(&mut text, b" channels ")?;
+    push_number(&mut text, channels as u64)?;
+    push_bytes(&mut text, b"\n")?;
+    Ok(text)
+}
+
+/// The lines of a plan: one for each node, in order of their numbers.
+pub(crate) fn plan_text(alloc: Global, plan: &Plan) -> Result<Vec<u8>, AllocError>
+    ensures { IfOk result (λ text. text.items ≡ spec.plan_text plan.now) }
+{
+    let mut text = Vec::new(alloc);
+    for node in 0..plan.graph.nodes().len() {
+        push_node(
+            &mut text,
+            node,
+            plan.graph.name(node),
+            plan.round_counts.at(node),
+        )?;
+    }
+    Ok(text)
+}
+
+// The line of a node: its number, its name, and how often it fires in a round.
+fn push_node(text: &mut Vec<u8>, node: usize, name: &[u8], count: u32) -> Result<(), AllocError>
+    ensures { OnOk result (text.new.items ≡ text.old.items ++ spec.node_line node name.now count) }
+{
+    push_bytes(text, b"node ")?;
+    push_number(text, node as u64)?;
+    push_bytes(text, b" ")?;
+    push_bytes(text, name)?;
+    push_bytes(text, b" round ")?;
+    push_number(text, u64::from(count))?;
+    push_bytes(text, b"\n")
+}
+
 /// The line that tells a refusal.
 pub(crate) fn refusal_text(alloc: Global, refusal: &Refusal) -> Result<Vec<u8>, AllocError>
     ensures { IfOk result (λ text. text.items ≡ spec.refusal_line refusal.now) }
@@ -129,6 +177,10 @@ fn push_refusal(text: &mut Vec<u8>, refusal: &Refusal) -> Result<(), AllocError>
         Refusal::TwoInputs => push_bytes(text, b"E17 TwoInputs"),
         Refusal::TwoOutputs => push_bytes(text, b"E18 TwoOutputs"),
         Refusal::Disconnected => push_bytes(text, b"E19 Disconnected"),
+        Refusal::CountsTooLarge => push_bytes(text, b"E20 CountsTooLarge"),
+        Refusal::Inconsistent { channel } => {
+            push_field(text, b"E21 Inconsistent", b" channel ", *channel as u64)
+        }
         Refusal::NoMemory => push_bytes(text, b"E25 NoMemory"),
         Refusal::Nesting => push_bytes(text, b"E26 Nesting"),
         Refusal::RoundsNeeded => push_bytes(text, b"S5 RoundsNeeded"),

@@ -2,11 +2,13 @@
 
 ghost use Rattle.std.specs.Prelude.{◌≡◌, ◌≢◌, ◌<◌, ◌≤◌, IfErr, IfOk, Ok, Err, [], false, length};
 ghost use Rattle.std.specs.Prelude.{option_map, string_bytes};
-ghost use Rattle.clap.specs.Words.{app_of, kind_of, rule_of, subcommand_rows_of};
+ghost use Rattle.clap.specs.Words.{app_of, found_of, kind_of, rows_of, rule_of, subcommand_rows_of};
 ghost use Rattle.clap.specs.Walk.{texts};
 ghost use Rattle.clap.specs.declared.builder.command.Command.TheViews.{out-Command as fields_of};
-ghost use Rattle.strc_cli.specs.Lines.{AsksFor, IsLineIn, IsRun, default_line, fault_by, faults};
-ghost use Rattle.strc_cli.specs.Lines.{file_rule, main_rule, rounds_rule, run_app, strc_app};
+ghost use Rattle.strc_cli.specs.Answering.{main_of};
+ghost use Rattle.strc_cli.specs.Lines.{AsksFor, IsCommand, IsCommandOf, IsKnown, IsLineIn};
+ghost use Rattle.strc_cli.specs.Lines.{check_app, default_line, fault_by, faults, file_rule};
+ghost use Rattle.strc_cli.specs.Lines.{main_rule, plan_app, rounds_rule, run_app, strc_app};
 
 use crate::line::{Command, Line, LineFault};
 use clap::error::ErrorKind;
@@ -58,7 +60,9 @@ fn parser<'a>(alloc: Global) -> Result<clap::Command<'a>, AllocError>
     clap::Command::new(alloc, "strc")
         .about("A compiler of StreamIt programs")
         .subcommand_required(true)
-        .subcommand(run_command(alloc)?)
+        .subcommand(run_command(alloc)?)?
+        .subcommand(check_command(alloc)?)?
+        .subcommand(plan_command(alloc)?)
 }
 
 // The words `run FILE [--rounds N] [--main NAME]`.
@@ -70,6 +74,28 @@ fn run_command<'a>(alloc: Global) -> Result<clap::Command<'a>, AllocError>
         .about("Runs a StreamIt program")
         .arg(file_argument(alloc))?
         .arg(rounds_option(alloc))?
+        .arg(main_option(alloc))
+}
+
+// The words `check FILE [--main NAME]`.
+fn check_command<'a>(alloc: Global) -> Result<clap::Command<'a>, AllocError>
+    ensures app { IfOk result (λ check. app_of check ≡ check_app) }
+    ensures local { IfOk result (λ check. (fields_of check).has_globals ≡ false) }
+{
+    clap::Command::new(alloc, "check")
+        .about("Checks a StreamIt program")
+        .arg(file_argument(alloc))?
+        .arg(main_option(alloc))
+}
+
+// The words `plan FILE [--main NAME]`.
+fn plan_command<'a>(alloc: Global) -> Result<clap::Command<'a>, AllocError>
+    ensures app { IfOk result (λ plan. app_of plan ≡ plan_app) }
+    ensures local { IfOk result (λ plan. (fields_of plan).has_globals ≡ false) }
+{
+    clap::Command::new(alloc, "plan")
+        .about("Tells how often each node of a StreamIt program fires")
+        .arg(file_argument(alloc))?
         .arg(main_option(alloc))
 }
 
@@ -106,24 +132,41 @@ fn main_option<'a>(alloc: Global) -> Arg<'a>
 // The line that the matches of the words are.
 fn line_of(alloc: Global, matches: &ArgMatches) -> Result<Line, LineFault>
     ensures told { IfOk result (IsLineIn (subcommand_rows_of matches.now)) }
-    ensures refused { result ≡ Err LineFault.Words → IsRun (subcommand_rows_of matches.now) → ⊥ }
+    ensures refused { result ≡ Err LineFault.Words
+        → IsCommand (subcommand_rows_of matches.now) → ⊥ }
 {
-    let Some(run) = matches.subcommand_matches("run") else {
+    let Some((name, found)) = matches.subcommand() else {
         return Err(LineFault::Words);
     };
-    let Some(file) = run.get_str("FILE") else {
+    let Some(file) = found.get_str("FILE") else {
         return Err(LineFault::Words);
     };
-    let Ok(rounds) = run.try_get_one::<u32>("rounds") else {
-        return Err(LineFault::Words);
-    };
-    Ok(Line {
-        file: Some(owned(alloc, file)?),
-        command: Command::Run {
-            rounds,
-            main: owned_if_given(alloc, run.get_str("main"))?,
+    let file = owned(alloc, file)?;
+    let main = owned_if_given(alloc, found.get_str("main"))?;
+    match command_of(name, found, main) {
+        Ok(command) => Ok(Line {
+            file: Some(file),
+            command,
+        }),
+        Err(fault) => Err(fault),
+    }
+}
+
+// The command of this name, with what was found for its options.
+fn command_of(name: &str, found: &ArgMatches, main: Option<String>) -> Result<Command, LineFault>
+    ensures told { IfOk result (λ command. IsCommandOf name.now (rows_of (found_of found.now))
+        command × (main_of command ≡ option_map string_bytes main)) }
+    ensures refused { IfErr result (λ fault. IsKnown name.now (rows_of (found_of found.now)) → ⊥) }
+{
+    match name {
+        "run" => match found.try_get_one::<u32>("rounds") {
+            Ok(rounds) => Ok(Command::Run { rounds, main }),
+            Err(_) => Err(LineFault::Words),
         },
-    })
+        "check" => Ok(Command::Check { main }),
+        "plan" => Ok(Command::Plan { main }),
+        _ => Err(LineFault::Words),
+    }
 }
 
 fn owned_if_given(alloc: Global, text: Option<&str>) -> Result<Option<String>, LineFault>

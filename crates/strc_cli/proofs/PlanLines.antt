@@ -1,0 +1,49 @@
+-- The lines of a plan, one node after another, and its size.
+use Rattle.std.proofs.Common.{◌≡◌, ◌∙◌, ◌<◌, ◌+◌, refl, ℕ, List, ◌∷◌, ◌++◌, Option, Some, length}
+use Rattle.std.proofs.Common.{drop, sym, ap, append_assoc, slice_get, slice_index}
+use Rattle.std.proofs.lemmas.List.{drop_more, length-map}
+use Rattle.std.proofs.lemmas.Option.{get_or_from_slice_get, slice_get_within}
+use Rattle.strc_graph.specs.Graphs.{Graph}
+use Rattle.strc_graph.specs.NodeView.{channel_view, node_view}
+use Rattle.strc_run.specs.declared.plan.Plan.{Plan}
+use Rattle.strc_run.specs.Planning.{IsPlanOf}
+use Rattle.strc_cli.specs.Answering.{HasSize}
+use Rattle.strc_cli.specs.Output.{node_line, node_lines}
+
+-- names from a node on: its own and those after it
+names_at : (names : List (List ℕ)) (node : ℕ) (name : List ℕ) → slice_get names node ≡ Some name
+    → drop node names ≡ name ∷ drop (node + 1) names
+names_at names node name is =
+    drop_more names node name (slice_get_within names node name is)
+    ∙ ap (λ (n : List ℕ). n ∷ drop (node + 1) names) (get_or_from_slice_get names node name name is)
+
+-- the line of a node is written, and those after it are left
+pub one_line_more : (node : ℕ) (names : List (List ℕ)) (counts : List ℕ) (name : List ℕ) (count : ℕ)
+    (text more whole : List ℕ)
+    → slice_get names node ≡ Some name → node < length counts → count ≡ slice_index counts node
+    → more ≡ text ++ node_line node name count
+    → text ++ node_lines node (drop node names) (drop node counts) ≡ whole
+    → more ++ node_lines (node + 1) (drop (node + 1) names) (drop (node + 1) counts) ≡ whole
+one_line_more node names counts name count text more whole named counted is written before =
+    let rest = node_lines (node + 1) (drop (node + 1) names) (drop (node + 1) counts) in
+    let next : drop node counts ≡ count ∷ drop (node + 1) counts =
+    drop_more counts node 0 counted ∙ ap (λ (n : ℕ). n ∷ drop (node + 1) counts) (sym is) in
+    let first : node_lines node (drop node names) (drop node counts) ≡ node_line node name count
+    ++ rest =
+    rw (names_at names node name named, next) refl in
+    ap (λ (l : List ℕ). l ++ rest) written ∙ append_assoc text (node_line node name count) rest
+    ∙ ap (λ (l : List ℕ). text ++ l) (sym first) ∙ before
+
+-- the size of a plan is that of its text's graph
+pub plan_size : (text : List ℕ) (main : Option (List ℕ)) (plan : Plan) → IsPlanOf text main plan
+    → HasSize text main (length plan.graph.nodes) (length plan.graph.channels)
+plan_size text main plan is = record {
+  stream = is.stream;
+  accepted = is.accepted;
+  nodes =
+      sym (length-map plan.graph.nodes node_view)
+      ∙ sym (ap (λ (graph : Graph). length graph.nodes) is.graph);
+  channels =
+      sym (length-map plan.graph.channels channel_view)
+      ∙ sym (ap (λ (graph : Graph). length graph.channels) is.graph);
+}
