@@ -2,3 +2,4 @@ pub mod Graphs
 pub mod NodeView
 pub mod Rates
 pub mod Connections
+pub mod Meaning
