@@ -17,7 +17,7 @@ use strc_semantics::fault::Cause;
 use strc_syntax::tree::{Expr, VariableType};
 
 /// How many elements an array may have.
-const LENGTH_LIMIT: i32 = 65_536;
+pub const LENGTH_LIMIT: i32 = 65_536;
 
 /// A declared type: what a name of it stands for, and how it is written, with a number as its
 /// length.

@@ -1,10 +1,12 @@
 -- Nodes in a row are connected where each gives items to the next one, and only there.
-use Rattle.std.proofs.Common.{◌≡◌, ℕ, zero, suc, ◌+◌, ◌-◌, ◌<◌, ◌≤◌, List, length, refl, sym, ap, ◌∙◌, subst, arith}
+use Rattle.std.proofs.Common.{◌≡◌, ℕ, zero, suc, ◌+◌, ◌-◌, ◌<◌, ◌≤◌, true, List, length, refl, sym, ap, ◌∙◌, subst, arith}
 use mathlib.Core.Logic.{inl, inr}
 use Rattle.std.proofs.lemmas.Bool.{cases_lt}
 use Rattle.strc_dataflow.specs.Flat.{Source, Origin}
 use Rattle.strc_dataflow.specs.Flat as flats
+use Rattle.strc_graph.specs.Carriers.{carries_in}
 use Rattle.strc_graph.specs.Graphs.{NodeCode, input_ports, output_ports, inputs_at, outputs_at}
+use Rattle.strc_graph.proofs.Carriers.{carrier_is_input, carrier_is_output, all_take, all_give}
 use Rattle.strc_elab.specs.Flattening.{Feeds, Path, IsConnected}
 use Rattle.strc_elab.specs.Rows.{AreLinked}
 use Rattle.strc_elab.proofs.Rows.{IsRowGraph}
@@ -37,8 +39,12 @@ module _ (graph : flats.Graph NodeCode) (nodes : List NodeCode) (row : IsRowGrap
         let step = (feeds_next node next feeds).1 in
         let here : node ≡ place = omega (arith, step) in
         let there : next ≡ place + 1 = omega (arith, step) in
-        let output : feeds.output < output_ports (graph.code place) = subst (λ n. feeds.output < output_ports (graph.code n)) here feeds.is_output in
-        let input : feeds.input < input_ports (graph.code (place + 1)) = subst (λ n. feeds.input < input_ports (graph.code n)) there feeds.is_input in
+        let output : feeds.output < output_ports (graph.code place) =
+        subst (λ n. feeds.output < output_ports (graph.code n)) here
+        (carrier_is_output (graph.code node) feeds.output feeds.is_output) in
+        let input : feeds.input < input_ports (graph.code (place + 1)) =
+        subst (λ n. feeds.input < input_ports (graph.code n)) there
+        (carrier_is_input (graph.code next) feeds.input feeds.is_input) in
         (omega (arith, output, row.outputs place (omega arith)), omega (arith, input, row.inputs (place + 1) within))
     | inr under ↦ crossing place next last within path under above
   ]
@@ -59,8 +65,10 @@ module _ (graph : flats.Graph NodeCode) (nodes : List NodeCode) (row : IsRowGrap
       record {
         output = 0;
         input = 0;
-        is_output = omega (arith, ports.0, row.outputs node (omega arith));
-        is_input = subst (λ n. 0 < input_ports (graph.code n)) e (omega (arith, ports.1, row.inputs (node + 1) within));
+        is_output =
+            sym (row.gives node 0 (omega arith)) ∙ all_give nodes row.carries node 0 ports.0;
+        is_input = subst (λ n. carries_in (graph.code n) 0 ≡ true) e
+            (sym (row.takes (node + 1) 0 within) ∙ all_take nodes row.carries (node + 1) 0 ports.1);
         comes = ap (λ n. (graph.source n 0).origin) (sym as_suc) ∙ ap (λ (s : Source). s.origin) (row.links node 0 (omega arith));
       }
 

@@ -11,7 +11,8 @@ use Rattle.strc_dataflow.specs.Flat as flat
 use Rattle.strc_dataflow.specs.Streams as trees
 use Rattle.strc_dataflow.specs.Streams.{nothing}
 use Rattle.strc_elab.specs.Instances.{Stream}
-use Rattle.strc_graph.specs.Graphs.{NodeCode, Channel, Graph, input_ports, inputs_at, ends_at}
+use Rattle.strc_graph.specs.Carriers.{carries_in, takes_at}
+use Rattle.strc_graph.specs.Graphs.{NodeCode, Channel, Graph, ends_at}
 use Rattle.strc_graph.specs.Graphs.{source_of, source_in}
 use Rattle.strc_graph.specs.Connections as channels
 use Rattle.strc_elab.specs.Flattening as flattening
@@ -76,9 +77,10 @@ source_joins (first ∷ rest) next input node output h =
     first_joins (ends_at next input first) first rest next input node output refl
     (source_joins rest next input node output) h
 
-ports_at : (nodes : List NodeCode) (node : ℕ) (other : NodeCode) → node < length nodes
-    → inputs_at nodes node ≡ input_ports (get_or nodes node other)
-ports_at nodes node other within = ap (λ o. option_map_or input_ports o 0)
+taker_at : (nodes : List NodeCode) (node port : ℕ) (other : NodeCode) → node < length nodes
+    → takes_at nodes node port ≡ carries_in (get_or nodes node other) port
+taker_at nodes node port other within =
+    ap (λ o. option_map_or (λ code. carries_in code port) o false)
     (slice_get-get_or nodes node other within)
 
 -- a port without a source has no origin
@@ -114,12 +116,12 @@ feeds_joins stream graph is node next feeds =
     let same : length graph.nodes ≡ length codes = ap length is.nodes in
     let in_nodes : next < length graph.nodes = omega arith in
     let any = trees.any_code (tree_of stream) in
-    let port : feeds.input < inputs_at graph.nodes next =
-    subst (λ n. feeds.input < n) (sym (ports_at graph.nodes next any in_nodes))
-    (subst (λ l. feeds.input < input_ports (get_or l next any)) (sym is.nodes) feeds.is_input)
+    let takes : takes_at graph.nodes next feeds.input ≡ true =
+    taker_at graph.nodes next feeds.input any in_nodes
+    ∙ subst (λ l. carries_in (get_or l next any) feeds.input ≡ true) (sym is.nodes) feeds.is_input
     in
     source_joins graph.channels next feeds.input node feeds.output
-    (ap (λ (s : Source). s.origin) (is.sources next feeds.input port) ∙ feeds.comes)
+    (ap (λ (s : Source). s.origin) (is.sources next feeds.input takes) ∙ feeds.comes)
 
 -- paths
 

@@ -10,6 +10,9 @@ use Rattle.strc_dataflow.specs.Flat as flats
 use Rattle.strc_syntax.specs.declared.tree.ItemType.{ItemType}
 use Rattle.strc_syntax.specs.declared.tree.ItemType.TheVariants as item
 use Rattle.strc_elab.specs.Instances.{Stream, Streams, Filter, Identity, Pipeline, Done, More}
+use Rattle.std.specs.List.{AllByRecursion}
+use Rattle.strc_graph.specs.Carriers.{JoinsCarriers}
+use Rattle.strc_graph.proofs.Carriers.{CarriesAll, all_take, all_give}
 use Rattle.strc_graph.specs.Graphs.{NodeCode, Channel, JoinsPorts, ports_of, input_ports, inputs_at, ends_at, source_in, source_of}
 use Rattle.strc_elab.specs.Flattening.{nodes_of, row_nodes, IsBefore}
 use Rattle.strc_elab.specs.Rows.{AreLinked, link_at, links}
@@ -102,6 +105,17 @@ links_ordered (suc count) =
 pub links_join : (nodes : List NodeCode) → AreLinked nodes → All (JoinsPorts nodes) (links (length nodes - 1))
 links_join nodes linked =
     all_links (JoinsPorts nodes) (length nodes - 1) (λ place less. let ports = linked place (omega arith) in record { source = ports.0; target = ports.1 })
+
+-- and, where each port of the nodes does, ones that carry items
+pub links_carry : (nodes : List NodeCode) → AllByRecursion CarriesAll nodes → AreLinked nodes
+    → All (JoinsCarriers nodes) (links (length nodes - 1))
+links_carry nodes carries linked =
+    all_links (JoinsCarriers nodes) (length nodes - 1) (λ place less.
+    let ports = linked place (omega arith) in
+    record {
+      source = all_give nodes carries place 0 ports.0;
+      target = all_take nodes carries (place + 1) 0 ports.1;
+    })
 
 module _ (graph : flats.Graph NodeCode) (nodes : List NodeCode) (row : IsRowGraph graph nodes) where
   link_comes : (place : ℕ) → place + 1 < length nodes → graph.source (place + 1) 0 ≡ items_from place 0

@@ -4,7 +4,8 @@ use Rattle.std.proofs.Common.{ap, ◌∙◌, subst, inl, inr, arith, eqb-true}
 use Rattle.std.specs.Prelude.{All, AllPairs, nat_eq, ◌&&◌, if◌then◌else◌}
 use Rattle.strc_dataflow.specs.Flat.{Source, Origin}
 use Rattle.strc_dataflow.specs.Streams.{nothing}
-use Rattle.strc_graph.specs.Graphs.{Channel, Graph, JoinsPorts, source_of, source_in, ends_at}
+use Rattle.strc_graph.specs.Carriers.{JoinsCarriers}
+use Rattle.strc_graph.specs.Graphs.{Channel, Graph, source_of, source_in, ends_at}
 use Rattle.strc_graph.specs.declared.graph.Port.{Port}
 use Rattle.strc_elab.specs.Instances.{Stream}
 use Rattle.strc_elab.specs.Flattening.{IsFlat, IsBefore, meaning_of}
@@ -123,11 +124,13 @@ found (first ∷ rest) channel is =
 also_in : (stream : Stream) (one other : Graph) → IsFlat stream one → IsFlat stream other
     → (channel : Channel) → In channel one.channels → In channel other.channels
 also_in stream one other h k channel member =
-    let joins : JoinsPorts one.nodes channel = all_in (JoinsPorts one.nodes) one.channels channel h.joined member in
+    let joins : JoinsCarriers one.nodes channel =
+    all_in (JoinsCarriers one.nodes) one.channels channel h.joined member in
     let comes : (meaning_of stream).source channel.target.node channel.target.port ≡ source_of channel =
     all_in (λ c. (meaning_of stream).source c.target.node c.target.port ≡ source_of c) one.channels channel h.channels member in
     let same_nodes : one.nodes ≡ other.nodes = h.nodes ∙ sym k.nodes in
-    let joins' : JoinsPorts other.nodes channel = subst (λ l. JoinsPorts l channel) same_nodes joins in
+    let joins' : JoinsCarriers other.nodes channel =
+    subst (λ l. JoinsCarriers l channel) same_nodes joins in
     found other.channels channel (k.sources channel.target.node channel.target.port joins'.target ∙ comes)
 
 pub one_graph : HasOneGraph

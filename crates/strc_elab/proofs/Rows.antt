@@ -1,14 +1,19 @@
 -- The flat graph of a stream as nodes in a row.
-use Rattle.std.proofs.Common.{◌≡◌, ℕ, zero, suc, ◌+◌, ◌<◌, ◌≤◌, List, [], ◌∷◌, length, get_or, slice_get, refl, sym, ap, ◌∙◌, arith}
+use Rattle.std.proofs.Common.{◌≡◌, ℕ, zero, suc, ◌+◌, ◌<◌, ◌≤◌, false, List, [], ◌∷◌, ◌++◌, length, get_or, slice_get, refl, sym, ap, ◌∙◌, arith}
+use Rattle.std.specs.List.{AllByRecursion}
 use Rattle.std.specs.Option.{option_map_or}
+use Rattle.std.proofs.lemmas.Bool.{lt-ltb}
 use Rattle.std.proofs.lemmas.List.{get_or_past}
 use Rattle.strc_dataflow.specs.Streams.{nothing, flat, any_code}
 use Rattle.strc_dataflow.specs.Flat.{Source}
 use Rattle.strc_dataflow.specs.Flat as flats
-use Rattle.strc_elab.specs.Instances.{Stream}
+use Rattle.strc_elab.specs.Instances.{Stream, Streams, Filter, Identity, Pipeline, Done, More}
 use Rattle.strc_elab.specs.Types.{IsWellTyped}
-use Rattle.strc_graph.specs.Graphs.{NodeCode, input_ports, output_ports, inputs_at, outputs_at}
-use Rattle.strc_elab.specs.Flattening.{tree_of, nodes_of, codes_of, meaning_of}
+use Rattle.strc_graph.specs.Carriers.{carries_in, carries_out, takes_at, gives_at}
+use Rattle.strc_graph.specs.Graphs.{NodeCode, ports_of, input_ports, output_ports}
+use Rattle.strc_graph.specs.Graphs.{inputs_at, outputs_at}
+use Rattle.strc_graph.proofs.Carriers.{CarriesAll}
+use Rattle.strc_elab.specs.Flattening.{tree_of, nodes_of, row_nodes, codes_of, meaning_of}
 use Rattle.strc_elab.proofs.Chains.{items_from, row_sources, stream_is_row, row_sources-head, row_sources-at, length-row_sources}
 
 -- a graph's nodes stand in a row
@@ -16,14 +21,52 @@ pub record IsRowGraph (graph : flats.Graph NodeCode) (nodes : List NodeCode) : T
   pub size : graph.size ≡ length nodes
   pub inputs : (node : ℕ) → node < length nodes → inputs_at nodes node ≡ input_ports (graph.code node)
   pub outputs : (node : ℕ) → node < length nodes → outputs_at nodes node ≡ output_ports (graph.code node)
+  pub takes : (node port : ℕ) → node < length nodes
+      → takes_at nodes node port ≡ carries_in (graph.code node) port
+  pub gives : (node port : ℕ) → node < length nodes
+      → gives_at nodes node port ≡ carries_out (graph.code node) port
+  pub carries : AllByRecursion CarriesAll nodes
   pub head : (port : ℕ) → graph.source 0 port ≡ nothing
   pub links : (node port : ℕ) → suc node < length nodes → graph.source (suc node) port ≡ items_from node port
   pub past : (node port : ℕ) → length nodes ≤ node → graph.source node port ≡ nothing
 
-ports_get : (ports : NodeCode → ℕ) (nodes : List NodeCode) (node : ℕ) (other : NodeCode) → node < length nodes → option_map_or ports (slice_get nodes node) 0 ≡ ports (get_or nodes node other)
-ports_get ports [] node other less = absurd (omega arith)
-ports_get ports (code ∷ rest) zero other less = refl
-ports_get ports (code ∷ rest) (suc node) other less = ports_get ports rest node other (omega arith)
+seen_at : {A : Type 0} (view : NodeCode → A) (none : A) (nodes : List NodeCode) (node : ℕ)
+    (other : NodeCode) → node < length nodes
+    → option_map_or view (slice_get nodes node) none ≡ view (get_or nodes node other)
+seen_at view none [] node other less = absurd (omega arith)
+seen_at view none (code ∷ rest) zero other less = refl
+seen_at view none (code ∷ rest) (suc node) other less =
+    seen_at view none rest node other (omega arith)
+
+-- each port of a stream's nodes carries items
+
+carries_append : (xs ys : List NodeCode) → AllByRecursion CarriesAll xs
+    → AllByRecursion CarriesAll ys → AllByRecursion CarriesAll (xs ++ ys)
+carries_append [] ys first rest = rest
+carries_append (x ∷ xs) ys first rest = (first.0, carries_append xs ys first.1 rest)
+
+mutual
+  nodes_carry : (stream : Stream) → AllByRecursion CarriesAll (nodes_of stream)
+  nodes_carry (Filter name filter) = (
+    record {
+      inputs = λ port less. lt-ltb port (ports_of filter.input) less;
+      outputs = λ port less. lt-ltb port (ports_of filter.output) less;
+    },
+    tt,
+  )
+  nodes_carry Identity = (
+    record {
+      inputs = λ port less. lt-ltb port 1 less;
+      outputs = λ port less. lt-ltb port 1 less;
+    },
+    tt,
+  )
+  nodes_carry (Pipeline children) = row_carries children
+
+  row_carries : (streams : Streams) → AllByRecursion CarriesAll (row_nodes streams)
+  row_carries Done = tt
+  row_carries (More first rest) =
+      carries_append (nodes_of first) (row_nodes rest) (nodes_carry first) (row_carries rest)
 
 -- the nodes of a well-typed stream's tree are its nodes
 pub codes_of-is : (stream : Stream) → IsWellTyped stream → codes_of stream ≡ nodes_of stream
@@ -50,13 +93,23 @@ size_is stream typed = ap length (stream_is_row stream typed).codes
 pub meaning_is_row : (stream : Stream) → IsWellTyped stream → IsRowGraph (meaning_of stream) (nodes_of stream)
 meaning_is_row stream typed = record {
   size = size_is stream typed;
-  inputs = λ node less. ports_get input_ports (nodes_of stream) node (any_code (tree_of stream)) less ∙ ap input_ports (sym (code_at stream typed node));
-  outputs = λ node less. ports_get output_ports (nodes_of stream) node (any_code (tree_of stream)) less ∙ ap output_ports (sym (code_at stream typed node));
+  inputs = λ node less. at input_ports 0 node less;
+  outputs = λ node less. at output_ports 0 node less;
+  takes = λ node port less. at (λ code. carries_in code port) false node less;
+  gives = λ node port less. at (λ code. carries_out code port) false node less;
+  carries = nodes_carry stream;
   head = λ port. at_node stream typed 0 port ∙ ap (λ (s : ℕ → Source). s port) (row_sources-head (nodes_of stream) 0 no_sources);
   links = λ node port less. at_node stream typed (suc node) port ∙ ap (λ (s : ℕ → Source). s port) (row_sources-at (nodes_of stream) 0 node no_sources no_sources less) ∙ ap (λ n. items_from n port) (zero_first node);
   past = λ node port above. at_node stream typed node port ∙ ap (λ (s : ℕ → Source). s port) (get_or_past (row_sources 0 no_sources (nodes_of stream)) node no_sources (far node above));
 }
   where
+    at : {A : Type 0} (view : NodeCode → A) (none : A) (node : ℕ) → node < length (nodes_of stream)
+        → option_map_or view (slice_get (nodes_of stream) node) none
+        ≡ view ((meaning_of stream).code node)
+    at view none node less =
+        seen_at view none (nodes_of stream) node (any_code (tree_of stream)) less
+        ∙ ap view (sym (code_at stream typed node))
+
     zero_first : (node : ℕ) → 0 + node ≡ node
     zero_first node = omega arith
 

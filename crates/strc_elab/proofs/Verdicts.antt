@@ -1,18 +1,21 @@
 -- What is said of a stream's nodes in a row, as it is said of its flat graph.
 use Rattle.std.proofs.Common.{◌≡◌, ◌-◌, ◌<◌, List, length, sym, ap, ◌∙◌, subst, Result, Ok, Err}
 use Rattle.std.specs.Prelude.{All, AllPairs}
+use Rattle.std.specs.List.{AllByRecursion}
 use Rattle.strc_elab.specs.declared.error.ElabError.{ElabError}
 use Rattle.strc_elab.specs.declared.error.ElabError.TheVariants as refusal
 use Rattle.strc_elab.specs.Instances.{Stream}
 use Rattle.strc_elab.specs.Types.{IsWellTyped}
 use Rattle.strc_graph.specs.Connections as channels
-use Rattle.strc_graph.specs.Graphs.{NodeCode, Graph, JoinsPorts, inputs_at, source_of, source_in}
+use Rattle.strc_graph.specs.Carriers.{JoinsCarriers}
+use Rattle.strc_graph.specs.Graphs.{NodeCode, Graph, inputs_at, source_of, source_in}
+use Rattle.strc_graph.proofs.Carriers.{CarriesAll, taker_is_input}
 use Rattle.strc_elab.specs.Flattening.{nodes_of, meaning_of, IsVerdict, IsFlattened, IsConnected, IsFlat, IsBefore}
 use Rattle.strc_elab.specs.Rows.{AreLinked, links}
 use Rattle.strc_elab.proofs.Rows.{IsRowGraph, codes_of-is, meaning_is_row}
 use Rattle.strc_elab.proofs.Connections.{linked_from_connected, connected_from_linked}
 use Rattle.strc_elab.proofs.FlatGraphs.{flat_connected}
-use Rattle.strc_elab.proofs.Links.{nodes_are_single, links_ordered, links_join, links_come, links_give}
+use Rattle.strc_elab.proofs.Links.{nodes_are_single, links_ordered, links_carry, links_come, links_give}
 
 -- a verdict where it is known in other words that nodes are connected
 verdict_as : {A : Type 0} (nodes : List NodeCode) (Linked Connected : Type 0) → (Linked → Connected) → (Connected → Linked) → (result : Result A ElabError) → IsVerdict nodes Linked result → IsVerdict nodes Connected result
@@ -38,8 +41,12 @@ row_verdict stream nodes result same verdict typed =
 pub row_is_flat : (stream : Stream) (graph : Graph) → graph.nodes ≡ nodes_of stream → graph.channels ≡ links (length graph.nodes - 1) → AreLinked graph.nodes → IsWellTyped stream → IsFlat stream graph
 row_is_flat stream graph same channels linked typed = record {
   nodes = same ∙ sym (codes_of-is stream typed);
-  sources = λ node port less. ap (λ l. source_in l node port) between ∙ links_give (meaning_of stream) (nodes_of stream) row (nodes_are_single stream) node port (subst (λ l. port < inputs_at l node) same less);
-  joined = subst (λ l. All (JoinsPorts graph.nodes) l) (sym channels) (links_join graph.nodes linked);
+  sources = λ node port takes.
+      ap (λ l. source_in l node port) between
+      ∙ links_give (meaning_of stream) (nodes_of stream) row (nodes_are_single stream) node port
+      (subst (λ l. port < inputs_at l node) same (taker_is_input graph.nodes node port takes));
+  joined = subst (λ l. All (JoinsCarriers graph.nodes) l) (sym channels)
+      (links_carry graph.nodes (subst (AllByRecursion CarriesAll) (sym same) row.carries) linked);
   channels = subst (λ l. All (λ channel. (meaning_of stream).source channel.target.node channel.target.port ≡ source_of channel) l) (sym between) (links_come (meaning_of stream) (nodes_of stream) row);
   ordered = subst (λ l. AllPairs IsBefore l) (sym between) (links_ordered (length (nodes_of stream) - 1));
 }

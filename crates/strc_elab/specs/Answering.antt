@@ -1,5 +1,5 @@
 -- How code that elaborates answers.
-use Rattle.std.specs.Prelude.{◌≡◌, ℤ, List, map, Result, Ok, Err, Vec}
+use Rattle.std.specs.Prelude.{◌≡◌, ℕ, ℤ, List, map, Result, Ok, Err, Vec}
 use Rattle.std.specs.declared.alloc.Global.{Global}
 use Rattle.strc_semantics.specs.Firing as firing
 use Rattle.strc_elab.specs.Elaboration as spec
@@ -15,7 +15,7 @@ abbrev pub IsRefusal : {A : Type 0} → Result A ElabError → ElabError → Typ
 IsRefusal expected NoMemory = Unit {0}
 IsRefusal expected refusal = expected ≡ Err refusal
 
--- the answer, seen by a view, is the judgement's
+-- the answer, under a view, is the judgement's
 abbrev pub IsVerdict : {X A : Type 0} → (X → A) → Result A ElabError → Result X ElabError → Type 0
 IsVerdict view expected (Ok x) = expected ≡ Ok (view x)
 IsVerdict view expected (Err refusal) = IsRefusal expected refusal
@@ -33,6 +33,11 @@ progress_of progress = record {
 abbrev pub Gives : Result (ℤ × firing.Store) ElabError → Result ℤ ElabError → firing.Store → Type 0
 Gives expected (Ok value) after = expected ≡ Ok (value, after)
 Gives expected (Err refusal) after = IsRefusal expected refusal
+
+-- an answer is the number of cells, with the store after it
+abbrev pub GivesCount : Result (ℕ × firing.Store) ElabError → Result ℕ ElabError → firing.Store → Type 0
+GivesCount expected (Ok count) after = expected ≡ Ok (count, after)
+GivesCount expected (Err refusal) after = IsRefusal expected refusal
 
 -- an answer is the condition's value, with the body as far as it has run after it
 abbrev pub Tests : Result (ℤ × spec.Progress) ElabError → Result ℤ ElabError → spec.Progress → Type 0

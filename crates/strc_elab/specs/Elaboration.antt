@@ -1,7 +1,8 @@
 -- Which stream of instances a program means: composite streams' bodies run, in order of execution, up to the first rule that is broken
 -- (StreamIt specification 2.1, "Streams", "Pipelines").
-use Rattle.std.specs.Prelude.{ℕ, zero, suc, ◌+◌, ℤ, pos, Bool, true, false, ◌&&◌, not, nat_lt, nat_eq, List, [], ◌∷◌, ◌++◌, length, Option, Some, None, unwrap_or, Result, Ok, Err, if◌then◌else◌}
+use Rattle.std.specs.Prelude.{ℕ, zero, suc, ◌+◌, ℤ, pos, negsuc, Bool, true, false, ◌&&◌, ◌||◌, not, nat_lt, nat_eq, List, [], ◌∷◌, ◌++◌, length, Option, Some, None, unwrap_or, Result, Ok, Err, if◌then◌else◌}
 use Rattle.std.specs.List.{list_any}
+use Rattle.std.specs.Int.RustNames.{int_lt}
 use Rattle.std.specs.Cmp.Lexicographic.{pointwise}
 use Rattle.strc_syntax.specs.Tree as tree
 use Rattle.strc_syntax.specs.Tree.{Declaration}
@@ -17,11 +18,11 @@ use Rattle.strc_semantics.specs.Filters.{Filter}
 use Rattle.strc_semantics.specs.Arithmetic.{is_true}
 use Rattle.strc_semantics.specs.Firing as firing
 use Rattle.strc_semantics.specs.Firing.{Store, value_of, stmt_done, initial_cells, declared_in, block_left, no_traffic, no_io, started, turn_limit}
-use Rattle.strc_check.specs.Resolution.{expr_as, type_resolved, variable_resolved, stmt_resolved, filter_resolved, start_site}
-use Rattle.strc_semantics.specs.Scoping.{cells_of}
-use Rattle.strc_check.specs.Typing.{TypedNames, names_after}
+use Rattle.strc_check.specs.Resolution.{expr_as, variable_resolved, stmt_resolved, filter_resolved, start_site}
+use Rattle.strc_check.specs.Typing.{TypedNames, names_after, type_of}
 use Rattle.strc_semantics.specs.declared.fault.Cause.{Cause}
 use Rattle.strc_semantics.specs.declared.fault.Cause.TheVariants as causes
+use Rattle.strc_check.specs.declared.type_rules.TheConstants.{LENGTH_LIMIT}
 use Rattle.strc_check.specs.declared.error.LowerError.{LowerError}
 use Rattle.strc_check.specs.declared.error.LowerError.TheVariants as lowering
 use Rattle.strc_check.specs.declared.types.ValueType.{ValueType}
@@ -109,11 +110,25 @@ variables_done place names outer kind cells (first ∷ rest) store =
     then_do (variable_done place names outer kind cells first store)
     (variables_done place (record { 0 = first.name; 1 = kind } ∷ names) outer kind cells rest)
 
+-- how many cells an array of this length has: one at least, and no more than an array may have
+abbrev pub array_cells : ℤ → Result ℕ ElabError
+array_cells (pos length) =
+    if nat_lt length 1 || int_lt LENGTH_LIMIT (pos length) then Err (refused.ConstFault causes.Index) else Ok length
+array_cells (negsuc length) = Err (refused.ConstFault causes.Index)
+
+-- how many cells a variable of a declared type has; the length of an array is an expression like any
+-- other, evaluated where the declaration runs
+abbrev pub cells_declared : Place → TypedNames → tree.VariableType → Store → Result (ℕ × Store) ElabError
+cells_declared place names (tree.Array length) store =
+    then_do (eval_checked place names kind.Int length store) (λ number.
+    then_do (array_cells number.0) (λ cells. Ok (cells, number.1)))
+cells_declared place names declared store = Ok (1, store)
+
 -- a declaration: its type, and then its variables
 abbrev pub declaration_done : Place → TypedNames → (outer : ℕ) → tree.VariableType → List tree.Variable → Store → Result Store ElabError
-declaration_done place names outer kind variables store =
-    then_do (ruled place.holder (type_resolved place.constants names kind)) (λ resolved.
-    variables_done place names outer resolved.kind (cells_of resolved.written) variables store)
+declaration_done place names outer declared variables store =
+    then_do (cells_declared place names declared store) (λ sized.
+    variables_done place names outer (type_of declared) sized.0 variables sized.1)
 
 -- a step of a body that works on its variables alone
 abbrev pub on_store : (Store → Result Store ElabError) → Progress → Result Progress ElabError

@@ -1,6 +1,6 @@
 -- The flat graph that a stream of instances means, and which streams have one that can be run (StreamIt specification 2.1, "Streams"; Lee
 -- and Messerschmitt 1987).
-use Rattle.std.specs.Prelude.{◌≡◌, ℕ, ◌<◌, ◌≤◌, List, [], ◌∷◌, ◌++◌, length, All, AllPairs, count_by, codes, ◌⊎◌, Result, Ok, Err}
+use Rattle.std.specs.Prelude.{◌≡◌, ℕ, ◌<◌, ◌≤◌, true, List, [], ◌∷◌, ◌++◌, length, All, AllPairs, count_by, codes, ◌⊎◌, Result, Ok, Err}
 use Rattle.strc_dataflow.specs.Streams as trees
 use Rattle.strc_dataflow.specs.Flat as flat
 use Rattle.strc_elab.specs.declared.connection.TheConstants.{NODE_LIMIT}
@@ -8,7 +8,9 @@ use Rattle.strc_elab.specs.declared.error.ElabError.{ElabError}
 use Rattle.strc_elab.specs.declared.error.ElabError.TheVariants as refusal
 use Rattle.strc_elab.specs.Instances.{Stream, Streams, Filter, Identity, Pipeline, Done, More}
 use Rattle.strc_graph.specs.Graphs as graphs
-use Rattle.strc_graph.specs.Graphs.{NodeCode, Graph, Channel, JoinsPorts, input_ports, output_ports, inputs_at, reads_input, gives_words, source_of, source_in, filter_name}
+use Rattle.strc_graph.specs.Carriers.{carries_in, carries_out, takes_at, JoinsCarriers}
+use Rattle.strc_graph.specs.Graphs.{NodeCode, Graph, Channel, reads_input, gives_words, source_of}
+use Rattle.strc_graph.specs.Graphs.{source_in, filter_name}
 
 -- the tree of a stream
 
@@ -69,10 +71,11 @@ IsBefore first second = (first.source.node < second.source.node) ⊎ ((first.sou
 pub record IsFlat (stream : Stream) (graph : Graph) : Type 0 where
   -- its nodes are the tree's
   pub nodes : graph.nodes ≡ codes_of stream
-  -- what comes to each input port comes from where the tree says
-  pub sources : (node port : ℕ) → port < inputs_at graph.nodes node → source_in graph.channels node port ≡ (meaning_of stream).source node port
-  -- each channel joins ports of the nodes
-  pub joined : All (JoinsPorts graph.nodes) graph.channels
+  -- what comes to each input port that carries items comes from where the tree says
+  pub sources : (node port : ℕ) → takes_at graph.nodes node port ≡ true
+      → source_in graph.channels node port ≡ (meaning_of stream).source node port
+  -- each channel joins ports that carry items
+  pub joined : All (JoinsCarriers graph.nodes) graph.channels
   -- and is one of those
   pub channels : All (λ channel. (meaning_of stream).source channel.target.node channel.target.port ≡ source_of channel) graph.channels
   -- and no two leave one port
@@ -80,12 +83,12 @@ pub record IsFlat (stream : Stream) (graph : Graph) : Type 0 where
 
 -- connections
 
--- what leaves an output port of one node comes to an input port of another
+-- items leave an output port of one node and come to an input port of another
 pub record Feeds (graph : flat.Graph NodeCode) (node other : ℕ) : Type 0 where
   pub output : ℕ
   pub input : ℕ
-  pub is_output : output < output_ports (graph.code node)
-  pub is_input : input < input_ports (graph.code other)
+  pub is_output : carries_out (graph.code node) output ≡ true
+  pub is_input : carries_in (graph.code other) input ≡ true
   pub comes : (graph.source other input).origin ≡ flat.Port node output
 
 -- a path from node to node, each of which feeds the next one or is fed by it

@@ -7,11 +7,10 @@ ghost use Rattle.strc_syntax.specs.Tree as tree;
 ghost use Rattle.strc_syntax.specs.View.{expr_view, variable_view, type_view};
 ghost use Rattle.strc_semantics.specs.Firing as firing;
 ghost use Rattle.strc_semantics.specs.Firing.{no_io};
-ghost use Rattle.strc_semantics.specs.Scoping as scoping;
 ghost use Rattle.strc_check.specs.Typing as typing;
 ghost use Rattle.strc_elab.specs.Elaboration as spec;
 ghost use Rattle.strc_elab.specs.Saying.{store_of};
-ghost use Rattle.strc_elab.specs.Answering.{Gives, GivesCells, Done};
+ghost use Rattle.strc_elab.specs.Answering.{Gives, GivesCount, GivesCells, Done, IsVerdict};
 ghost use Rattle.strc_elab.specs.Places.{place_of};
 
 use crate::assignment::do_simple;
@@ -24,7 +23,7 @@ use strc_check::error::LowerError;
 use strc_check::expression_rules::{resolve_as, resolve_expr, resolve_initial};
 use strc_check::site::start_site;
 use strc_check::statement_rules::{resolve_assigned, resolve_element};
-use strc_check::type_rules::resolve_type;
+use strc_check::type_rules::LENGTH_LIMIT;
 use strc_check::types::ValueType;
 use strc_lex::token::Name;
 use strc_semantics::fault::Cause;
@@ -156,8 +155,8 @@ impl Place<'_> {
         }
     }
 
-    /// Declares variables, each checked and evaluated before the next one, which sees it. Those of
-    /// the same block stand from `start` on.
+    /// Declares variables: their type, and then each checked and evaluated before the next one,
+    /// which sees it. Those of the same block have numbers from `start` on.
     pub(crate) fn declare(
         &self,
         start: u32,
@@ -173,20 +172,27 @@ impl Place<'_> {
             (typing.type_of (type_view declared.now.kind))
             (map variable_view declared.now.variables.items)) }
     {
-        match resolve_type(
-            self.alloc,
-            self.constants,
-            store.variables.names(),
-            &declared.kind,
-        ) {
-            Ok(resolved) => {
-                let cells = cells_of(&resolved.written);
-                for variable in &declared.variables {
-                    self.declare_one(start, resolved.kind, cells, variable, store)?;
-                }
-                Ok(())
+        let cells = self.cells_of(&declared.kind, store)?;
+        let kind = type_of(&declared.kind);
+        for variable in &declared.variables {
+            self.declare_one(start, kind, cells, variable, store)?;
+        }
+        Ok(())
+    }
+
+    /// How many cells a variable of a declared type has. The length of an array is evaluated here;
+    /// one that an array can't have is `ConstFault` by `Index`.
+    fn cells_of(&self, declared: &VariableType, store: &mut Store) -> Result<usize, ElabError>
+        ensures gives { GivesCount (spec.cells_declared (place_of self.now)
+            store.old.variables.names (type_view declared.now) (store_of store.old)) result
+            (store_of store.new) }
+        ensures names { store.new.variables.names ≡ store.old.variables.names }
+    {
+        match declared {
+            VariableType::Boolean | VariableType::Int => Ok(1),
+            VariableType::Array(length) => {
+                array_cells(self.eval_checked(ValueType::Int, length, store)?)
             }
-            Err(error) => Err(at_declaration(self.holder, error)),
         }
     }
 
@@ -259,15 +265,25 @@ fn done(outcome: Result<(), Cause>) -> Result<(), ElabError>
     }
 }
 
-/// How many cells a variable of a type has; the length of an array is a number.
-fn cells_of(kind: &VariableType) -> usize
-    ensures { result ≡ scoping.cells_of (type_view kind.now) }
+/// The type of the values that a declared type's variables have.
+fn type_of(declared: &VariableType) -> ValueType
+    ensures { result ≡ typing.type_of (type_view declared.now) }
 {
-    match kind {
-        VariableType::Boolean | VariableType::Int => 1,
-        VariableType::Array(Expr::Number(length)) => {
-            if *length < 0 { 0 } else { *length as usize }
-        }
-        VariableType::Array(_) => 0,
+    match declared {
+        VariableType::Boolean => ValueType::Boolean,
+        VariableType::Int => ValueType::Int,
+        VariableType::Array(_) => ValueType::Array,
     }
+}
+
+/// How many cells an array of this length has.
+fn array_cells(length: i32) -> Result<usize, ElabError>
+    ensures { IsVerdict (λ count. count) (spec.array_cells length) result }
+{
+    if length < 1 || length > LENGTH_LIMIT {
+        return Err(ElabError::ConstFault {
+            cause: Cause::Index,
+        });
+    }
+    Ok(length as usize)
 }

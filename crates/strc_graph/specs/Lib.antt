@@ -1,4 +1,6 @@
 pub mod Graphs
+pub mod Carriers
 pub mod NodeView
 pub mod Rates
 pub mod Connections
+pub mod Meaning

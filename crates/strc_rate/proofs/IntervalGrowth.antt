@@ -114,3 +114,10 @@ with_value_back (first ∷ rest) name interval = by_value (bytes_eq first.0 name
         → with_value (cond t (record { 0 = first.0; 1 = interval } ∷ rest) (first ∷ with_value rest name interval)) name (cond t first.1 (interval_named rest name)) ≡ first ∷ rest
     by_value true e inner = ap (λ t. cond t (first ∷ rest) (record { 0 = first.0; 1 = interval } ∷ with_value rest name first.1)) e
     by_value false e inner = ap (λ t. cond t (record { 0 = first.0; 1 = interval_named rest name } ∷ with_value rest name interval) (first ∷ with_value (with_value rest name interval) name (interval_named rest name))) e ∙ ap (λ l. first ∷ l) inner
+
+-- names that are declared and left again
+pub ruleset growth = (drop_own, drop_both, names_behind)
+
+pub ruleset own_growth = (drop_own, names_behind)
+
+pub ruleset known_values = (drop_own, with_value_back, with_interval_is)

@@ -19,7 +19,7 @@ use strc_syntax::tree::{Expr, Stmt, Variable};
 
 /// The counts of statements in a row, behind these names.
 #[cycle(item_counts)]
-#[tactic(auto, using(crate::proofs::IntervalGrowth::drop_own, crate::proofs::IntervalGrowth::drop_both, crate::proofs::IntervalGrowth::names_behind))]
+#[tactic(auto, using(crate::proofs::IntervalGrowth::growth))]
 pub(crate) fn block_counts(
     block: &[Stmt],
     names: &mut IntervalScope,
@@ -39,7 +39,7 @@ pub(crate) fn block_counts(
 
 /// The counts of a statement behind these names, which it may add to.
 #[cycle(item_counts)]
-#[tactic(auto, using(crate::proofs::IntervalGrowth::drop_own, crate::proofs::IntervalGrowth::drop_both, crate::proofs::IntervalGrowth::names_behind))]
+#[tactic(auto, using(crate::proofs::IntervalGrowth::growth))]
 pub(crate) fn statement_counts(
     statement: &Stmt,
     names: &mut IntervalScope,

@@ -24,7 +24,7 @@ use strc_syntax::tree::{Expr, Stmt, Variable};
 /// Adds what is told of the peeks of statements in a row, in order of the text, and gives the
 /// counts of the statements.
 #[cycle(peeks)]
-#[tactic(auto, using(crate::proofs::IntervalGrowth::drop_own, crate::proofs::IntervalGrowth::names_behind))]
+#[tactic(auto, using(crate::proofs::IntervalGrowth::own_growth))]
 pub(crate) fn check_peeks_in_block(
     block: &[Stmt],
     names: &mut IntervalScope,
@@ -52,7 +52,7 @@ pub(crate) fn check_peeks_in_block(
 
 /// The same of a statement, which may add to the names.
 #[cycle(peeks)]
-#[tactic(auto, using(crate::proofs::IntervalGrowth::drop_own, crate::proofs::IntervalGrowth::names_behind))]
+#[tactic(auto, using(crate::proofs::IntervalGrowth::own_growth))]
 fn check_peeks_in_statement(
     statement: &Stmt,
     names: &mut IntervalScope,
@@ -140,7 +140,7 @@ fn check_peeks_in_statement(
 
 /// The same of a statement whose names end with it.
 #[cycle(peeks)]
-#[tactic(auto, using(crate::proofs::IntervalGrowth::drop_own, crate::proofs::IntervalGrowth::names_behind))]
+#[tactic(auto, using(crate::proofs::IntervalGrowth::own_growth))]
 fn look_inside(
     statement: &Stmt,
     names: &mut IntervalScope,
@@ -163,7 +163,7 @@ fn look_inside(
 /// The same of the turns of a counted loop, in which its variable has an interval. Nothing is
 /// looked at in a loop of no turn.
 #[cycle(peeks)]
-#[tactic(auto, using(crate::proofs::IntervalGrowth::drop_own, crate::proofs::IntervalGrowth::with_value_back, crate::proofs::IntervalGrowth::with_interval_is))]
+#[tactic(auto, using(crate::proofs::IntervalGrowth::known_values))]
 fn check_peeks_in_turns(
     body: &Stmt,
     counted: CountedLoop,

@@ -5,6 +5,8 @@ use Rattle.std.proofs.lemmas.List.{append-nil, map-append, take_all, drop_all, t
 use Rattle.std.proofs.Math.Numerals.{add-one}
 use Rattle.strc_work.specs.Answers.{HasGiven, Fires}
 use Rattle.strc_graph.specs.Graphs.{NodeCode}
+use Rattle.strc_graph.specs.Meaning.{node_fired}
+use Rattle.strc_semantics.specs.declared.body.Body.TheVariants as body
 use Rattle.strc_semantics.specs.Firing as firing
 use Rattle.strc_machine.specs.Running.{MoreWords}
 use Rattle.strc_semantics.specs.declared.fault.Cause.{Cause}
@@ -13,7 +15,7 @@ use Rattle.strc_semantics.specs.declared.fault.Halt.TheVariants as halts
 use Rattle.strc_semantics.specs.declared.word.Word.{Word}
 use Rattle.strc_run.specs.declared.ready.ReadyNode.{ReadyNode}
 use Rattle.strc_run.specs.Loading.{code_in, fields_in, loaded_in, all_loaded_in}
-use Rattle.strc_run.specs.Pipeline.{Loaded, Lap, FaultSite, node_fired, lap_from, prepend, after_firing}
+use Rattle.strc_run.specs.Pipeline.{Loaded, Lap, FaultSite, lap_from, prepend, after_firing}
 use Rattle.strc_run.specs.Running.{HasLapped, HasStopped}
 
 -- these nodes and words, before those of a lap
@@ -44,13 +46,13 @@ underway_start nodes items before empty = record {
 }
 
 -- a firing leads the lap of the nodes after it
-lap_step : (node : ℕ) (x y : ReadyNode) (others : List Loaded) (items pushes : List ℤ) (after later : List Word) → (h : HasGiven (node_fired (code_in x) (fields_in x) items) (fields_in y) pushes after later) → code_in y ≡ code_in x → prepend (loaded_in y) h.words (lap_from (node + 1) others pushes) ≡ lap_from node (loaded_in x ∷ others) items
+lap_step : (node : ℕ) (x y : ReadyNode) (others : List Loaded) (items pushes : List ℤ) (after later : List Word) → (h : HasGiven (node_fired (code_in x) body.Work (fields_in x) items) (fields_in y) pushes after later) → code_in y ≡ code_in x → prepend (loaded_in y) h.words (lap_from (node + 1) others pushes) ≡ lap_from node (loaded_in x ∷ others) items
 lap_step node x y others items pushes after later h same =
     ap (λ (f : NodeCode). prepend (record { code = f; fields = fields_in y }) h.words (lap_from (node + 1) others pushes)) same
     ∙ ap (λ (r : Result firing.Fired Cause). after_firing node r (λ done. prepend (record { code = code_in x; fields = done.fields }) done.words (lap_from (node + 1) others done.pushes))) (sym h.is)
 
 -- after one more firing
-pub underway_step : (whole : Result Lap FaultSite) (nodes : List ReadyNode) (node : ℕ) (d y : ReadyNode) (items pushes : List ℤ) (before after later : List Word) → node < length nodes → Underway whole nodes node items before after → HasGiven (node_fired (code_in (get_or nodes node d)) (fields_in (get_or nodes node d)) items) (fields_in y) pushes after later → code_in y ≡ code_in (get_or nodes node d) → Underway whole (set nodes node y) (node + 1) pushes before later
+pub underway_step : (whole : Result Lap FaultSite) (nodes : List ReadyNode) (node : ℕ) (d y : ReadyNode) (items pushes : List ℤ) (before after later : List Word) → node < length nodes → Underway whole nodes node items before after → HasGiven (node_fired (code_in (get_or nodes node d)) body.Work (fields_in (get_or nodes node d)) items) (fields_in y) pushes after later → code_in y ≡ code_in (get_or nodes node d) → Underway whole (set nodes node y) (node + 1) pushes before later
 underway_step whole nodes node d y items pushes before after later inside u h same =
     let x = get_or nodes node d in
     let rest = all_loaded_in (drop (node + 1) nodes) in
@@ -89,7 +91,7 @@ fault_of : (outcome : Result firing.Fired Cause) (halt : Halt) (cause : Cause) (
 fault_of outcome halt cause fields pushes before after is fires = subst (λ (h : Halt). Fires outcome (Err h) fields pushes before after) is fires
 
 -- where a firing faults
-pub underway_fault : (whole : Result Lap FaultSite) (nodes : List ReadyNode) (node : ℕ) (d : ReadyNode) (items : List ℤ) (halt : Halt) (cause : Cause) (fields pushes : List ℤ) (before after later : List Word) → node < length nodes → Underway whole nodes node items before after → halt ≡ halts.Fault cause → Fires (node_fired (code_in (get_or nodes node d)) (fields_in (get_or nodes node d)) items) (Err halt) fields pushes after later → MoreWords after later → HasStopped whole (record { node = node; cause = cause }) before later
+pub underway_fault : (whole : Result Lap FaultSite) (nodes : List ReadyNode) (node : ℕ) (d : ReadyNode) (items : List ℤ) (halt : Halt) (cause : Cause) (fields pushes : List ℤ) (before after later : List Word) → node < length nodes → Underway whole nodes node items before after → halt ≡ halts.Fault cause → Fires (node_fired (code_in (get_or nodes node d)) body.Work (fields_in (get_or nodes node d)) items) (Err halt) fields pushes after later → MoreWords after later → HasStopped whole (record { node = node; cause = cause }) before later
 underway_fault whole nodes node d items halt cause fields pushes before after later inside u is fires more =
     let x = get_or nodes node d in
     let rest = all_loaded_in (drop (node + 1) nodes) in
@@ -98,7 +100,7 @@ underway_fault whole nodes node d items halt cause fields pushes before after la
     record {
       is = sym u.rest
           ∙ ap (λ (fs : List Loaded). joined done u.words (lap_from node fs items)) split
-          ∙ ap (λ (r : Result firing.Fired Cause). joined done u.words (after_firing node r (λ done. prepend (record { code = code_in x; fields = done.fields }) done.words (lap_from (node + 1) rest done.pushes)))) (fault_of (node_fired (code_in x) (fields_in x) items) halt cause fields pushes after later is fires);
+          ∙ ap (λ (r : Result firing.Fired Cause). joined done u.words (after_firing node r (λ done. prepend (record { code = code_in x; fields = done.fields }) done.words (lap_from (node + 1) rest done.pushes)))) (fault_of (node_fired (code_in x) body.Work (fields_in x) items) halt cause fields pushes after later is fires);
       words = u.words ++ more.more;
       printed = more.is ∙ ap (λ (w : List Word). w ++ more.more) u.printed ∙ append_assoc before u.words more.more;
     }

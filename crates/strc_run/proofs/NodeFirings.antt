@@ -1,11 +1,13 @@
 -- One firing of a node in the machine over queues: it sees all that waits for it, and what it pushes waits for the next node.
-use Rattle.std.proofs.Common.{◌≡◌, refl, sym, ap, ◌∙◌, ℕ, zero, suc, ◌<◌, ◌≤◌, ℤ, Bool, true, false, cond, leb, ltb, List, [], ◌∷◌, ◌++◌, length, take, drop, None, arith, append-nil, le-leb, eq-eqb}
+use Rattle.std.proofs.Common.{◌≡◌, refl, sym, ap, ◌∙◌, ℕ, zero, suc, ◌<◌, ◌≤◌, ℤ, Bool, true, false, cond, leb, ltb, List, [], ◌∷◌, ◌++◌, length, take, drop, None, Result, arith, append-nil, le-leb, eq-eqb}
 use Rattle.std.specs.Prelude.{◌&&◌}
 use Rattle.std.proofs.lemmas.Bool.{lt-ltb, ne_eqb}
 use Rattle.std.proofs.Math.Seq.{take-length}
 use Rattle.std.proofs.lemmas.List.{drop_all}
 use Rattle.strc_semantics.specs.declared.fault.Cause.{Cause}
 use Rattle.strc_semantics.specs.declared.word.Word.{Word}
+use Rattle.strc_semantics.specs.declared.body.Body.TheVariants as body
+use Rattle.strc_semantics.specs.Firing as firing
 use Rattle.strc_dataflow.specs.Node.{ByPort, Fired.Fires, at_port_0}
 use Rattle.strc_dataflow.specs.Histories.{Run, all_below, after_firing}
 use Rattle.strc_dataflow.specs.Flat.{Source, Graph}
@@ -13,46 +15,57 @@ use Rattle.strc_dataflow.specs.Machine.{put}
 use Rattle.strc_dataflow.specs.Queues.{Fifo, added, holds, fronts, moved, fifo_after, fifo_if, fifo_fire}
 use Rattle.strc_dataflow.specs.Pipelines.{IsChain}
 use Rattle.strc_graph.specs.Graphs.{NodeCode, input_ports}
-use Rattle.strc_run.specs.Pipeline.{rate_at_0, as_fired, node_fired, node_pops, node_meaning}
+use Rattle.strc_graph.specs.Rates.{rate_at_0, body_at, window_at, pops_at}
+use Rattle.strc_graph.specs.Meaning.{node_fired, as_fired, node_meaning}
+use Rattle.strc_run.proofs.ExactRates.{IsExact}
 
 nil_of : (items : List ℤ) → length items ≡ 0 → ◌≡◌ {A = List ℤ} [] items
 nil_of [] e = refl
 nil_of (item ∷ items) e = absurd (omega arith)
 
 -- the items that wait are held
-held_by : (ports : ℕ) (rate : ℕ) (queues : ByPort) (items : List ℤ) → (0 < ports → queues 0 ≡ items) → length items ≡ rate → all_below ports (λ port. leb (rate_at_0 rate port) (length (queues port))) ≡ true
+held_by : (ports rate : ℕ) (window : ℕ → ℕ) (queues : ByPort) (items : List ℤ)
+    → ((port : ℕ) → window port ≡ rate_at_0 rate port) → (0 < ports → queues 0 ≡ items) → length items ≡ rate
+    → all_below ports (λ port. leb (window port) (length (queues port))) ≡ true
 unfolding all_below
-held_by zero rate queues items h e = refl
-held_by (suc ports) rate queues items h e =
-    both (all_below ports (λ port. leb (rate_at_0 rate port) (length (queues port)))) _ (held_by ports rate queues items (λ some. h (omega arith)) e) (at ports)
+held_by zero rate window queues items windows h e = refl
+held_by (suc ports) rate window queues items windows h e =
+    both (all_below ports (λ port. leb (window port) (length (queues port)))) _ (held_by ports rate window queues items windows (λ some. h (omega arith)) e) (at ports)
   where
     both : (a b : Bool) → a ≡ true → b ≡ true → (a && b) ≡ true
     both true b first second = second
     both false b first second = first
 
-    at : (port : ℕ) → leb (rate_at_0 rate port) (length (queues port)) ≡ true
-    at zero = le-leb rate (length (queues 0)) (let l : length (queues 0) ≡ length items = ap length (h (omega arith)) in omega arith)
-    at (suc port) = le-leb 0 (length (queues (suc port))) (omega arith)
+    at : (port : ℕ) → leb (window port) (length (queues port)) ≡ true
+    at zero = le-leb (window 0) (length (queues 0)) (let l : length (queues 0) ≡ length items = ap length (h (omega arith)) in let w = windows 0 in omega arith)
+    at (suc port) = le-leb (window (suc port)) (length (queues (suc port))) (let w = windows (suc port) in omega arith)
 
 -- and they are seen; where no items flow, none are there
-seen_by : (ports : ℕ) (rate : ℕ) (queues : ByPort) (items : List ℤ) → (0 < ports → queues 0 ≡ items) → length items ≡ rate → (ports ≡ 0 → rate ≡ 0) → cond (ltb 0 ports) (take rate (queues 0)) [] ≡ items
-seen_by (suc ports) rate queues items h e none =
-    ap (λ (test : Bool). cond test (take rate (queues 0)) []) (lt-ltb 0 (suc ports) (omega arith)) ∙ ap (take rate) (h (omega arith)) ∙ ap (λ n. take n items) (sym e) ∙ take-length items
-seen_by zero rate queues items h e none = nil_of items (e ∙ none refl)
+seen_by : (ports window : ℕ) (queues : ByPort) (items : List ℤ) → window ≡ ports → (0 < ports → queues 0 ≡ items) → length items ≡ ports → cond (ltb 0 ports) (take window (queues 0)) [] ≡ items
+seen_by (suc ports) window queues items all h e =
+    ap (λ (test : Bool). cond test (take window (queues 0)) []) (lt-ltb 0 (suc ports) (omega arith)) ∙ ap (take window) (h (omega arith)) ∙ ap (λ n. take n items) (all ∙ sym e) ∙ take-length items
+seen_by zero window queues items all h e = nil_of items e
 
 module _ (graph : Graph NodeCode) (now : Fifo (List ℤ) Cause Word) (node : ℕ) where
+  -- how many items this firing takes
+  abbrev taken : ℕ
+  taken = pops_at (graph.code node) (now.runs node).fired 0
+
   -- a firing whose items wait sees them all
   pub fires :
-      (items : List ℤ)
-      → length items ≡ node_pops (graph.code node)
-      → (input_ports (graph.code node) ≡ 0 → node_pops (graph.code node) ≡ 0)
+      IsExact (graph.code node)
+      → (items : List ℤ)
+      → length items ≡ input_ports (graph.code node)
       → (0 < input_ports (graph.code node) → now.queues node 0 ≡ items)
-      → fifo_fire node_meaning graph now node ≡ fifo_after node_meaning graph now node (as_fired (node_fired (graph.code node) (now.runs node).state items))
+      → fifo_fire node_meaning graph now node ≡ fifo_after node_meaning graph now node (as_fired (node_fired (graph.code node) body.Work (now.runs node).state items))
   unfolding fifo_fire fifo_if holds fronts
-  fires items e none h =
-      ap (fifo_if node_meaning graph now node) (held_by (input_ports (graph.code node)) (node_pops (graph.code node)) (now.queues node) items h e)
-      ∙ ap (λ (seen : List ℤ). fifo_after node_meaning graph now node (as_fired (node_fired (graph.code node) (now.runs node).state seen)))
-      (seen_by (input_ports (graph.code node)) (node_pops (graph.code node)) (now.queues node) items h e none)
+  fires exact items e h =
+      let code = graph.code node in
+      let number = (now.runs node).fired in
+      ap (fifo_if node_meaning graph now node) (held_by (input_ports code) (input_ports code) (window_at code number) (now.queues node) items (exact.windows number) h e)
+      ∙ ap (λ (seen : List ℤ). fifo_after node_meaning graph now node (as_fired (node_fired code (body_at number) (now.runs node).state seen)))
+      (seen_by (input_ports code) (window_at code number 0) (now.queues node) items (exact.windows number 0) h e)
+      ∙ ap (λ (result : Result firing.Fired Cause). fifo_after node_meaning graph now node (as_fired result)) (exact.works number (now.runs node).state items)
 
   -- the machine after a firing that doesn't fault
   unfoldable pub next_of : (fields pushes : List ℤ) (words : List Word) → Fifo (List ℤ) Cause Word
@@ -100,23 +113,23 @@ module _ (graph : Graph NodeCode) (now : Fifo (List ℤ) Cause Word) (node : ℕ
       pub queue_other : (other : ℕ) → other ≤ length others → (other ≡ node → ⊥) → (other ≡ suc node → ⊥) → (next_of fields pushes words).queues other 0 ≡ now.queues other 0
       unfolding next_of moved
       queue_other other within differ after =
-          ap (λ (test : Bool). drop (cond test (node_pops (graph.code node)) 0) (now.queues other 0) ++ added node (at_port_0 pushes) (graph.source other 0).origin) (ne_eqb other node differ)
+          ap (λ (test : Bool). drop (cond test taken 0) (now.queues other 0) ++ added node (at_port_0 pushes) (graph.source other 0).origin) (ne_eqb other node differ)
           ∙ ap (λ (more : List ℤ). now.queues other 0 ++ more) (added_other other within after)
           ∙ append-nil (now.queues other 0)
 
       -- the node's own queue is empty, where it took all that waited
-      pub queue_here : node ≤ length others → length (now.queues node 0) ≤ node_pops (graph.code node) → (next_of fields pushes words).queues node 0 ≡ []
+      pub queue_here : node ≤ length others → length (now.queues node 0) ≤ taken → (next_of fields pushes words).queues node 0 ≡ []
       unfolding next_of moved
       queue_here within all =
-          ap (λ (test : Bool). drop (cond test (node_pops (graph.code node)) 0) (now.queues node 0) ++ added node (at_port_0 pushes) (graph.source node 0).origin) (eq-eqb node node refl)
-          ∙ ap (λ (more : List ℤ). drop (node_pops (graph.code node)) (now.queues node 0) ++ more) (added_other node within (λ e. omega arith))
-          ∙ append-nil (drop (node_pops (graph.code node)) (now.queues node 0))
-          ∙ drop_all (node_pops (graph.code node)) (now.queues node 0) all
+          ap (λ (test : Bool). drop (cond test taken 0) (now.queues node 0) ++ added node (at_port_0 pushes) (graph.source node 0).origin) (eq-eqb node node refl)
+          ∙ ap (λ (more : List ℤ). drop taken (now.queues node 0) ++ more) (added_other node within (λ e. omega arith))
+          ∙ append-nil (drop taken (now.queues node 0))
+          ∙ drop_all taken (now.queues node 0) all
 
       -- what was pushed waits at the next node, where nothing did
       pub queue_next : node < length others → now.queues (suc node) 0 ≡ [] → (next_of fields pushes words).queues (suc node) 0 ≡ pushes
       unfolding next_of moved
       queue_next less empty =
-          ap (λ (test : Bool). drop (cond test (node_pops (graph.code node)) 0) (now.queues (suc node) 0) ++ added node (at_port_0 pushes) (graph.source (suc node) 0).origin) (ne_eqb (suc node) node (λ e. omega arith))
+          ap (λ (test : Bool). drop (cond test taken 0) (now.queues (suc node) 0) ++ added node (at_port_0 pushes) (graph.source (suc node) 0).origin) (ne_eqb (suc node) node (λ e. omega arith))
           ∙ ap (λ (queue : List ℤ). queue ++ added node (at_port_0 pushes) (graph.source (suc node) 0).origin) empty
           ∙ added_next less

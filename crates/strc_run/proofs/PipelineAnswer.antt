@@ -3,8 +3,9 @@ use Rattle.std.proofs.Common.{◌≡◌, refl, sym, ap, ◌∙◌, subst, ℕ, z
 use Rattle.std.specs.Prelude.{IfOk}
 use Rattle.strc_semantics.specs.declared.fault.Cause.{Cause}
 use Rattle.strc_semantics.specs.declared.word.Word.{Word}
+use Rattle.strc_semantics.specs.declared.body.Body.TheVariants as body
 use Rattle.strc_semantics.specs.Firing as firing
-use Rattle.strc_dataflow.specs.Histories.{Run, KeepsRates, begun}
+use Rattle.strc_dataflow.specs.Histories.{Run, begun}
 use Rattle.strc_dataflow.specs.Flat.{Graph, items_of, arrived}
 use Rattle.strc_dataflow.specs.Streams.{flat}
 use Rattle.strc_dataflow.specs.Answer.{words_of}
@@ -12,10 +13,12 @@ use Rattle.strc_dataflow.specs.Queues.{Fifo, FifoProgress, FifoProgress.FifoWent
 use Rattle.strc_dataflow.specs.Pipelines.{nodes_from, once_each, IsChain}
 use Rattle.strc_dataflow.proofs.Chain.{chain_schedule}
 use Rattle.strc_dataflow.proofs.Theorem.{stream_queue_run}
-use Rattle.strc_graph.specs.Graphs.{NodeCode, input_ports, gives_words}
-use Rattle.strc_run.specs.Pipeline.{node_fields, node_pops, node_pushes, node_fired, as_fired, node_meaning, Loaded, Lap, FaultSite, prepend, after_firing, lap_from, after_lap, laps, loaded}
+use Rattle.strc_graph.specs.Graphs.{NodeCode, input_ports, output_ports, gives_words}
+use Rattle.strc_graph.specs.Rates.{pops_at}
+use Rattle.strc_graph.specs.Meaning.{node_fields, node_fired, as_fired, node_meaning}
+use Rattle.strc_run.specs.Pipeline.{Loaded, Lap, FaultSite, prepend, after_firing, lap_from, after_lap, laps, loaded}
 use Rattle.strc_run.specs.Answers.{PrintsNothing, words_in_order, Tells, LapsAreAnswers}
-use Rattle.strc_run.proofs.ExactRates.{TakesAll, AreExact, GivesItems, are_exact, keeps, all_keep, are_matched}
+use Rattle.strc_run.proofs.ExactRates.{IsExact, TakesAll, AreExact, GivesItems, are_exact, exact_at, keeps, takes_within, are_matched}
 use Rattle.strc_run.proofs.NodeFirings.{fires, next_of, runs_other, state_here, fired_here, words_here, queue_other, queue_here, queue_next}
 
 -- before round q's firing of a node: its code and fields, the items that wait for it, and no words of one that doesn't print
@@ -122,15 +125,19 @@ module _ (graph : Graph NodeCode) (first : NodeCode) (others : List NodeCode) (c
       (fit : node + suc (length codes) ≡ suc (length others))
       (stands : AllStand graph now q node items (code ∷ codes) (member ∷ members))
       (exacts : AreExact (code ∷ codes))
-      (all : length items ≡ node_pops code) where
+      (all : length items ≡ input_ports code) where
     -- the machine after this firing
     abbrev after : firing.Fired → Fifo (List ℤ) Cause Word
     after done = next_of graph now node done.fields done.pushes done.words
 
-    taken : length (now.queues node 0) ≤ node_pops (graph.code node)
+    exact_here : IsExact (graph.code node)
+    exact_here = subst IsExact (sym stands.0.here) exacts.0
+
+    taken : length (now.queues node 0) ≤ pops_at (graph.code node) (now.runs node).fired 0
     taken =
         let a : length (now.queues node 0) ≡ length items = ap length stands.0.queue in
-        let b : node_pops (graph.code node) ≡ node_pops code = ap node_pops stands.0.here in
+        let b : input_ports (graph.code node) ≡ input_ports code = ap input_ports stands.0.here in
+        let c = exact_here.pops (now.runs node).fired 0 in
         omega arith
 
     led : (done : firing.Fired) → (gives_words code ≡ false → done.words ≡ []) → (progress : FifoProgress (List ℤ) Cause Word) (lap : Result Lap FaultSite)
@@ -190,15 +197,15 @@ module _ (graph : Graph NodeCode) (first : NodeCode) (others : List NodeCode) (c
     lap_by (Ok done) kept ih =
         led done kept.1 (fifo_go node_meaning graph (nodes_from (suc node) (length codes)) (after done)) (lap_from (node + 1) members done.pushes)
         (subst (λ (n : ℕ). IsLap graph (after done) q (suc node) codes (fifo_go node_meaning graph (nodes_from (suc node) (length codes)) (after done)) (lap_from n members done.pushes)) (sym (add-one node))
-        (ih (after done) done.pushes (others_stand done) (takes_so_many (length done.pushes) (node_pushes code) codes kept.0 exacts.1)))
+        (ih (after done) done.pushes (others_stand done) (takes_so_many (length done.pushes) (output_ports code) codes kept.0 exacts.1)))
     lap_by (Err cause) kept ih = (refl, stands.0.fired, refl)
 
     -- the machine's firing is the node's at the items that wait
-    fires_items : fifo_fire node_meaning graph now node ≡ fifo_after node_meaning graph now node (as_fired (node_fired member.code member.fields items))
+    fires_items : fifo_fire node_meaning graph now node ≡ fifo_after node_meaning graph now node (as_fired (node_fired member.code body.Work member.fields items))
     fires_items =
-        fires graph now node items (all ∙ ap node_pops (sym stands.0.here)) (λ e. ap node_pops stands.0.here ∙ exacts.0.pops ∙ ap input_ports (sym stands.0.here) ∙ e) (λ e. stands.0.queue)
-        ∙ ap (λ (c : NodeCode). fifo_after node_meaning graph now node (as_fired (node_fired c (now.runs node).state items))) (stands.0.here ∙ sym stands.0.is)
-        ∙ ap (λ (fields : List ℤ). fifo_after node_meaning graph now node (as_fired (node_fired member.code fields items))) stands.0.state
+        fires graph now node exact_here items (all ∙ ap input_ports (sym stands.0.here)) (λ e. stands.0.queue)
+        ∙ ap (λ (c : NodeCode). fifo_after node_meaning graph now node (as_fired (node_fired c body.Work (now.runs node).state items))) (stands.0.here ∙ sym stands.0.is)
+        ∙ ap (λ (fields : List ℤ). fifo_after node_meaning graph now node (as_fired (node_fired member.code body.Work fields items))) stands.0.state
 
   -- a lap from a node on
   lap_is :
@@ -215,8 +222,8 @@ module _ (graph : Graph NodeCode) (first : NodeCode) (others : List NodeCode) (c
   lap_is q (code ∷ codes) (member ∷ members) now node items fit exacts all stands =
       subst (λ progress. IsLap graph now q node (code ∷ codes) (fifo_then (fifo_go node_meaning graph (nodes_from (suc node) (length codes))) progress) (lap_from node (member ∷ members) items))
       (sym (fires_items now q node code codes member members items fit stands exacts all))
-      (lap_by now q node code codes member members items fit stands exacts all (node_fired member.code member.fields items)
-      (subst (λ (c : NodeCode). IfOk (node_fired c member.fields items) (GivesItems code)) (sym stands.0.is) (exacts.0.gives member.fields items (λ some. all)))
+      (lap_by now q node code codes member members items fit stands exacts all (node_fired member.code body.Work member.fields items)
+      (subst (λ (c : NodeCode). IfOk (node_fired c body.Work member.fields items) (GivesItems code)) (sym stands.0.is) (exacts.0.gives member.fields items (λ some. all)))
       (λ next more others_now fits. lap_is q codes members next (suc node) more (omega arith) exacts.3 fits others_now))
 
   module _ (codes : List NodeCode) (size : length codes ≡ suc (length others)) (exacts : AreExact codes) where
@@ -285,7 +292,7 @@ module _ (graph : Graph NodeCode) (first : NodeCode) (others : List NodeCode) (c
       rounds_are (first ∷ others) refl exacts k 0 (fifo_at_first node_meaning graph []) (loaded (first ∷ others)) []
       (all_stand_first (first ∷ others) 0 (omega arith) (λ i less. ap graph.code (zero-add i) ∙ chain.codes i))
       (sym (no_words (suc (length others)) 0))
-      (sym (exacts.0.pops ∙ void))
+      (sym void)
 
 -- the laps of nodes in a chain are the answer of their stream
 pub laps_answer : LapsAreAnswers
@@ -294,8 +301,10 @@ laps_answer stream first others k chain void known joined checked fits once =
     let matched = are_matched first others void exacts in
     let graph = flat stream in
     let schedule = chain_schedule node_meaning graph [] first others chain matched k in
-    let all_kept = λ (node : ℕ). subst (KeepsRates node_meaning) (sym (chain.codes node)) (all_keep (first ∷ others) first exacts (keeps first exacts.0) node) in (
+    let all_exact = λ (node : ℕ). subst IsExact (sym (chain.codes node)) (exact_at (first ∷ others) first exacts exacts.0 node) in (
       fifo_run node_meaning graph [] (nodes_from 0 (suc (length others))) [] k,
-      (stream_queue_run node_meaning stream [] (λ node. 0) (once_each (suc (length others))) [] (nodes_from 0 (suc (length others))) k (λ node number port less. omega arith)).1 all_kept schedule,
+      (stream_queue_run node_meaning stream [] (λ node. 0) (once_each (suc (length others))) [] (nodes_from 0 (suc (length others))) k
+          (λ node number port less. takes_within (graph.code node) (all_exact node) number port)).1
+          (λ node. keeps (graph.code node) (all_exact node)) schedule,
       run_tells graph first others chain k exacts void,
     )

@@ -1,21 +1,22 @@
 -- What a run of rounds means in the generic layer of streams: the answer of the stream.
-use Rattle.std.specs.Prelude.{◌≡◌, ℕ, Bool, true, false, not, ◌&&◌, nat_le, List, [], ◌∷◌, ◌++◌, length, Option, Ok}
+use Rattle.std.specs.Prelude.{◌≡◌, ℕ, Bool, true, false, not, ◌&&◌, nat_le, List, [], ◌∷◌, ◌++◌, length, Option, Ok, is_some}
 use Rattle.std.specs.Int.RustNames.{int_lt}
 use Rattle.strc_semantics.specs.declared.fault.Cause.{Cause}
 use Rattle.strc_semantics.specs.declared.word.Word.{Word}
 use Rattle.strc_semantics.specs.Closed.{IsClosedFilter}
 use Rattle.strc_semantics.specs.Filters as filters
-use Rattle.strc_semantics.specs.Filters.{work_rates, pop_rate, peek_rate}
+use Rattle.strc_semantics.specs.Filters.{work_rates, prework_block, push_rate, pop_rate, peek_rate, item_count}
 use Rattle.strc_dataflow.specs.Streams as trees
 use Rattle.strc_dataflow.specs.Streams.{flat}
 use Rattle.strc_dataflow.specs.Pipelines.{IsChain, nodes_from, once_each}
 use Rattle.strc_dataflow.specs.Answer.{Outcome, Outcome.Done, Outcome.RoundFault, IsAnswer}
 use Rattle.strc_elab.specs.Flattening.{tree_of, nodes_of}
 use Rattle.strc_graph.specs.Graphs.{NodeCode, Filter, Identity, ports_of, input_ports, output_ports, gives_words}
+use Rattle.strc_graph.specs.Meaning.{node_meaning}
 use Rattle.strc_elab.specs.Instances.{Stream}
-use Rattle.strc_run.specs.Rates.{declared_pushes, declared_pops, has_prework, rates_checked}
+use Rattle.strc_run.specs.Rates.{rates_checked}
 use Rattle.strc_run.specs.Programs.{Accepts}
-use Rattle.strc_run.specs.Pipeline.{node_meaning, Ending, Ending.Ended, Ending.Faulted, laps, loaded}
+use Rattle.strc_run.specs.Pipeline.{Ending, Ending.Ended, Ending.Faulted, laps, loaded}
 
 -- each node takes what the one before it gives
 abbrev pub AreJoined : NodeCode → List NodeCode → Type 0
@@ -26,9 +27,11 @@ AreJoined first (next ∷ others) = (input_ports next ≡ output_ports first) ×
 -- declared rate is above one item, or none on a void side
 abbrev pub is_runnable_filter : filters.Filter → Bool
 is_runnable_filter filter =
-    not (has_prework filter)
-    && (not (int_lt (pop_rate (work_rates filter.members)) (peek_rate (work_rates filter.members)))
-    && (nat_le (declared_pops filter) (ports_of filter.input) && nat_le (declared_pushes filter) (ports_of filter.output)))
+    let rates = work_rates filter.members in
+    not (is_some (prework_block filter.members))
+    && (not (int_lt (pop_rate rates) (peek_rate rates))
+    && (nat_le (item_count (pop_rate rates)) (ports_of filter.input)
+    && nat_le (item_count (push_rate rates)) (ports_of filter.output)))
 
 -- whether a node is
 abbrev pub is_runnable : NodeCode → Bool

@@ -1,23 +1,11 @@
 -- The rates of filters, node by node (StreamIt specification 2.1, "Filters": the rates of `work`).
-use Rattle.std.specs.Prelude.{ℕ, ◌+◌, Bool, List, [], ◌∷◌, Result, Ok, Err, is_some}
-use Rattle.strc_semantics.specs.Filters as filters
-use Rattle.strc_semantics.specs.Filters.{work_rates, prework_block, push_rate, pop_rate, item_count}
+use Rattle.std.specs.Prelude.{ℕ, ◌+◌, List, [], ◌∷◌, Result, Ok, Err}
 use Rattle.strc_graph.specs.Graphs.{NodeCode, Filter}
 use Rattle.strc_rate.specs.Rates.{FilterRates, checked}
 use Rattle.strc_rate.specs.declared.rates.RateError.{RateError}
 use Rattle.strc_rate.specs.declared.rates.RateError.TheVariants as rate
 use Rattle.strc_run.specs.declared.refusal.Refusal.{Refusal}
 use Rattle.strc_run.specs.declared.refusal.Refusal.TheVariants as refusal
-
--- the rates of a work as they are declared
-abbrev pub declared_pushes : filters.Filter → ℕ
-declared_pushes filter = item_count (push_rate (work_rates filter.members))
-
-abbrev pub declared_pops : filters.Filter → ℕ
-declared_pops filter = item_count (pop_rate (work_rates filter.members))
-
-abbrev pub has_prework : filters.Filter → Bool
-has_prework filter = is_some (prework_block filter.members)
 
 -- a refusal of a filter's rates, with its node
 abbrev pub told_of_node : ℕ → RateError → Refusal

@@ -78,7 +78,8 @@ pub enum Refusal {
     /// A node would fire more than 1,000,000 times in a round, or its count is a fraction of node
     /// 0's with a part above 1,000,000.
     CountsTooLarge,
-    /// No counts of a round balance all channels; the lowest channel that those of the spread don't.
+    /// No counts of a round balance all channels; the lowest channel that those of the spread
+    /// don't.
     Inconsistent {
         channel: usize,
     },

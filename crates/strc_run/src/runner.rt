@@ -2,11 +2,12 @@
 
 ghost use Rattle.std.specs.Prelude.{◌≡◌, ◌++◌, [], List, ℤ, Ok, Err, IfOk, MatchResult, map};
 ghost use Rattle.std.specs.List.{AllByRecursion};
+ghost use Rattle.strc_graph.specs.Meaning.{node_fired};
 ghost use Rattle.strc_graph.specs.NodeView.{node_view};
 ghost use Rattle.strc_work.specs.Answers.{Fires};
 ghost use Rattle.strc_machine.specs.Running.{MoreWords};
 ghost use Rattle.strc_run.specs.Loading.{CanStart, code_in, fields_in, all_loaded_in};
-ghost use Rattle.strc_run.specs.Pipeline.{laps, lap_from, loaded, node_fired};
+ghost use Rattle.strc_run.specs.Pipeline.{laps, lap_from, loaded};
 ghost use Rattle.strc_run.specs.Running.{Laps, IsEnding};
 
 use crate::outcome::{Fault, Outcome};
@@ -86,7 +87,7 @@ fn run_round(
 
 // One firing, from the items on the channel before the node to those after it.
 fn fire(node: &mut ReadyNode, channel: &mut Vec<i32>, words: &mut Vec<Word>) -> Result<(), Halt>
-    ensures fires { Fires (node_fired (code_in node.old)
+    ensures fires { Fires (node_fired (code_in node.old) Body.Work
         (fields_in node.old) channel.old.items) result
         (fields_in node.new) channel.new.items words.old.items words.new.items }
     ensures words { MoreWords words.old.items words.new.items }
@@ -104,8 +105,8 @@ fn fire_filter(
     channel: &mut Vec<i32>,
     words: &mut Vec<Word>,
 ) -> Result<(), Halt>
-    ensures fires { Fires (node_fired (code_in
-        (ReadyNode.Filter filter.old)) filter.old.state.fields channel.old.items)
+    ensures fires { Fires (node_fired (code_in (ReadyNode.Filter filter.old)) Body.Work
+        filter.old.state.fields channel.old.items)
         result filter.new.state.fields channel.new.items words.old.items words.new.items }
     ensures words { MoreWords words.old.items words.new.items }
     ensures same { filter.new.instance ≡ filter.old.instance }

@@ -167,6 +167,10 @@ abbrev mutual
   stmts_print tree.Done = false
   stmts_print (tree.Then first rest) = stmt_prints first || stmts_print rest
 
+-- whether a firing of this body of the filter can print
+abbrev pub body_prints : Body → Filter → Bool
+body_prints body filter = stmts_print (body_block body filter.members)
+
 -- whether a firing of the filter can print
 abbrev pub filter_prints : Filter → Bool
 filter_prints filter = stmts_print (work_block filter.members) || stmts_print (body_block body.Prework filter.members)

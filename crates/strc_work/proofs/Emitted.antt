@@ -15,6 +15,7 @@ use Rattle.strc_semantics.specs.Scoping.{Scope, names_after, total, slot_of, siz
 use Rattle.strc_work.proofs.FilterRuns.{total-reverse}
 use Rattle.strc_semantics.proofs.Growth.{drop_inner, stands_on_after, stands_on_itself}
 use Rattle.strc_machine.proofs.Nodes.{before_assoc, before_end}
+use Rattle.strc_work.proofs.Prework.{no_prework_block, no_prework_rates}
 
 -- the code of one more statement
 pub stmts_nodes_more : (names names' : Scope) (old new : Nodes) (first : tree.Stmt) (rest : tree.Stmts) → new ≡ before old (stmt_nodes names first) → names' ≡ names_after names first → before new (stmts_nodes names' rest) ≡ before old (stmts_nodes names (tree.Then first rest))
@@ -111,3 +112,11 @@ total_reverse fields = total-reverse fields
 pub on_ok : {T E : Type 0} (r : Result T E) (P Q : Type 0) → (P → Q) → OnOk r P → OnOk r Q
 on_ok (Ok x) P Q f h = f h
 on_ok (Err e) P Q f h = tt
+
+-- the code of statements, of elements and of a filter's bodies
+pub ruleset statements = (before_assoc, before_end, left_after)
+
+pub ruleset elements = (before_assoc, element_set_nodes, element_compound_nodes)
+
+-- a filter without a prework, and the fields of any
+pub ruleset filters = (no_prework_block, no_prework_rates, total_reverse)

@@ -17,7 +17,7 @@ use Rattle.strc_semantics.specs.declared.body.Body.TheVariants as body
 use Rattle.strc_semantics.specs.declared.fault.Halt.{Halt}
 use Rattle.strc_semantics.specs.declared.fault.Halt.TheVariants as halt
 use Rattle.strc_machine.specs.Running.{WantsOnlyWords}
-use Rattle.strc_semantics.specs.Filters.{Filter, stmt_prints, stmts_print, work_block, body_block, filter_prints}
+use Rattle.strc_semantics.specs.Filters.{Filter, stmt_prints, stmts_print, work_block, body_block, body_prints}
 use Rattle.strc_semantics.specs.Firing.{assigned_value}
 use Rattle.strc_semantics.specs.Scoping.{Scope, cells_of, total, slot_of, size_of, names_after}
 use Rattle.strc_machine.specs.Machine.{Nodes, End, Act, Choice, Loop, before, inst_prints, nodes_print}
@@ -285,24 +285,13 @@ pub body_print : (body : Body) (filter : Filter) → IsClosedFilter filter → n
 body_print body filter closed =
     stmts_print_is (field_scope filter) (body_block body filter.members) (body_closed body (field_scope filter) filter.members closed)
 
-either_prints : (a b : Bool) → b ≡ true → a || b ≡ true
-either_prints true b e = refl
-either_prints false b e = e
-
--- a filter prints where the code of one of its bodies does
-pub body_prints : (body : Body) (filter : Filter) → IsClosedFilter filter → nodes_print (body_nodes body filter) ≡ true → filter_prints filter ≡ true
-body_prints body.Prework filter closed prints =
-    either_prints (stmts_print (work_block filter.members)) (stmts_print (body_block body.Prework filter.members)) (sym (body_print body.Prework filter closed) ∙ prints)
-body_prints body.Work filter closed prints =
-    ap (λ t. t || stmts_print (body_block body.Prework filter.members)) (sym (body_print body.Work filter closed) ∙ prints)
-
 -- out of memory at code that prints where other code does
 wants_also : (prints prints' : Bool) → (prints ≡ true → prints' ≡ true) → (result : Result (Unit {0}) Halt) → WantsOnlyWords prints result → WantsOnlyWords prints' result
 wants_also prints prints' more (Ok done) wants = tt
 wants_also prints prints' more (Err (halt.Fault cause)) wants = tt
 wants_also prints prints' more (Err halt.NoMemory) wants = more wants
 
--- only a filter that prints can want memory when it is fired
-pub body_wants : (body : Body) (filter : Filter) (code : Nodes) (result : Result (Unit {0}) Halt) → IsClosedFilter filter → code ≡ body_nodes body filter → WantsOnlyWords (nodes_print code) result → WantsOnlyWords (filter_prints filter) result
+-- only a body that prints can run out of memory when it is fired
+pub body_wants : (body : Body) (filter : Filter) (code : Nodes) (result : Result (Unit {0}) Halt) → IsClosedFilter filter → code ≡ body_nodes body filter → WantsOnlyWords (nodes_print code) result → WantsOnlyWords (body_prints body filter) result
 body_wants body filter code result closed code_is wants =
-    wants_also (nodes_print code) (filter_prints filter) (λ prints. body_prints body filter closed (sym (ap nodes_print code_is) ∙ prints)) result wants
+    wants_also (nodes_print code) (body_prints body filter) (λ prints. sym (body_print body filter closed) ∙ sym (ap nodes_print code_is) ∙ prints) result wants

@@ -210,7 +210,7 @@ impl Code {
         ensures fired { Fires (fired (filters.filter_of self.now) body state.old.fields
             (W.items window.now))
             result state.new.fields frame.new.items words.old.items words.new.items }
-        ensures memory { WantsOnlyWords (filters.filter_prints
+        ensures memory { WantsOnlyWords (filters.body_prints body
             (filters.filter_of self.now)) result }
         ensures words { MoreWords words.old.items words.new.items }
         ensures state { IsStateOf (filters.filter_of self.now) state.new }

@@ -28,7 +28,7 @@ use strc_semantics::body::Body;
 use strc_syntax::tree::{FilterTree, Member, Variable};
 
 /// The code of a filter that keeps the rules.
-#[tactic(auto, using(crate::proofs::Prework::no_prework_block, crate::proofs::Prework::no_prework_rates, crate::proofs::Emitted::total_reverse))]
+#[tactic(auto, using(crate::proofs::Emitted::filters))]
 pub fn emit_filter(alloc: Global, tree: FilterTree) -> Result<Code, NoMemory>
     requires { IsClosedFilter (filter_of tree) }
     ensures { IfOk result (λ code. code ≡ tree) }

@@ -24,7 +24,7 @@ use strc_syntax::tree::{AssignOperator, BinaryOperator, Expr, StepOperator};
 
 /// The code that puts an expression's value into a slot; the slots from `free` on are free.
 #[cycle(expression)]
-#[tactic(auto, using(strc_machine::proofs::Nodes::before_assoc, strc_machine::proofs::Nodes::before_end))]
+#[tactic(auto, using(strc_machine::proofs::Nodes::joining))]
 pub fn emit_expr(
     code: &mut Builder,
     names: &Layout,
@@ -252,7 +252,7 @@ pub fn emit_assign_element(
 }
 
 /// The code of an assignment to the element at an index that stands in a slot.
-#[tactic(auto, using(strc_machine::proofs::Nodes::before_assoc, crate::proofs::Emitted::element_set_nodes, crate::proofs::Emitted::element_compound_nodes))]
+#[tactic(auto, using(crate::proofs::Emitted::elements))]
 fn emit_element(
     code: &mut Builder,
     names: &Layout,

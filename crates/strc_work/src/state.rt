@@ -16,7 +16,10 @@ impl Model for State {
 
     ghost Value = { Kept };
 
-    ghost view = { λ s. record { fields = take s.fields s.slots.items; room = length s.slots.items } };
+    ghost view = { λ s. record {
+      fields = take s.fields s.slots.items;
+      room = length s.slots.items;
+    } };
 
     ghost invariant = { λ s. s.fields ≤ length s.slots.items };
 }

@@ -34,7 +34,7 @@ pub fn emit_block(code: &mut Builder, names: &mut Layout, block: &[Stmt]) -> Res
 
 /// The code of a statement.
 #[cycle(statement)]
-#[tactic(auto, using(strc_machine::proofs::Nodes::before_assoc, strc_machine::proofs::Nodes::before_end, crate::proofs::Emitted::left_after))]
+#[tactic(auto, using(crate::proofs::Emitted::statements))]
 fn emit_stmt(code: &mut Builder, names: &mut Layout, statement: &Stmt) -> Result<(), NoMemory>
     ensures code { OnOk result (written code.new
         ≡ before (written code.old) (spec.stmt_nodes names.old (stmt_view statement.now))) }
@@ -143,7 +143,7 @@ fn emit_condition(
 }
 
 /// The code of variables that are declared one after another.
-#[tactic(auto, using(strc_machine::proofs::Nodes::before_assoc, strc_machine::proofs::Nodes::before_end))]
+#[tactic(auto, using(strc_machine::proofs::Nodes::joining))]
 fn emit_variables(
     code: &mut Builder,
     names: &mut Layout,

@@ -1,6 +1,7 @@
 use Rattle.std.proofs.Common.{List, map, option_map, refl, sym, ap, ◌∙◌, subst}
 use Rattle.std.specs.List.{AllByRecursion}
 use Rattle.strc_syntax.specs.View.{program_view}
+use Rattle.strc_graph.proofs.Carriers.{carriers_are_joined}
 use Rattle.strc_graph.specs.Graphs.{NodeCode}
 use Rattle.strc_elab.specs.View.{stream_view}
 use Rattle.strc_graph.specs.NodeView.{node_view, graph_view}
@@ -39,7 +40,7 @@ balance-requires-clause-rates c =
     let flat : IsFlat (stream_view c.in_ok-stream.stream) graph = c.in_ok-graph.ensures.graph sound.typed in
     let same = c.in_ok-graph.ensures.nodes in
     let checks = ap (rates_checked 0) (sym (ap (map node_view) c.nodes.ensures)) ∙ c.in_ok-check_rates.ensures in
-    graph_is_rated graph flat.joined (subst (AllByRecursion IsInstance) (sym same) sound.instances) checks
+    graph_is_rated graph (carriers_are_joined graph.nodes graph.channels flat.joined) (subst (AllByRecursion IsInstance) (sym same) sound.instances) checks
 
 pub balance-requires-clause-connected : goal.balance-requires-clause-connected
 balance-requires-clause-connected c =
