@@ -1,15 +1,12 @@
 // Graphs by what their nodes are and what their channels join, and their counts as texts.
 
-ghost use Rattle.std.specs.Prelude.{◌≡◌, true, All, map};
-ghost use Rattle.strc_graph.specs.Graphs.{JoinsPorts};
-ghost use Rattle.strc_graph.specs.NodeView.{node_view, channel_view};
-
 use std::alloc::{AllocError, Global};
 use std::process::Abort;
 use strc_balance::balance::balance;
 use strc_balance::condition::can_balance;
 use strc_balance::error::BalanceError;
-use strc_graph::graph::{Channel, Fission, Graph, Node, Port, Splitter, input_ports, output_ports};
+use strc_graph::condition::is_graph;
+use strc_graph::graph::{Channel, Fission, Graph, Node, Port, Splitter};
 
 /// What a node is. A port that no channel uses lets a node stand for a filter of any rates.
 #[derive(Clone, Copy)]
@@ -65,33 +62,6 @@ fn duplicate(alloc: Global) -> Result<Node, AllocError> {
     Ok(Node::Splitter(Splitter::Duplicate(carried)))
 }
 
-/// Whether a channel joins ports of the nodes.
-fn joins(nodes: &[Node], channel: &Channel) -> bool
-    ensures { result ≡ true → JoinsPorts (map node_view nodes.now) (channel_view channel.now) }
-{
-    let source = channel.source;
-    let target = channel.target;
-    if (source.node as usize) < nodes.len() && (target.node as usize) < nodes.len() {
-        (source.port as usize) < output_ports(&nodes[source.node as usize])
-            && (target.port as usize) < input_ports(&nodes[target.node as usize])
-    } else {
-        false
-    }
-}
-
-/// Whether each channel does.
-fn all_join(nodes: &[Node], channels: &[Channel]) -> bool
-    ensures { result ≡ true
-        → All (JoinsPorts (map node_view nodes.now)) (map channel_view channels.now) }
-{
-    for channel in channels {
-        if !joins(nodes, channel) {
-            return false;
-        }
-    }
-    true
-}
-
 /// A channel without enqueued items.
 fn channel_of(alloc: Global, ends: Ends) -> Channel {
     Channel {
@@ -119,8 +89,8 @@ pub(crate) fn graph_of(
         channels.push(channel_of(alloc, *ends))?;
     }
     let outer_loops = Vec::from_elem(alloc, None, nodes.len())?;
-    let all = all_join(&nodes, &channels);
-    assert!(rt; all, "a channel without a port");
+    let joined = is_graph(&nodes, &channels, &outer_loops);
+    assert!(rt; joined, "a channel without a port");
     Ok(Graph::new(nodes, channels, outer_loops))
 }
 

@@ -108,17 +108,17 @@ drop-names_in (suc n) (first ∷ rest) = drop-names_in n rest
 
 -- one more name
 pub IsScope-declare : (seen : List Declared) (old new : List ℕ → Option ℕ) (last : Declared) (slot : ℕ)
-    → length seen + 1 < 2 ^ 32 → slot ≡ length seen → last.hides ≡ old last.name.items → IsScope seen old → IsUpdated old last.name.items (Some slot) new → IsScope (last ∷ seen) new
+    → length seen + 1 < 2 ^ 32 → slot ≡ length seen → last.shadows ≡ old last.name.items → IsScope seen old → IsUpdated old last.name.items (Some slot) new → IsScope (last ∷ seen) new
 unfolding IsScope
-IsScope-declare seen old new last slot room place hides scope change = record {
+IsScope-declare seen old new last slot room place shadows scope change = record {
   few = omega arith;
-  hidden = (hides ∙ scope.innermost last.name.items, scope.hidden);
+  hidden = (shadows ∙ scope.innermost last.name.items, scope.hidden);
   innermost = λ name. change name ∙ ap (λ slot. cond (bytes_eq last.name.items name) (Some slot) (old name)) (place ∙ sym (length-names_in seen))
       ∙ ap (cond (bytes_eq last.name.items name) (Some (length (names_in seen)))) (scope.innermost name);
 }
 
 -- one name less
-pub IsScope-forget : (seen : List Declared) (old new : List ℕ → Option ℕ) (last : Declared) → IsScope (last ∷ seen) old → IsUpdated old last.name.items last.hides new → IsScope seen new
+pub IsScope-forget : (seen : List Declared) (old new : List ℕ → Option ℕ) (last : Declared) → IsScope (last ∷ seen) old → IsUpdated old last.name.items last.shadows new → IsScope seen new
 unfolding IsScope
 IsScope-forget seen old new last scope change = record {
   few = let more : length (last ∷ seen) < 2 ^ 32 = scope.few in omega arith;
@@ -126,8 +126,8 @@ IsScope-forget seen old new last scope change = record {
   innermost = λ name. change name ∙ shown name (bytes_eq last.name.items name) scope.hidden.0 (bytes_eq-Decides last.name.items name).0 (scope.innermost name);
 }
   where
-    shown : (name : List ℕ) (t : Bool) → last.hides ≡ number_named (names_in seen) last.name.items → (t ≡ true → last.name.items ≡ name) → old name ≡ cond t (Some (length (names_in seen))) (number_named (names_in seen) name)
-        → cond t last.hides (old name) ≡ number_named (names_in seen) name
+    shown : (name : List ℕ) (t : Bool) → last.shadows ≡ number_named (names_in seen) last.name.items → (t ≡ true → last.name.items ≡ name) → old name ≡ cond t (Some (length (names_in seen))) (number_named (names_in seen) name)
+        → cond t last.shadows (old name) ≡ number_named (names_in seen) name
     shown name true hidden same e = hidden ∙ ap (number_named (names_in seen)) (same refl)
     shown name false hidden same e = e
 

@@ -1,3 +1,4 @@
 pub mod Names
 pub mod Tables
 pub mod Scopes
+pub mod Results

@@ -13,15 +13,15 @@ unfoldable pub names_of : List Declared → List (List ℕ)
 names_of declared = names_in (reverse declared)
 
 -- whether each stands beside the slot of the variable that it hides
-abbrev pub KeepHidden : List Declared → Type 0
-KeepHidden [] = Unit {0}
-KeepHidden (first ∷ rest) = (first.hides ≡ number_named (names_in rest) first.name.items) × KeepHidden rest
+abbrev pub KeepShadowed : List Declared → Type 0
+KeepShadowed [] = Unit {0}
+KeepShadowed (first ∷ rest) = (first.shadows ≡ number_named (names_in rest) first.name.items) × KeepShadowed rest
 
 -- what is true of a scope: its names are few, each keeps what it hides, and the table has the slot of each name's
 -- innermost variable
 pub record KeepsSlots (seen : List Declared) (table : List ℕ → Option ℕ) : Type 0 where
   pub few : length seen < 2 ^ 32
-  pub hidden : KeepHidden seen
+  pub hidden : KeepShadowed seen
   pub innermost : (name : List ℕ) → table name ≡ number_named (names_in seen) name
 
 -- the same, as one fact to those who only use a scope

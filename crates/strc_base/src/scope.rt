@@ -14,7 +14,7 @@ use strc_lex::token::Name;
 #[derive(Drop)]
 struct Declared {
     name: Vec<u8>,
-    hides: Option<u32>,
+    shadows: Option<u32>,
 }
 
 /// Names in the order in which they were declared, numbered from 0. Contracts see the list of the
@@ -102,13 +102,13 @@ impl Scope {
         }
         let alloc = *self.declared.allocator();
         let slot = self.declared.len() as u32;
-        let hides = self.innermost.get(name.as_bytes()).copied();
+        let shadows = self.innermost.get(name.as_bytes()).copied();
         let key = name.as_bytes().to_vec(alloc)?;
         let name = name.as_bytes().to_vec(alloc)?;
         // What can fail comes before the change of the table.
         self.declared.reserve(1)?;
         put_in(&mut self.innermost, key, slot)?;
-        self.declared.push(Declared { name, hides })?;
+        self.declared.push(Declared { name, shadows })?;
         Ok(())
     }
 
@@ -118,8 +118,8 @@ impl Scope {
     {
         while self.declared.len() > start as usize {
             if let Some(last) = self.declared.pop() {
-                let Declared { name, hides } = last;
-                put_back(&mut self.innermost, name, hides);
+                let Declared { name, shadows } = last;
+                put_back(&mut self.innermost, name, shadows);
             }
         }
     }

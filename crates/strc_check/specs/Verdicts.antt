@@ -8,7 +8,7 @@ use Rattle.strc_syntax.specs.declared.tree.RateTree.{RateTree}
 use Rattle.strc_check.specs.declared.error.LowerError.{LowerError}
 use Rattle.strc_check.specs.declared.error.LowerError.TheVariants as refused
 use Rattle.strc_check.specs.declared.resolution.ResolvedWork.{ResolvedWork}
-use Rattle.strc_check.specs.declared.site.Site.{Site}
+use Rattle.strc_check.specs.declared.context.Context.{Context}
 use Rattle.strc_check.specs.declared.type_rules.ResolvedType.{ResolvedType}
 use Rattle.strc_check.specs.declared.typed.Typed.{Typed}
 use Rattle.strc_check.specs.Resolution as judged
@@ -26,13 +26,13 @@ IsVerdict view expected (Ok x) = expected ≡ Ok (view x)
 IsVerdict view expected (Err refusal) = IsRefusal expected refusal
 
 -- a site as the judgement sees it
-abbrev pub site_of : Site → judged.Site
-site_of site = record {
-  constants = site.constants.now;
-  pops = site.pops;
-  pushes = site.pushes;
-  prints = site.prints;
-  fixed = site.fixed;
+abbrev pub context_of : Context → judged.Context
+context_of context = record {
+  constants = context.constants.now;
+  pops = context.pops;
+  pushes = context.pushes;
+  prints = context.prints;
+  constants_only = context.constants_only;
 }
 
 -- a typed expression as the judgement sees it

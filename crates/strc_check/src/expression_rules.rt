@@ -4,10 +4,10 @@ ghost use Rattle.std.specs.Prelude.{◌≡◌};
 ghost use Rattle.std.specs.Option.{option_map};
 ghost use Rattle.strc_syntax.specs.View.{expr_view};
 ghost use Rattle.strc_check.specs.Resolution as judged;
-ghost use Rattle.strc_check.specs.Verdicts.{IsVerdict, site_of, typed_view};
+ghost use Rattle.strc_check.specs.Verdicts.{IsVerdict, context_of, typed_view};
 
+use crate::context::Context;
 use crate::error::LowerError;
-use crate::site::Site;
 use crate::typed::{self, Typed};
 use crate::typed_scope::TypedScope;
 use crate::types::{self, ValueType};
@@ -19,12 +19,12 @@ use strc_syntax::tree::Expr;
 /// An expression, among these names of variables.
 pub fn resolve_expr(
     alloc: Global,
-    site: &Site,
+    context: &Context,
     names: &TypedScope,
     value: &Expr,
 ) -> Result<Typed, LowerError>
     ensures { IsVerdict typed_view
-        (judged.expr_resolved (site_of site.now) names.now (expr_view value.now))
+        (judged.expr_resolved (context_of context.now) names.now (expr_view value.now))
         result }
 {
     match value {
@@ -33,48 +33,48 @@ pub fn resolve_expr(
             kind: ValueType::Boolean,
             value: Expr::Truth(*truth),
         }),
-        Expr::Read(name) => resolve_name(site, names, name),
+        Expr::Read(name) => resolve_name(context, names, name),
         Expr::Element(name, index) => {
-            let name = writes::resolve_array(site, names, name)?;
-            let index = resolve_expr(alloc, site, names, index)?;
+            let name = writes::resolve_array(context, names, name)?;
+            let index = resolve_expr(alloc, context, names, index)?;
             typed::element(alloc, name, index)
         }
         Expr::Pop => {
-            if !site.pops {
+            if !context.pops {
                 return Err(LowerError::TypeMismatch);
             }
             Ok(typed::number(Expr::Pop))
         }
         Expr::Peek(index) => {
-            let index = resolve_expr(alloc, site, names, index)?;
-            typed::peek(alloc, site.pops, index)
+            let index = resolve_expr(alloc, context, names, index)?;
+            typed::peek(alloc, context.pops, index)
         }
         Expr::Group(inner) => {
-            let inner = resolve_expr(alloc, site, names, inner)?;
+            let inner = resolve_expr(alloc, context, names, inner)?;
             typed::group(alloc, inner)
         }
         Expr::Unary(operator, operand) => {
-            let operand = resolve_expr(alloc, site, names, operand)?;
+            let operand = resolve_expr(alloc, context, names, operand)?;
             typed::unary(alloc, *operator, operand)
         }
         Expr::Step(operator, name) => {
-            let name = writes::resolve_stepped(site, names, name)?;
+            let name = writes::resolve_stepped(context, names, name)?;
             Ok(typed::number(Expr::Step(*operator, name)))
         }
         Expr::StepElement(operator, name, index) => {
-            let name = writes::resolve_array(site, names, name)?;
-            let index = resolve_expr(alloc, site, names, index)?;
+            let name = writes::resolve_array(context, names, name)?;
+            let index = resolve_expr(alloc, context, names, index)?;
             typed::step_element(alloc, *operator, name, index)
         }
         Expr::Binary(operator, left, right) => {
-            let left = resolve_expr(alloc, site, names, left)?;
-            let right = resolve_expr(alloc, site, names, right)?;
+            let left = resolve_expr(alloc, context, names, left)?;
+            let right = resolve_expr(alloc, context, names, right)?;
             typed::binary(alloc, *operator, left, right)
         }
         Expr::Conditional(condition, chosen, other) => {
-            let condition = resolve_expr(alloc, site, names, condition)?;
-            let chosen = resolve_expr(alloc, site, names, chosen)?;
-            let other = resolve_expr(alloc, site, names, other)?;
+            let condition = resolve_expr(alloc, context, names, condition)?;
+            let chosen = resolve_expr(alloc, context, names, chosen)?;
+            let other = resolve_expr(alloc, context, names, other)?;
             typed::conditional(alloc, condition, chosen, other)
         }
     }
@@ -83,36 +83,36 @@ pub fn resolve_expr(
 /// An expression of this type.
 pub fn resolve_as(
     alloc: Global,
-    site: &Site,
+    context: &Context,
     names: &TypedScope,
     kind: ValueType,
     value: &Expr,
 ) -> Result<Expr, LowerError>
     ensures { IsVerdict expr_view
-        (judged.expr_as (site_of site.now) names.now kind (expr_view value.now))
+        (judged.expr_as (context_of context.now) names.now kind (expr_view value.now))
         result }
 {
-    let value = resolve_expr(alloc, site, names, value)?;
-    typed::typed_as(kind, value)
+    let value = resolve_expr(alloc, context, names, value)?;
+    typed::expect_type(kind, value)
 }
 
 /// An initialiser or a condition of this type, where there is one.
 pub fn resolve_initial(
     alloc: Global,
-    site: &Site,
+    context: &Context,
     names: &TypedScope,
     kind: ValueType,
     initial: &Option<Expr>,
 ) -> Result<Option<Expr>, LowerError>
     ensures { IsVerdict (option_map expr_view)
-        (judged.initial_resolved (site_of site.now) names.now kind
+        (judged.initial_resolved (context_of context.now) names.now kind
         (option_map expr_view initial.now))
         result }
 {
     match initial {
         None => Ok(None),
         Some(value) => {
-            let value = resolve_as(alloc, site, names, kind, value)?;
+            let value = resolve_as(alloc, context, names, kind, value)?;
             Ok(Some(value))
         }
     }
@@ -120,12 +120,12 @@ pub fn resolve_initial(
 
 /// A name that is read: its innermost variable, which is no array, or else a constant, whose value
 /// is put in.
-fn resolve_name(site: &Site, names: &TypedScope, name: &Name) -> Result<Typed, LowerError>
+fn resolve_name(context: &Context, names: &TypedScope, name: &Name) -> Result<Typed, LowerError>
     ensures { IsVerdict typed_view (judged.name_resolved
-        (site_of site.now) names.now name.now) result }
+        (context_of context.now) names.now name.now) result }
 {
     if let Some(kind) = names.type_of(name) {
-        if site.fixed {
+        if context.constants_only {
             return Err(LowerError::TypeMismatch);
         }
         if types::is_array(kind) {
@@ -137,7 +137,7 @@ fn resolve_name(site: &Site, names: &TypedScope, name: &Name) -> Result<Typed, L
             value: Expr::Read(name),
         });
     }
-    match site.constants.value_of(name) {
+    match context.constants.value_of(name) {
         Some(value) => Ok(typed::number(Expr::Number(value))),
         None => {
             let name = name.copy()?;

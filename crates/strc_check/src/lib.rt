@@ -6,12 +6,12 @@
 #![tactic(auto)]
 
 pub mod constants;
+pub mod context;
 pub mod error;
 pub mod expression_rules;
 mod parts;
 mod rates;
 pub mod resolution;
-pub mod site;
 pub mod statement_rules;
 pub mod type_rules;
 mod typed;

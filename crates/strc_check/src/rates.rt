@@ -9,7 +9,7 @@ use crate::constants::Constants;
 use crate::error::LowerError;
 use crate::typed_scope::TypedScope;
 use crate::types::ValueType;
-use crate::{expression_rules, site};
+use crate::{context, expression_rules};
 use std::alloc::Global;
 use strc_semantics::evaluation;
 use strc_syntax::tree::{Expr, ItemType, RateKind, RateTree};
@@ -68,8 +68,8 @@ pub fn resolve_number(
         (judged.number_resolved constants.now names.now (expr_view value.now))
         result }
 {
-    let site = site::rate_site(constants);
-    let value = expression_rules::resolve_as(alloc, &site, names, ValueType::Int, value)?;
+    let context = context::rate_context(constants);
+    let value = expression_rules::resolve_as(alloc, &context, names, ValueType::Int, value)?;
     match evaluation::constant_value(&value) {
         Ok(number) => Ok(number),
         Err(cause) => Err(LowerError::ConstFault { cause }),
@@ -84,5 +84,5 @@ fn fits(input: ItemType, output: ItemType, kind: RateKind, number: i32) -> bool
         RateKind::Push => output,
         RateKind::Pop | RateKind::Peek => input,
     };
-    number <= 0 || site::carries_items(side)
+    number <= 0 || context::carries_items(side)
 }

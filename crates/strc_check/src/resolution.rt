@@ -6,11 +6,11 @@ ghost use Rattle.strc_syntax.specs.View.{variable_view, member_view, rate_view, 
 ghost use Rattle.strc_semantics.specs.Filters.{filter_of, filter_parts, members_of};
 ghost use Rattle.strc_check.specs.Typing as typing;
 ghost use Rattle.strc_check.specs.Resolution as judged;
-ghost use Rattle.strc_check.specs.Verdicts.{IsVerdict, site_of, work_view, VariableList};
+ghost use Rattle.strc_check.specs.Verdicts.{IsVerdict, context_of, work_view, VariableList};
 
 use crate::constants::Constants;
+use crate::context::{self, Context};
 use crate::error::LowerError;
-use crate::site::{self, Site};
 use crate::typed_scope::TypedScope;
 use crate::types::{self, ValueType};
 use crate::{expression_rules, parts, rates, statement_rules, type_rules};
@@ -114,11 +114,11 @@ fn resolve_member(
 {
     match member {
         Member::Fields(declared) => {
-            let site = site::start_site(constants);
+            let context = context::init_context(constants);
             let resolved = type_rules::resolve_type(alloc, constants, fields, &declared.kind)?;
             let variables = resolve_fields(
                 alloc,
-                &site,
+                &context,
                 fields,
                 before,
                 resolved.kind,
@@ -130,8 +130,8 @@ fn resolve_member(
             }))
         }
         Member::Init(block) => {
-            let site = site::start_site(constants);
-            let block = statement_rules::resolve_block(alloc, &site, fields, block)?;
+            let context = context::init_context(constants);
+            let block = statement_rules::resolve_block(alloc, &context, fields, block)?;
             Ok(Member::Init(block))
         }
         Member::Prework(rates, block) => {
@@ -148,14 +148,14 @@ fn resolve_member(
 /// Fields that are declared together. They see all fields.
 fn resolve_fields(
     alloc: Global,
-    site: &Site,
+    context: &Context,
     fields: &TypedScope,
     before: &mut Scope,
     kind: ValueType,
     variables: &[Variable],
 ) -> Result<Vec<Variable>, LowerError>
     ensures verdict { IsVerdict (λ (resolved : VariableList). map variable_view resolved.items)
-        (judged.fields_resolved (site_of site.now) fields.now before.old kind
+        (judged.fields_resolved (context_of context.now) fields.now before.old kind
         (map variable_view variables.now))
         result }
     ensures before { OnOk result
@@ -163,7 +163,7 @@ fn resolve_fields(
 {
     let mut resolved = Vec::new(alloc);
     for variable in variables {
-        resolved.push(resolve_field(alloc, site, fields, before, kind, variable)?)?;
+        resolved.push(resolve_field(alloc, context, fields, before, kind, variable)?)?;
     }
     Ok(resolved)
 }
@@ -171,14 +171,14 @@ fn resolve_fields(
 /// A field, whose name no earlier one has.
 fn resolve_field(
     alloc: Global,
-    site: &Site,
+    context: &Context,
     fields: &TypedScope,
     before: &mut Scope,
     kind: ValueType,
     variable: &Variable,
 ) -> Result<Variable, LowerError>
     ensures verdict { IsVerdict variable_view
-        (judged.field_resolved (site_of site.now) fields.now before.old kind
+        (judged.field_resolved (context_of context.now) fields.now before.old kind
         (variable_view variable.now))
         result }
     ensures before { OnOk result (before.new ≡ variable.now.name ∷ before.old) }
@@ -186,7 +186,13 @@ fn resolve_field(
     if before.has(&variable.name) {
         return Err(LowerError::TypeMismatch);
     }
-    let initial = expression_rules::resolve_initial(alloc, site, fields, kind, &variable.initial)?;
+    let initial = expression_rules::resolve_initial(
+        alloc,
+        context,
+        fields,
+        kind,
+        &variable.initial,
+    )?;
     before.declare(&variable.name)?;
     let name = variable.name.copy()?;
     Ok(Variable { name, initial })
@@ -209,7 +215,7 @@ fn resolve_work(
     ensures fields { OnOk result (fields.new ≡ fields.old) }
 {
     let rates = rates::resolve_rates(alloc, constants, fields, input, output, rates)?;
-    let site = site::body_site(constants, input, output);
-    let block = statement_rules::resolve_block(alloc, &site, fields, block)?;
+    let context = context::body_context(constants, input, output);
+    let block = statement_rules::resolve_block(alloc, &context, fields, block)?;
     Ok(ResolvedWork { rates, block })
 }

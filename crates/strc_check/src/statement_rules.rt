@@ -8,10 +8,10 @@ ghost use Rattle.strc_check.specs.declared.types.ValueType.{ValueType as Kind};
 ghost use Rattle.strc_check.specs.declared.types.ValueType.TheVariants.{Boolean};
 ghost use Rattle.strc_check.specs.Typing as typing;
 ghost use Rattle.strc_check.specs.Resolution as judged;
-ghost use Rattle.strc_check.specs.Verdicts.{IsVerdict, site_of, Statements, VariableList};
+ghost use Rattle.strc_check.specs.Verdicts.{IsVerdict, context_of, Statements, VariableList};
 
+use crate::context::Context;
 use crate::error::LowerError;
-use crate::site::Site;
 use crate::typed_scope::TypedScope;
 use crate::types::{self, ValueType};
 use crate::{expression_rules, type_rules, writes};
@@ -22,19 +22,19 @@ use strc_syntax::tree::{AssignOperator, Expr, Stmt, Variable, Variables};
 /// The statements of a body or of `init`, among the fields.
 pub fn resolve_block(
     alloc: Global,
-    site: &Site,
+    context: &Context,
     names: &mut TypedScope,
     block: &[Stmt],
 ) -> Result<Vec<Stmt>, LowerError>
     ensures verdict { IsVerdict (λ (block : Statements). block_view block.items)
-        (judged.body_resolved (site_of site.now) names.old (block_view block.now))
+        (judged.body_resolved (context_of context.now) names.old (block_view block.now))
         result }
     ensures names { OnOk result (names.new ≡ names.old) }
 {
     let start = names.len();
     let mut resolved = Vec::new(alloc);
     for inner in block {
-        resolved.push(resolve_stmt(alloc, site, names, start, inner)?)?;
+        resolved.push(resolve_stmt(alloc, context, names, start, inner)?)?;
     }
     names.leave(start);
     Ok(resolved)
@@ -44,13 +44,13 @@ pub fn resolve_block(
 #[tactic(auto, using(crate::proofs::TypedGrowth::drop_own, crate::proofs::TypedGrowth::drop_both))]
 pub fn resolve_stmt(
     alloc: Global,
-    site: &Site,
+    context: &Context,
     names: &mut TypedScope,
     start: u32,
     statement: &Stmt,
 ) -> Result<Stmt, LowerError>
     ensures verdict { IsVerdict stmt_view
-        (judged.stmt_resolved (site_of site.now) names.old start (stmt_view statement.now))
+        (judged.stmt_resolved (context_of context.now) names.old start (stmt_view statement.now))
         result }
     ensures names { OnOk result (names.new ≡ typing.names_after names.old
         (stmt_view statement.now)) }
@@ -62,70 +62,70 @@ pub fn resolve_stmt(
             let inner_start = names.len();
             let mut resolved = Vec::new(alloc);
             for inner in body {
-                resolved.push(resolve_stmt(alloc, site, names, inner_start, inner)?)?;
+                resolved.push(resolve_stmt(alloc, context, names, inner_start, inner)?)?;
             }
             names.leave(inner_start);
             Ok(Stmt::Block(resolved))
         }
-        Stmt::Declare(declared) => resolve_declared(alloc, site, names, start, declared),
+        Stmt::Declare(declared) => resolve_declared(alloc, context, names, start, declared),
         Stmt::Evaluate(value) => {
-            let typed = expression_rules::resolve_expr(alloc, site, names, value)?;
+            let typed = expression_rules::resolve_expr(alloc, context, names, value)?;
             Ok(Stmt::Evaluate(typed.value))
         }
         Stmt::Assign(name, operator, value) => {
-            resolve_assigned(alloc, site, names, name, *operator, value)
+            resolve_assigned(alloc, context, names, name, *operator, value)
         }
         Stmt::AssignElement(name, index, operator, value) => {
-            resolve_element(alloc, site, names, name, index, *operator, value)
+            resolve_element(alloc, context, names, name, index, *operator, value)
         }
         Stmt::If(condition, chosen) => {
-            let condition = resolve_condition(alloc, site, names, condition)?;
+            let condition = resolve_condition(alloc, context, names, condition)?;
             let outside = names.len();
-            let chosen = resolve_stmt(alloc, site, names, outside, chosen)?;
+            let chosen = resolve_stmt(alloc, context, names, outside, chosen)?;
             names.leave(outside);
             Ok(Stmt::If(condition, Box::new(alloc, chosen)?))
         }
         Stmt::IfElse(condition, chosen, other) => {
-            let condition = resolve_condition(alloc, site, names, condition)?;
+            let condition = resolve_condition(alloc, context, names, condition)?;
             let outside = names.len();
-            let chosen = resolve_stmt(alloc, site, names, outside, chosen)?;
+            let chosen = resolve_stmt(alloc, context, names, outside, chosen)?;
             names.leave(outside);
-            let other = resolve_stmt(alloc, site, names, outside, other)?;
+            let other = resolve_stmt(alloc, context, names, outside, other)?;
             names.leave(outside);
             Ok(Stmt::IfElse(condition, Box::new(alloc, chosen)?, Box::new(alloc, other)?))
         }
         Stmt::While(condition, body) => {
-            let condition = resolve_condition(alloc, site, names, condition)?;
+            let condition = resolve_condition(alloc, context, names, condition)?;
             let outside = names.len();
-            let body = resolve_stmt(alloc, site, names, outside, body)?;
+            let body = resolve_stmt(alloc, context, names, outside, body)?;
             names.leave(outside);
             Ok(Stmt::While(condition, Box::new(alloc, body)?))
         }
         Stmt::For(first, condition, step, body) => {
             let outside = names.len();
-            let first = Box::new(alloc, resolve_stmt(alloc, site, names, outside, first)?)?;
+            let first = Box::new(alloc, resolve_stmt(alloc, context, names, outside, first)?)?;
             let condition = expression_rules::resolve_initial(
                 alloc,
-                site,
+                context,
                 names,
                 ValueType::Boolean,
                 condition,
             )?;
             let inside = names.len();
-            let step = Box::new(alloc, resolve_stmt(alloc, site, names, inside, step)?)?;
+            let step = Box::new(alloc, resolve_stmt(alloc, context, names, inside, step)?)?;
             names.leave(inside);
-            let body = Box::new(alloc, resolve_stmt(alloc, site, names, inside, body)?)?;
+            let body = Box::new(alloc, resolve_stmt(alloc, context, names, inside, body)?)?;
             names.leave(outside);
             Ok(Stmt::For(first, condition, step, body))
         }
         Stmt::Push(value) => {
-            Ok(Stmt::Push(resolve_given(alloc, site, names, site.pushes, value)?))
+            Ok(Stmt::Push(check_output(alloc, context, names, context.pushes, value)?))
         }
         Stmt::Print(value) => {
-            Ok(Stmt::Print(resolve_given(alloc, site, names, site.prints, value)?))
+            Ok(Stmt::Print(check_output(alloc, context, names, context.prints, value)?))
         }
         Stmt::Println(value) => {
-            Ok(Stmt::Println(resolve_given(alloc, site, names, site.prints, value)?))
+            Ok(Stmt::Println(check_output(alloc, context, names, context.prints, value)?))
         }
     }
 }
@@ -133,52 +133,52 @@ pub fn resolve_stmt(
 /// A condition, whose value is a truth.
 fn resolve_condition(
     alloc: Global,
-    site: &Site,
+    context: &Context,
     names: &TypedScope,
     condition: &Expr,
 ) -> Result<Expr, LowerError>
     ensures { IsVerdict expr_view
-        (judged.expr_as (site_of site.now) names.now Boolean (expr_view condition.now))
+        (judged.expr_as (context_of context.now) names.now Boolean (expr_view condition.now))
         result }
 {
-    expression_rules::resolve_as(alloc, site, names, ValueType::Boolean, condition)
+    expression_rules::resolve_as(alloc, context, names, ValueType::Boolean, condition)
 }
 
 /// A number that is given away, where that may be.
-fn resolve_given(
+fn check_output(
     alloc: Global,
-    site: &Site,
+    context: &Context,
     names: &TypedScope,
     may: bool,
     value: &Expr,
 ) -> Result<Expr, LowerError>
     ensures { IsVerdict expr_view
-        (judged.given_resolved (site_of site.now) names.now may (expr_view value.now))
+        (judged.given_resolved (context_of context.now) names.now may (expr_view value.now))
         result }
 {
     if !may {
         return Err(LowerError::TypeMismatch);
     }
-    expression_rules::resolve_as(alloc, site, names, ValueType::Int, value)
+    expression_rules::resolve_as(alloc, context, names, ValueType::Int, value)
 }
 
 /// An assignment to a variable.
 pub fn resolve_assigned(
     alloc: Global,
-    site: &Site,
+    context: &Context,
     names: &TypedScope,
     name: &Name,
     operator: AssignOperator,
     value: &Expr,
 ) -> Result<Stmt, LowerError>
     ensures { IsVerdict stmt_view
-        (judged.assign_resolved (site_of site.now) names.now name.now operator
+        (judged.assign_resolved (context_of context.now) names.now name.now operator
         (expr_view value.now))
         result }
 {
-    let kind = writes::resolve_written(site, names, name)?;
+    let kind = writes::resolve_written(context, names, name)?;
     let kind = assigned_type(operator, kind)?;
-    let value = expression_rules::resolve_as(alloc, site, names, kind, value)?;
+    let value = expression_rules::resolve_as(alloc, context, names, kind, value)?;
     let name = name.copy()?;
     Ok(Stmt::Assign(name, operator, value))
 }
@@ -186,7 +186,7 @@ pub fn resolve_assigned(
 /// An assignment to an element of an array.
 pub fn resolve_element(
     alloc: Global,
-    site: &Site,
+    context: &Context,
     names: &TypedScope,
     name: &Name,
     index: &Expr,
@@ -194,14 +194,14 @@ pub fn resolve_element(
     value: &Expr,
 ) -> Result<Stmt, LowerError>
     ensures { IsVerdict stmt_view
-        (judged.element_assign_resolved (site_of site.now) names.now name.now
+        (judged.element_assign_resolved (context_of context.now) names.now name.now
         (expr_view index.now) operator
         (expr_view value.now))
         result }
 {
-    let name = writes::resolve_array(site, names, name)?;
-    let index = expression_rules::resolve_as(alloc, site, names, ValueType::Int, index)?;
-    let value = expression_rules::resolve_as(alloc, site, names, ValueType::Int, value)?;
+    let name = writes::resolve_array(context, names, name)?;
+    let index = expression_rules::resolve_as(alloc, context, names, ValueType::Int, index)?;
+    let value = expression_rules::resolve_as(alloc, context, names, ValueType::Int, value)?;
     Ok(Stmt::AssignElement(name, index, operator, value))
 }
 
@@ -227,21 +227,21 @@ fn assigned_type(operator: AssignOperator, kind: ValueType) -> Result<ValueType,
 /// A declaration of variables of one type.
 fn resolve_declared(
     alloc: Global,
-    site: &Site,
+    context: &Context,
     names: &mut TypedScope,
     start: u32,
     declared: &Variables,
 ) -> Result<Stmt, LowerError>
     ensures verdict { IsVerdict stmt_view
-        (judged.stmt_resolved (site_of site.now) names.old start
+        (judged.stmt_resolved (context_of context.now) names.old start
         (stmt_view (stmt.Declare declared.now)))
         result }
     ensures names { OnOk result
         (names.new ≡ typing.names_after names.old (stmt_view (stmt.Declare declared.now))) }
 {
-    let resolved = type_rules::resolve_type(alloc, site.constants, names, &declared.kind)?;
+    let resolved = type_rules::resolve_type(alloc, context.constants, names, &declared.kind)?;
     let kind = resolved.kind;
-    let variables = resolve_variables(alloc, site, names, start, kind, &declared.variables)?;
+    let variables = resolve_variables(alloc, context, names, start, kind, &declared.variables)?;
     Ok(Stmt::Declare(Variables {
         kind: resolved.written,
         variables,
@@ -251,14 +251,14 @@ fn resolve_declared(
 /// The variables of a declaration, each seen by those behind it.
 fn resolve_variables(
     alloc: Global,
-    site: &Site,
+    context: &Context,
     names: &mut TypedScope,
     start: u32,
     kind: ValueType,
     variables: &[Variable],
 ) -> Result<Vec<Variable>, LowerError>
     ensures verdict { IsVerdict (λ (resolved : VariableList). map variable_view resolved.items)
-        (judged.variables_resolved (site_of site.now) names.old start kind
+        (judged.variables_resolved (context_of context.now) names.old start kind
         (map variable_view variables.now))
         result }
     ensures names { OnOk result
@@ -266,7 +266,7 @@ fn resolve_variables(
 {
     let mut resolved = Vec::new(alloc);
     for variable in variables {
-        resolved.push(resolve_variable(alloc, site, names, start, kind, variable)?)?;
+        resolved.push(resolve_variable(alloc, context, names, start, kind, variable)?)?;
     }
     Ok(resolved)
 }
@@ -274,14 +274,14 @@ fn resolve_variables(
 /// A variable, whose name no other one of its block has.
 fn resolve_variable(
     alloc: Global,
-    site: &Site,
+    context: &Context,
     names: &mut TypedScope,
     start: u32,
     kind: ValueType,
     variable: &Variable,
 ) -> Result<Variable, LowerError>
     ensures verdict { IsVerdict variable_view
-        (judged.variable_resolved (site_of site.now) names.old start kind
+        (judged.variable_resolved (context_of context.now) names.old start kind
         (variable_view variable.now))
         result }
     ensures names { OnOk result (names.new ≡ record { 0 = variable.now.name; 1 = kind }
@@ -290,7 +290,13 @@ fn resolve_variable(
     if names.has_since(start, &variable.name) {
         return Err(LowerError::TypeMismatch);
     }
-    let initial = expression_rules::resolve_initial(alloc, site, names, kind, &variable.initial)?;
+    let initial = expression_rules::resolve_initial(
+        alloc,
+        context,
+        names,
+        kind,
+        &variable.initial,
+    )?;
     names.declare(&variable.name, kind)?;
     let name = variable.name.copy()?;
     Ok(Variable { name, initial })

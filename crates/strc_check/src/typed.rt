@@ -31,8 +31,8 @@ pub fn number(value: Expr) -> Typed
 }
 
 /// The expression, if its value has the type.
-pub fn typed_as(kind: ValueType, typed: Typed) -> Result<Expr, LowerError>
-    ensures { IsVerdict expr_view (judged.typed_as kind (typed_view typed)) result }
+pub fn expect_type(kind: ValueType, typed: Typed) -> Result<Expr, LowerError>
+    ensures { IsVerdict expr_view (judged.expect_type kind (typed_view typed)) result }
 {
     if !types::same_type(typed.kind, kind) {
         return Err(LowerError::TypeMismatch);
@@ -57,7 +57,7 @@ pub fn peek(alloc: Global, pops: bool, index: Typed) -> Result<Typed, LowerError
     if !pops {
         return Err(LowerError::TypeMismatch);
     }
-    let index = typed_as(ValueType::Int, index)?;
+    let index = expect_type(ValueType::Int, index)?;
     Ok(Typed {
         kind: ValueType::Int,
         value: Expr::Peek(Box::new(alloc, index)?),
@@ -68,7 +68,7 @@ pub fn peek(alloc: Global, pops: bool, index: Typed) -> Result<Typed, LowerError
 pub fn element(alloc: Global, name: Name, index: Typed) -> Result<Typed, LowerError>
     ensures { IsVerdict typed_view (judged.element_typed name (typed_view index)) result }
 {
-    let index = typed_as(ValueType::Int, index)?;
+    let index = expect_type(ValueType::Int, index)?;
     Ok(Typed {
         kind: ValueType::Int,
         value: Expr::Element(name, Box::new(alloc, index)?),
@@ -85,7 +85,7 @@ pub fn step_element(
     ensures { IsVerdict typed_view (judged.step_element_typed operator name
         (typed_view index)) result }
 {
-    let index = typed_as(ValueType::Int, index)?;
+    let index = expect_type(ValueType::Int, index)?;
     Ok(Typed {
         kind: ValueType::Int,
         value: Expr::StepElement(operator, name, Box::new(alloc, index)?),
@@ -97,7 +97,7 @@ pub fn unary(alloc: Global, operator: UnaryOperator, operand: Typed) -> Result<T
     ensures { IsVerdict typed_view (judged.unary_typed operator (typed_view operand)) result }
 {
     let kind = operand_type(operator);
-    let operand = typed_as(kind, operand)?;
+    let operand = expect_type(kind, operand)?;
     Ok(Typed {
         kind,
         value: Expr::Unary(operator, Box::new(alloc, operand)?),
@@ -116,8 +116,8 @@ pub fn binary(
         result }
 {
     let sides = sides_type(operator, left.kind);
-    let left = typed_as(sides, left)?;
-    let right = typed_as(sides, right)?;
+    let left = expect_type(sides, left)?;
+    let right = expect_type(sides, right)?;
     Ok(Typed {
         kind: binary_type(operator),
         value: node::binary_of(alloc, operator, left, right)?,
@@ -135,9 +135,9 @@ pub fn conditional(
         (judged.conditional_typed (typed_view condition) (typed_view chosen) (typed_view other))
         result }
 {
-    let condition = typed_as(ValueType::Boolean, condition)?;
+    let condition = expect_type(ValueType::Boolean, condition)?;
     let kind = chosen.kind;
-    let other = typed_as(kind, other)?;
+    let other = expect_type(kind, other)?;
     Ok(Typed {
         kind,
         value: node::conditional_of(alloc, condition, chosen.value, other)?,

@@ -2,28 +2,28 @@
 
 ghost use Rattle.std.specs.Prelude.{◌≡◌, ℕ, List};
 ghost use Rattle.strc_check.specs.Resolution as judged;
-ghost use Rattle.strc_check.specs.Verdicts.{IsVerdict, site_of};
+ghost use Rattle.strc_check.specs.Verdicts.{IsVerdict, context_of};
 
+use crate::context::Context;
 use crate::error::LowerError;
-use crate::site::Site;
 use crate::typed_scope::TypedScope;
 use crate::types::{self, ValueType};
 use strc_lex::token::Name;
 
 /// The type of a name that is written: that of its innermost variable. A constant isn't written.
 pub fn resolve_written(
-    site: &Site,
+    context: &Context,
     names: &TypedScope,
     name: &Name,
 ) -> Result<ValueType, LowerError>
     ensures { IsVerdict (λ (kind : ValueType). kind)
-        (judged.write_resolved (site_of site.now) names.now name.now)
+        (judged.write_resolved (context_of context.now) names.now name.now)
         result }
 {
     if let Some(kind) = names.type_of(name) {
         return Ok(kind);
     }
-    match site.constants.value_of(name) {
+    match context.constants.value_of(name) {
         Some(_) => Err(LowerError::TypeMismatch),
         None => {
             let name = name.copy()?;
@@ -33,15 +33,19 @@ pub fn resolve_written(
 }
 
 /// A name that is stepped: a variable that holds a number.
-pub fn resolve_stepped(site: &Site, names: &TypedScope, name: &Name) -> Result<Name, LowerError>
+pub fn resolve_stepped(
+    context: &Context,
+    names: &TypedScope,
+    name: &Name,
+) -> Result<Name, LowerError>
     ensures { IsVerdict (λ (name : List ℕ). name)
-        (judged.step_resolved (site_of site.now) names.now name.now)
+        (judged.step_resolved (context_of context.now) names.now name.now)
         result }
 {
-    if site.fixed {
+    if context.constants_only {
         return Err(LowerError::TypeMismatch);
     }
-    let kind = resolve_written(site, names, name)?;
+    let kind = resolve_written(context, names, name)?;
     if !types::same_type(kind, ValueType::Int) {
         return Err(LowerError::TypeMismatch);
     }
@@ -50,15 +54,15 @@ pub fn resolve_stepped(site: &Site, names: &TypedScope, name: &Name) -> Result<N
 }
 
 /// The name of an array, of which an element is read or written.
-pub fn resolve_array(site: &Site, names: &TypedScope, name: &Name) -> Result<Name, LowerError>
+pub fn resolve_array(context: &Context, names: &TypedScope, name: &Name) -> Result<Name, LowerError>
     ensures { IsVerdict (λ (name : List ℕ). name)
-        (judged.array_resolved (site_of site.now) names.now name.now)
+        (judged.array_resolved (context_of context.now) names.now name.now)
         result }
 {
-    if site.fixed {
+    if context.constants_only {
         return Err(LowerError::TypeMismatch);
     }
-    let kind = resolve_written(site, names, name)?;
+    let kind = resolve_written(context, names, name)?;
     if !types::is_array(kind) {
         return Err(LowerError::TypeMismatch);
     }

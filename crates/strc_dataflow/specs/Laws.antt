@@ -149,12 +149,16 @@ SplittersAndJoiners Code State Cause Word =
     × (IsDuplicateSplitter meaning code weights → (port : ℕ) → (runs meaning code n inputs).pushes port ≡ duplicated weights n (inputs 0) port)
     × (IsRoundRobinJoiner meaning code weights → (runs meaning code n inputs).pushes 0 ≡ woven weights n inputs)
 
--- Two graphs with the same codes, and the same sources at the ports that their nodes have, run alike: what stands at other ports, as on
--- void sides, makes no difference.
+-- A port at which no firing looks at an item and none takes one, as a joiner's of weight 0.
+abbrev pub IsIdle : {Code State Cause Word : Type 0} → Meaning Code State Cause Word → Code → (port : ℕ) → Type 0
+IsIdle meaning code port = (firing : ℕ) → (meaning.window code firing port ≡ 0) × (meaning.popped code firing port ≡ 0)
+
+-- Two graphs with the same codes, and the same sources at the ports that carry items, run alike: what stands at ports that a node
+-- doesn't have or leaves idle, as on void sides, makes no difference.
 abbrev pub OnlyPortsMatter : (Code State Cause Word : Type 0) → Type 0
 OnlyPortsMatter Code State Cause Word =
     (meaning : Meaning Code State Cause Word) (a b : Graph Code)
     → ((node : ℕ) → a.code node ≡ b.code node)
-    → ((node port : ℕ) → port < meaning.ports (a.code node) → a.source node port ≡ b.source node port)
+    → ((node port : ℕ) → port < meaning.ports (a.code node) → (a.source node port ≡ b.source node port) ⊎ IsIdle meaning (a.code node) port)
     → (input : List ℤ) (startup_order round_order : List ℕ) (k : ℕ)
     → whole_run meaning a input round_order startup_order k ≡ whole_run meaning b input round_order startup_order k

@@ -74,7 +74,7 @@ pub fn order_is_valid_again<Code, State, Cause, Word>()
     ensures { OrderIsValidAgain Code State Cause Word }
 {}
 
-/// What stands at ports that a node doesn't have makes no difference to a run.
+/// What stands at ports that a node doesn't have, or leaves idle, makes no difference to a run.
 pub fn only_ports_matter<Code, State, Cause, Word>()
     ensures { OnlyPortsMatter Code State Cause Word }
 {}

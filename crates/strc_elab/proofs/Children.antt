@@ -13,7 +13,7 @@ use Rattle.strc_syntax.proofs.Views.{child_view_filter, child_view_composite, ro
 use Rattle.strc_semantics.specs.Filters.{filter_parts}
 use Rattle.strc_elab.specs.Elaboration.{Setting, Progress, child_run, found_run, unnamed_found}
 use Rattle.strc_check.specs.Typing.{TypedNames}
-use Rattle.strc_elab.specs.Texts.{FilterText, CompositeText, listed}
+use Rattle.strc_scope.specs.Texts.{FilterText, CompositeText, listed}
 use Rattle.std.specs.Prelude.{Ok}
 
 listed_chain : (members : List tree.Member) → listed (chain members) ≡ members

@@ -6,12 +6,12 @@ use Rattle.std.specs.Prelude.{bytes_eq}
 use Rattle.std.proofs.lemmas.Slice.Eq.{bytes_eq-Decides}
 use Rattle.strc_base.specs.Names.{has_name, plain_names}
 use Rattle.strc_check.specs.Typing.{TypedNames}
-use Rattle.strc_elab.specs.Texts.{is_doubled}
+use Rattle.strc_scope.specs.Texts.{is_doubled}
 
 -- whether one of these names is an earlier one, or stands twice among them
-abbrev pub doubled_behind : (earlier names : List (List ℕ)) → Bool
-doubled_behind earlier [] = false
-doubled_behind earlier (first ∷ rest) = has_name earlier first || doubled_behind (first ∷ earlier) rest
+abbrev pub doubled_after : (earlier names : List (List ℕ)) → Bool
+doubled_after earlier [] = false
+doubled_after earlier (first ∷ rest) = has_name earlier first || doubled_after (first ∷ earlier) rest
 
 -- whether one of these names is among the others
 abbrev pub any_name : (others names : List (List ℕ)) → Bool
@@ -44,7 +44,7 @@ any_more first others (name ∷ names) =
     ∙ or_swap (bytes_eq first name) (has_name others name) (has_name names first) (any_name others names)
     ∙ ap (λ b. (b || has_name names first) || (has_name others name || any_name others names)) (same_either_way first name)
 
-pub doubled_split : (earlier names : List (List ℕ)) → doubled_behind earlier names ≡ (any_name earlier names || is_doubled names)
+pub doubled_split : (earlier names : List (List ℕ)) → doubled_after earlier names ≡ (any_name earlier names || is_doubled names)
 doubled_split earlier [] = refl
 doubled_split earlier (first ∷ rest) =
     ap (λ b. has_name earlier first || b) (doubled_split (first ∷ earlier) rest)
@@ -62,27 +62,27 @@ any_none [] = refl
 any_none (first ∷ rest) = any_none rest
 
 -- none is earlier at first
-pub doubled_at_first : (names : List (List ℕ)) → doubled_behind [] names ≡ is_doubled names
+pub doubled_at_first : (names : List (List ℕ)) → doubled_after [] names ≡ is_doubled names
 doubled_at_first names = doubled_split [] names ∙ ap (λ b. b || is_doubled names) (any_none names)
 
 -- the next name
 
-pub doubled_here : (earlier names : List (List ℕ)) (i : ℕ) (name : List ℕ) → i < length names → name ≡ get_or names i name → has_name earlier name ≡ true → doubled_behind earlier (drop i names) ≡ true
+pub doubled_here : (earlier names : List (List ℕ)) (i : ℕ) (name : List ℕ) → i < length names → name ≡ get_or names i name → has_name earlier name ≡ true → doubled_after earlier (drop i names) ≡ true
 doubled_here earlier names i name below at there =
-    ap (doubled_behind earlier) (drop-cons names i name below)
-    ∙ ap (λ n. has_name earlier n || doubled_behind (n ∷ earlier) (drop (suc i) names)) (sym at)
-    ∙ ap (λ b. b || doubled_behind (name ∷ earlier) (drop (suc i) names)) there
+    ap (doubled_after earlier) (drop-cons names i name below)
+    ∙ ap (λ n. has_name earlier n || doubled_after (n ∷ earlier) (drop (suc i) names)) (sym at)
+    ∙ ap (λ b. b || doubled_after (name ∷ earlier) (drop (suc i) names)) there
 
-pub doubled_further : (earlier names : List (List ℕ)) (i : ℕ) (name : List ℕ) → i < length names → name ≡ get_or names i name → has_name earlier name ≡ false → doubled_behind earlier (drop i names) ≡ doubled_behind (name ∷ earlier) (drop (i + 1) names)
+pub doubled_further : (earlier names : List (List ℕ)) (i : ℕ) (name : List ℕ) → i < length names → name ≡ get_or names i name → has_name earlier name ≡ false → doubled_after earlier (drop i names) ≡ doubled_after (name ∷ earlier) (drop (i + 1) names)
 doubled_further earlier names i name below at there =
     let next : suc i ≡ i + 1 = omega arith in
-    ap (doubled_behind earlier) (drop-cons names i name below)
-    ∙ ap (λ n. has_name earlier n || doubled_behind (n ∷ earlier) (drop (suc i) names)) (sym at)
-    ∙ ap (λ b. b || doubled_behind (name ∷ earlier) (drop (suc i) names)) there
-    ∙ ap (λ n. doubled_behind (name ∷ earlier) (drop n names)) next
+    ap (doubled_after earlier) (drop-cons names i name below)
+    ∙ ap (λ n. has_name earlier n || doubled_after (n ∷ earlier) (drop (suc i) names)) (sym at)
+    ∙ ap (λ b. b || doubled_after (name ∷ earlier) (drop (suc i) names)) there
+    ∙ ap (λ n. doubled_after (name ∷ earlier) (drop n names)) next
 
-pub doubled_no_more : (earlier names : List (List ℕ)) (i : ℕ) → length names ≤ i → doubled_behind earlier (drop i names) ≡ false
-doubled_no_more earlier names i over = ap (doubled_behind earlier) (drop_of_length-le names over)
+pub doubled_no_more : (earlier names : List (List ℕ)) (i : ℕ) → length names ≤ i → doubled_after earlier (drop i names) ≡ false
+doubled_no_more earlier names i over = ap (doubled_after earlier) (drop_of_length-le names over)
 
 -- all names are those from the first one on
 pub all_names : (names : TypedNames) → take (length names - 0) (plain_names names) ≡ plain_names names

@@ -7,9 +7,7 @@ pub mod LoopRuns
 pub mod NameTables
 pub mod Pipelines
 pub mod Refusals
-pub mod Slots
 pub mod Soundness
-pub mod Surroundings
 pub mod Tallies
 pub mod Turns
 pub mod Views

@@ -16,7 +16,7 @@ pub stream_view-row : (children : Vec Stream Global) → stream_view (Pipeline c
 stream_view-row children = stream_view-Pipeline children ∙ ap instances.Pipeline (in_a_row-views children.items)
 
 -- a pipeline that has children and the written type
-pub pipeline_made-as_written : (holder : ℕ) (written : Option StreamType) (types : StreamType) (children : Vec Stream Global) (progress : spec.Progress) → progress.children ≡ map stream_view children.items → spec.is_as_written written types ≡ true
-    → spec.pipeline_made holder written (Some types) progress
+pub pipeline_elaborated-as_written : (declaration : ℕ) (written : Option StreamType) (types : StreamType) (children : Vec Stream Global) (progress : spec.Progress) → progress.children ≡ map stream_view children.items → spec.is_as_written written types ≡ true
+    → spec.pipeline_elaborated declaration written (Some types) progress
     ≡ Ok (record { stream = stream_view (Pipeline children); types = types; tally = record { turns = progress.store.traffic.turns; filters = progress.filters } })
-pipeline_made-as_written holder written types children progress held kept = rw (kept, held, stream_view-row children) refl
+pipeline_elaborated-as_written declaration written types children progress held kept = rw (kept, held, stream_view-row children) refl

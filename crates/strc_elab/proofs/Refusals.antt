@@ -1,9 +1,9 @@
 -- Refusals of steps go through to what the steps are part of.
 use Rattle.std.proofs.Common.{◌≡◌, Result, Ok, Err, ap, ◌∙◌}
-use Rattle.strc_elab.specs.Elaboration.{then_do}
-use Rattle.strc_elab.specs.Answering.{IsRefusal}
-use Rattle.strc_elab.specs.declared.error.ElabError.{ElabError}
-use Rattle.strc_elab.specs.declared.error.ElabError.TheVariants as refused
+use Rattle.strc_base.specs.Results.{result_and_then}
+use Rattle.strc_scope.specs.Answers.{IsRefusal}
+use Rattle.strc_scope.specs.declared.error.ElabError.{ElabError}
+use Rattle.strc_scope.specs.declared.error.ElabError.TheVariants as refused
 
 -- where one judgement refuses as another does, a refusal of the other is one of it
 pub refused_as : {A B : Type 0} (r : Result A ElabError) (s : Result B ElabError) (e : ElabError) → (r ≡ Err e → s ≡ Err e) → IsRefusal r e → IsRefusal s e
@@ -26,13 +26,13 @@ pub refused_same : {A : Type 0} (r s : Result A ElabError) (e : ElabError) → s
 refused_same r s e same h = refused_as r s e (λ is. same ∙ is) h
 
 -- the first of two steps is refused
-pub first_refused : {A B : Type 0} (r : Result A ElabError) (go : A → Result B ElabError) (e : ElabError) → IsRefusal r e → IsRefusal (then_do r go) e
-first_refused r go e h = refused_as r (then_do r go) e (λ is. ap (λ x. then_do x go) is) h
+pub first_refused : {A B : Type 0} (r : Result A ElabError) (go : A → Result B ElabError) (e : ElabError) → IsRefusal r e → IsRefusal (result_and_then r go) e
+first_refused r go e h = refused_as r (result_and_then r go) e (λ is. ap (λ x. result_and_then x go) is) h
 
 -- the second of two steps is refused
-pub second_refused : {A B : Type 0} (r : Result A ElabError) (go : A → Result B ElabError) (x : A) (e : ElabError) → r ≡ Ok x → IsRefusal (go x) e → IsRefusal (then_do r go) e
-second_refused r go x e is h = refused_same (go x) (then_do r go) e (ap (λ y. then_do y go) is) h
+pub second_refused : {A B : Type 0} (r : Result A ElabError) (go : A → Result B ElabError) (x : A) (e : ElabError) → r ≡ Ok x → IsRefusal (go x) e → IsRefusal (result_and_then r go) e
+second_refused r go x e is h = refused_same (go x) (result_and_then r go) e (ap (λ y. result_and_then y go) is) h
 
 -- both of two steps are done
-pub both_done : {A B : Type 0} (r : Result A ElabError) (go : A → Result B ElabError) (x : A) (y : B) → r ≡ Ok x → go x ≡ Ok y → then_do r go ≡ Ok y
-both_done r go x y is next = ap (λ z. then_do z go) is ∙ next
+pub both_done : {A B : Type 0} (r : Result A ElabError) (go : A → Result B ElabError) (x : A) (y : B) → r ≡ Ok x → go x ≡ Ok y → result_and_then r go ≡ Ok y
+both_done r go x y is next = ap (λ z. result_and_then z go) is ∙ next

@@ -30,13 +30,13 @@ pub record IsRowGraph (graph : flats.Graph NodeCode) (nodes : List NodeCode) : T
   pub links : (node port : ℕ) → suc node < length nodes → graph.source (suc node) port ≡ items_from node port
   pub past : (node port : ℕ) → length nodes ≤ node → graph.source node port ≡ nothing
 
-seen_at : {A : Type 0} (view : NodeCode → A) (none : A) (nodes : List NodeCode) (node : ℕ)
+captures_at : {A : Type 0} (view : NodeCode → A) (none : A) (nodes : List NodeCode) (node : ℕ)
     (other : NodeCode) → node < length nodes
     → option_map_or view (slice_get nodes node) none ≡ view (get_or nodes node other)
-seen_at view none [] node other less = absurd (omega arith)
-seen_at view none (code ∷ rest) zero other less = refl
-seen_at view none (code ∷ rest) (suc node) other less =
-    seen_at view none rest node other (omega arith)
+captures_at view none [] node other less = absurd (omega arith)
+captures_at view none (code ∷ rest) zero other less = refl
+captures_at view none (code ∷ rest) (suc node) other less =
+    captures_at view none rest node other (omega arith)
 
 -- each port of a stream's nodes carries items
 
@@ -107,7 +107,7 @@ meaning_is_row stream typed = record {
         → option_map_or view (slice_get (nodes_of stream) node) none
         ≡ view ((meaning_of stream).code node)
     at view none node less =
-        seen_at view none (nodes_of stream) node (any_code (tree_of stream)) less
+        captures_at view none (nodes_of stream) node (any_code (tree_of stream)) less
         ∙ ap view (sym (code_at stream typed node))
 
     zero_first : (node : ℕ) → 0 + node ≡ node

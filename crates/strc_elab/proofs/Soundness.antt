@@ -1,6 +1,7 @@
 -- Each stream that a program means takes and gives nothing, its types fit, and its filters are instances of texts.
 use Rattle.std.proofs.Common.{◌≡◌, ℕ, zero, suc, ◌+◌, ℤ, Bool, true, false, ◌&&◌, List, [], ◌∷◌, ◌++◌, length, Option, Some, None, Result, Ok, Err, IfOk, cond, nat_lt, nat_eq, refl, sym, ap, ◌∙◌, subst}
 use Rattle.std.specs.List.{AllByRecursion}
+use Rattle.strc_base.specs.Results.{result_and_then}
 use Rattle.strc_syntax.specs.Tree as tree
 use Rattle.strc_syntax.specs.Tree.{Declaration}
 use Rattle.strc_syntax.specs.declared.tree.ItemType.{ItemType}
@@ -19,23 +20,24 @@ use Rattle.strc_semantics.specs.declared.fault.Cause.{Cause}
 use Rattle.strc_check.specs.declared.error.LowerError.{LowerError}
 use Rattle.strc_check.specs.declared.types.ValueType.TheVariants as kind
 use Rattle.strc_check.proofs.Resolving.{resolved_types}
-use Rattle.strc_elab.specs.declared.error.ElabError.{ElabError}
-use Rattle.strc_elab.specs.declared.error.ElabError.TheVariants as refused
-use Rattle.strc_elab.specs.Elaboration.{then_do, where_kept, ruled, computed, eval_checked, simple_done, declaration_done, filter_limit, Tally, Elaborated, Setting, Progress, on_store, condition_given, inside, turned, looped, child_found, child_run, child_added, same_item, composed, stmt_run, stmts_run, started_as, instance_of, is_as_written, initial_progress, pipeline_made, composite_made, text_made, stream_made, level_limit, types_of, can_be_main, mains_from, only_main, named_main, main_of, main_made, not_doubled, doubled_from, elaborated}
+use Rattle.strc_scope.specs.declared.error.ElabError.{ElabError}
+use Rattle.strc_scope.specs.declared.error.ElabError.TheVariants as refused
+use Rattle.strc_scope.specs.Statements.{ruled, computed, eval_checked, simple_done, declaration_done}
+use Rattle.strc_elab.specs.Elaboration.{where_kept, filter_limit, Tally, Elaborated, Setting, Progress, on_store, condition_evaluated, inside, turned, looped, child_found, child_run, child_added, same_item, composed, stmt_run, stmts_run, started_as, instance_of, is_as_written, initial_progress, pipeline_elaborated, composite_elaborated, text_elaborated, stream_elaborated, level_limit, types_of, can_be_main, mains_from, only_main, named_main, main_of, main_elaborated, not_doubled, doubled_from, elaborated}
 use Rattle.strc_elab.specs.Flattening.{nodes_of, row_nodes}
 use Rattle.strc_graph.specs.Graphs as graphs
 use Rattle.strc_elab.specs.Instances.{Stream, in_a_row}
 use Rattle.strc_elab.specs.Sound.{IsInstance, IsElaborated}
-use Rattle.strc_elab.specs.Texts.{Place, Text, FilterText, CompositeText, IdentityText, ReaderText, WriterText, text_of, parameters_of, declared_from}
+use Rattle.strc_scope.specs.Texts.{Place, Text, FilterText, CompositeText, IdentityText, ReaderText, WriterText, text_of, parameters_of, declared_from}
 use Rattle.strc_elab.specs.Types.{IsWellTyped, AreWellTyped, HasFirst, input_of, output_of, first_input, last_output}
 
 -- what holds of the answers of steps
 
-pub then_holds : {A B : Type 0} (r : Result A ElabError) (go : A → Result B ElabError) (Q : A → Type 0) (P : B → Type 0) → IfOk r Q → ((x : A) → Q x → IfOk (go x) P) → IfOk (then_do r go) P
+pub then_holds : {A B : Type 0} (r : Result A ElabError) (go : A → Result B ElabError) (Q : A → Type 0) (P : B → Type 0) → IfOk r Q → ((x : A) → Q x → IfOk (go x) P) → IfOk (result_and_then r go) P
 then_holds (Ok x) go Q P h next = next x h
 then_holds (Err e) go Q P h next = tt
 
-then_known : {A B : Type 0} (r : Result A ElabError) (go : A → Result B ElabError) (P : B → Type 0) → ((x : A) → r ≡ Ok x → IfOk (go x) P) → IfOk (then_do r go) P
+then_known : {A B : Type 0} (r : Result A ElabError) (go : A → Result B ElabError) (P : B → Type 0) → ((x : A) → r ≡ Ok x → IfOk (go x) P) → IfOk (result_and_then r go) P
 then_known (Ok x) go P next = next x refl
 then_known (Err e) go P next = tt
 
@@ -64,24 +66,24 @@ items_same item.Void item.Int e = absurd (cc)
 
 -- instances
 
-is_ruled : {A : Type 0} (holder : ℕ) (r : Result A LowerError) (x : A) → ruled holder r ≡ Ok x → r ≡ Ok x
-is_ruled holder (Ok y) x e = let same : y ≡ x = cc in ap (λ z. Ok z) same
-is_ruled holder (Err broken) x e = absurd (cc)
+is_ruled : {A : Type 0} (declaration : ℕ) (r : Result A LowerError) (x : A) → ruled declaration r ≡ Ok x → r ≡ Ok x
+is_ruled declaration (Ok y) x e = let same : y ≡ x = cc in ap (λ z. Ok z) same
+is_ruled declaration (Err broken) x e = absurd (cc)
 
 is_started : {A : Type 0} (filter found : Filter) (r : Result A Cause) → started_as filter r ≡ Ok found → filter ≡ found
 is_started filter found (Ok fields) e = cc
 is_started filter found (Err cause) e = absurd (cc)
 
-pub then_did : {A B : Type 0} (r : Result A ElabError) (go : A → Result B ElabError) (y : B) → then_do r go ≡ Ok y → (x : A) × (r ≡ Ok x) × (go x ≡ Ok y)
+pub then_did : {A B : Type 0} (r : Result A ElabError) (go : A → Result B ElabError) (y : B) → result_and_then r go ≡ Ok y → (x : A) × (r ≡ Ok x) × (go x ≡ Ok y)
 then_did (Ok x) go y e = (x, refl, e)
 then_did (Err refusal) go y e = absurd (cc)
 
 -- an instance is a resolved filter
 pub instance_resolved : (place : Place) (filter found : Filter) → instance_of place filter ≡ Ok found → filter_resolved place.constants filter ≡ Ok found
 instance_resolved place filter found e =
-    let did = then_did (ruled place.holder (filter_resolved place.constants filter)) (λ resolved. started_as resolved (started resolved)) found e in
+    let did = then_did (ruled place.declaration (filter_resolved place.constants filter)) (λ resolved. started_as resolved (started resolved)) found e in
     let same = is_started did.0 found (started did.0) did.2 in
-    is_ruled place.holder (filter_resolved place.constants filter) did.0 did.1 ∙ ap (λ (f : Filter). Ok f) same
+    is_ruled place.declaration (filter_resolved place.constants filter) did.0 did.1 ∙ ap (λ (f : Filter). Ok f) same
 
 -- rows of streams
 
@@ -180,7 +182,7 @@ stored_sound : (does : Store → Result Store ElabError) (progress : Progress) �
 stored_sound does progress sound =
     then_holds (does progress.store) (λ store. Ok (record progress { store = store })) (λ store. Unit {0}) IsSound (any_holds (does progress.store)) (λ store h. sound)
 
-tested_sound : (setting : Setting) (names : TypedNames) (condition : Option tree.Expr) (progress : Progress) → IsSound progress → IfOk (condition_given setting names condition progress) (λ tested. IsSound tested.1)
+tested_sound : (setting : Setting) (names : TypedNames) (condition : Option tree.Expr) (progress : Progress) → IsSound progress → IfOk (condition_evaluated setting names condition progress) (λ tested. IsSound tested.1)
 tested_sound setting names None progress sound = sound
 tested_sound setting names (Some condition) progress sound =
     then_holds (given_here setting names condition progress) (λ test. Ok (test.0, record progress { store = test.1 })) (λ test. Unit {0}) (λ tested. IsSound tested.1) (any_holds (given_here setting names condition progress)) (λ test h. sound)
@@ -200,16 +202,16 @@ looped_sound : (fuel : ℕ) (test : Progress → Result (ℤ × Progress) ElabEr
     → ((p : Progress) → IsSound p → IfOk (test p) (λ tested. IsSound tested.1)) → ((p : Progress) → IsSound p → IfOk (body p) IsSound) → (progress : Progress) → IsSound progress → IfOk (looped fuel test body progress) IsSound
 looped_sound zero test body tests runs progress sound = tt
 looped_sound (suc fuel) test body tests runs progress sound =
-    then_holds (test progress) (λ tested. cond (is_true tested.0) (then_do (turned tested.1) (λ turning. then_do (body turning) (looped fuel test body))) (Ok tested.1)) (λ tested. IsSound tested.1) IsSound (tests progress sound) (λ tested h.
-    either_holds (is_true tested.0) (then_do (turned tested.1) (λ turning. then_do (body turning) (looped fuel test body))) (Ok tested.1) IsSound
-    (then_holds (turned tested.1) (λ turning. then_do (body turning) (looped fuel test body)) IsSound IsSound (turned_sound tested.1 h) (λ turning g.
+    then_holds (test progress) (λ tested. cond (is_true tested.0) (result_and_then (turned tested.1) (λ turning. result_and_then (body turning) (looped fuel test body))) (Ok tested.1)) (λ tested. IsSound tested.1) IsSound (tests progress sound) (λ tested h.
+    either_holds (is_true tested.0) (result_and_then (turned tested.1) (λ turning. result_and_then (body turning) (looped fuel test body))) (Ok tested.1) IsSound
+    (then_holds (turned tested.1) (λ turning. result_and_then (body turning) (looped fuel test body)) IsSound IsSound (turned_sound tested.1 h) (λ turning g.
     then_holds (body turning) (looped fuel test body) IsSound IsSound (runs turning g) (λ after k. looped_sound fuel test body tests runs after k)))
     h)
 
 child_sound : (setting : Setting) → MakesSound setting → (names : TypedNames) (child : tree.Child) (progress : Progress) → IsSound progress → IfOk (child_run setting names child progress) IsSound
 child_sound setting makes names child progress sound =
     then_holds (child_found setting names child progress.store) (λ found.
-    then_do (setting.elaborate found.place found.text (record { turns = found.store.traffic.turns; filters = progress.filters })) (λ made.
+    result_and_then (setting.elaborate found.place found.text (record { turns = found.store.traffic.turns; filters = progress.filters })) (λ made.
     child_added setting progress found.store made)) (λ found. Unit {0}) IsSound (any_holds (child_found setting names child progress.store)) (λ found h.
     then_holds (setting.elaborate found.place found.text (record { turns = found.store.traffic.turns; filters = progress.filters })) (λ made.
     child_added setting progress found.store made) IsSoundlyMade IsSound (makes found.place found.text (record { turns = found.store.traffic.turns; filters = progress.filters })) (λ made g.
@@ -234,24 +236,24 @@ mutual
   stmt_sound setting makes names outer (tree.Assign name operator value) progress sound = stored_sound (simple_done setting.place names outer (tree.Assign name operator value)) progress sound
   stmt_sound setting makes names outer (tree.AssignElement name index operator value) progress sound = stored_sound (simple_done setting.place names outer (tree.AssignElement name index operator value)) progress sound
   stmt_sound setting makes names outer (tree.If condition chosen) progress sound =
-      then_holds (condition_given setting names (Some condition) progress) (λ test. cond (is_true test.0) (inside (stmt_run setting names (length names) chosen) test.1) (Ok test.1)) (λ tested. IsSound tested.1) IsSound (tested_sound setting names (Some condition) progress sound) (λ test h.
+      then_holds (condition_evaluated setting names (Some condition) progress) (λ test. cond (is_true test.0) (inside (stmt_run setting names (length names) chosen) test.1) (Ok test.1)) (λ tested. IsSound tested.1) IsSound (tested_sound setting names (Some condition) progress sound) (λ test h.
       either_holds (is_true test.0) (inside (stmt_run setting names (length names) chosen) test.1) (Ok test.1) IsSound
       (inside_sound (stmt_run setting names (length names) chosen) test.1 (stmt_sound setting makes names (length names) chosen test.1 h)) h)
   stmt_sound setting makes names outer (tree.IfElse condition chosen other) progress sound =
-      then_holds (condition_given setting names (Some condition) progress) (λ test. cond (is_true test.0) (inside (stmt_run setting names (length names) chosen) test.1) (inside (stmt_run setting names (length names) other) test.1)) (λ tested. IsSound tested.1) IsSound (tested_sound setting names (Some condition) progress sound) (λ test h.
+      then_holds (condition_evaluated setting names (Some condition) progress) (λ test. cond (is_true test.0) (inside (stmt_run setting names (length names) chosen) test.1) (inside (stmt_run setting names (length names) other) test.1)) (λ tested. IsSound tested.1) IsSound (tested_sound setting names (Some condition) progress sound) (λ test h.
       either_holds (is_true test.0) (inside (stmt_run setting names (length names) chosen) test.1) (inside (stmt_run setting names (length names) other) test.1) IsSound
       (inside_sound (stmt_run setting names (length names) chosen) test.1 (stmt_sound setting makes names (length names) chosen test.1 h))
       (inside_sound (stmt_run setting names (length names) other) test.1 (stmt_sound setting makes names (length names) other test.1 h)))
   stmt_sound setting makes names outer (tree.While condition body) progress sound =
-      looped_sound (suc turn_limit) (condition_given setting names (Some condition)) (inside (stmt_run setting names (length names) body)) (tested_sound setting names (Some condition))
+      looped_sound (suc turn_limit) (condition_evaluated setting names (Some condition)) (inside (stmt_run setting names (length names) body)) (tested_sound setting names (Some condition))
       (λ p h. inside_sound (stmt_run setting names (length names) body) p (stmt_sound setting makes names (length names) body p h)) progress sound
   stmt_sound setting makes names outer (tree.For first condition step body) progress sound =
       let inner = names_after names first in
-      let turn = λ (turn : Progress). then_do (inside (stmt_run setting inner (length inner) body) turn) (inside (stmt_run setting inner (length inner) step)) in
-      let loop = looped (suc turn_limit) (condition_given setting inner condition) turn in
-      inside_sound (λ outside. then_do (stmt_run setting names (length names) first outside) (λ begun. loop begun)) progress (
+      let turn = λ (turn : Progress). result_and_then (inside (stmt_run setting inner (length inner) body) turn) (inside (stmt_run setting inner (length inner) step)) in
+      let loop = looped (suc turn_limit) (condition_evaluated setting inner condition) turn in
+      inside_sound (λ outside. result_and_then (stmt_run setting names (length names) first outside) (λ begun. loop begun)) progress (
       then_holds (stmt_run setting names (length names) first progress) (λ begun. loop begun) IsSound IsSound (stmt_sound setting makes names (length names) first progress sound) (λ begun h.
-      looped_sound (suc turn_limit) (condition_given setting inner condition) turn (tested_sound setting inner condition)
+      looped_sound (suc turn_limit) (condition_evaluated setting inner condition) turn (tested_sound setting inner condition)
       (λ p g. then_holds (inside (stmt_run setting inner (length inner) body) p) (inside (stmt_run setting inner (length inner) step)) IsSound IsSound
       (inside_sound (stmt_run setting inner (length inner) body) p (stmt_sound setting makes inner (length inner) body p g))
       (λ q k. inside_sound (stmt_run setting inner (length inner) step) q (stmt_sound setting makes inner (length inner) step q k))) begun h))
@@ -268,19 +270,19 @@ mutual
 
 -- streams
 
-made_sound : (holder : ℕ) (written types : Option StreamType) (progress : Progress) → AreSound progress.children types → IfOk (pipeline_made holder written types progress) IsSoundlyMade
-made_sound holder written None progress none = tt
-made_sound holder written (Some found) progress row =
-    kept_holds (is_as_written written found) (refused.TypeMismatch holder) _ IsSoundlyMade (λ e. record { typed = (row.filled, row.typed); input = row.input; output = row.output; instances = row.instances })
+made_sound : (declaration : ℕ) (written types : Option StreamType) (progress : Progress) → AreSound progress.children types → IfOk (pipeline_elaborated declaration written types progress) IsSoundlyMade
+made_sound declaration written None progress none = tt
+made_sound declaration written (Some found) progress row =
+    kept_holds (is_as_written written found) (refused.TypeMismatch declaration) _ IsSoundlyMade (λ e. record { typed = (row.filled, row.typed); input = row.input; output = row.output; instances = row.instances })
 
-composite_sound : (setting : Setting) → MakesSound setting → (written : Option StreamType) (kind : CompositeKind) (block : tree.Stmts) (tally : Tally) → IfOk (composite_made setting written kind block tally) IsSoundlyMade
+composite_sound : (setting : Setting) → MakesSound setting → (written : Option StreamType) (kind : CompositeKind) (block : tree.Stmts) (tally : Tally) → IfOk (composite_elaborated setting written kind block tally) IsSoundlyMade
 composite_sound setting makes written composite.Pipeline block tally =
-    then_holds (stmts_run setting [] 0 block (initial_progress tally)) (λ progress. pipeline_made setting.place.holder written progress.types progress) IsSound IsSoundlyMade (stmts_sound setting makes [] 0 block (initial_progress tally) refl)
-    (λ progress sound. made_sound setting.place.holder written progress.types progress sound)
+    then_holds (stmts_run setting [] 0 block (initial_progress tally)) (λ progress. pipeline_elaborated setting.place.declaration written progress.types progress) IsSound IsSoundlyMade (stmts_sound setting makes [] 0 block (initial_progress tally) refl)
+    (λ progress sound. made_sound setting.place.declaration written progress.types progress sound)
 composite_sound setting makes written composite.Splitjoin block tally = tt
 composite_sound setting makes written composite.Feedbackloop block tally = tt
 
-text_sound : (setting : Setting) → MakesSound setting → (text : Text) (tally : Tally) → IfOk (text_made setting text tally) IsSoundlyMade
+text_sound : (setting : Setting) → MakesSound setting → (text : Text) (tally : Tally) → IfOk (text_elaborated setting text tally) IsSoundlyMade
 text_sound setting makes (FilterText name filter) tally =
     kept_holds (nat_lt tally.filters filter_limit) refused.NodeLimit _ IsSoundlyMade (λ e.
     then_known (instance_of setting.place filter) _ IsSoundlyMade (λ resolved is.
@@ -291,29 +293,29 @@ text_sound setting makes IdentityText tally =
 text_sound setting makes ReaderText tally = tt
 text_sound setting makes WriterText tally = tt
 
-pub stream_sound : (program : List Declaration) (levels : ℕ) (place : Place) (text : Text) (tally : Tally) → IfOk (stream_made program levels place text tally) IsSoundlyMade
+pub stream_sound : (program : List Declaration) (levels : ℕ) (place : Place) (text : Text) (tally : Tally) → IfOk (stream_elaborated program levels place text tally) IsSoundlyMade
 stream_sound program zero place text tally = tt
 stream_sound program (suc levels) place text tally =
-    text_sound (record { program = program; place = place; elaborate = stream_made program levels }) (λ p t y. stream_sound program levels p t y) text tally
+    text_sound (record { program = program; place = place; elaborate = stream_elaborated program levels }) (λ p t y. stream_sound program levels p t y) text tally
 
 -- what is made of a declared stream has the declared types
 abbrev pub HasTypes : StreamType → Elaborated → Type 0
 HasTypes types made = (made.types.input ≡ types.input) × (made.types.output ≡ types.output)
 
-declared_types : (setting : Setting) (name : List ℕ) (stream : tree.Stream) (tally : Tally) → IfOk (text_made setting (text_of name stream) tally) (HasTypes (types_of stream))
+declared_types : (setting : Setting) (name : List ℕ) (stream : tree.Stream) (tally : Tally) → IfOk (text_elaborated setting (text_of name stream) tally) (HasTypes (types_of stream))
 declared_types setting name (tree.Filter input output members) tally =
     let filter : Filter = record { input = input; output = output; members = members } in
     kept_holds (nat_lt tally.filters filter_limit) refused.NodeLimit _ (HasTypes (record { input = input; output = output })) (λ e.
     then_known (instance_of setting.place filter) _ (HasTypes (record { input = input; output = output })) (λ resolved is.
     resolved_types setting.place.constants filter resolved (instance_resolved setting.place filter resolved is)))
 declared_types setting name (tree.Composite types composite.Pipeline block) tally =
-    then_holds (stmts_run setting [] 0 block (initial_progress tally)) (λ progress. pipeline_made setting.place.holder (Some types) progress.types progress) (λ progress. Unit {0}) (HasTypes types) (any_holds (stmts_run setting [] 0 block (initial_progress tally)))
-    (λ progress h. written_types setting.place.holder types progress.types progress)
+    then_holds (stmts_run setting [] 0 block (initial_progress tally)) (λ progress. pipeline_elaborated setting.place.declaration (Some types) progress.types progress) (λ progress. Unit {0}) (HasTypes types) (any_holds (stmts_run setting [] 0 block (initial_progress tally)))
+    (λ progress h. written_types setting.place.declaration types progress.types progress)
   where
-    written_types : (holder : ℕ) (types : StreamType) (found : Option StreamType) (progress : Progress) → IfOk (pipeline_made holder (Some types) found progress) (HasTypes types)
-    written_types holder types None progress = tt
-    written_types holder types (Some found) progress =
-        kept_holds (is_as_written (Some types) found) (refused.TypeMismatch holder) _ (HasTypes types) (λ e.
+    written_types : (declaration : ℕ) (types : StreamType) (found : Option StreamType) (progress : Progress) → IfOk (pipeline_elaborated declaration (Some types) found progress) (HasTypes types)
+    written_types declaration types None progress = tt
+    written_types declaration types (Some found) progress =
+        kept_holds (is_as_written (Some types) found) (refused.TypeMismatch declaration) _ (HasTypes types) (λ e.
         let both = both_true (same_item types.input found.input) (same_item types.output found.output) e in
         (sym (items_same types.input found.input both.0), sym (items_same types.output found.output both.1)))
 declared_types setting name (tree.Composite types composite.Splitjoin block) tally = tt
@@ -353,15 +355,15 @@ both_hold : {A : Type 0} (r : Result A ElabError) (P Q : A → Type 0) → IfOk 
 both_hold (Ok x) P Q h g = (h, g)
 both_hold (Err e) P Q h g = tt
 
-main_sound : (program : List Declaration) (found : ℕ × Declaration) → IsMain found → IfOk (main_made program found) (λ made. IsElaborated made.stream)
+main_sound : (program : List Declaration) (found : ℕ × Declaration) → IsMain found → IfOk (main_elaborated program found) (λ made. IsElaborated made.stream)
 unfolding level_limit
-main_sound program found is = then_finish (main_made program found) (both_hold (main_made program found) IsSoundlyMade (HasTypes (types_of found.1.stream)) made typed)
+main_sound program found is = then_finish (main_elaborated program found) (both_hold (main_elaborated program found) IsSoundlyMade (HasTypes (types_of found.1.stream)) made typed)
   where
-    made : IfOk (main_made program found) IsSoundlyMade
-    made = stream_sound program level_limit (record { holder = found.0; constants = [] }) (text_of found.1.name found.1.stream) (record { turns = 0; filters = 0 })
+    made : IfOk (main_elaborated program found) IsSoundlyMade
+    made = stream_sound program level_limit (record { declaration = found.0; constants = [] }) (text_of found.1.name found.1.stream) (record { turns = 0; filters = 0 })
 
-    typed : IfOk (main_made program found) (HasTypes (types_of found.1.stream))
-    typed = declared_types (record { program = program; place = record { holder = found.0; constants = [] }; elaborate = stream_made program 63 }) found.1.name found.1.stream (record { turns = 0; filters = 0 })
+    typed : IfOk (main_elaborated program found) (HasTypes (types_of found.1.stream))
+    typed = declared_types (record { program = program; place = record { declaration = found.0; constants = [] }; elaborate = stream_elaborated program 63 }) found.1.name found.1.stream (record { turns = 0; filters = 0 })
 
     closed : same_item item.Void (types_of found.1.stream).input ≡ true × same_item item.Void (types_of found.1.stream).output ≡ true
     closed = let both = both_true (is_as_written (Some (record { input = item.Void; output = item.Void })) (types_of found.1.stream)) (nat_eq (length (parameters_of found.1)) 0) is in
@@ -387,4 +389,4 @@ elaborated_is_sound program main stream e = subst (λ r. IfOk r IsElaborated) e 
     sound =
         then_holds (not_doubled (doubled_from [] 0 program)) _ (λ u. Unit {0}) IsElaborated (any_holds (not_doubled (doubled_from [] 0 program))) (λ u h.
         then_holds (main_of program main) _ IsMain IsElaborated (main_is program main) (λ found is.
-        then_holds (main_made program found) _ (λ made. IsElaborated made.stream) IsElaborated (main_sound program found is) (λ made sound. sound)))
+        then_holds (main_elaborated program found) _ (λ made. IsElaborated made.stream) IsElaborated (main_sound program found is) (λ made sound. sound)))

@@ -2,7 +2,7 @@
 use Rattle.std.proofs.Common.{◌≡◌, ◌<◌, ◌≤◌, ◌+◌, true, false, Ok, Err, refl, arith, nat_lt}
 use Rattle.std.proofs.lemmas.Bool.{lt-ltb, le-ltb}
 use Rattle.strc_elab.specs.Elaboration.{Tally, filter_limit, one_more}
-use Rattle.strc_elab.specs.declared.error.ElabError.TheVariants.{NodeLimit}
+use Rattle.strc_scope.specs.declared.error.ElabError.TheVariants.{NodeLimit}
 
 filter_limit_is : filter_limit ≡ 4096
 unfolding filter_limit

@@ -1,9 +1,9 @@
 -- Which stream of instances a program means: composite streams' bodies run, in order of execution, up to the first rule that is broken
 -- (StreamIt specification 2.1, "Streams", "Pipelines").
-use Rattle.std.specs.Prelude.{ℕ, zero, suc, ◌+◌, ℤ, pos, negsuc, Bool, true, false, ◌&&◌, ◌||◌, not, nat_lt, nat_eq, List, [], ◌∷◌, ◌++◌, length, Option, Some, None, unwrap_or, Result, Ok, Err, if◌then◌else◌}
+use Rattle.std.specs.Prelude.{ℕ, zero, suc, ◌+◌, ℤ, pos, Bool, true, false, ◌&&◌, not, nat_lt, nat_eq, List, [], ◌∷◌, ◌++◌, length, Option, Some, None, unwrap_or, Result, Ok, Err, if◌then◌else◌}
 use Rattle.std.specs.List.{list_any}
-use Rattle.std.specs.Int.RustNames.{int_lt}
 use Rattle.std.specs.Cmp.Lexicographic.{pointwise}
+use Rattle.strc_base.specs.Results.{result_and_then}
 use Rattle.strc_syntax.specs.Tree as tree
 use Rattle.strc_syntax.specs.Tree.{Declaration}
 use Rattle.strc_syntax.specs.declared.tree.ItemType.{ItemType}
@@ -17,47 +17,23 @@ use Rattle.strc_elab.specs.declared.elaborate.TheConstants.{LEVEL_LIMIT}
 use Rattle.strc_semantics.specs.Filters.{Filter}
 use Rattle.strc_semantics.specs.Arithmetic.{is_true}
 use Rattle.strc_semantics.specs.Firing as firing
-use Rattle.strc_semantics.specs.Firing.{Store, value_of, stmt_done, initial_cells, declared_in, block_left, no_traffic, no_io, started, turn_limit}
-use Rattle.strc_check.specs.Resolution.{expr_as, variable_resolved, stmt_resolved, filter_resolved, start_site}
-use Rattle.strc_check.specs.Typing.{TypedNames, names_after, type_of}
+use Rattle.strc_semantics.specs.Firing.{Store, block_left, no_traffic, started, turn_limit}
+use Rattle.strc_check.specs.Resolution.{filter_resolved}
+use Rattle.strc_check.specs.Typing.{TypedNames, names_after}
 use Rattle.strc_semantics.specs.declared.fault.Cause.{Cause}
 use Rattle.strc_semantics.specs.declared.fault.Cause.TheVariants as causes
-use Rattle.strc_check.specs.declared.type_rules.TheConstants.{LENGTH_LIMIT}
-use Rattle.strc_check.specs.declared.error.LowerError.{LowerError}
-use Rattle.strc_check.specs.declared.error.LowerError.TheVariants as lowering
-use Rattle.strc_check.specs.declared.types.ValueType.{ValueType}
 use Rattle.strc_check.specs.declared.types.ValueType.TheVariants as kind
 use Rattle.strc_elab.specs.Instances.{Stream, in_a_row}
 use Rattle.strc_elab.specs.Instances as instance
-use Rattle.strc_elab.specs.Texts.{Constants, Place, Text, FilterText, CompositeText, IdentityText, ReaderText, WriterText, anonymous, text_of, parameters_of, is_doubled, declared_from, seen}
-use Rattle.strc_elab.specs.declared.error.ElabError.{ElabError}
-use Rattle.strc_elab.specs.declared.error.ElabError.TheVariants as refused
-
--- goes on with a result, or keeps the first refusal
-abbrev pub then_do : {A B : Type 0} → Result A ElabError → (A → Result B ElabError) → Result B ElabError
-then_do (Ok value) go = go value
-then_do (Err refusal) go = Err refusal
+use Rattle.strc_scope.specs.Texts.{Constants, Place, Text, FilterText, CompositeText, IdentityText, ReaderText, WriterText, anonymous, text_of, parameters_of, is_doubled, declared_from, captures}
+use Rattle.strc_scope.specs.declared.error.ElabError.{ElabError}
+use Rattle.strc_scope.specs.declared.error.ElabError.TheVariants as refused
+use Rattle.strc_scope.specs.Statements.{ruled, computed, eval_checked, simple_done, declaration_done}
 
 -- goes on where a rule is kept
 abbrev pub where_kept : {A : Type 0} → Bool → ElabError → Result A ElabError → Result A ElabError
 where_kept true refusal next = next
 where_kept false refusal next = Err refusal
-
--- a refusal of the rules on names and types, told of the declaration that holds the text
-abbrev pub at_declaration : ℕ → LowerError → ElabError
-at_declaration holder (lowering.UnknownName name) = refused.UnknownName name
-at_declaration holder lowering.TypeMismatch = refused.TypeMismatch holder
-at_declaration holder (lowering.ConstFault cause) = refused.ConstFault cause
-at_declaration holder lowering.NoMemory = refused.NoMemory
-
-abbrev pub ruled : {A : Type 0} → (holder : ℕ) → Result A LowerError → Result A ElabError
-ruled holder (Ok value) = Ok value
-ruled holder (Err broken) = Err (at_declaration holder broken)
-
--- what is computed, or its fault
-abbrev pub computed : {A : Type 0} → Result A Cause → Result A ElabError
-computed (Ok value) = Ok value
-computed (Err cause) = Err (refused.ConstFault cause)
 
 -- how many turns all loops have made, and how many filters there are, so far
 pub record Tally : Type 0 where
@@ -83,78 +59,31 @@ pub record Progress : Type 0 where
   pub types : Option StreamType
   pub filters : ℕ
 
--- the work language's statements
-
--- the value of an expression of this type, among these names, and the store after it; names and types are checked just before
-abbrev pub eval_checked : Place → TypedNames → ValueType → tree.Expr → Store → Result (ℤ × Store) ElabError
-eval_checked place names kind value store =
-    then_do (ruled place.holder (expr_as (start_site place.constants) names kind value)) (λ value'.
-    computed (value_of no_io value' store))
-
--- an expression or an assignment as a statement; one that gives items or words away is refused here, as every text but a filter's bodies
-abbrev pub simple_done : Place → TypedNames → (outer : ℕ) → tree.Stmt → Store → Result Store ElabError
-simple_done place names outer statement store =
-    then_do (ruled place.holder (stmt_resolved (start_site place.constants) names outer statement)) (λ statement'.
-    computed (stmt_done no_io statement' store))
-
--- a variable of a declaration, and its variables in turn, each checked and evaluated before the next one, which sees it
-abbrev pub variable_done : Place → TypedNames → (outer : ℕ) → ValueType → (cells : ℕ) → tree.Variable → Store → Result Store ElabError
-variable_done place names outer kind cells variable store =
-    then_do (ruled place.holder (variable_resolved (start_site place.constants) names outer kind variable)) (λ variable'.
-    then_do (computed (initial_cells no_io cells variable'.initial store)) (λ initial.
-    Ok (declared_in initial.1 variable.name initial.0)))
-
-abbrev pub variables_done : Place → TypedNames → (outer : ℕ) → ValueType → (cells : ℕ) → List tree.Variable → Store → Result Store ElabError
-variables_done place names outer kind cells [] store = Ok store
-variables_done place names outer kind cells (first ∷ rest) store =
-    then_do (variable_done place names outer kind cells first store)
-    (variables_done place (record { 0 = first.name; 1 = kind } ∷ names) outer kind cells rest)
-
--- how many cells an array of this length has: one at least, and no more than an array may have
-abbrev pub array_cells : ℤ → Result ℕ ElabError
-array_cells (pos length) =
-    if nat_lt length 1 || int_lt LENGTH_LIMIT (pos length) then Err (refused.ConstFault causes.Index) else Ok length
-array_cells (negsuc length) = Err (refused.ConstFault causes.Index)
-
--- how many cells a variable of a declared type has; the length of an array is an expression like any
--- other, evaluated where the declaration runs
-abbrev pub cells_declared : Place → TypedNames → tree.VariableType → Store → Result (ℕ × Store) ElabError
-cells_declared place names (tree.Array length) store =
-    then_do (eval_checked place names kind.Int length store) (λ number.
-    then_do (array_cells number.0) (λ cells. Ok (cells, number.1)))
-cells_declared place names declared store = Ok (1, store)
-
--- a declaration: its type, and then its variables
-abbrev pub declaration_done : Place → TypedNames → (outer : ℕ) → tree.VariableType → List tree.Variable → Store → Result Store ElabError
-declaration_done place names outer declared variables store =
-    then_do (cells_declared place names declared store) (λ sized.
-    variables_done place names outer (type_of declared) sized.0 variables sized.1)
-
 -- a step of a body that works on its variables alone
 abbrev pub on_store : (Store → Result Store ElabError) → Progress → Result Progress ElabError
-on_store does progress = then_do (does progress.store) (λ store. Ok (record progress { store = store }))
+on_store does progress = result_and_then (does progress.store) (λ store. Ok (record progress { store = store }))
 
 -- a condition, which holds where there is none
-abbrev pub condition_given : Setting → TypedNames → Option tree.Expr → Progress → Result (ℤ × Progress) ElabError
-condition_given setting names None progress = Ok (pos 1, progress)
-condition_given setting names (Some condition) progress =
-    then_do (eval_checked setting.place names kind.Boolean condition progress.store) (λ test. Ok (test.0, record progress { store = test.1 }))
+abbrev pub condition_evaluated : Setting → TypedNames → Option tree.Expr → Progress → Result (ℤ × Progress) ElabError
+condition_evaluated setting names None progress = Ok (pos 1, progress)
+condition_evaluated setting names (Some condition) progress =
+    result_and_then (eval_checked setting.place names kind.Boolean condition progress.store) (λ test. Ok (test.0, record progress { store = test.1 }))
 
 -- statements in a scope of their own
 abbrev pub inside : (Progress → Result Progress ElabError) → Progress → Result Progress ElabError
-inside runs progress = then_do (runs progress) (λ inner. Ok (record inner { store = block_left progress.store inner.store }))
+inside runs progress = result_and_then (runs progress) (λ inner. Ok (record inner { store = block_left progress.store inner.store }))
 
 -- one more turn of a loop
 abbrev pub turned : Progress → Result Progress ElabError
-turned progress = then_do (computed (firing.turned progress.store)) (λ store. Ok (record progress { store = store }))
+turned progress = result_and_then (computed (firing.turned progress.store)) (λ store. Ok (record progress { store = store }))
 
 -- a loop: as long as the test holds, one more turn; `fuel` is more than the turns that there may be
 abbrev pub looped : (fuel : ℕ) → (test : Progress → Result (ℤ × Progress) ElabError) → (body : Progress → Result Progress ElabError) → Progress → Result Progress ElabError
 looped zero test body progress = Err (refused.ConstFault causes.Turns)
 looped (suc fuel) test body progress =
-    then_do (test progress) (λ tested.
+    result_and_then (test progress) (λ tested.
     if is_true tested.0
-    then then_do (turned tested.1) (λ turning. then_do (body turning) (looped fuel test body))
+    then result_and_then (turned tested.1) (λ turning. result_and_then (body turning) (looped fuel test body))
     else Ok tested.1)
 
 -- children
@@ -170,22 +99,22 @@ abbrev pub arguments_given : Setting → TypedNames → (parameters : List (List
 arguments_given setting names [] arguments bound store = Ok (bound, store)
 arguments_given setting names (parameter ∷ parameters) [] bound store = Ok (bound, store)
 arguments_given setting names (parameter ∷ parameters) (argument ∷ arguments) bound store =
-    then_do (eval_checked setting.place names kind.Int argument store) (λ value.
+    result_and_then (eval_checked setting.place names kind.Int argument store) (λ value.
     arguments_given setting names parameters arguments (record { 0 = parameter; 1 = value.0 } ∷ bound) value.1)
 
 -- a child by the name of its declaration: the name is known, each parameter has an argument, and no two parameters have one name
 abbrev pub named_found : Setting → TypedNames → List ℕ → Option (ℕ × Declaration) → List tree.Expr → Store → Result Found ElabError
 named_found setting names name None arguments store = Err (refused.UnknownName name)
 named_found setting names name (Some (number, declaration)) arguments store =
-    where_kept (nat_eq (length arguments) (length (parameters_of declaration))) (refused.BadArguments setting.place.holder)
-    (then_do (arguments_given setting names (parameters_of declaration) arguments [] store) (λ bound.
+    where_kept (nat_eq (length arguments) (length (parameters_of declaration))) (refused.BadArguments setting.place.declaration)
+    (result_and_then (arguments_given setting names (parameters_of declaration) arguments [] store) (λ bound.
     where_kept (not (is_doubled (parameters_of declaration))) (refused.TypeMismatch number)
-    (Ok (record { place = record { holder = number; constants = bound.0 }; text = text_of declaration.name declaration.stream; store = bound.1 }))))
+    (Ok (record { place = record { declaration = number; constants = bound.0 }; text = text_of declaration.name declaration.stream; store = bound.1 }))))
 
 -- a child without a name: it stands in the same declaration, and sees the numbers of its surroundings
 abbrev pub unnamed_found : Setting → TypedNames → Text → Store → Found
 unnamed_found setting names text store = record {
-  place = record { holder = setting.place.holder; constants = seen names store.variables setting.place.constants };
+  place = record { declaration = setting.place.declaration; constants = captures names store.variables setting.place.constants };
   text = text;
   store = store;
 }
@@ -209,15 +138,15 @@ same_item item.Int item.Void = false
 same_item item.Void item.Int = false
 
 -- the type of a pipeline so far with one more child, which takes what the last one gives
-abbrev pub types_joined : (holder : ℕ) → Option StreamType → StreamType → Result StreamType ElabError
-types_joined holder None next = Ok next
-types_joined holder (Some before) next =
-    where_kept (same_item before.output next.input) (refused.TypeMismatch holder) (Ok (record { input = before.input; output = next.output }))
+abbrev pub types_joined : (declaration : ℕ) → Option StreamType → StreamType → Result StreamType ElabError
+types_joined declaration None next = Ok next
+types_joined declaration (Some before) next =
+    where_kept (same_item before.output next.input) (refused.TypeMismatch declaration) (Ok (record { input = before.input; output = next.output }))
 
 -- a pipeline with one more child
 abbrev pub child_added : Setting → Progress → Store → Elaborated → Result Progress ElabError
 child_added setting progress store made =
-    then_do (types_joined setting.place.holder progress.types made.types) (λ types.
+    result_and_then (types_joined setting.place.declaration progress.types made.types) (λ types.
     Ok (record {
       store = record store { traffic = record store.traffic { turns = made.tally.turns } };
       children = progress.children ++ made.stream ∷ [];
@@ -228,8 +157,8 @@ child_added setting progress store made =
 -- a child of a pipeline that was found is elaborated and added
 abbrev pub found_run : Setting → Result Found ElabError → Progress → Result Progress ElabError
 found_run setting outcome progress =
-    then_do outcome (λ found.
-    then_do (setting.elaborate found.place found.text (record { turns = found.store.traffic.turns; filters = progress.filters })) (λ made.
+    result_and_then outcome (λ found.
+    result_and_then (setting.elaborate found.place found.text (record { turns = found.store.traffic.turns; filters = progress.filters })) (λ made.
     child_added setting progress found.store made))
 
 -- a child of a pipeline, elaborated at the moment that its statement runs
@@ -239,7 +168,7 @@ child_run setting names child progress = found_run setting (child_found setting 
 -- a stream statement in a pipeline, which has no other than `add`
 abbrev pub composed : Setting → TypedNames → tree.Composition → Progress → Result Progress ElabError
 composed setting names (tree.ChildOf role.Add child) progress = child_run setting names child progress
-composed setting names _ progress = Err (refused.TypeMismatch setting.place.holder)
+composed setting names _ progress = Err (refused.TypeMismatch setting.place.declaration)
 
 -- bodies
 
@@ -255,21 +184,21 @@ abbrev mutual
   stmt_run setting names outer (tree.AssignElement name index operator value) progress =
       on_store (simple_done setting.place names outer (tree.AssignElement name index operator value)) progress
   stmt_run setting names outer (tree.If condition chosen) progress =
-      then_do (condition_given setting names (Some condition) progress) (λ test.
+      result_and_then (condition_evaluated setting names (Some condition) progress) (λ test.
       if is_true test.0 then inside (stmt_run setting names (length names) chosen) test.1 else Ok test.1)
   stmt_run setting names outer (tree.IfElse condition chosen other) progress =
-      then_do (condition_given setting names (Some condition) progress) (λ test.
+      result_and_then (condition_evaluated setting names (Some condition) progress) (λ test.
       if is_true test.0
       then inside (stmt_run setting names (length names) chosen) test.1
       else inside (stmt_run setting names (length names) other) test.1)
   stmt_run setting names outer (tree.While condition body) progress =
-      looped (suc turn_limit) (condition_given setting names (Some condition)) (inside (stmt_run setting names (length names) body)) progress
+      looped (suc turn_limit) (condition_evaluated setting names (Some condition)) (inside (stmt_run setting names (length names) body)) progress
   stmt_run setting names outer (tree.For first condition step body) progress =
       inside (λ outside.
-      then_do (stmt_run setting names (length names) first outside) (λ begun.
-      looped (suc turn_limit) (condition_given setting (names_after names first) condition)
+      result_and_then (stmt_run setting names (length names) first outside) (λ begun.
+      looped (suc turn_limit) (condition_evaluated setting (names_after names first) condition)
       (λ turn.
-      then_do (inside (stmt_run setting (names_after names first) (length (names_after names first)) body) turn)
+      result_and_then (inside (stmt_run setting (names_after names first) (length (names_after names first)) body) turn)
       (inside (stmt_run setting (names_after names first) (length (names_after names first)) step)))
       begun)) progress
   stmt_run setting names outer (tree.Push value) progress = on_store (simple_done setting.place names outer (tree.Push value)) progress
@@ -281,7 +210,7 @@ abbrev mutual
   pub stmts_run : Setting → TypedNames → (outer : ℕ) → tree.Stmts → Progress → Result Progress ElabError
   stmts_run setting names outer tree.Done progress = Ok progress
   stmts_run setting names outer (tree.Then first rest) progress =
-      then_do (stmt_run setting names outer first progress) (stmts_run setting (names_after names first) outer rest)
+      result_and_then (stmt_run setting names outer first progress) (stmts_run setting (names_after names first) outer rest)
 
 -- streams
 
@@ -305,7 +234,7 @@ started_as filter (Err cause) = Err (refused.ConstFault cause)
 -- an instance of a filter: its constants are put in, its text is checked, and then its initialisers and `init` run
 abbrev pub instance_of : Place → Filter → Result Filter ElabError
 instance_of place filter =
-    then_do (ruled place.holder (filter_resolved place.constants filter)) (λ resolved. started_as resolved (started resolved))
+    result_and_then (ruled place.declaration (filter_resolved place.constants filter)) (λ resolved. started_as resolved (started resolved))
 
 -- what a filter takes and gives
 abbrev pub filter_types : Filter → StreamType
@@ -326,10 +255,10 @@ initial_progress tally = record {
 }
 
 -- a pipeline whose body has run: it has a child, and its type is the written one
-abbrev pub pipeline_made : (holder : ℕ) → Option StreamType → Option StreamType → Progress → Result Elaborated ElabError
-pipeline_made holder written None progress = Err (refused.TypeMismatch holder)
-pipeline_made holder written (Some found) progress =
-    where_kept (is_as_written written found) (refused.TypeMismatch holder)
+abbrev pub pipeline_elaborated : (declaration : ℕ) → Option StreamType → Option StreamType → Progress → Result Elaborated ElabError
+pipeline_elaborated declaration written None progress = Err (refused.TypeMismatch declaration)
+pipeline_elaborated declaration written (Some found) progress =
+    where_kept (is_as_written written found) (refused.TypeMismatch declaration)
     (Ok (record {
       stream = instance.Pipeline (in_a_row progress.children);
       types = found;
@@ -337,31 +266,31 @@ pipeline_made holder written (Some found) progress =
     }))
 
 -- a composite stream; split-joins and feedback loops aren't elaborated yet
-abbrev pub composite_made : Setting → Option StreamType → CompositeKind → tree.Stmts → Tally → Result Elaborated ElabError
-composite_made setting written composite.Pipeline block tally =
-    then_do (stmts_run setting [] 0 block (initial_progress tally)) (λ progress.
-    pipeline_made setting.place.holder written progress.types progress)
-composite_made setting written composite.Splitjoin block tally = Err refused.NotYet
-composite_made setting written composite.Feedbackloop block tally = Err refused.NotYet
+abbrev pub composite_elaborated : Setting → Option StreamType → CompositeKind → tree.Stmts → Tally → Result Elaborated ElabError
+composite_elaborated setting written composite.Pipeline block tally =
+    result_and_then (stmts_run setting [] 0 block (initial_progress tally)) (λ progress.
+    pipeline_elaborated setting.place.declaration written progress.types progress)
+composite_elaborated setting written composite.Splitjoin block tally = Err refused.NotYet
+composite_elaborated setting written composite.Feedbackloop block tally = Err refused.NotYet
 
 -- a stream of this text
-abbrev pub text_made : Setting → Text → Tally → Result Elaborated ElabError
-text_made setting (FilterText name filter) tally =
+abbrev pub text_elaborated : Setting → Text → Tally → Result Elaborated ElabError
+text_elaborated setting (FilterText name filter) tally =
     one_more tally (λ tally'.
-    then_do (instance_of setting.place filter) (λ resolved.
+    result_and_then (instance_of setting.place filter) (λ resolved.
     Ok (record { stream = instance.Filter name resolved; types = filter_types resolved; tally = tally' })))
-text_made setting (CompositeText written kind block) tally = composite_made setting written kind block tally
-text_made setting IdentityText tally =
+text_elaborated setting (CompositeText written kind block) tally = composite_elaborated setting written kind block tally
+text_elaborated setting IdentityText tally =
     one_more tally (λ tally'.
     Ok (record { stream = instance.Identity; types = record { input = item.Int; output = item.Int }; tally = tally' }))
-text_made setting ReaderText tally = Err refused.NotYet
-text_made setting WriterText tally = Err refused.NotYet
+text_elaborated setting ReaderText tally = Err refused.NotYet
+text_elaborated setting WriterText tally = Err refused.NotYet
 
 -- a stream that may have so many levels, its own among them
-abbrev pub stream_made : List Declaration → (levels : ℕ) → Place → Text → Tally → Result Elaborated ElabError
-stream_made program zero place text tally = Err refused.DepthLimit
-stream_made program (suc levels) place text tally =
-    text_made (record { program = program; place = place; elaborate = stream_made program levels }) text tally
+abbrev pub stream_elaborated : List Declaration → (levels : ℕ) → Place → Text → Tally → Result Elaborated ElabError
+stream_elaborated program zero place text tally = Err refused.DepthLimit
+stream_elaborated program (suc levels) place text tally =
+    text_elaborated (record { program = program; place = place; elaborate = stream_elaborated program levels }) text tally
 
 -- the main stream
 
@@ -408,13 +337,13 @@ main_of program None = only_main (mains_from 0 program)
 main_of program (Some name) = named_main (declared_from 0 program name)
 
 -- the main stream's place and text
-abbrev pub main_made : List Declaration → ℕ × Declaration → Result Elaborated ElabError
-main_made program found =
-    stream_made program level_limit (record { holder = found.0; constants = [] }) (text_of found.1.name found.1.stream) (record { turns = 0; filters = 0 })
+abbrev pub main_elaborated : List Declaration → ℕ × Declaration → Result Elaborated ElabError
+main_elaborated program found =
+    stream_elaborated program level_limit (record { declaration = found.0; constants = [] }) (text_of found.1.name found.1.stream) (record { turns = 0; filters = 0 })
 
 -- the stream that a program means, or the first rule that it breaks
 abbrev pub elaborated : List Declaration → Option (List ℕ) → Result Stream ElabError
 elaborated program main =
-    then_do (not_doubled (doubled_from [] 0 program)) (λ _.
-    then_do (main_of program main) (λ found.
-    then_do (main_made program found) (λ made. Ok made.stream)))
+    result_and_then (not_doubled (doubled_from [] 0 program)) (λ _.
+    result_and_then (main_of program main) (λ found.
+    result_and_then (main_elaborated program found) (λ made. Ok made.stream)))

@@ -4,8 +4,8 @@ use Rattle.std.specs.Prelude.{◌≡◌, ℕ, ◌<◌, ◌≤◌, true, List, []
 use Rattle.strc_dataflow.specs.Streams as trees
 use Rattle.strc_dataflow.specs.Flat as flat
 use Rattle.strc_elab.specs.declared.connection.TheConstants.{NODE_LIMIT}
-use Rattle.strc_elab.specs.declared.error.ElabError.{ElabError}
-use Rattle.strc_elab.specs.declared.error.ElabError.TheVariants as refusal
+use Rattle.strc_scope.specs.declared.error.ElabError.{ElabError}
+use Rattle.strc_scope.specs.declared.error.ElabError.TheVariants as refusal
 use Rattle.strc_elab.specs.Instances.{Stream, Streams, Filter, Identity, Pipeline, Done, More}
 use Rattle.strc_graph.specs.Graphs as graphs
 use Rattle.strc_graph.specs.Carriers.{carries_in, carries_out, takes_at, JoinsCarriers}

@@ -1,17 +1,11 @@
 pub mod Instances
 pub mod Types
-pub mod Texts
 pub mod Elaboration
 pub mod Examples
 pub mod Tasks
 pub mod Tallies
 pub mod Loops
-pub mod Bindings
-pub mod Seeing
 pub mod Names
-pub mod Places
-pub mod Simple
-pub mod Saying
 pub mod Answering
 pub mod View
 pub mod Flattening

@@ -8,7 +8,7 @@ use Rattle.strc_elab.specs.Elaboration.{instance_of, elaborated}
 use Rattle.strc_elab.specs.Flattening.{nodes_of}
 use Rattle.strc_graph.specs.Graphs.{NodeCode, Filter, Identity}
 use Rattle.strc_elab.specs.Instances.{Stream}
-use Rattle.strc_elab.specs.Texts.{Place}
+use Rattle.strc_scope.specs.Texts.{Place}
 use Rattle.strc_elab.specs.Types.{IsWellTyped, input_of, output_of}
 
 -- a node is an instance of a filter's text, or passes its items on

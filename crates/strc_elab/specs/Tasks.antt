@@ -6,12 +6,12 @@ use Rattle.indexmap.specs.IndexMap.{get_by}
 use Rattle.strc_syntax.specs.Tree.{Declaration}
 use Rattle.strc_syntax.specs.View.{declaration_view, block_view}
 use Rattle.strc_semantics.specs.Filters.{filter_parts}
-use Rattle.strc_elab.specs.Texts as texts
+use Rattle.strc_scope.specs.Texts as texts
 use Rattle.strc_elab.specs.Elaboration as spec
-use Rattle.strc_elab.specs.Answering.{IsVerdict}
+use Rattle.strc_scope.specs.Answers.{IsVerdict}
 use Rattle.strc_elab.specs.Names.{place_from}
 use Rattle.strc_elab.specs.View.{stream_view}
-use Rattle.strc_elab.specs.declared.error.ElabError.{ElabError}
+use Rattle.strc_scope.specs.declared.error.ElabError.{ElabError}
 use Rattle.strc_elab.specs.declared.task.Text.{Text}
 use Rattle.strc_elab.specs.declared.task.Text.TheVariants as text
 use Rattle.strc_elab.specs.declared.task.Task.{Task}
@@ -31,7 +31,7 @@ program_of task = map declaration_view task.declarations.now
 
 -- where a task's text stands
 abbrev pub place_of : Task → texts.Place
-place_of task = record { holder = task.holder; constants = task.constants.now }
+place_of task = record { declaration = task.declaration; constants = task.constants.now }
 
 -- the tally before a task
 abbrev pub tally_of : Task → spec.Tally
@@ -52,7 +52,7 @@ elaborated_view made = record {
 
 -- an answer is what the definitions make of the task
 abbrev pub IsMade : Task → Result Elaborated ElabError → Type 0
-IsMade task result = IsVerdict elaborated_view (spec.stream_made (program_of task) task.levels (place_of task) (text_view task.text) (tally_of task)) result
+IsMade task result = IsVerdict elaborated_view (spec.stream_elaborated (program_of task) task.levels (place_of task) (text_view task.text) (tally_of task)) result
 
 -- a function value that elaborates texts with so many levels
 pub record Elaborates (levels : ℕ) (pre : Task → Type 0) (post : Task → Result Elaborated ElabError → Type 0) : Type 0 where
@@ -64,7 +64,7 @@ abbrev pub setting_of : Task → spec.Setting
 setting_of task = record {
   program = program_of task;
   place = place_of task;
-  elaborate = spec.stream_made (program_of task) (task.levels - 1);
+  elaborate = spec.stream_elaborated (program_of task) (task.levels - 1);
 }
 
 -- what a body's rules stand on: the table knows the names, and the function value elaborates the level below

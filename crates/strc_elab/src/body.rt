@@ -9,19 +9,21 @@ ghost use Rattle.strc_syntax.specs.View.{expr_view, stmt_view, block_view, compo
 ghost use Rattle.strc_semantics.specs.Firing as firing;
 ghost use Rattle.strc_semantics.specs.Firing.{turn_limit};
 ghost use Rattle.strc_check.specs.Typing as typing;
+ghost use Rattle.strc_scope.specs.Statements as statements;
 ghost use Rattle.strc_elab.specs.Elaboration as spec;
-ghost use Rattle.strc_elab.specs.Loops.{while_looped, for_looped, names_behind};
-ghost use Rattle.strc_elab.specs.Saying.{store_of};
-ghost use Rattle.strc_elab.specs.Answering.{progress_of, Tests, Runs, Done};
-ghost use Rattle.strc_elab.specs.Places.{place_of as spec_place};
+ghost use Rattle.strc_elab.specs.Loops.{while_looped, for_looped, names_after_block};
+ghost use Rattle.strc_scope.specs.Saying.{store_of};
+ghost use Rattle.strc_scope.specs.Answers.{Done};
+ghost use Rattle.strc_elab.specs.Answering.{progress_of, Tests, Runs};
+ghost use Rattle.strc_scope.specs.Places.{place_of as spec_place};
 ghost use Rattle.strc_elab.specs.Tasks.{IsReady, setting_of, place_of as task_place};
 
-use crate::error::ElabError;
 use crate::progress::Progress;
-use crate::steps::Place;
-use crate::store::Store;
 use crate::task::{Elaborated, Task};
 use strc_check::types::ValueType;
+use strc_scope::error::ElabError;
+use strc_scope::steps::Place;
+use strc_scope::store::Store;
 use strc_semantics::evaluation::is_true;
 use strc_semantics::fault::{Cause, TURN_LIMIT};
 use strc_syntax::tree::{Composition, Expr, Role, Stmt};
@@ -37,7 +39,7 @@ pub(crate) struct Body<'a, F> {
 /// One more turn of a loop, unless the limit of the program is reached.
 #[tactic(auto, using(crate::proofs::Turns::turned_under, crate::proofs::Turns::turned_over))]
 fn turn(store: &mut Store) -> Result<(), ElabError>
-    ensures done { Done (spec.computed (firing.turned (store_of store.old))) result
+    ensures done { Done (statements.computed (firing.turned (store_of store.old))) result
         (store_of store.new) }
     ensures names { store.new.variables.names ≡ store.old.variables.names }
 {
@@ -57,7 +59,7 @@ impl<F: Fn(Task) -> Result<Elaborated, ElabError>> Body<'_, F> {
     {
         Place {
             alloc: self.task.alloc,
-            holder: self.task.holder,
+            declaration: self.task.declaration,
             constants: self.task.constants,
         }
     }
@@ -68,7 +70,7 @@ impl<F: Fn(Task) -> Result<Elaborated, ElabError>> Body<'_, F> {
         condition: Option<&Expr>,
         progress: &mut Progress,
     ) -> Result<i32, ElabError>
-        ensures tests { Tests (spec.condition_given
+        ensures tests { Tests (spec.condition_evaluated
             (setting_of self.now.task) progress.old.store.variables.names
             (option_map (λ e. expr_view e.now) condition.entry) (progress_of progress.old)) result
             (progress_of progress.new) }
@@ -115,7 +117,7 @@ impl<F: Fn(Task) -> Result<Elaborated, ElabError>> Body<'_, F> {
             progress.old.store.variables.names start (block_view block.now)
             (progress_of progress.old)) result (progress_of progress.new) }
         ensures names { OnOk result (progress.new.store.variables.names
-            ≡ names_behind progress.old.store.variables.names (block_view block.now)) }
+            ≡ names_after_block progress.old.store.variables.names (block_view block.now)) }
     {
         for statement in block {
             self.statement(start, statement, progress)?;
@@ -171,7 +173,7 @@ impl<F: Fn(Task) -> Result<Elaborated, ElabError>> Body<'_, F> {
                 self.for_loop(first, condition.as_ref(), step, body, progress)
             }
             Stmt::Push(_) | Stmt::Print(_) | Stmt::Println(_) => Err(ElabError::TypeMismatch {
-                stream: self.task.holder,
+                stream: self.task.declaration,
             }),
             Stmt::Compose(composition) => self.compose(composition, progress),
         }
@@ -292,7 +294,7 @@ impl<F: Fn(Task) -> Result<Elaborated, ElabError>> Body<'_, F> {
             | Composition::Split(_)
             | Composition::Join(_)
             | Composition::Enqueue(_) => Err(ElabError::TypeMismatch {
-                stream: self.task.holder,
+                stream: self.task.declaration,
             }),
         }
     }

@@ -3,18 +3,15 @@
 ghost use Rattle.std.specs.Prelude.{◌≡◌, [], map, length, IfOk, OnOk, Ok, Some};
 ghost use Rattle.strc_syntax.specs.View.{child_view, declaration_view, expr_view};
 ghost use Rattle.strc_elab.specs.Elaboration as spec;
-ghost use Rattle.strc_elab.specs.Texts as texts;
-ghost use Rattle.strc_elab.specs.Saying.{store_of};
+ghost use Rattle.strc_scope.specs.Texts as texts;
+ghost use Rattle.strc_scope.specs.Saying.{store_of};
 ghost use Rattle.strc_elab.specs.Answering.{progress_of, Binds, Runs};
 ghost use Rattle.strc_elab.specs.Tasks.{IsReady, setting_of, program_of, elaborated_view};
 ghost use Rattle.strc_elab.specs.Tasks.{text_view};
 
 use crate::body::Body;
 use crate::declared::{declared, text_of};
-use crate::error::ElabError;
 use crate::progress::Progress;
-use crate::seen::seen;
-use crate::store::Store;
 use crate::task::{Elaborated, Tally, Task, Text};
 use crate::types::same_item;
 use std::alloc::Global;
@@ -23,6 +20,9 @@ use strc_check::constants::Constants;
 use strc_check::typed_scope::TypedScope;
 use strc_check::types::ValueType;
 use strc_lex::token::Name;
+use strc_scope::captures::captures;
+use strc_scope::error::ElabError;
+use strc_scope::store::Store;
 use strc_syntax::tree::{Child, Decl, Expr, StreamType};
 
 impl<F: Fn(Task) -> Result<Elaborated, ElabError>> Body<'_, F> {
@@ -94,7 +94,7 @@ impl<F: Fn(Task) -> Result<Elaborated, ElabError>> Body<'_, F> {
         let parameters = parameters_of(declaration);
         if arguments.len() != parameters.len() {
             return Err(ElabError::BadArguments {
-                stream: self.task.holder,
+                stream: self.task.declaration,
             });
         }
         let constants = self.arguments(parameters, arguments, &mut progress.store)?;
@@ -138,19 +138,19 @@ impl<F: Fn(Task) -> Result<Elaborated, ElabError>> Body<'_, F> {
         ensures names { OnOk result (progress.new.store.variables.names
             ≡ progress.old.store.variables.names) }
     {
-        let constants = seen(
+        let constants = captures(
             self.task.alloc,
             &progress.store.variables,
             self.task.constants,
         )?;
-        self.elaborated(self.task.holder, &constants, text, progress)
+        self.elaborated(self.task.declaration, &constants, text, progress)
     }
 
     /// Elaborates a text one level below, and adds what is made to the pipeline.
     #[tactic(auto, unfolding(crate::specs::Tasks::IsReady))]
     fn elaborated(
         &self,
-        holder: usize,
+        declaration: usize,
         constants: &Constants,
         text: Text,
         progress: &mut Progress,
@@ -158,7 +158,7 @@ impl<F: Fn(Task) -> Result<Elaborated, ElabError>> Body<'_, F> {
         requires { IsReady self.now.task (F.pre self.now.elaborate) (F.post self.now.elaborate) }
         ensures runs { Runs (spec.found_run (setting_of self.now.task)
             (Ok (record {
-              place = record { holder = holder; constants = constants.now };
+              place = record { declaration = declaration; constants = constants.now };
               text =
                   text_view text.entry;
               store = store_of progress.old.store;
@@ -172,7 +172,7 @@ impl<F: Fn(Task) -> Result<Elaborated, ElabError>> Body<'_, F> {
             declarations: self.task.declarations,
             numbers: self.task.numbers,
             levels: self.task.levels.saturating_sub(1),
-            holder,
+            declaration,
             constants,
             text,
             tally: Tally {
@@ -199,7 +199,7 @@ impl<F: Fn(Task) -> Result<Elaborated, ElabError>> Body<'_, F> {
         let input = match progress.types {
             Some(before) if !same_item(before.output, types.input) => {
                 return Err(ElabError::TypeMismatch {
-                    stream: self.task.holder,
+                    stream: self.task.declaration,
                 });
             }
             Some(before) => before.input,

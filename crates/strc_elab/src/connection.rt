@@ -7,8 +7,8 @@ ghost use Rattle.strc_graph.specs.NodeView.{node_view};
 ghost use Rattle.strc_elab.specs.Flattening.{IsVerdict};
 ghost use Rattle.strc_elab.specs.Rows.{AreLinked};
 
-use crate::error::ElabError;
 use strc_graph::graph::{Node, input_ports, output_ports};
+use strc_scope::error::ElabError;
 
 /// How many nodes a program may have.
 const NODE_LIMIT: usize = 4096;

@@ -7,7 +7,7 @@ ghost use Rattle.indexmap.specs.IndexMap.{get_by};
 ghost use Rattle.strc_syntax.specs.View.{declaration_view, stream_view};
 ghost use Rattle.strc_elab.specs.Names.{place_from};
 ghost use Rattle.strc_elab.specs.Tasks.{text_view};
-ghost use Rattle.strc_elab.specs.Texts as texts;
+ghost use Rattle.strc_scope.specs.Texts as texts;
 
 use crate::index::number_of;
 use crate::task::Text;

@@ -6,13 +6,12 @@ ghost use Rattle.std.specs.Cmp.Lexicographic.{pointwise};
 ghost use Rattle.indexmap.specs.IndexMap.{get_by};
 ghost use Rattle.strc_syntax.specs.View.{declaration_view, program_view};
 ghost use Rattle.strc_elab.specs.Elaboration as spec;
-ghost use Rattle.strc_elab.specs.Answering.{IsVerdict};
+ghost use Rattle.strc_scope.specs.Answers.{IsVerdict};
 ghost use Rattle.strc_elab.specs.Names.{place_from};
 ghost use Rattle.strc_elab.specs.Tasks.{elaborated_view};
 ghost use Rattle.strc_elab.specs.View.{stream_view};
 
 use crate::declared::text_of;
-use crate::error::ElabError;
 use crate::index::index_of;
 use crate::level::elaborate_text;
 use crate::main_stream::main_of;
@@ -21,6 +20,7 @@ use crate::task::{Elaborated, Tally, Task};
 use indexmap::IndexMap;
 use std::alloc::Global;
 use strc_check::constants::Constants;
+use strc_scope::error::ElabError;
 use strc_syntax::tree::{Decl, Program};
 
 /// How many levels streams may stand in one another, the main one being the first.
@@ -39,12 +39,12 @@ pub fn elaborate(alloc: Global, program: &Program, main: Option<&str>) -> Result
     let declarations = program.declarations.as_slice();
     let numbers = index_of(alloc, declarations)?;
     let (number, declaration) = main_of(declarations, &numbers, main)?;
-    let made = main_made(alloc, declarations, &numbers, number, declaration)?;
+    let made = main_elaborated(alloc, declarations, &numbers, number, declaration)?;
     Ok(made.stream)
 }
 
 /// What the main stream's text means.
-fn main_made(
+fn main_elaborated(
     alloc: Global,
     declarations: &[Decl],
     numbers: &IndexMap<&[u8], usize>,
@@ -53,7 +53,8 @@ fn main_made(
 ) -> Result<Elaborated, ElabError>
     requires { (q : List ℕ) → get_by (λ k. pointwise nat_eq q k.now) numbers.now
         ≡ place_from 0 (map (λ d. d.name) declarations.now) q }
-    ensures { IsVerdict elaborated_view (spec.main_made (map declaration_view declarations.now)
+    ensures { IsVerdict elaborated_view
+        (spec.main_elaborated (map declaration_view declarations.now)
         (number, declaration_view declaration.now)) result }
 {
     let constants = Constants::new(alloc);
@@ -62,7 +63,7 @@ fn main_made(
         declarations,
         numbers,
         levels: LEVEL_LIMIT,
-        holder: number,
+        declaration: number,
         constants: &constants,
         text: text_of(declaration),
         tally: Tally {

@@ -10,10 +10,10 @@ ghost use Rattle.strc_elab.specs.Flattening.{nodes_of, names_of, node_limit, IsF
 ghost use Rattle.strc_elab.specs.Rows.{AreLinked, link_at, links};
 
 use crate::connection::check;
-use crate::error::ElabError;
 use crate::stream::Stream;
 use std::alloc::{AllocError, Global};
 use strc_graph::graph::{Channel, Graph, Node, Port};
+use strc_scope::error::ElabError;
 
 /// The flat graph of a stream: its nodes in preorder, and a channel from each port to where its
 /// items go.

@@ -5,12 +5,12 @@ ghost use Rattle.std.specs.Cmp.Lexicographic.{pointwise};
 ghost use Rattle.indexmap.specs.IndexMap.{get_by};
 ghost use Rattle.strc_elab.specs.Names.{place_from};
 ghost use Rattle.strc_elab.specs.Elaboration.{doubled_from, not_doubled};
-ghost use Rattle.strc_elab.specs.Answering.{IsVerdict};
+ghost use Rattle.strc_scope.specs.Answers.{IsVerdict};
 ghost use Rattle.strc_syntax.specs.View.{declaration_view};
 
-use crate::error::ElabError;
 use indexmap::IndexMap;
 use std::alloc::Global;
+use strc_scope::error::ElabError;
 use strc_syntax::tree::Decl;
 
 /// The number of each declaration by its name. A second one of a name is a mismatch.

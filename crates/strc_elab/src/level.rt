@@ -4,8 +4,8 @@
 ghost use Rattle.strc_elab.specs.Tasks.{KnowsNames, IsMade};
 
 use crate::body::Body;
-use crate::error::ElabError;
 use crate::task::{Elaborated, Task};
+use strc_scope::error::ElabError;
 
 /// The instances that a text means, with so many levels as the task allows.
 pub(crate) fn elaborate_text(task: Task) -> Result<Elaborated, ElabError>

@@ -6,14 +6,14 @@ ghost use Rattle.std.specs.Cmp.Lexicographic.{pointwise};
 ghost use Rattle.indexmap.specs.IndexMap.{get_by};
 ghost use Rattle.strc_syntax.specs.View.{declaration_view, stream_view};
 ghost use Rattle.strc_elab.specs.Elaboration as spec;
-ghost use Rattle.strc_elab.specs.Answering.{IsVerdict};
+ghost use Rattle.strc_scope.specs.Answers.{IsVerdict};
 ghost use Rattle.strc_elab.specs.Names.{place_from};
-ghost use Rattle.strc_elab.specs.Texts as texts;
+ghost use Rattle.strc_scope.specs.Texts as texts;
 
 use crate::declared::declared;
-use crate::error::ElabError;
 use crate::types::is_as_written;
 use indexmap::IndexMap;
+use strc_scope::error::ElabError;
 use strc_syntax::tree::{Decl, ItemType, StreamTree, StreamType};
 
 /// The main stream with its number: the one that is named, or else the only declaration that can be

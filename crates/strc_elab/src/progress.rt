@@ -1,7 +1,7 @@
 // How far a composite stream's body has run.
 
-use crate::store::Store;
 use crate::stream::Stream;
+use strc_scope::store::Store;
 use strc_syntax::tree::StreamType;
 
 /// The variables and the turns so far, the children with their type in a row, and how many filters

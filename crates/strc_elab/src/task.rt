@@ -32,7 +32,7 @@ pub(crate) struct Task<'a> {
     pub(crate) declarations: &'a [Decl],
     pub(crate) numbers: &'a IndexMap<&'a [u8], usize>,
     pub(crate) levels: u32,
-    pub(crate) holder: usize,
+    pub(crate) declaration: usize,
     pub(crate) constants: &'a Constants,
     pub(crate) text: Text<'a>,
     pub(crate) tally: Tally,

@@ -7,24 +7,25 @@ ghost use Rattle.strc_syntax.specs.declared.tree.CompositeKind.TheVariants as co
 ghost use Rattle.strc_semantics.specs.Filters.{filter_of, filter_parts};
 ghost use Rattle.strc_semantics.specs.Firing as firing;
 ghost use Rattle.strc_elab.specs.Elaboration as spec;
-ghost use Rattle.strc_elab.specs.Answering.{progress_of, IsVerdict};
+ghost use Rattle.strc_scope.specs.Answers.{IsVerdict};
+ghost use Rattle.strc_elab.specs.Answering.{progress_of};
 ghost use Rattle.strc_elab.specs.Tallies.{tally_view};
 ghost use Rattle.strc_elab.specs.Tasks.{IsReady, setting_of, place_of, tally_of, text_view};
 ghost use Rattle.strc_elab.specs.Tasks.{elaborated_view};
-ghost use Rattle.strc_elab.specs.Texts as texts;
+ghost use Rattle.strc_scope.specs.Texts as texts;
 
 use crate::body::Body;
-use crate::error::ElabError;
 use crate::progress::Progress;
-use crate::steps::at_declaration;
-use crate::store::Store;
 use crate::stream::Stream;
 use crate::task::{Elaborated, Tally, Task, Text};
 use crate::types::is_as_written;
-use crate::variables::Variables;
 use std::alloc::{AllocError, Global};
 use strc_graph::instance::Instance;
 use strc_lex::token::Name;
+use strc_scope::error::ElabError;
+use strc_scope::steps::at_declaration;
+use strc_scope::store::Store;
+use strc_scope::variables::Variables;
 use strc_syntax::tree::{CompositeKind, ItemType, Member, Stmt, StreamType};
 use strc_work::code::{Code, StartError};
 use strc_work::lowering::lower_parts;
@@ -87,7 +88,7 @@ impl Task<'_> {
             self.constants,
         ) {
             Ok(code) => started(self.alloc, code),
-            Err(error) => Err(at_declaration(self.holder, error)),
+            Err(error) => Err(at_declaration(self.declaration, error)),
         }
     }
 
@@ -98,7 +99,7 @@ impl Task<'_> {
         types: StreamType,
         members: &[Member],
     ) -> Result<Elaborated, ElabError>
-        ensures { IsVerdict elaborated_view (spec.text_made (setting_of self.now)
+        ensures { IsVerdict elaborated_view (spec.text_elaborated (setting_of self.now)
             (texts.FilterText (option_map (λ n. n.now) name.entry)
             (filter_parts types.input types.output members.now)) (tally_of self.now)) result }
     {
@@ -118,7 +119,8 @@ impl Task<'_> {
 
     /// What gives each item that it takes.
     fn identity(&self) -> Result<Elaborated, ElabError>
-        ensures { IsVerdict elaborated_view (spec.text_made (setting_of self.now) texts.IdentityText
+        ensures { IsVerdict elaborated_view
+            (spec.text_elaborated (setting_of self.now) texts.IdentityText
             (tally_of self.now)) result }
     {
         let tally = self.tally.one_more()?;
@@ -154,7 +156,7 @@ impl Task<'_> {
         written: Option<StreamType>,
         progress: Progress,
     ) -> Result<Elaborated, ElabError>
-        ensures { IsVerdict elaborated_view (spec.pipeline_made self.now.holder written
+        ensures { IsVerdict elaborated_view (spec.pipeline_elaborated self.now.declaration written
             progress.types (progress_of progress)) result }
     {
         match progress.types {
@@ -167,7 +169,7 @@ impl Task<'_> {
                 },
             }),
             _ => Err(ElabError::TypeMismatch {
-                stream: self.holder,
+                stream: self.declaration,
             }),
         }
     }
@@ -177,7 +179,7 @@ impl<F: Fn(Task) -> Result<Elaborated, ElabError>> Body<'_, F> {
     /// The stream of the task's text.
     pub(crate) fn made(&self) -> Result<Elaborated, ElabError>
         requires { IsReady self.now.task (F.pre self.now.elaborate) (F.post self.now.elaborate) }
-        ensures { IsVerdict elaborated_view (spec.text_made (setting_of self.now.task)
+        ensures { IsVerdict elaborated_view (spec.text_elaborated (setting_of self.now.task)
             (text_view self.now.task.text) (tally_of self.now.task)) result }
     {
         match self.task.text {
@@ -207,7 +209,8 @@ impl<F: Fn(Task) -> Result<Elaborated, ElabError>> Body<'_, F> {
         block: &[Stmt],
     ) -> Result<Elaborated, ElabError>
         requires { IsReady self.now.task (F.pre self.now.elaborate) (F.post self.now.elaborate) }
-        ensures { IsVerdict elaborated_view (spec.composite_made (setting_of self.now.task) written
+        ensures { IsVerdict elaborated_view
+            (spec.composite_elaborated (setting_of self.now.task) written
             kind (block_view block.now) (tally_of self.now.task)) result }
     {
         match kind {

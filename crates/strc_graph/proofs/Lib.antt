@@ -1,2 +1,3 @@
 pub mod Carriers
 pub mod Works
+pub mod Idle

@@ -1,12 +1,13 @@
 -- A filter without a prework: each of its firings is one of its work.
 use Rattle.std.proofs.Common.{◌≡◌, refl, ap, ◌∙◌, ℕ, ℤ, false, List, [], ◌∷◌, None, Result, Ok}
 use Rattle.std.specs.Prelude.{is_some, unwrap_or}
+use Rattle.strc_base.specs.Results.{result_and_then}
 use Rattle.strc_syntax.specs.Tree as tree
 use Rattle.strc_semantics.specs.declared.body.Body.{Body}
 use Rattle.strc_semantics.specs.declared.body.Body.TheVariants as body
 use Rattle.strc_semantics.specs.Filters.{Filter, work_block, work_rates, prework_block}
 use Rattle.strc_semantics.specs.Filters.{prework_rates, body_block, body_rates}
-use Rattle.strc_semantics.specs.Firing.{Fired, fired, then_do, stmts_done, port_at_rates, store_at}
+use Rattle.strc_semantics.specs.Firing.{Fired, fired, stmts_done, port_at_rates, store_at}
 use Rattle.strc_semantics.specs.Firing.{block_left, field_values}
 use Rattle.strc_semantics.specs.declared.fault.Cause.{Cause}
 use Rattle.strc_graph.specs.Rates.{firing_rates, body_at}
@@ -48,7 +49,7 @@ rates_of_work filter none firing = work_rates_alone (body_at firing) filter.memb
 abbrev firing_of : Filter → List tree.Rate → tree.Stmts → (fields items : List ℤ)
     → Result Fired Cause
 firing_of filter rates block fields items =
-    then_do (stmts_done (port_at_rates rates items) block (store_at filter fields)) (λ store.
+    result_and_then (stmts_done (port_at_rates rates items) block (store_at filter fields)) (λ store.
     let left = block_left (store_at filter fields) store in
     Ok (record {
       fields = field_values left;

@@ -4,3 +4,4 @@ pub mod NodeView
 pub mod Rates
 pub mod Connections
 pub mod Meaning
+pub mod Laws

@@ -6,6 +6,7 @@ use Rattle.std.specs.Result.{IfOk}
 use Rattle.std.proofs.lemmas.Option.{IfSome_then}
 use Rattle.std.proofs.lemmas.Result.{IfOk-weaker}
 use Rattle.std.proofs.lemmas.Bool.{cases_lt}
+use Rattle.strc_base.specs.Results.{result_and_then}
 use Rattle.strc_syntax.specs.Tree as tree
 use Rattle.strc_syntax.specs.declared.tree.AssignOperator.{AssignOperator}
 use Rattle.strc_syntax.specs.declared.tree.AssignOperator.TheVariants as assign
@@ -15,10 +16,13 @@ use Rattle.strc_semantics.specs.Arithmetic.{wrapped, truth, is_true}
 use Rattle.strc_base.specs.Names.{has_name}
 use Rattle.strc_semantics.specs.Scoping.{Scope, size_of, names_after}
 use Rattle.strc_semantics.specs.Closed.{IsClosedStmt}
-use Rattle.strc_semantics.specs.Firing.{then_do, Port, Traffic, Store, cells_named, with_cell, value_in, assigned, declared_in, value_of, initial_cells, condition_value, turned, turn_limit, looped, inside, block_left, stmt_done}
+use Rattle.strc_semantics.specs.Firing.{Port, Traffic, Store, cells_named, with_cell, value_in, assigned, declared_in, value_of, initial_cells, condition_value, turned, turn_limit, looped, inside, block_left, stmt_done}
 use Rattle.strc_work.proofs.Variables.{scope_of, scope_of-with_cell}
-use Rattle.strc_rate.specs.Constant.{constant}
-use Rattle.strc_rate.specs.Loops.{Locals, Bound, First, Loop, bound_of, move_of, first_declared, first_assigned, first_of, loop_of, counted_from, counted_loop, value_after, stmt_writes}
+use Rattle.strc_interval.specs.Constant.{constant}
+use Rattle.strc_interval.specs.declared.loops.Bound.{Bound}
+use Rattle.strc_interval.specs.Loops.{Locals, First, Loop, bound_of, move_of, first_declared}
+use Rattle.strc_interval.specs.Loops.{first_assigned, first_of, loop_of, counted_from, counted_loop}
+use Rattle.strc_interval.specs.Loops.{value_after, stmt_writes}
 use Rattle.strc_rate.specs.Kept.{TurnsAreLeast}
 use Rattle.strc_rate.proofs.Results.{then_ok, both_ok, done_ok, ok_known, below, below_all}
 use Rattle.strc_rate.proofs.Keeping.{one_name, Same, same_size, same_cells}
@@ -53,19 +57,19 @@ declared_first name value store =
 declared_by : (locals : Locals) (only : tree.Variable) (initial : tree.Expr) (given : Option ℤ) → only.initial ≡ Some initial → constant initial ≡ given → IfSome (valued only.name given) (Begins locals (tree.Declare tree.Int (only ∷ [])))
 declared_by locals only initial None is known = tt
 declared_by locals only initial (Some value) is known =
-    λ port store seen.
+    λ port store with_closed_peeks.
     let go : List ℤ × Store → Result Store Cause = λ given. Ok (declared_in given.1 only.name given.0) in
     let cells : initial_cells port 1 only.initial store ≡ Ok (value ∷ [], store) =
-    ap (λ i. initial_cells port 1 i store) is ∙ ap (λ r. then_do {B = List ℤ × Store} r (λ given. Ok (given.0 ∷ [], given.1))) (constant_done port initial store value known) in
-    ok_known (stmt_done port (tree.Declare tree.Int (only ∷ [])) store) (declared_in store only.name (value ∷ [])) (HasValue only.name value) (ap (λ r. then_do r go) cells) (declared_first only.name value store)
+    ap (λ i. initial_cells port 1 i store) is ∙ ap (λ r. result_and_then {B = List ℤ × Store} r (λ given. Ok (given.0 ∷ [], given.1))) (constant_done port initial store value known) in
+    ok_known (stmt_done port (tree.Declare tree.Int (only ∷ [])) store) (declared_in store only.name (value ∷ [])) (HasValue only.name value) (ap (λ r. result_and_then r go) cells) (declared_first only.name value store)
 
 declared_told : (locals : Locals) (only : tree.Variable) (initial : Option tree.Expr) → only.initial ≡ initial → IfSome (valued only.name (option_and_then constant initial)) (Begins locals (tree.Declare tree.Int (only ∷ [])))
 declared_told locals only None is = tt
 declared_told locals only (Some initial) is = declared_by locals only initial (constant initial) is refl
 
 assigned_first : (locals : Locals) (name : List ℕ) (value : ℤ) (store : Store) → Seen locals (scope_of store.variables) → has_name locals name ≡ true → HasValue name value (assigned store name value)
-assigned_first locals name value store seen named =
-    let sized : 1 ≤ size_of (scope_of store.variables) name = seen_sized locals (scope_of store.variables) name seen named in
+assigned_first locals name value store with_closed_peeks named =
+    let sized : 1 ≤ size_of (scope_of store.variables) name = seen_sized locals (scope_of store.variables) name with_closed_peeks named in
     let before : length (cells_named store.variables name) ≡ size_of (scope_of store.variables) name = cells_sized store.variables name in
     let after : length (cells_named (with_cell store.variables name 0 value) name) ≡ size_of (scope_of store.variables) name =
     cells_sized (with_cell store.variables name 0 value) name ∙ ap (λ s. size_of s name) (scope_of-with_cell store.variables name 0 value) in
@@ -75,9 +79,9 @@ assigned_by : (locals : Locals) (name : List ℕ) (e : tree.Expr) (t : Bool) (gi
 assigned_by locals name e false given named known = tt
 assigned_by locals name e true None named known = tt
 assigned_by locals name e true (Some value) named known =
-    λ port store seen.
+    λ port store with_closed_peeks.
     ok_known (stmt_done port (tree.Assign name assign.Set e) store) (assigned store name value) (HasValue name value)
-    (ap (λ r. then_do r (λ given. Ok (assigned given.1 name given.0))) (constant_done port e store value known)) (assigned_first locals name value store seen named)
+    (ap (λ r. result_and_then r (λ given. Ok (assigned given.1 name given.0))) (constant_done port e store value known)) (assigned_first locals name value store with_closed_peeks named)
 
 first_assigned_told : (locals : Locals) (name : List ℕ) (operator : AssignOperator) (e : tree.Expr) → IfSome (first_assigned locals name operator e) (Begins locals (tree.Assign name operator e))
 first_assigned_told locals name assign.Set e = assigned_by locals name e (has_name locals name) (constant e) refl refl
@@ -189,7 +193,7 @@ step_inside name s move port store steps some =
 turned_more : (P : Traffic → Type 0) (store : Store) → ((n : ℕ) → P (record store.traffic { turns = n })) → IfOk (turned store) (λ after. (after.variables ≡ store.variables) × P after.traffic)
 turned_more P store h = by_test (nat_lt store.traffic.turns turn_limit)
   where
-    by_test : (t : Bool) → IfOk (then_do (if t then Ok (record store.traffic { turns = store.traffic.turns + 1 }) else Err Turns) (λ traffic. Ok (record store { traffic = traffic }))) (λ after. (after.variables ≡ store.variables) × P after.traffic)
+    by_test : (t : Bool) → IfOk (result_and_then (if t then Ok (record store.traffic { turns = store.traffic.turns + 1 }) else Err Turns) (λ traffic. Ok (record store { traffic = traffic }))) (λ after. (after.variables ≡ store.variables) × P after.traffic)
     by_test true = (refl, h (store.traffic.turns + 1))
     by_test false = tt
 
@@ -207,7 +211,7 @@ module _ {locals : Locals} {first : tree.Stmt} {condition : Option tree.Expr} {s
       omega arith
 
   -- the body and then the step
-  pub turn_at : (t : ℕ) (store : Store) → t < loop.turns → At t store → IfOk (then_do (inside (stmt_done port body) store) (inside (stmt_done port step))) (At (t + 1))
+  pub turn_at : (t : ℕ) (store : Store) → t < loop.turns → At t store → IfOk (result_and_then (inside (stmt_done port body) store) (inside (stmt_done port step))) (At (t + 1))
   turn_at t store lt at =
       let writes : List ℕ → Bool = λ name. stmt_writes name body in
       then_ok (inside (stmt_done port body) store) (inside (stmt_done port step)) (λ after. Same writes store.variables after.variables × P (t + 1) after.traffic) (At (t + 1))
@@ -227,16 +231,16 @@ module _ {locals : Locals} {first : tree.Stmt} {condition : Option tree.Expr} {s
       (step_inside loop.name step loop.move port middle known.steps (has_cell middle shape)))
 
   -- a loop that has come to a turn ends behind its last one
-  pub loop_from : (fuel t : ℕ) (store : Store) → t ≤ loop.turns → At t store → IfOk (looped fuel (condition_value port condition) (λ turn. then_do (inside (stmt_done port body) turn) (inside (stmt_done port step))) store) (At loop.turns)
+  pub loop_from : (fuel t : ℕ) (store : Store) → t ≤ loop.turns → At t store → IfOk (looped fuel (condition_value port condition) (λ turn. result_and_then (inside (stmt_done port body) turn) (inside (stmt_done port step))) store) (At loop.turns)
   loop_from zero t store le at = tt
   loop_from (suc fuel) t store le at =
       let test = condition_value port condition in
-      let turn : Store → Result Store Cause = λ turning. then_do (inside (stmt_done port body) turning) (inside (stmt_done port step)) in
-      let go : ℤ × Store → Result Store Cause = λ tested. cond (is_true tested.0) (then_do (turned tested.1) (λ turning. then_do (turn turning) (looped fuel test turn))) (Ok tested.1) in
+      let turn : Store → Result Store Cause = λ turning. result_and_then (inside (stmt_done port body) turning) (inside (stmt_done port step)) in
+      let go : ℤ × Store → Result Store Cause = λ tested. cond (is_true tested.0) (result_and_then (turned tested.1) (λ turning. result_and_then (turn turning) (looped fuel test turn))) (Ok tested.1) in
       ⊎_elim
       (λ (lt : t < loop.turns).
       done_ok (test store) (truth true, store) go (At loop.turns) (test_holds known port store t at.value lt)
-      (then_ok (turned store) (λ turning. then_do (turn turning) (looped fuel test turn)) (λ turning. (turning.variables ≡ store.variables) × P t turning.traffic) (At loop.turns)
+      (then_ok (turned store) (λ turning. result_and_then (turn turning) (looped fuel test turn)) (λ turning. (turning.variables ≡ store.variables) × P t turning.traffic) (At loop.turns)
       (turned_more (P t) store (λ n. moved t store.traffic n at.so_far))
       (λ turning h.
       then_ok (turn turning) (looped fuel test turn) (At (t + 1)) (At loop.turns)

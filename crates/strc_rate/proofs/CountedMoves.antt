@@ -5,6 +5,7 @@ use Rattle.std.specs.Option.{IfSome}
 use Rattle.std.specs.Result.{IfOk}
 use Rattle.std.proofs.lemmas.Bool.{eqb-true}
 use Rattle.std.proofs.lemmas.Result.{IfOk-weaker}
+use Rattle.strc_base.specs.Results.{result_and_then}
 use Rattle.strc_syntax.specs.Tree as tree
 use Rattle.strc_syntax.specs.declared.tree.AssignOperator.{AssignOperator}
 use Rattle.strc_syntax.specs.declared.tree.AssignOperator.TheVariants as assign
@@ -13,9 +14,9 @@ use Rattle.strc_syntax.specs.declared.tree.BinaryOperator.TheVariants as binary
 use Rattle.strc_semantics.specs.declared.fault.Cause.{Cause}
 use Rattle.strc_semantics.specs.declared.fault.Cause.TheVariants.{PeekRange}
 use Rattle.strc_semantics.specs.Arithmetic.{is_true, binary_value}
-use Rattle.strc_semantics.specs.Firing.{then_do, Port, Traffic, Store, item_popped, pushed_to, joined, peeked_from, value_of, value_in, assigned_value, place_of, cell_in, cell_set, declared_in, element_joined, element_set, initial_cells, variables_declared}
-use Rattle.strc_rate.specs.Constant.{constant}
-use Rattle.strc_rate.specs.Counts.{Counts, saturated, no_items, one_push, one_pop, same_counts, added, both, either, nothing, multiplied, repeated, sides, Need, need_by, need_of, needed, expr_counts, option_counts, variables_counts}
+use Rattle.strc_semantics.specs.Firing.{Port, Traffic, Store, item_popped, pushed_to, joined, peeked_from, value_of, value_in, assigned_value, place_of, cell_in, cell_set, declared_in, element_joined, element_set, initial_cells, variables_declared}
+use Rattle.strc_interval.specs.Constant.{constant}
+use Rattle.strc_rate.specs.Counts.{Counts, saturated, no_items, one_push, one_pop, same_counts, added, sequence, if_equal, require_zero, multiplied, repeated, branch_counts, Need, need_by, need_of, needed, expr_counts, option_counts, variables_counts}
 use Rattle.strc_rate.proofs.Results.{and_first, and_second, then_ok, both_ok, any_ok}
 use Rattle.strc_rate.proofs.Keeping.{strict_holds}
 use Rattle.strc_rate.proofs.LoopParts.{constant_told}
@@ -58,7 +59,7 @@ one_after a b c x y h k =
       saturated_pushes = saturating_sum h.pushes k.pushes x.pushes y.pushes h.saturated_pushes k.saturated_pushes;
     }
 
-pub counted_both : (a b c : Traffic) (x y : Option Counts) → Counted x a b → Counted y b c → Counted (both x y) a c
+pub counted_both : (a b c : Traffic) (x y : Option Counts) → Counted x a b → Counted y b c → Counted (sequence x y) a c
 counted_both a b c None y h k = tt
 counted_both a b c (Some x) None h k = tt
 counted_both a b c (Some x) (Some y) h k = one_after a b c x y h k
@@ -74,22 +75,22 @@ same_by : (a b : Traffic) (c d : Counts) (t : Bool) → same_counts c d ≡ t �
 same_by a b c d true e = (λ h. h, λ h. moves_same a b d c (sym (same_pushes c d e)) (sym (same_pops c d e)) h)
 same_by a b c d false e = (λ h. tt, λ h. tt)
 
-either_first : (a b : Traffic) (x y : Option Counts) → Counted x a b → Counted (either x y) a b
+either_first : (a b : Traffic) (x y : Option Counts) → Counted x a b → Counted (if_equal x y) a b
 either_first a b None y h = tt
 either_first a b (Some x) None h = tt
 either_first a b (Some x) (Some y) h = (same_by a b x y (same_counts x y) refl).0 h
 
-either_second : (a b : Traffic) (x y : Option Counts) → Counted y a b → Counted (either x y) a b
+either_second : (a b : Traffic) (x y : Option Counts) → Counted y a b → Counted (if_equal x y) a b
 either_second a b None y h = tt
 either_second a b (Some x) None h = tt
 either_second a b (Some x) (Some y) h = (same_by a b x y (same_counts x y) refl).1 h
 
 -- what must count nothing, run or left out
-nothing_run : (a b : Traffic) (x : Option Counts) → Counted x a b → Counted (nothing x) a b
+nothing_run : (a b : Traffic) (x : Option Counts) → Counted x a b → Counted (require_zero x) a b
 nothing_run a b None h = tt
 nothing_run a b (Some x) h = (same_by a b no_items x (same_counts no_items x) refl).1 h
 
-nothing_left : (a : Traffic) (x : Option Counts) → Counted (nothing x) a a
+nothing_left : (a : Traffic) (x : Option Counts) → Counted (require_zero x) a a
 nothing_left a None = tt
 nothing_left a (Some x) = (same_by a a no_items x (same_counts no_items x) refl).0 (stays a)
 
@@ -102,7 +103,7 @@ still_by x false e = inl refl
 still_by x true e = inr (refl, λ a b h. moves_same a b x no_items (sym (same_pushes no_items x e)) (sym (same_pops no_items x e)) h)
 
 -- either nothing is told, or nothing is moved
-pub nothing_cases : (x : Option Counts) → (nothing x ≡ None) ⊎ ((nothing x ≡ Some no_items) × IsStill x)
+pub nothing_cases : (x : Option Counts) → (require_zero x ≡ None) ⊎ ((require_zero x ≡ Some no_items) × IsStill x)
 nothing_cases None = inl refl
 nothing_cases (Some x) = still_by x (same_counts no_items x) refl
 
@@ -113,20 +114,20 @@ abbrev pub CountedOk : {A : Type 0} → (A → Traffic) → Option Counts → Tr
 CountedOk traffic x before result = IfOk result (λ a. Counted x before (traffic a))
 
 -- behind a part that was counted
-pub behind_counts : {A : Type 0} (traffic : A → Traffic) (before middle : Traffic) (x y : Option Counts) (result : Result A Cause) → Counted x before middle → CountedOk traffic y middle result → CountedOk traffic (both x y) before result
-behind_counts traffic before middle x y result h k =
+pub advance_counts : {A : Type 0} (traffic : A → Traffic) (before middle : Traffic) (x y : Option Counts) (result : Result A Cause) → Counted x before middle → CountedOk traffic y middle result → CountedOk traffic (sequence x y) before result
+advance_counts traffic before middle x y result h k =
     IfOk-weaker result (λ a. Counted y middle (traffic a)) _ (λ a l. counted_both before middle (traffic a) x y h l) k
 
 side_by : {A : Type 0} (traffic : A → Traffic) (t : Bool) (x y : Option Counts) (before : Traffic) (one other : Result A Cause) → CountedOk traffic x before one → CountedOk traffic y before other → CountedOk traffic (if t then x else y) before (cond t one other)
 side_by traffic true x y before one other h k = h
 side_by traffic false x y before one other h k = k
 
-either_by : {A : Type 0} (traffic : A → Traffic) (t : Bool) (x y : Option Counts) (before : Traffic) (one other : Result A Cause) → CountedOk traffic x before one → CountedOk traffic y before other → CountedOk traffic (either x y) before (cond t one other)
+either_by : {A : Type 0} (traffic : A → Traffic) (t : Bool) (x y : Option Counts) (before : Traffic) (one other : Result A Cause) → CountedOk traffic x before one → CountedOk traffic y before other → CountedOk traffic (if_equal x y) before (cond t one other)
 either_by traffic true x y before one other h k = IfOk-weaker one (λ a. Counted x before (traffic a)) _ (λ a l. either_first before (traffic a) x y l) h
 either_by traffic false x y before one other h k = IfOk-weaker other (λ a. Counted y before (traffic a)) _ (λ a l. either_second before (traffic a) x y l) k
 
 -- one of two sides runs: the one that a known condition takes
-pub side_counts : {A : Type 0} (traffic : A → Traffic) (known : Option ℤ) (value : ℤ) (x y : Option Counts) (before : Traffic) (one other : Result A Cause) → IfSome known (λ v. value ≡ v) → CountedOk traffic x before one → CountedOk traffic y before other → CountedOk traffic (sides known x y) before (cond (is_true value) one other)
+pub side_counts : {A : Type 0} (traffic : A → Traffic) (known : Option ℤ) (value : ℤ) (x y : Option Counts) (before : Traffic) (one other : Result A Cause) → IfSome known (λ v. value ≡ v) → CountedOk traffic x before one → CountedOk traffic y before other → CountedOk traffic (branch_counts known x y) before (cond (is_true value) one other)
 side_counts traffic None value x y before one other is h k = either_by traffic (is_true value) x y before one other h k
 side_counts traffic (Some v) value x y before one other is h k =
     subst (λ u. CountedOk traffic (if is_true u then x else y) before (cond (is_true value) one other)) is
@@ -138,7 +139,7 @@ abbrev pub value_traffic : ℤ × Store → Traffic
 value_traffic given = given.1.traffic
 
 -- the right side runs or not, by a left side that isn't known
-maybe_counts : (t : Bool) (first : ℤ × Store) (x : Option Counts) (right : Result (ℤ × Store) Cause) → CountedOk value_traffic x first.1.traffic right → CountedOk value_traffic (nothing x) first.1.traffic (cond t (Ok first) right) × CountedOk value_traffic (nothing x) first.1.traffic (cond t right (Ok first))
+maybe_counts : (t : Bool) (first : ℤ × Store) (x : Option Counts) (right : Result (ℤ × Store) Cause) → CountedOk value_traffic x first.1.traffic right → CountedOk value_traffic (require_zero x) first.1.traffic (cond t (Ok first) right) × CountedOk value_traffic (require_zero x) first.1.traffic (cond t right (Ok first))
 maybe_counts true first x right h =
     (nothing_left first.1.traffic x, IfOk-weaker right (λ a. Counted x first.1.traffic (value_traffic a)) _ (λ a l. nothing_run first.1.traffic (value_traffic a) x l) h)
 maybe_counts false first x right h =
@@ -165,7 +166,7 @@ and_counts (Some v) first x right is h =
     subst (λ u. CountedOk value_traffic (needed (need_by binary.LogicalAnd (Some u)) x) first.1.traffic (cond (is_true first.0) right (Ok first))) is
     (and_known (is_true first.0) first x right h)
 
-strict_counts : (operator : BinaryOperator) (first : ℤ × Store) (x : Option Counts) (right : Store → Result (ℤ × Store) Cause) → CountedOk value_traffic x first.1.traffic (right first.1) → CountedOk value_traffic x first.1.traffic (then_do (right first.1) (λ second. then_do (binary_value operator first.0 second.0) (λ value. Ok (value, second.1))))
+strict_counts : (operator : BinaryOperator) (first : ℤ × Store) (x : Option Counts) (right : Store → Result (ℤ × Store) Cause) → CountedOk value_traffic x first.1.traffic (right first.1) → CountedOk value_traffic x first.1.traffic (result_and_then (right first.1) (λ second. result_and_then (binary_value operator first.0 second.0) (λ value. Ok (value, second.1))))
 strict_counts operator first x right h = strict_holds (λ s. Counted x first.1.traffic s.traffic) operator first right h
 
 joined_counts : (operator : BinaryOperator) (left : tree.Expr) (first : ℤ × Store) (x : Option Counts) (right : Store → Result (ℤ × Store) Cause) → IfSome (constant left) (λ v. first.0 ≡ v) → CountedOk value_traffic x first.1.traffic (right first.1) → CountedOk value_traffic (needed (need_of operator left) x) first.1.traffic (joined operator first right)
@@ -218,12 +219,12 @@ value_counts port (tree.StepElement operator name index) store =
 value_counts port (tree.Binary operator left right) store =
     then_ok (value_of port left store) _ (λ first. Counted (expr_counts left) store.traffic first.1.traffic × IfSome (constant left) (λ v. first.0 ≡ v)) (λ given. Counted (expr_counts (tree.Binary operator left right)) store.traffic given.1.traffic)
     (both_ok (value_of port left store) _ _ (value_counts port left store) (constant_told port left store))
-    (λ first h. behind_counts value_traffic store.traffic first.1.traffic (expr_counts left) (needed (need_of operator left) (expr_counts right)) (joined operator first (value_of port right)) h.0
+    (λ first h. advance_counts value_traffic store.traffic first.1.traffic (expr_counts left) (needed (need_of operator left) (expr_counts right)) (joined operator first (value_of port right)) h.0
     (joined_counts operator left first (expr_counts right) (value_of port right) h.1 (value_counts port right first.1)))
 value_counts port (tree.Conditional condition chosen other) store =
     then_ok (value_of port condition store) _ (λ test. Counted (expr_counts condition) store.traffic test.1.traffic × IfSome (constant condition) (λ v. test.0 ≡ v)) (λ given. Counted (expr_counts (tree.Conditional condition chosen other)) store.traffic given.1.traffic)
     (both_ok (value_of port condition store) _ _ (value_counts port condition store) (constant_told port condition store))
-    (λ test h. behind_counts value_traffic store.traffic test.1.traffic (expr_counts condition) (sides (constant condition) (expr_counts chosen) (expr_counts other)) (cond (is_true test.0) (value_of port chosen test.1) (value_of port other test.1)) h.0
+    (λ test h. advance_counts value_traffic store.traffic test.1.traffic (expr_counts condition) (branch_counts (constant condition) (expr_counts chosen) (expr_counts other)) (cond (is_true test.0) (value_of port chosen test.1) (value_of port other test.1)) h.0
     (side_counts value_traffic (constant condition) test.0 (expr_counts chosen) (expr_counts other) test.1.traffic (value_of port chosen test.1) (value_of port other test.1) h.1 (value_counts port chosen test.1) (value_counts port other test.1)))
 
 -- ---- assignments
@@ -240,7 +241,7 @@ assigned_value_counts port name assign.Multiply value store = strict_counts bina
 assigned_value_counts port name assign.Divide value store = strict_counts binary.Divide (value_in store name, store) (expr_counts value) (value_of port value) (value_counts port value store)
 assigned_value_counts port name assign.Remainder value store = strict_counts binary.Remainder (value_in store name, store) (expr_counts value) (value_of port value) (value_counts port value store)
 
-pub assigned_counts : (port : Port) (name : List ℕ) (operator : AssignOperator) (value : tree.Expr) (store : Store) → CountedOk store_traffic (expr_counts value) store.traffic (then_do (value_of port (assigned_value name operator value) store) (λ given. Ok (cell_set given.1 name 0 given.0)))
+pub assigned_counts : (port : Port) (name : List ℕ) (operator : AssignOperator) (value : tree.Expr) (store : Store) → CountedOk store_traffic (expr_counts value) store.traffic (result_and_then (value_of port (assigned_value name operator value) store) (λ given. Ok (cell_set given.1 name 0 given.0)))
 assigned_counts port name operator value store =
     then_ok (value_of port (assigned_value name operator value) store) _ (λ given. Counted (expr_counts value) store.traffic given.1.traffic) (λ after. Counted (expr_counts value) store.traffic after.traffic)
     (assigned_value_counts port name operator value store) (λ given h. h)
@@ -264,11 +265,11 @@ element_counts port name assign.Multiply value at = joined_element_counts port n
 element_counts port name assign.Divide value at = joined_element_counts port name binary.Divide value at
 element_counts port name assign.Remainder value at = joined_element_counts port name binary.Remainder value at
 
-pub element_assigned_counts : (port : Port) (name : List ℕ) (index : tree.Expr) (operator : AssignOperator) (value : tree.Expr) (store : Store) → CountedOk store_traffic (both (expr_counts index) (expr_counts value)) store.traffic (then_do (value_of port index store) (element_set port name operator value))
+pub element_assigned_counts : (port : Port) (name : List ℕ) (index : tree.Expr) (operator : AssignOperator) (value : tree.Expr) (store : Store) → CountedOk store_traffic (sequence (expr_counts index) (expr_counts value)) store.traffic (result_and_then (value_of port index store) (element_set port name operator value))
 element_assigned_counts port name index operator value store =
-    then_ok (value_of port index store) (element_set port name operator value) (λ at. Counted (expr_counts index) store.traffic at.1.traffic) (λ after. Counted (both (expr_counts index) (expr_counts value)) store.traffic after.traffic)
+    then_ok (value_of port index store) (element_set port name operator value) (λ at. Counted (expr_counts index) store.traffic at.1.traffic) (λ after. Counted (sequence (expr_counts index) (expr_counts value)) store.traffic after.traffic)
     (value_counts port index store)
-    (λ at h. behind_counts store_traffic store.traffic at.1.traffic (expr_counts index) (expr_counts value) (element_set port name operator value at) h (element_counts port name operator value at))
+    (λ at h. advance_counts store_traffic store.traffic at.1.traffic (expr_counts index) (expr_counts value) (element_set port name operator value at) h (element_counts port name operator value at))
 
 -- ---- declarations
 
@@ -282,7 +283,7 @@ declared_counts port cells [] store = stays store.traffic
 declared_counts port cells (first ∷ rest) store =
     then_ok (initial_cells port cells first.initial store) _ (λ given. Counted (option_counts first.initial) store.traffic given.1.traffic) (λ after. Counted (variables_counts (first ∷ rest)) store.traffic after.traffic)
     (initial_counts port cells first.initial store)
-    (λ given h. behind_counts store_traffic store.traffic given.1.traffic (option_counts first.initial) (variables_counts rest) (variables_declared port cells rest (declared_in given.1 first.name given.0)) h
+    (λ given h. advance_counts store_traffic store.traffic given.1.traffic (option_counts first.initial) (variables_counts rest) (variables_declared port cells rest (declared_in given.1 first.name given.0)) h
     (declared_counts port cells rest (declared_in given.1 first.name given.0)))
 
 pub push_counts : (port : Port) (item : ℤ) (traffic : Traffic) → IfOk (pushed_to port item traffic) (λ after. Moves traffic after one_push)

@@ -30,7 +30,7 @@ small_window rates limits =
 none_ready : (store : Store) → store.traffic ≡ no_traffic → Ready [] none_popped store
 none_ready store none =
     let popped : store.traffic.popped ≡ 0 = ap (λ t. t.popped) none in
-    record { seen = tt; holds = λ name. tt; within = omega arith }
+    record { with_closed_peeks = tt; holds = λ name. tt; within = omega arith }
 
 body_safe : OfBodies RunsSafe
 body_safe lacks rates block names closed =

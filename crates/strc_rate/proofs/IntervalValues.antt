@@ -8,6 +8,7 @@ use Rattle.std.specs.Int.Signed.{◌≤ℤ◌, ≤ℤ_refl}
 use Rattle.std.proofs.Math.IntN.{suc_ℤ-*ℤ, +ℤ_idr, +ℤ-suc_ℤ, *ℤ_comm}
 use Rattle.std.proofs.lemmas.Int.{ints, clamps, int_wrap_fits}
 use mir.Syntax.{w32}
+use Rattle.strc_base.specs.Results.{result_and_then}
 use Rattle.strc_syntax.specs.Tree as tree
 use Rattle.strc_syntax.specs.declared.tree.UnaryOperator.{UnaryOperator}
 use Rattle.strc_syntax.specs.declared.tree.UnaryOperator.TheVariants as unary
@@ -15,10 +16,14 @@ use Rattle.strc_syntax.specs.declared.tree.BinaryOperator.{BinaryOperator}
 use Rattle.strc_syntax.specs.declared.tree.BinaryOperator.TheVariants as binary
 use Rattle.strc_semantics.specs.declared.fault.Cause.{Cause}
 use Rattle.strc_semantics.specs.Arithmetic.{wrapped, unary_value, binary_value}
-use Rattle.strc_semantics.specs.Firing.{then_do, Port, Store, value_in, value_of, joined}
-use Rattle.strc_rate.specs.Constant.{constant}
-use Rattle.strc_rate.specs.Loops.{within_32_bits}
-use Rattle.strc_rate.specs.Intervals.{Interval, Intervals, interval_named, known, interval_negated, intervals_added, intervals_subtracted, intervals_multiplied, unary_interval, binary_interval, singleton, or_else, interval_of}
+use Rattle.strc_semantics.specs.Firing.{Port, Store, value_in, value_of, joined}
+use Rattle.strc_interval.specs.Constant.{constant}
+use Rattle.strc_interval.specs.Loops.{within_32_bits}
+use Rattle.strc_interval.specs.declared.interval.Interval.{Interval}
+use Rattle.strc_interval.specs.Intervals.{Intervals, interval_named, known}
+use Rattle.strc_interval.specs.Intervals.{interval_negated, intervals_added, intervals_subtracted}
+use Rattle.strc_interval.specs.Intervals.{intervals_multiplied, unary_interval, binary_interval}
+use Rattle.strc_interval.specs.Intervals.{singleton, or_else, interval_of}
 use Rattle.strc_rate.proofs.LoopTurns.{fits_between, fits_above, fits_below, within_fits}
 use Rattle.strc_rate.proofs.LoopParts.{constant_done}
 
@@ -156,7 +161,7 @@ negated_told intervals e interval told =
     let below : neg_ℤ h.value ≤ℤ neg_ℤ interval.low = omega (arith, ints) in
     record {
       value = neg_ℤ h.value;
-      done = ap (λ r. then_do {B = ℤ × Store} r (λ right. Ok (unary_value unary.Negate right.0, right.1))) h.done ∙ ap (λ v. Ok (v, store)) (unwrapped (neg_ℤ interval.high) (neg_ℤ interval.low) (neg_ℤ h.value) f g above below);
+      done = ap (λ r. result_and_then {B = ℤ × Store} r (λ right. Ok (unary_value unary.Negate right.0, right.1))) h.done ∙ ap (λ v. Ok (v, store)) (unwrapped (neg_ℤ interval.high) (neg_ℤ interval.low) (neg_ℤ h.value) f g above below);
       within = (above, below);
     })
 
@@ -178,18 +183,18 @@ both_told intervals operator left right first second interval h k gives port sto
     let z = gives v.value w.value v.within w.within in
     record {
       value = z.0;
-      done = ap (λ r. then_do r (λ first. joined operator first (value_of port right))) v.done ∙ z.1 store (value_of port right) w.done;
+      done = ap (λ r. result_and_then r (λ first. joined operator first (value_of port right))) v.done ∙ z.1 store (value_of port right) w.done;
       within = z.2;
     }
 
 sum_gives : (v w : ℤ) → Gives binary.Add v w (wrapped (v +ℤ w))
-sum_gives v w store right e = ap (λ r. then_do r (λ second. then_do (binary_value binary.Add v second.0) (λ value. Ok (value, second.1)))) e
+sum_gives v w store right e = ap (λ r. result_and_then r (λ second. result_and_then (binary_value binary.Add v second.0) (λ value. Ok (value, second.1)))) e
 
 difference_gives : (v w : ℤ) → Gives binary.Subtract v w (wrapped (v -ℤ w))
-difference_gives v w store right e = ap (λ r. then_do r (λ second. then_do (binary_value binary.Subtract v second.0) (λ value. Ok (value, second.1)))) e
+difference_gives v w store right e = ap (λ r. result_and_then r (λ second. result_and_then (binary_value binary.Subtract v second.0) (λ value. Ok (value, second.1)))) e
 
 product_gives : (v w : ℤ) → Gives binary.Multiply v w (wrapped (v *ℤ w))
-product_gives v w store right e = ap (λ r. then_do r (λ second. then_do (binary_value binary.Multiply v second.0) (λ value. Ok (value, second.1)))) e
+product_gives v w store right e = ap (λ r. result_and_then r (λ second. result_and_then (binary_value binary.Multiply v second.0) (λ value. Ok (value, second.1)))) e
 
 -- a number within known bounds isn't wrapped
 kept_within : (interval : Interval) (z : ℤ) → FitsSigned w32 interval.low → FitsSigned w32 interval.high → interval.low ≤ℤ z → z ≤ℤ interval.high → Within interval (wrapped z)

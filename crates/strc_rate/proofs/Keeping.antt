@@ -4,6 +4,7 @@ use Rattle.std.specs.Prelude.{bytes_eq}
 use Rattle.std.specs.Result.{IfOk}
 use Rattle.std.proofs.lemmas.List.{length-map}
 use Rattle.std.proofs.lemmas.Slice.Eq.{bytes_eq-Decides}
+use Rattle.strc_base.specs.Results.{result_and_then}
 use Rattle.strc_syntax.specs.Tree as tree
 use Rattle.strc_syntax.specs.declared.tree.AssignOperator.{AssignOperator}
 use Rattle.strc_syntax.specs.declared.tree.AssignOperator.TheVariants as assign
@@ -12,9 +13,9 @@ use Rattle.strc_syntax.specs.declared.tree.BinaryOperator.TheVariants as binary
 use Rattle.strc_semantics.specs.declared.fault.Cause.{Cause}
 use Rattle.strc_semantics.specs.Arithmetic.{is_true, binary_value}
 use Rattle.strc_semantics.specs.Scoping.{Scope, is_declared}
-use Rattle.strc_semantics.specs.Firing.{then_do, Port, Traffic, Store, Variables, cells_named, with_cell, popped_from, peeked_from, joined, value_of, assigned_value, place_of, cell_in, cell_set, element_joined, element_set, condition_value}
+use Rattle.strc_semantics.specs.Firing.{Port, Traffic, Store, Variables, cells_named, with_cell, popped_from, peeked_from, joined, value_of, assigned_value, place_of, cell_in, cell_set, element_joined, element_set, condition_value}
 use Rattle.strc_work.proofs.Variables.{scope_of, scope_of-with_cell}
-use Rattle.strc_rate.specs.Loops.{expr_writes, option_writes}
+use Rattle.strc_interval.specs.Loops.{expr_writes, option_writes}
 use Rattle.strc_rate.proofs.Results.{or_first, or_second, then_ok, any_ok, below, above, below_all}
 
 -- ---- the cells of a name behind a write
@@ -82,7 +83,7 @@ abbrev pub Given : (Store → Type 0) → Result (ℤ × Store) Cause → Type 0
 Given P result = IfOk result (λ given. P given.1)
 
 -- an operator whose right side is evaluated
-pub strict_holds : (P : Store → Type 0) (operator : BinaryOperator) (first : ℤ × Store) (right : Store → Result (ℤ × Store) Cause) → Given P (right first.1) → Given P (then_do (right first.1) (λ second. then_do (binary_value operator first.0 second.0) (λ value. Ok (value, second.1))))
+pub strict_holds : (P : Store → Type 0) (operator : BinaryOperator) (first : ℤ × Store) (right : Store → Result (ℤ × Store) Cause) → Given P (right first.1) → Given P (result_and_then (right first.1) (λ second. result_and_then (binary_value operator first.0 second.0) (λ value. Ok (value, second.1))))
 strict_holds P operator first right h =
     then_ok (right first.1) _ (λ given. P given.1) (λ given. P given.1) h
     (λ second k. then_ok (binary_value operator first.0 second.0) _ (λ value. Unit {0}) (λ given. P given.1) (any_ok (binary_value operator first.0 second.0)) (λ value _. k))
@@ -161,7 +162,7 @@ assigned_writes name assigned assign.Multiply value = refl
 assigned_writes name assigned assign.Divide value = refl
 assigned_writes name assigned assign.Remainder value = refl
 
-pub assigned_holds : (P : Store → Type 0) (writes : List ℕ → Bool) → Holding P writes → (port : Port) (name : List ℕ) (operator : AssignOperator) (value : tree.Expr) (store : Store) → Covers writes (λ n. bytes_eq name n || expr_writes n value) → P store → IfOk (then_do (value_of port (assigned_value name operator value) store) (λ given. Ok (cell_set given.1 name 0 given.0))) P
+pub assigned_holds : (P : Store → Type 0) (writes : List ℕ → Bool) → Holding P writes → (port : Port) (name : List ℕ) (operator : AssignOperator) (value : tree.Expr) (store : Store) → Covers writes (λ n. bytes_eq name n || expr_writes n value) → P store → IfOk (result_and_then (value_of port (assigned_value name operator value) store) (λ given. Ok (cell_set given.1 name 0 given.0))) P
 assigned_holds P writes holding port name operator value store covers h =
     then_ok (value_of port (assigned_value name operator value) store) _ (λ given. P given.1) P
     (value_holds P writes holding port (assigned_value name operator value) store (λ n e. assigned_writes n name operator value ∙ or_second (bytes_eq name n) _ (covers n e)) h)
@@ -188,7 +189,7 @@ element_holds P writes holding port name assign.Multiply value at writes_it cove
 element_holds P writes holding port name assign.Divide value at writes_it covers h = joined_element_holds P writes holding port name binary.Divide value at writes_it covers h
 element_holds P writes holding port name assign.Remainder value at writes_it covers h = joined_element_holds P writes holding port name binary.Remainder value at writes_it covers h
 
-pub element_assigned_holds : (P : Store → Type 0) (writes : List ℕ → Bool) → Holding P writes → (port : Port) (name : List ℕ) (index : tree.Expr) (operator : AssignOperator) (value : tree.Expr) (store : Store) → Covers writes (λ n. bytes_eq name n || (expr_writes n index || expr_writes n value)) → P store → IfOk (then_do (value_of port index store) (element_set port name operator value)) P
+pub element_assigned_holds : (P : Store → Type 0) (writes : List ℕ → Bool) → Holding P writes → (port : Port) (name : List ℕ) (index : tree.Expr) (operator : AssignOperator) (value : tree.Expr) (store : Store) → Covers writes (λ n. bytes_eq name n || (expr_writes n index || expr_writes n value)) → P store → IfOk (result_and_then (value_of port index store) (element_set port name operator value)) P
 element_assigned_holds P writes holding port name index operator value store covers h =
     then_ok (value_of port index store) (element_set port name operator value) (λ given. P given.1) P
     (value_holds P writes holding port index store (λ n e. or_first (expr_writes n index) _ (or_second (bytes_eq name n) _ (covers n e))) h)

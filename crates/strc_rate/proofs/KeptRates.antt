@@ -18,7 +18,8 @@ use Rattle.strc_rate.specs.declared.rates.RateError.{RateError}
 use Rattle.strc_rate.specs.declared.rates.RateError.TheVariants.{RateLimit, RateMismatch}
 use Rattle.strc_rate.specs.Counts.{Counts, stmts_counts}
 use Rattle.strc_rate.specs.Peeks.{PeekBounds}
-use Rattle.strc_rate.specs.Rates.{BodyRates, within_limit, are_within_limit, and_then, same_rate, seen, counted, body_sights, body_checked, work_lacks, work_checked, some_prework, prework_checked, then_work, checked}
+use Rattle.strc_base.specs.Results.{result_and_then}
+use Rattle.strc_rate.specs.Rates.{BodyRates, within_limit, are_within_limit, same_rate, with_closed_peeks, counted, body_sights, body_checked, work_lacks, work_checked, some_prework, prework_checked, then_work, checked}
 use Rattle.strc_rate.specs.Kept.{CheckedRatesAreKept}
 use Rattle.strc_rate.proofs.Results.{and_first, and_second}
 use Rattle.strc_rate.proofs.CountedMoves.{Moves, Counted}
@@ -31,10 +32,10 @@ limited (pos n) e =
     grind (arith, ints)
 limited (negsuc n) e = omega arith
 
-same_count : (declared given : ℕ) (next : Result BodyRates RateError) (R : Type 0) → (declared ≡ given → IfOk next (λ rates. R)) → IfOk (and_then (same_rate declared given) next) (λ rates. R)
+same_count : (declared given : ℕ) (next : Result BodyRates RateError) (R : Type 0) → (declared ≡ given → IfOk next (λ rates. R)) → IfOk (result_and_then (same_rate declared given) (λ same. next)) (λ rates. R)
 same_count declared given next R go = by_test (nat_eq declared given) refl
   where
-    by_test : (t : Bool) → nat_eq declared given ≡ t → IfOk (and_then (if t then Ok tt else Err (RateMismatch declared given)) next) (λ rates. R)
+    by_test : (t : Bool) → nat_eq declared given ≡ t → IfOk (result_and_then {A = Unit {0}} (if t then Ok tt else Err (RateMismatch declared given)) (λ same. next)) (λ rates. R)
     by_test true e = go (eqb-true declared given e)
     by_test false e = tt
 
@@ -48,8 +49,8 @@ accepted_by false lacks rates counts sights R go = tt
 accepted_by true true rates counts sights R go = tt
 accepted_by true false rates None sights R go = tt
 accepted_by true false rates (Some c) sights R go =
-    same_count (item_count (push_rate rates)) c.pushes (and_then (same_rate (item_count (pop_rate rates)) c.pops) (seen rates sights)) R
-    (λ pushes. same_count (item_count (pop_rate rates)) c.pops (seen rates sights) R (λ pops. any_rates (seen rates sights) R (go c refl refl pushes pops)))
+    same_count (item_count (push_rate rates)) c.pushes (result_and_then (same_rate (item_count (pop_rate rates)) c.pops) (λ same. with_closed_peeks rates sights)) R
+    (λ pushes. same_count (item_count (pop_rate rates)) c.pops (with_closed_peeks rates sights) R (λ pops. any_rates (with_closed_peeks rates sights) R (go c refl refl pushes pops)))
 
 -- each run of a block from no traffic keeps the declared rates
 abbrev RunsKeep : List tree.Rate → tree.Stmts → Type 0

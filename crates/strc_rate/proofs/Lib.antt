@@ -1,6 +1,3 @@
-pub mod Narrowing
-pub mod LoopValues
-pub mod IntervalGrowth
 pub mod Counting
 pub mod Sighting
 pub mod Checking

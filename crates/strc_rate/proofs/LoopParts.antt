@@ -4,6 +4,7 @@ use Rattle.std.specs.Prelude.{bytes_eq, unwrap_or, if◌then◌else◌}
 use Rattle.std.specs.Option.{IfSome, option_map}
 use Rattle.std.specs.Result.{IfOk}
 use Rattle.std.proofs.lemmas.List.{get_or-set_same}
+use Rattle.strc_base.specs.Results.{result_and_then}
 use Rattle.strc_syntax.specs.Tree as tree
 use Rattle.strc_syntax.specs.declared.tree.AssignOperator.{AssignOperator}
 use Rattle.strc_syntax.specs.declared.tree.AssignOperator.TheVariants as assign
@@ -17,11 +18,14 @@ use Rattle.strc_base.specs.Names.{has_name}
 use Rattle.strc_semantics.specs.Scoping.{Scope, size_named, size_of, cells_of, with_declared, names_after}
 use Rattle.strc_semantics.specs.Constants.{constant_value, IsConstant}
 use Rattle.strc_semantics.specs.Closed.{FitsInitial, AreClosedVariables, IsClosedStmt}
-use Rattle.strc_semantics.specs.Firing.{then_do, Port, Store, Variables, cells_named, with_cell, value_in, assigned, value_of, value_stepped, assigned_value, joined, inside, stmt_done}
+use Rattle.strc_semantics.specs.Firing.{Port, Store, Variables, cells_named, with_cell, value_in, assigned, value_of, value_stepped, assigned_value, joined, inside, stmt_done}
 use Rattle.strc_semantics.proofs.ConstantValues.{constant_value_Ok}
 use Rattle.strc_work.proofs.Variables.{scope_of}
-use Rattle.strc_rate.specs.Constant.{is_constant, faultless, constant}
-use Rattle.strc_rate.specs.Loops.{Locals, with_locals, locals_after, Bound, is_order, is_variable, bound_of, step_move, moved_by, sum_move, assign_move, value_move, move_of}
+use Rattle.strc_interval.specs.Constant.{is_constant, faultless, constant}
+use Rattle.strc_interval.specs.declared.loops.Bound.{Bound}
+use Rattle.strc_interval.specs.Loops.{Locals, with_locals, locals_after, is_order}
+use Rattle.strc_interval.specs.Loops.{is_variable, bound_of, step_move, moved_by, sum_move}
+use Rattle.strc_interval.specs.Loops.{assign_move, value_move, move_of}
 use Rattle.strc_rate.proofs.Results.{and_first, and_second, any_ok, ok_known}
 use Rattle.strc_rate.proofs.Keeping.{same_name, one_name}
 use Rattle.strc_rate.proofs.LoopTurns.{compares}
@@ -41,8 +45,8 @@ constant_form (tree.Step operator name) h = absurd (cc)
 constant_form (tree.StepElement operator name index) h = absurd (cc)
 constant_form (tree.Binary operator left right) h = (constant_form left (and_first (is_constant left) _ h), constant_form right (and_second (is_constant left) _ h))
 constant_form (tree.Conditional condition chosen other) h =
-    let sides = and_second (is_constant condition) (is_constant chosen && is_constant other) h in
-    (constant_form condition (and_first (is_constant condition) _ h), constant_form chosen (and_first (is_constant chosen) _ sides), constant_form other (and_second (is_constant chosen) _ sides))
+    let branch_counts = and_second (is_constant condition) (is_constant chosen && is_constant other) h in
+    (constant_form condition (and_first (is_constant condition) _ h), constant_form chosen (and_first (is_constant chosen) _ branch_counts), constant_form other (and_second (is_constant chosen) _ branch_counts))
 
 faultless_Ok : (r : Result ℤ Cause) (v : ℤ) → faultless r ≡ Some v → r ≡ Ok v
 faultless_Ok (Ok value) v e = let same : value ≡ v = cc in ap Ok same
@@ -99,41 +103,41 @@ seen_by first scope name other locals false some e inside = inside e
 
 -- a local variable has a cell
 pub seen_sized : (locals : Locals) (scope : Scope) (name : List ℕ) → Seen locals scope → has_name locals name ≡ true → 1 ≤ size_of scope name
-seen_sized [] scope name seen e = absurd (cc)
-seen_sized (local ∷ locals) [] name seen e = absurd seen
-seen_sized (local ∷ locals) (first ∷ scope) name seen e =
-    seen_by first scope local name locals (bytes_eq first.0 name) seen.1 (ap (λ n. bytes_eq n name || has_name locals name) seen.0 ∙ e) (λ f. seen_sized locals scope name seen.2 f)
+seen_sized [] scope name with_closed_peeks e = absurd (cc)
+seen_sized (local ∷ locals) [] name with_closed_peeks e = absurd with_closed_peeks
+seen_sized (local ∷ locals) (first ∷ scope) name with_closed_peeks e =
+    seen_by first scope local name locals (bytes_eq first.0 name) with_closed_peeks.1 (ap (λ n. bytes_eq n name || has_name locals name) with_closed_peeks.0 ∙ e) (λ f. seen_sized locals scope name with_closed_peeks.2 f)
 
 fits_some : (cells : ℕ) (initial : Option tree.Expr) → FitsInitial cells initial → 1 ≤ cells
 fits_some cells None fits = fits
 fits_some cells (Some initial) fits = omega arith
 
 seen_declared : (locals : Locals) (scope names : Scope) (cells : ℕ) (variables : List tree.Variable) → AreClosedVariables names cells variables → Seen locals scope → Seen (with_locals locals variables) (with_declared scope cells variables)
-seen_declared locals scope names cells [] closed seen = seen
-seen_declared locals scope names cells (first ∷ rest) closed seen =
-    seen_declared (first.name ∷ locals) (record { 0 = first.name; 1 = cells } ∷ scope) (record { 0 = first.name; 1 = cells } ∷ names) cells rest closed.2 (refl, fits_some cells first.initial closed.1, seen)
+seen_declared locals scope names cells [] closed with_closed_peeks = with_closed_peeks
+seen_declared locals scope names cells (first ∷ rest) closed with_closed_peeks =
+    seen_declared (first.name ∷ locals) (record { 0 = first.name; 1 = cells } ∷ scope) (record { 0 = first.name; 1 = cells } ∷ names) cells rest closed.2 (refl, fits_some cells first.initial closed.1, with_closed_peeks)
 
 pub seen_after : (s : tree.Stmt) (locals : Locals) (scope names : Scope) → IsClosedStmt names s → Seen locals scope → Seen (locals_after locals s) (names_after scope s)
-seen_after (tree.Declare kind variables) locals scope names closed seen = seen_declared locals scope names (cells_of kind) variables closed seen
-seen_after tree.Empty locals scope names closed seen = seen
-seen_after (tree.Compose statement) locals scope names closed seen = seen
-seen_after (tree.Block body) locals scope names closed seen = seen
-seen_after (tree.Evaluate value) locals scope names closed seen = seen
-seen_after (tree.Assign assigned operator value) locals scope names closed seen = seen
-seen_after (tree.AssignElement array index operator value) locals scope names closed seen = seen
-seen_after (tree.If condition chosen) locals scope names closed seen = seen
-seen_after (tree.IfElse condition chosen other) locals scope names closed seen = seen
-seen_after (tree.While condition body) locals scope names closed seen = seen
-seen_after (tree.For first condition step body) locals scope names closed seen = seen
-seen_after (tree.Push value) locals scope names closed seen = seen
-seen_after (tree.Print value) locals scope names closed seen = seen
-seen_after (tree.Println value) locals scope names closed seen = seen
+seen_after (tree.Declare kind variables) locals scope names closed with_closed_peeks = seen_declared locals scope names (cells_of kind) variables closed with_closed_peeks
+seen_after tree.Empty locals scope names closed with_closed_peeks = with_closed_peeks
+seen_after (tree.Compose statement) locals scope names closed with_closed_peeks = with_closed_peeks
+seen_after (tree.Block body) locals scope names closed with_closed_peeks = with_closed_peeks
+seen_after (tree.Evaluate value) locals scope names closed with_closed_peeks = with_closed_peeks
+seen_after (tree.Assign assigned operator value) locals scope names closed with_closed_peeks = with_closed_peeks
+seen_after (tree.AssignElement array index operator value) locals scope names closed with_closed_peeks = with_closed_peeks
+seen_after (tree.If condition chosen) locals scope names closed with_closed_peeks = with_closed_peeks
+seen_after (tree.IfElse condition chosen other) locals scope names closed with_closed_peeks = with_closed_peeks
+seen_after (tree.While condition body) locals scope names closed with_closed_peeks = with_closed_peeks
+seen_after (tree.For first condition step body) locals scope names closed with_closed_peeks = with_closed_peeks
+seen_after (tree.Push value) locals scope names closed with_closed_peeks = with_closed_peeks
+seen_after (tree.Print value) locals scope names closed with_closed_peeks = with_closed_peeks
+seen_after (tree.Println value) locals scope names closed with_closed_peeks = with_closed_peeks
 
 -- ---- the condition
 
 -- an operator between values that are known
-strict_value : (operator : BinaryOperator) (v l : ℤ) (store : Store) (right : Store → Result (ℤ × Store) Cause) → right store ≡ Ok (l, store) → then_do (right store) (λ second. then_do (binary_value operator v second.0) (λ value. Ok (value, second.1))) ≡ then_do {B = ℤ × Store} (binary_value operator v l) (λ value. Ok (value, store))
-strict_value operator v l store right e = ap (λ r. then_do r (λ second. then_do (binary_value operator v second.0) (λ value. Ok (value, second.1)))) e
+strict_value : (operator : BinaryOperator) (v l : ℤ) (store : Store) (right : Store → Result (ℤ × Store) Cause) → right store ≡ Ok (l, store) → result_and_then (right store) (λ second. result_and_then (binary_value operator v second.0) (λ value. Ok (value, second.1))) ≡ result_and_then {B = ℤ × Store} (binary_value operator v l) (λ value. Ok (value, store))
+strict_value operator v l store right e = ap (λ r. result_and_then r (λ second. result_and_then (binary_value operator v second.0) (λ value. Ok (value, second.1)))) e
 
 compared : (operator : BinaryOperator) (v l : ℤ) (store : Store) (right : Store → Result (ℤ × Store) Cause) → is_order operator ≡ true → right store ≡ Ok (l, store) → joined operator (v, store) right ≡ Ok (truth (compares operator v l), store)
 compared binary.Less v l store right order e = strict_value binary.Less v l store right e
@@ -168,7 +172,7 @@ bounds_by name operator left right true None e f = tt
 bounds_by name operator left right true (Some limit) e f = (
   and_first (is_order operator) (is_variable name left) e,
   λ port store.
-      ap (λ r. then_do r (λ first. joined operator first (value_of port right))) (variable_done port name left store (and_second (is_order operator) (is_variable name left) e))
+      ap (λ r. result_and_then r (λ first. joined operator first (value_of port right))) (variable_done port name left store (and_second (is_order operator) (is_variable name left) e))
       ∙ compared operator (value_in store name) limit store (value_of port right) (and_first (is_order operator) (is_variable name left) e) (constant_done port right store limit f),
 )
 
@@ -229,10 +233,10 @@ sum_by : (name : List ℕ) (left right : tree.Expr) (given : Option ℤ) → is_
 sum_by name left right None is f = (tt, tt)
 sum_by name left right (Some given) is f = (
   λ port store.
-      ap (λ r. then_do r (λ first. joined binary.Add first (value_of port right))) (variable_done port name left store is)
+      ap (λ r. result_and_then r (λ first. joined binary.Add first (value_of port right))) (variable_done port name left store is)
       ∙ strict_value binary.Add (value_in store name) given store (value_of port right) (constant_done port right store given f),
   λ port store.
-      ap (λ r. then_do r (λ first. joined binary.Subtract first (value_of port right))) (variable_done port name left store is)
+      ap (λ r. result_and_then r (λ first. joined binary.Subtract first (value_of port right))) (variable_done port name left store is)
       ∙ strict_value binary.Subtract (value_in store name) given store (value_of port right) (constant_done port right store given f),
 )
 
@@ -285,7 +289,7 @@ assign_told name assign.Remainder value = tt
 -- an assignment of a sum moves
 sums_step : (name : List ℕ) (operator : AssignOperator) (value : tree.Expr) (move : Option ℤ) → IfSome move (Sums name (assigned_value name operator value)) → IfSome move (Steps name (tree.Assign name operator value))
 sums_step name operator value None sums = tt
-sums_step name operator value (Some move) sums = λ port store. ap (λ r. then_do r (λ given. Ok (assigned given.1 name given.0))) (sums port store)
+sums_step name operator value (Some move) sums = λ port store. ap (λ r. result_and_then r (λ given. Ok (assigned given.1 name given.0))) (sums port store)
 
 assigned_told_by : (name assigned : List ℕ) (operator : AssignOperator) (value : tree.Expr) (t : Bool) → bytes_eq assigned name ≡ t → IfSome (if t then assign_move name operator value else None) (Steps name (tree.Assign assigned operator value))
 assigned_told_by name assigned operator value false e = tt

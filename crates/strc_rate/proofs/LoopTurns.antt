@@ -14,7 +14,10 @@ use mir.Syntax.{w32}
 use Rattle.strc_syntax.specs.declared.tree.BinaryOperator.{BinaryOperator}
 use Rattle.strc_syntax.specs.declared.tree.BinaryOperator.TheVariants as binary
 use Rattle.strc_semantics.specs.Arithmetic.{wrapped}
-use Rattle.strc_rate.specs.Loops.{Bound, First, Loop, is_order, distance, step_toward_bound, trip_count, within_32_bits, value_after, loop_within_i32, loop_of}
+use Rattle.strc_interval.specs.declared.loops.Bound.{Bound}
+use Rattle.strc_interval.specs.Loops.{First, Loop, is_order, distance, step_toward_bound}
+use Rattle.strc_interval.specs.Loops.{trip_count, within_32_bits, value_after, loop_within_i32}
+use Rattle.strc_interval.specs.Loops.{loop_of}
 
 -- whether a comparison holds
 abbrev pub compares : BinaryOperator → (value limit : ℤ) → Bool

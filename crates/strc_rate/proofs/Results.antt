@@ -2,8 +2,8 @@
 use Rattle.std.proofs.Common.{◌≡◌, refl, ◌∙◌, ap, ℕ, suc, ◌+◌, ◌-◌, ◌≤◌, Bool, true, false, ◌&&◌, ◌||◌, List, ◌∷◌, length, take, drop, map, Result, Ok, Err, arith}
 use Rattle.std.specs.Result.{IfOk}
 use Rattle.std.proofs.lemmas.List.{length-map, length-drop, drop-drop, drop-map}
+use Rattle.strc_base.specs.Results.{result_and_then}
 use Rattle.strc_semantics.specs.declared.fault.Cause.{Cause}
-use Rattle.strc_semantics.specs.Firing.{then_do}
 
 pub or_first : (a b : Bool) → (a || b) ≡ false → a ≡ false
 or_first true b e = e
@@ -22,7 +22,7 @@ and_second true b e = e
 and_second false b e = absurd (cc)
 
 -- what holds of the value of each step holds of both
-pub then_ok : {A B : Type 0} (result : Result A Cause) (go : A → Result B Cause) (P : A → Type 0) (Q : B → Type 0) → IfOk result P → ((a : A) → P a → IfOk (go a) Q) → IfOk (then_do result go) Q
+pub then_ok : {A B : Type 0} (result : Result A Cause) (go : A → Result B Cause) (P : A → Type 0) (Q : B → Type 0) → IfOk result P → ((a : A) → P a → IfOk (go a) Q) → IfOk (result_and_then result go) Q
 then_ok (Ok a) go P Q h next = next a h
 then_ok (Err cause) go P Q h next = tt
 
@@ -40,7 +40,7 @@ pub ok_known : {A : Type 0} (result : Result A Cause) (a : A) (P : A → Type 0)
 ok_known result a P e h = rw e h
 
 -- a step whose value is known
-pub done_ok : {A B : Type 0} (result : Result A Cause) (a : A) (go : A → Result B Cause) (Q : B → Type 0) → result ≡ Ok a → IfOk (go a) Q → IfOk (then_do result go) Q
+pub done_ok : {A B : Type 0} (result : Result A Cause) (a : A) (go : A → Result B Cause) (Q : B → Type 0) → result ≡ Ok a → IfOk (go a) Q → IfOk (result_and_then result go) Q
 done_ok (Ok b) a go Q e h = let same : b ≡ a = cc in rw same h
 done_ok (Err cause) a go Q e h = tt
 

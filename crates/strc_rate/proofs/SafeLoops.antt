@@ -9,17 +9,21 @@ use Rattle.std.proofs.Math.Nat.{mul-le-mul_right}
 use Rattle.std.proofs.lemmas.Bool.{cases_lt}
 use Rattle.std.proofs.lemmas.Int.{ints}
 use Rattle.std.proofs.lemmas.Result.{IfOk-weaker}
+use Rattle.strc_base.specs.Results.{result_and_then}
 use Rattle.strc_syntax.specs.Tree as tree
 use Rattle.strc_semantics.specs.declared.fault.Cause.{Cause}
 use Rattle.strc_semantics.specs.Arithmetic.{is_true, truth}
 use Rattle.strc_semantics.specs.Scoping.{Scope, size_of, names_after}
 use Rattle.strc_semantics.specs.Closed.{IsClosedStmt}
-use Rattle.strc_semantics.specs.Firing.{then_do, Port, Traffic, Store, value_in, condition_value, turned, turn_limit, inside, stmt_done}
+use Rattle.strc_semantics.specs.Firing.{Port, Traffic, Store, value_in, condition_value, turned, turn_limit, inside, stmt_done}
 use Rattle.strc_work.proofs.Variables.{scope_of}
-use Rattle.strc_rate.specs.Loops.{Locals, Loop, value_after, option_writes, stmt_writes}
+use Rattle.strc_interval.specs.Loops.{Locals, Loop, value_after, option_writes, stmt_writes}
 use Rattle.strc_rate.specs.Counts.{Counts, repeated}
-use Rattle.strc_rate.specs.Intervals.{Interval, Intervals, interval_named, with_interval, turns_interval}
-use Rattle.strc_rate.specs.Peeks.{PopInterval, in_turns, names_of}
+use Rattle.strc_interval.specs.declared.interval.Interval.{Interval}
+use Rattle.strc_interval.specs.Intervals.{Intervals, interval_named, with_interval}
+use Rattle.strc_interval.specs.Intervals.{turns_interval}
+use Rattle.strc_rate.specs.Peeks.{PopInterval, in_turns}
+use Rattle.strc_interval.specs.Intervals.{names_of}
 use Rattle.strc_rate.specs.Safe.{LoopIsSafe}
 use Rattle.strc_rate.proofs.Results.{or_first, or_second, then_ok, both_ok, ok_known}
 use Rattle.strc_rate.proofs.Keeping.{same_name, Given, Same, same_cells}
@@ -147,12 +151,12 @@ module _ {locals : Locals} {first : tree.Stmt} {condition : Option tree.Expr} {s
     pub at : At known port names scope closed sized Moved freed moves_on t store
     pub same : Same (turn_writes condition step body) begun.variables store.variables
 
-  pub next_turn : (t : ℕ) (store : Store) → t < loop.turns → InTurn t store → IfOk (then_do (inside (stmt_done port body) store) (inside (stmt_done port step))) (InTurn (t + 1))
+  pub next_turn : (t : ℕ) (store : Store) → t < loop.turns → InTurn t store → IfOk (result_and_then (inside (stmt_done port body) store) (inside (stmt_done port step))) (InTurn (t + 1))
   next_turn t store lt here =
       let writes : List ℕ → Bool = turn_writes condition step body in
-      IfOk-weaker (then_do (inside (stmt_done port body) store) (inside (stmt_done port step))) (λ after. At known port names scope closed sized Moved freed moves_on (t + 1) after × Same writes begun.variables after.variables) _
+      IfOk-weaker (result_and_then (inside (stmt_done port body) store) (inside (stmt_done port step))) (λ after. At known port names scope closed sized Moved freed moves_on (t + 1) after × Same writes begun.variables after.variables) _
       (λ after h. record { at = h.0; same = h.1 })
-      (both_ok (then_do (inside (stmt_done port body) store) (inside (stmt_done port step))) _ _ (turn_at known port names scope closed sized Moved freed moves_on t store lt here.at)
+      (both_ok (result_and_then (inside (stmt_done port body) store) (inside (stmt_done port step))) _ _ (turn_at known port names scope closed sized Moved freed moves_on t store lt here.at)
       (then_ok (inside (stmt_done port body) store) (inside (stmt_done port step)) (λ middle. Same writes begun.variables middle.variables) (λ after. Same writes begun.variables after.variables)
       (inside_after writes (λ name. stmt_writes name body) (names_after (scope_of store.variables) body) begun.variables (stmt_done port body) store (λ name e. or_second (stmt_writes name step) _ (or_second (option_writes name condition) _ e)) (stmt_keeps port body names store closed) here.same)
       (λ middle h. inside_after writes (λ name. stmt_writes name step) (names_after (scope_of middle.variables) step) begun.variables (stmt_done port step) middle (λ name e. or_first (stmt_writes name step) _ (or_second (option_writes name condition) _ e)) (stmt_keeps port step names middle closed_step) h)))
@@ -160,7 +164,7 @@ module _ {locals : Locals} {first : tree.Stmt} {condition : Option tree.Expr} {s
   -- what is known in a turn
   pub ready_turn : (intervals : Intervals) (popped : PopInterval) (t : ℕ) (store : Store) → t < loop.turns → is_some x ≡ true → Fixed intervals (turn_writes condition step body) → Ready intervals popped begun → InTurn t store → Ready (with_interval intervals loop.name (turns_interval loop)) (in_turns popped loop.turns x) store
   ready_turn intervals popped t store lt counted fixed ready here = record {
-    seen = subst (λ l. Seen l (scope_of store.variables)) (sym (names_with intervals loop.name (turns_interval loop))) (subst (Seen (names_of intervals)) (sym here.same.shape) ready.seen);
+    with_closed_peeks = subst (λ l. Seen l (scope_of store.variables)) (sym (names_with intervals loop.name (turns_interval loop))) (subst (Seen (names_of intervals)) (sym here.same.shape) ready.with_closed_peeks);
     holds =
         holds_with intervals loop.name (turns_interval loop) store (subst (Within (turns_interval loop)) (sym here.at.value) (turn_within loop t lt))
         (λ name. kept name (interval_named intervals name) (λ e. ap (λ c. get_or c 0 (pos 0)) (same_cells (turn_writes condition step body) begun.variables store.variables name here.same (fixed name e))) (ready.holds name));
@@ -172,8 +176,8 @@ module _ {locals : Locals} {first : tree.Stmt} {condition : Option tree.Expr} {s
       kept name (Some interval) same h = subst (Within interval) (sym (same refl)) h
 
   -- each turn of the body is safe, and so is the loop
-  pub counted_safe : (turn_safe : Store → Type 0) → ((t : ℕ) (store : Store) → t < loop.turns → InTurn t store → turn_safe store) → InTurn 0 begun → LoopIsSafe (suc turn_limit) (λ s. Unit {0}) turn_safe (condition_value port condition) (λ turn. then_do (inside (stmt_done port body) turn) (inside (stmt_done port step))) begun
+  pub counted_safe : (turn_safe : Store → Type 0) → ((t : ℕ) (store : Store) → t < loop.turns → InTurn t store → turn_safe store) → InTurn 0 begun → LoopIsSafe (suc turn_limit) (λ s. Unit {0}) turn_safe (condition_value port condition) (λ turn. result_and_then (inside (stmt_done port body) turn) (inside (stmt_done port step))) begun
   counted_safe turn_safe safe here =
-      turns_safe InTurn loop.turns turn_safe (condition_value port condition) (λ turn. then_do (inside (stmt_done port body) turn) (inside (stmt_done port step)))
+      turns_safe InTurn loop.turns turn_safe (condition_value port condition) (λ turn. result_and_then (inside (stmt_done port body) turn) (inside (stmt_done port step)))
       (λ t s n h. record { at = record { shape = h.at.shape; value = h.at.value; so_far = freed t s.traffic n h.at.so_far }; same = h.same })
       safe (λ t s lt h. test_holds known port s t h.at.value lt) (λ s h. test_ends known port s loop.turns h.at.value refl) next_turn (suc turn_limit) 0 begun (omega arith) here

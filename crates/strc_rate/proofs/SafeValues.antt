@@ -12,11 +12,12 @@ use Rattle.strc_syntax.specs.Tree as tree
 use Rattle.strc_semantics.specs.Arithmetic.{is_true}
 use Rattle.strc_semantics.specs.Constants.{decides}
 use Rattle.strc_semantics.specs.Firing.{Port, Store, item_ahead, value_of}
-use Rattle.strc_rate.specs.Constant.{constant}
-use Rattle.strc_rate.specs.Loops.{expr_writes}
-use Rattle.strc_rate.specs.Counts.{saturated, sides, needed, need_of, expr_counts}
-use Rattle.strc_rate.specs.Intervals.{Interval, Intervals, interval_of}
-use Rattle.strc_rate.specs.Peeks.{Closed, Outside, Open, PopInterval, pops_of, behind, sight_at}
+use Rattle.strc_interval.specs.Constant.{constant}
+use Rattle.strc_interval.specs.Loops.{expr_writes}
+use Rattle.strc_rate.specs.Counts.{saturated, branch_counts, needed, need_of, expr_counts}
+use Rattle.strc_interval.specs.declared.interval.Interval.{Interval}
+use Rattle.strc_interval.specs.Intervals.{Intervals, interval_of}
+use Rattle.strc_rate.specs.Peeks.{Closed, Outside, Open, PopInterval, pops_of, advance, sight_at}
 use Rattle.strc_rate.specs.Safe.{PeekIsSafe, ExprIsSafe}
 use Rattle.strc_rate.proofs.Results.{and_first, and_second, or_first, or_second, both_ok, ok_known}
 use Rattle.strc_rate.proofs.LoopParts.{constant_told}
@@ -58,7 +59,7 @@ value_there window port whole popped count p interval (pos n) a b c d e =
     item_there port.ahead (p + n) (omega arith)
 value_there window port whole popped count p interval (negsuc n) a b c d e = absurd (omega (arith, ints))
 
-peek_by : (window : ℕ) (port : Port) → IsWhole window port → (intervals : Intervals) (popped : PopInterval) (index : tree.Expr) (store : Store) (interval : Option Interval) → Ready intervals popped store → IfSome interval (IsTold intervals index) → sight_at window (behind popped (expr_counts index)) interval ≡ Closed → IfOk (value_of port index store) (λ place. IsSome (item_ahead port place.1.traffic.popped place.0))
+peek_by : (window : ℕ) (port : Port) → IsWhole window port → (intervals : Intervals) (popped : PopInterval) (index : tree.Expr) (store : Store) (interval : Option Interval) → Ready intervals popped store → IfSome interval (IsTold intervals index) → sight_at window (advance popped (expr_counts index)) interval ≡ Closed → IfOk (value_of port index store) (λ place. IsSome (item_ahead port place.1.traffic.popped place.0))
 peek_by window port whole intervals popped index store None ready told e = absurd (cc)
 peek_by window port whole intervals popped index store (Some interval) ready told e =
     let value = told port store ready.holds in
@@ -98,19 +99,19 @@ expr_safe window port whole (tree.Binary operator left right) intervals popped s
     let first_fixed : Fixed intervals (λ name. expr_writes name left) = λ n e. or_first (expr_writes n left) _ (fixed n e) in
     let rest_fixed : Fixed intervals (λ name. expr_writes name right) = λ n e. or_second (expr_writes n left) _ (fixed n e) in (
       expr_safe window port whole left intervals popped store first_counted first_fixed ready,
-      IfOk-weaker (value_of port left store) (λ first. Ready intervals (behind popped (expr_counts left)) first.1 × IfSome (constant left) (λ v. first.0 ≡ v)) _
+      IfOk-weaker (value_of port left store) (λ first. Ready intervals (advance popped (expr_counts left)) first.1 × IfSome (constant left) (λ v. first.0 ≡ v)) _
           (λ first h.
-          match_by (decides operator first.0) (Unit {0}) (ExprIsSafe window port intervals (behind popped (expr_counts left)) right first.1) (λ e. tt)
-          (λ e. expr_safe window port whole right intervals (behind popped (expr_counts left)) first.1 (right_some operator left first.0 (expr_counts right) h.1 rest_counted e) rest_fixed h.0))
+          match_by (decides operator first.0) (Unit {0}) (ExprIsSafe window port intervals (advance popped (expr_counts left)) right first.1) (λ e. tt)
+          (λ e. expr_safe window port whole right intervals (advance popped (expr_counts left)) first.1 (right_some operator left first.0 (expr_counts right) h.1 rest_counted e) rest_fixed h.0))
           (both_ok (value_of port left store) _ _ (ready_value port left intervals popped store first_counted first_fixed ready) (constant_told port left store)),
     )
 expr_safe window port whole (tree.Conditional condition chosen other) intervals popped store counted fixed ready =
     let first_counted = both_first (expr_counts condition) _ counted in
-    let rest_counted = both_second (expr_counts condition) (sides (constant condition) (expr_counts chosen) (expr_counts other)) counted in
+    let rest_counted = both_second (expr_counts condition) (branch_counts (constant condition) (expr_counts chosen) (expr_counts other)) counted in
     let first_fixed : Fixed intervals (λ name. expr_writes name condition) = λ n e. or_first (expr_writes n condition) _ (fixed n e) in
     let chosen_fixed : Fixed intervals (λ name. expr_writes name chosen) = λ n e. or_first (expr_writes n chosen) _ (or_second (expr_writes n condition) _ (fixed n e)) in
     let other_fixed : Fixed intervals (λ name. expr_writes name other) = λ n e. or_second (expr_writes n chosen) _ (or_second (expr_writes n condition) _ (fixed n e)) in
-    let later = behind popped (expr_counts condition) in (
+    let later = advance popped (expr_counts condition) in (
       expr_safe window port whole condition intervals popped store first_counted first_fixed ready,
       IfOk-weaker (value_of port condition store) (λ test. Ready intervals later test.1 × IfSome (constant condition) (λ v. test.0 ≡ v)) _
           (λ test h.

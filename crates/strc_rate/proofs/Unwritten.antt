@@ -4,15 +4,17 @@ use Rattle.std.specs.Prelude.{bytes_eq, nat_lt}
 use Rattle.std.specs.Result.{IfOk}
 use Rattle.std.proofs.lemmas.Result.{IfOk-weaker}
 use Rattle.std.proofs.lemmas.List.{length-map, length-replicate}
+use Rattle.strc_base.specs.Results.{result_and_then}
 use Rattle.strc_syntax.specs.Tree as tree
 use Rattle.strc_semantics.specs.declared.fault.Cause.{Cause}
 use Rattle.strc_semantics.specs.declared.fault.Cause.TheVariants.{Turns}
 use Rattle.strc_semantics.specs.Arithmetic.{is_true}
 use Rattle.strc_semantics.specs.Scoping.{Scope, is_declared, cells_of, with_declared, names_after}
 use Rattle.strc_semantics.specs.Closed.{FitsInitial, AreClosedVariables, IsClosedStmt, AreClosed}
-use Rattle.strc_semantics.specs.Firing.{then_do, Port, Store, Variables, cells_named, declared_in, value_of, initial_cells, variables_declared, condition_value, pushed_to, turned, turn_limit, looped, inside, stmt_done, stmts_done}
+use Rattle.strc_semantics.specs.Firing.{Port, Store, Variables, cells_named, declared_in, value_of, initial_cells, variables_declared, condition_value, pushed_to, turned, turn_limit, looped, inside, stmt_done, stmts_done}
 use Rattle.strc_work.proofs.Variables.{scope_of}
-use Rattle.strc_rate.specs.Loops.{declares, hides, expr_writes, option_writes, variables_write, stmt_writes, stmts_write}
+use Rattle.strc_interval.specs.Loops.{declares, shadows, expr_writes, option_writes}
+use Rattle.strc_interval.specs.Loops.{variables_write, stmt_writes, stmts_write}
 use Rattle.strc_rate.proofs.Results.{or_first, or_second, then_ok, any_ok, below, above, below_below, below_map, below_all, below_more, above_more}
 use Rattle.strc_rate.proofs.Keeping.{Unwritten, Covers, Given, Same, same_size, same_refl, same_holding, same_then, value_holds, condition_holds, assigned_holds, element_assigned_holds}
 
@@ -44,12 +46,12 @@ left_same writes before after h =
     }
 
 -- what isn't declared behind a part isn't before it, and that part doesn't hide it
-abbrev Bares : (hides : List ℕ → Bool) (before after : Scope) → Type 0
-Bares hides before after =
-    (n : ℕ) (name : List ℕ) → n ≤ length before → is_declared (above n after) name ≡ false → (is_declared (above n before) name ≡ false) × (hides name ≡ false)
+abbrev Bares : (shadows : List ℕ → Bool) (before after : Scope) → Type 0
+Bares shadows before after =
+    (n : ℕ) (name : List ℕ) → n ≤ length before → is_declared (above n after) name ≡ false → (is_declared (above n before) name ≡ false) × (shadows name ≡ false)
 
-grown_then : (writes first rest hides : List ℕ → Bool) (a b c : Variables) → Covers writes first → ((name : List ℕ) → writes name ≡ false → hides name ≡ false → rest name ≡ false) → Bares hides (scope_of a) (scope_of b) → Grown first a b → Grown rest b c → Grown writes a c
-grown_then writes first rest hides a b c covers behind bares h k =
+grown_then : (writes first rest shadows : List ℕ → Bool) (a b c : Variables) → Covers writes first → ((name : List ℕ) → writes name ≡ false → shadows name ≡ false → rest name ≡ false) → Bares shadows (scope_of a) (scope_of b) → Grown first a b → Grown rest b c → Grown writes a c
+grown_then writes first rest shadows a b c covers advance bares h k =
     let more : length a ≤ length b = h.more in
     let most : length b ≤ length c = k.more in
     let size_c : length (scope_of c) ≡ length c = scope_length c in
@@ -57,7 +59,7 @@ grown_then writes first rest hides a b c covers behind bares h k =
       more = omega arith;
       shape = sym (below_below (length a) (length b) (scope_of c) more (omega arith)) ∙ (ap (below (length a)) k.shape ∙ h.shape);
       cells = λ n name le unwritten.
-          k.cells n name (omega arith) (λ bare. let none = bares n name (omega (arith, scope_length a)) bare in behind name (unwritten none.0) none.1)
+          k.cells n name (omega arith) (λ bare. let none = bares n name (omega (arith, scope_length a)) bare in advance name (unwritten none.0) none.1)
           ∙ h.cells n name le (λ bare. covers name (unwritten bare));
     }
 
@@ -81,7 +83,7 @@ declared_bares (first ∷ rest) scope cells n name le bare =
     neither true b e f = e
     neither false b e f = f
 
-stmt_bares : (s : tree.Stmt) (scope : Scope) → Bares (λ name. hides name s) scope (names_after scope s)
+stmt_bares : (s : tree.Stmt) (scope : Scope) → Bares (λ name. shadows name s) scope (names_after scope s)
 stmt_bares (tree.Declare kind variables) scope n name le bare = declared_bares variables scope (cells_of kind) n name le bare
 stmt_bares tree.Empty scope n name le bare = (bare, refl)
 stmt_bares (tree.Compose statement) scope n name le bare = (bare, refl)
@@ -157,12 +159,12 @@ TurnsFree P = (store : Store) (n : ℕ) → P store → P (record store { traffi
 pub turned_holds : (P : Store → Type 0) → TurnsFree P → (store : Store) → P store → IfOk (turned store) P
 turned_holds P free store h = by_test (nat_lt store.traffic.turns turn_limit)
   where
-    by_test : (t : Bool) → IfOk (then_do (cond t (Ok (record store.traffic { turns = store.traffic.turns + 1 })) (Err Turns)) (λ traffic. Ok (record store { traffic = traffic }))) P
+    by_test : (t : Bool) → IfOk (result_and_then (cond t (Ok (record store.traffic { turns = store.traffic.turns + 1 })) (Err Turns)) (λ traffic. Ok (record store { traffic = traffic }))) P
     by_test true = free store (store.traffic.turns + 1) h
     by_test false = tt
 
 -- one more turn, or the loop's end
-turn_holds : (P : Store → Type 0) → TurnsFree P → (body more : Store → Result Store Cause) → ((store : Store) → P store → IfOk (body store) P) → ((store : Store) → P store → IfOk (more store) P) → (test : Bool) (store : Store) → P store → IfOk (cond test (then_do (turned store) (λ turning. then_do (body turning) more)) (Ok store)) P
+turn_holds : (P : Store → Type 0) → TurnsFree P → (body more : Store → Result Store Cause) → ((store : Store) → P store → IfOk (body store) P) → ((store : Store) → P store → IfOk (more store) P) → (test : Bool) (store : Store) → P store → IfOk (cond test (result_and_then (turned store) (λ turning. result_and_then (body turning) more)) (Ok store)) P
 turn_holds P free body more turns rest false store h = h
 turn_holds P free body more turns rest true store h =
     then_ok (turned store) _ P P (turned_holds P free store h)
@@ -203,16 +205,16 @@ branch_holds P true one other h k = h
 branch_holds P false one other h k = k
 
 -- a value that is used without a change of the variables
-used_same : (port : Port) (e : tree.Expr) (store : Store) (go : ℤ × Store → Result Store Cause) → ((given : ℤ × Store) → IfOk (go given) (λ after. after.variables ≡ given.1.variables)) → IfOk (then_do (value_of port e store) go) (λ after. Same (λ name. expr_writes name e) store.variables after.variables)
+used_same : (port : Port) (e : tree.Expr) (store : Store) (go : ℤ × Store → Result Store Cause) → ((given : ℤ × Store) → IfOk (go given) (λ after. after.variables ≡ given.1.variables)) → IfOk (result_and_then (value_of port e store) go) (λ after. Same (λ name. expr_writes name e) store.variables after.variables)
 used_same port e store go stays =
     then_ok (value_of port e store) go (λ given. Same (λ name. expr_writes name e) store.variables given.1.variables) (λ after. Same (λ name. expr_writes name e) store.variables after.variables)
     (value_holds (λ s. Same (λ name. expr_writes name e) store.variables s.variables) (λ name. expr_writes name e) (same_holding _ store.variables) port e store (λ name f. f) (same_refl _ store.variables))
     (λ given h. IfOk-weaker (go given) (λ after. after.variables ≡ given.1.variables) _ (λ after is. subst (Same (λ name. expr_writes name e) store.variables) (sym is) h) (stays given))
 
 -- the turns of a `for`
-turns_same : (port : Port) (condition : Option tree.Expr) (writes step_writes body_writes : List ℕ → Bool) (step body : Store → Result Store Cause) (scope : Store → Scope) (scope' : Store → Scope) → Covers writes (λ name. option_writes name condition) → Covers writes step_writes → Covers writes body_writes → ((store : Store) → IfOk (step store) (λ after. Done step_writes (scope store) store.variables after.variables)) → ((store : Store) → IfOk (body store) (λ after. Done body_writes (scope' store) store.variables after.variables)) → (store : Store) → IfOk (looped (suc turn_limit) (condition_value port condition) (λ turn. then_do (inside body turn) (inside step)) store) (λ after. Same writes store.variables after.variables)
+turns_same : (port : Port) (condition : Option tree.Expr) (writes step_writes body_writes : List ℕ → Bool) (step body : Store → Result Store Cause) (scope : Store → Scope) (scope' : Store → Scope) → Covers writes (λ name. option_writes name condition) → Covers writes step_writes → Covers writes body_writes → ((store : Store) → IfOk (step store) (λ after. Done step_writes (scope store) store.variables after.variables)) → ((store : Store) → IfOk (body store) (λ after. Done body_writes (scope' store) store.variables after.variables)) → (store : Store) → IfOk (looped (suc turn_limit) (condition_value port condition) (λ turn. result_and_then (inside body turn) (inside step)) store) (λ after. Same writes store.variables after.variables)
 turns_same port condition writes step_writes body_writes step body scope scope' covers covers_step covers_body steps bodies store =
-    looped_holds (λ s. Same writes store.variables s.variables) (λ s n h. h) (suc turn_limit) (condition_value port condition) (λ turn. then_do (inside body turn) (inside step))
+    looped_holds (λ s. Same writes store.variables s.variables) (λ s n h. h) (suc turn_limit) (condition_value port condition) (λ turn. result_and_then (inside body turn) (inside step))
     (λ s h. condition_holds (λ t. Same writes store.variables t.variables) writes (same_holding writes store.variables) port condition s covers h)
     (λ s h.
     then_ok (inside body s) (inside step) (λ after. Same writes store.variables after.variables) (λ after. Same writes store.variables after.variables)
@@ -261,18 +263,18 @@ mutual
       (λ s h. inside_after writes (λ name. stmt_writes name body) (names_after (scope_of s.variables) body) store.variables (stmt_done port body) s (λ name e. or_second (expr_writes name condition) _ e) (stmt_keeps port body names s closed.1) h)
       store (same_refl writes store.variables))
   stmt_keeps port (tree.For first condition step body) names store closed =
-      let behind : List ℕ → Bool = λ name. option_writes name condition || (stmt_writes name step || stmt_writes name body) in
+      let advance : List ℕ → Bool = λ name. option_writes name condition || (stmt_writes name step || stmt_writes name body) in
       let writes : List ℕ → Bool = λ name. stmt_writes name (tree.For first condition step body) in
-      let loop : Store → Result Store Cause = looped (suc turn_limit) (condition_value port condition) (λ turn. then_do (inside (stmt_done port body) turn) (inside (stmt_done port step))) in
+      let loop : Store → Result Store Cause = looped (suc turn_limit) (condition_value port condition) (λ turn. result_and_then (inside (stmt_done port body) turn) (inside (stmt_done port step))) in
       plain writes store.variables (stmt_done port (tree.For first condition step body) store)
-      (inside_same writes writes (λ outer. then_do (stmt_done port first outer) loop) store (λ name e. e)
+      (inside_same writes writes (λ outer. result_and_then (stmt_done port first outer) loop) store (λ name e. e)
       (then_ok (stmt_done port first store) loop (λ begun. Done (λ name. stmt_writes name first) (names_after (scope_of store.variables) first) store.variables begun.variables) (λ after. Grown writes store.variables after.variables)
       (stmt_keeps port first names store closed.0)
       (λ begun h.
-      IfOk-weaker (loop begun) (λ after. Same behind begun.variables after.variables) _
-      (λ after k. grown_then writes (λ name. stmt_writes name first) behind (λ name. hides name first) store.variables begun.variables after.variables (λ name e. or_first (stmt_writes name first) _ e) (λ name e f. unless_hidden (hides name first) (behind name) (or_second (stmt_writes name first) _ e) f)
-      (subst (Bares (λ name. hides name first) (scope_of store.variables)) (sym h.exact) (stmt_bares first (scope_of store.variables))) h.grown (grown_same behind begun.variables after.variables k))
-      (turns_same port condition behind (λ name. stmt_writes name step) (λ name. stmt_writes name body) (stmt_done port step) (stmt_done port body) (λ s. names_after (scope_of s.variables) step) (λ s. names_after (scope_of s.variables) body)
+      IfOk-weaker (loop begun) (λ after. Same advance begun.variables after.variables) _
+      (λ after k. grown_then writes (λ name. stmt_writes name first) advance (λ name. shadows name first) store.variables begun.variables after.variables (λ name e. or_first (stmt_writes name first) _ e) (λ name e f. unless_hidden (shadows name first) (advance name) (or_second (stmt_writes name first) _ e) f)
+      (subst (Bares (λ name. shadows name first) (scope_of store.variables)) (sym h.exact) (stmt_bares first (scope_of store.variables))) h.grown (grown_same advance begun.variables after.variables k))
+      (turns_same port condition advance (λ name. stmt_writes name step) (λ name. stmt_writes name body) (stmt_done port step) (stmt_done port body) (λ s. names_after (scope_of s.variables) step) (λ s. names_after (scope_of s.variables) body)
       (λ name e. or_first (option_writes name condition) _ e) (λ name e. or_first (stmt_writes name step) _ (or_second (option_writes name condition) _ e)) (λ name e. or_second (stmt_writes name step) _ (or_second (option_writes name condition) _ e))
       (λ s. stmt_keeps port step (names_after names first) s closed.2) (λ s. stmt_keeps port body (names_after names first) s closed.3) begun))))
   stmt_keeps port (tree.Push value) names store closed =
@@ -291,6 +293,6 @@ mutual
       (stmt_keeps port first names store closed.0)
       (λ middle h.
       IfOk-weaker (stmts_done port rest middle) (λ after. Grown (λ name. stmts_write name rest) middle.variables after.variables) _
-      (λ after k. grown_then writes (λ name. stmt_writes name first) (λ name. stmts_write name rest) (λ name. hides name first) store.variables middle.variables after.variables (λ name e. or_first (stmt_writes name first) _ e) (λ name e f. unless_hidden (hides name first) (stmts_write name rest) (or_second (stmt_writes name first) _ e) f)
-      (subst (Bares (λ name. hides name first) (scope_of store.variables)) (sym h.exact) (stmt_bares first (scope_of store.variables))) h.grown k)
+      (λ after k. grown_then writes (λ name. stmt_writes name first) (λ name. stmts_write name rest) (λ name. shadows name first) store.variables middle.variables after.variables (λ name e. or_first (stmt_writes name first) _ e) (λ name e f. unless_hidden (shadows name first) (stmts_write name rest) (or_second (stmt_writes name first) _ e) f)
+      (subst (Bares (λ name. shadows name first) (scope_of store.variables)) (sym h.exact) (stmt_bares first (scope_of store.variables))) h.grown k)
       (stmts_keep port rest (names_after names first) middle closed.1))

@@ -7,7 +7,7 @@ use Rattle.strc_semantics.specs.Filters.{Filter, body_block, body_rates, push_ra
 use Rattle.strc_semantics.specs.Closed.{IsClosedFilter}
 use Rattle.strc_semantics.specs.Arithmetic.{truth}
 use Rattle.strc_semantics.specs.Firing.{Port, Store, value_in, condition_value, stmts_done, port_of, store_at}
-use Rattle.strc_rate.specs.Loops.{Locals, value_after, counted_loop}
+use Rattle.strc_interval.specs.Loops.{Locals, value_after, counted_loop}
 use Rattle.strc_rate.specs.Rates.{checked}
 
 -- a body's text, run from these values of the fields before this window

@@ -1,10 +1,6 @@
-pub mod Constant
-pub mod Loops
 pub mod Counts
-pub mod Intervals
 pub mod Peeks
 pub mod Rates
 pub mod Kept
 pub mod Safe
 pub mod Verdicts
-pub mod Seen

@@ -3,10 +3,12 @@ use Rattle.std.specs.Prelude.{ℕ, ◌+◌, ◌*◌, ◌-◌, zero, suc, ℤ, po
 use Rattle.std.specs.Int.RustNames.{int_lt}
 use Rattle.strc_syntax.specs.Tree as tree
 use Rattle.strc_semantics.specs.Arithmetic.{is_true}
-use Rattle.strc_rate.specs.Constant.{constant}
-use Rattle.strc_rate.specs.Loops.{Locals, Loop, counted_loop}
+use Rattle.strc_interval.specs.Constant.{constant}
+use Rattle.strc_interval.specs.Loops.{Locals, Loop, counted_loop}
 use Rattle.strc_rate.specs.Counts.{Counts, saturated, Need, Never, need_of, expr_counts, option_counts, stmt_counts}
-use Rattle.strc_rate.specs.Intervals.{Interval, Intervals, intervals_after, interval_of, with_interval, turns_interval}
+use Rattle.strc_interval.specs.declared.interval.Interval.{Interval}
+use Rattle.strc_interval.specs.Intervals.{Intervals, intervals_after, interval_of}
+use Rattle.strc_interval.specs.Intervals.{with_interval, turns_interval, names_of}
 -- between how many items a firing has popped when it comes to a place of its text, saturated as counts are
 pub use Rattle.strc_rate.specs.declared.sight.PopInterval.{PopInterval}
 -- what a peek's text tells: that it stays within its window, that it can't, or neither, so that it is tested when it runs
@@ -18,8 +20,8 @@ pops_of None = 0
 pops_of (Some counts) = counts.pops
 
 -- behind a part that was counted
-abbrev pub behind : PopInterval → Option Counts → PopInterval
-behind popped counts = record { low = saturated (popped.low + pops_of counts); high = saturated (popped.high + pops_of counts) }
+abbrev pub advance : PopInterval → Option Counts → PopInterval
+advance popped counts = record { low = saturated (popped.low + pops_of counts); high = saturated (popped.high + pops_of counts) }
 
 -- in a turn of a loop, behind the pops of the turns before it
 abbrev pub in_turns : PopInterval → ℕ → Option Counts → PopInterval
@@ -49,18 +51,18 @@ expr_sights window intervals popped (tree.Read name) = []
 expr_sights window intervals popped (tree.Element name index) = expr_sights window intervals popped index
 expr_sights window intervals popped tree.Pop = []
 expr_sights window intervals popped (tree.Peek index) =
-    expr_sights window intervals popped index ++ sight_at window (behind popped (expr_counts index)) (interval_of intervals index) ∷ []
+    expr_sights window intervals popped index ++ sight_at window (advance popped (expr_counts index)) (interval_of intervals index) ∷ []
 expr_sights window intervals popped (tree.Group inner) = expr_sights window intervals popped inner
 expr_sights window intervals popped (tree.Unary operator operand) = expr_sights window intervals popped operand
 expr_sights window intervals popped (tree.Step operator name) = []
 expr_sights window intervals popped (tree.StepElement operator name index) = expr_sights window intervals popped index
 expr_sights window intervals popped (tree.Binary operator left right) =
     expr_sights window intervals popped left
-    ++ looked_right (need_of operator left) (expr_sights window intervals (behind popped (expr_counts left)) right)
+    ++ looked_right (need_of operator left) (expr_sights window intervals (advance popped (expr_counts left)) right)
 expr_sights window intervals popped (tree.Conditional condition chosen other) =
     expr_sights window intervals popped condition
-    ++ looked_sides (constant condition) (expr_sights window intervals (behind popped (expr_counts condition)) chosen)
-    (expr_sights window intervals (behind popped (expr_counts condition)) other)
+    ++ looked_sides (constant condition) (expr_sights window intervals (advance popped (expr_counts condition)) chosen)
+    (expr_sights window intervals (advance popped (expr_counts condition)) other)
 
 abbrev pub option_sights : (window : ℕ) → Intervals → PopInterval → Option tree.Expr → List PeekBounds
 option_sights window intervals popped None = []
@@ -70,11 +72,7 @@ abbrev pub variables_sights : (window : ℕ) → Intervals → PopInterval → L
 variables_sights window intervals popped [] = []
 variables_sights window intervals popped (first ∷ rest) =
     option_sights window intervals popped first.initial
-    ++ variables_sights window (record { 0 = first.name; 1 = None } ∷ intervals) (behind popped (option_counts first.initial)) rest
-
--- the names of the variables alone
-abbrev pub names_of : Intervals → Locals
-names_of intervals = map (λ variable. variable.0) intervals
+    ++ variables_sights window (record { 0 = first.name; 1 = None } ∷ intervals) (advance popped (option_counts first.initial)) rest
 
 -- nothing is looked at in a loop of no turn
 abbrev pub some_turns : ℕ → List PeekBounds → List PeekBounds
@@ -96,19 +94,19 @@ abbrev mutual
   stmt_sights window intervals popped (tree.Evaluate value) = expr_sights window intervals popped value
   stmt_sights window intervals popped (tree.Assign name operator value) = expr_sights window intervals popped value
   stmt_sights window intervals popped (tree.AssignElement name index operator value) =
-      expr_sights window intervals popped index ++ expr_sights window intervals (behind popped (expr_counts index)) value
+      expr_sights window intervals popped index ++ expr_sights window intervals (advance popped (expr_counts index)) value
   stmt_sights window intervals popped (tree.If condition chosen) =
       expr_sights window intervals popped condition
-      ++ looked_sides (constant condition) (stmt_sights window intervals (behind popped (expr_counts condition)) chosen) []
+      ++ looked_sides (constant condition) (stmt_sights window intervals (advance popped (expr_counts condition)) chosen) []
   stmt_sights window intervals popped (tree.IfElse condition chosen other) =
       expr_sights window intervals popped condition
-      ++ looked_sides (constant condition) (stmt_sights window intervals (behind popped (expr_counts condition)) chosen)
-      (stmt_sights window intervals (behind popped (expr_counts condition)) other)
+      ++ looked_sides (constant condition) (stmt_sights window intervals (advance popped (expr_counts condition)) chosen)
+      (stmt_sights window intervals (advance popped (expr_counts condition)) other)
   stmt_sights window intervals popped (tree.While condition body) =
       expr_sights window intervals popped condition ++ stmt_sights window intervals popped body
   stmt_sights window intervals popped (tree.For first condition step body) =
       let inner = intervals_after intervals first in
-      let begun = behind popped (stmt_counts (names_of intervals) first) in
+      let begun = advance popped (stmt_counts (names_of intervals) first) in
       stmt_sights window intervals popped first
       ++ turns_sights (counted_loop (names_of intervals) first condition step body)
       (option_sights window inner begun condition ++ (stmt_sights window inner begun step ++ stmt_sights window inner begun body))
@@ -121,4 +119,4 @@ abbrev mutual
   stmts_sights window intervals popped tree.Done = []
   stmts_sights window intervals popped (tree.Then first rest) =
       stmt_sights window intervals popped first
-      ++ stmts_sights window (intervals_after intervals first) (behind popped (stmt_counts (names_of intervals) first)) rest
+      ++ stmts_sights window (intervals_after intervals first) (advance popped (stmt_counts (names_of intervals) first)) rest

@@ -1,6 +1,7 @@
 -- The rates of a filter: what is declared against what is counted.
 use Rattle.std.specs.Prelude.{ℕ, ℤ, pos, Bool, true, false, not, ◌&&◌, ◌||◌, nat_eq, List, [], ◌∷◌, map, Option, Some, None, Result, Ok, Err, if◌then◌else◌}
 use Rattle.std.specs.Int.RustNames.{int_lt}
+use Rattle.strc_base.specs.Results.{result_and_then}
 use Rattle.strc_syntax.specs.Tree as tree
 use Rattle.strc_syntax.specs.declared.tree.ItemType.{ItemType}
 use Rattle.strc_syntax.specs.declared.tree.ItemType.TheVariants as item
@@ -39,11 +40,6 @@ has_items item.Void = false
 abbrev pub lacks_rate : ItemType → ℤ → Bool
 lacks_rate side rate = has_items side && nat_eq (item_count rate) 0
 
--- one test, and then the next
-abbrev pub and_then : {T : Type 0} → Result (Unit {0}) RateError → Result T RateError → Result T RateError
-and_then (Ok done) next = next
-and_then (Err broken) next = Err broken
-
 -- a declared rate is the counted one
 abbrev pub same_rate : (declared counted : ℕ) → Result (Unit {0}) RateError
 same_rate declared counted = if nat_eq declared counted then Ok tt else Err (RateMismatch declared counted)
@@ -61,8 +57,8 @@ some_outside [] = false
 some_outside (first ∷ rest) = is_outside first || some_outside rest
 
 -- no peek is outside of its window
-abbrev pub seen : List tree.Rate → List PeekBounds → Result BodyRates RateError
-seen rates sights =
+abbrev pub with_closed_peeks : List tree.Rate → List PeekBounds → Result BodyRates RateError
+with_closed_peeks rates sights =
     if some_outside sights then Err PeekOutside
     else Ok (record {
       push = item_count (push_rate rates);
@@ -75,8 +71,8 @@ seen rates sights =
 abbrev pub counted : List tree.Rate → Option Counts → List PeekBounds → Result BodyRates RateError
 counted rates None sights = Err RateUnknown
 counted rates (Some counts) sights =
-    and_then (same_rate (item_count (push_rate rates)) counts.pushes)
-    (and_then (same_rate (item_count (pop_rate rates)) counts.pops) (seen rates sights))
+    result_and_then (same_rate (item_count (push_rate rates)) counts.pushes) (λ same_pushes.
+    result_and_then (same_rate (item_count (pop_rate rates)) counts.pops) (λ same_pops. with_closed_peeks rates sights))
 
 -- the items popped where a firing begins
 abbrev pub none_popped : PopInterval

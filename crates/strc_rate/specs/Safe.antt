@@ -2,6 +2,7 @@
 -- known where peeks are told, and asks this of each peek that is run.
 use Rattle.std.specs.Prelude.{◌≡◌, ℕ, zero, suc, ◌≤◌, ℤ, List, [], ◌∷◌, length, Option, Some, None, Result, IfOk, IsSome}
 use Rattle.std.specs.Bool.{MatchBool}
+use Rattle.strc_base.specs.Results.{result_and_then}
 use Rattle.strc_syntax.specs.Tree as tree
 use Rattle.strc_semantics.specs.declared.body.Body.{Body}
 use Rattle.strc_semantics.specs.declared.fault.Cause.{Cause}
@@ -10,17 +11,19 @@ use Rattle.strc_semantics.specs.Constants.{decides}
 use Rattle.strc_semantics.specs.Scoping.{cells_of}
 use Rattle.strc_semantics.specs.Filters.{Filter, body_block, body_rates, window_size}
 use Rattle.strc_semantics.specs.Closed.{IsClosedFilter}
-use Rattle.strc_semantics.specs.Firing.{then_do, Port, Store, item_ahead, value_of, initial_cells, declared_in, condition_value, turned, turn_limit, inside, stmt_done, port_of, store_at}
-use Rattle.strc_rate.specs.Loops.{Loop, counted_loop}
+use Rattle.strc_semantics.specs.Firing.{Port, Store, item_ahead, value_of, initial_cells, declared_in, condition_value, turned, turn_limit, inside, stmt_done, port_of, store_at}
+use Rattle.strc_interval.specs.Loops.{Loop, counted_loop}
 use Rattle.strc_rate.specs.Counts.{Counts, expr_counts, option_counts, stmt_counts}
-use Rattle.strc_rate.specs.Intervals.{Intervals, intervals_after, interval_of, with_interval, turns_interval}
-use Rattle.strc_rate.specs.Peeks.{PopInterval, behind, in_turns, Closed, sight_at, names_of}
+use Rattle.strc_interval.specs.Intervals.{Intervals, intervals_after, interval_of, with_interval}
+use Rattle.strc_interval.specs.Intervals.{turns_interval}
+use Rattle.strc_rate.specs.Peeks.{PopInterval, advance, in_turns, Closed, sight_at}
+use Rattle.strc_interval.specs.Intervals.{names_of}
 use Rattle.strc_rate.specs.Rates.{none_popped, checked}
 
 -- the item of a closed peek is in the window, where the index has a value
 abbrev pub PeekIsSafe : (window : ℕ) → Port → Intervals → PopInterval → (index : tree.Expr) → Store → Type 0
 PeekIsSafe window port intervals popped index store =
-    sight_at window (behind popped (expr_counts index)) (interval_of intervals index) ≡ Closed
+    sight_at window (advance popped (expr_counts index)) (interval_of intervals index) ≡ Closed
     → IfOk (value_of port index store) (λ place. IsSome (item_ahead port place.1.traffic.popped place.0))
 
 -- each closed peek of an expression that is run in this store
@@ -39,12 +42,12 @@ ExprIsSafe window port intervals popped (tree.StepElement operator name index) s
 ExprIsSafe window port intervals popped (tree.Binary operator left right) store =
     ExprIsSafe window port intervals popped left store
     × IfOk (value_of port left store) (λ first.
-    MatchBool (decides operator first.0) (Unit {0}) (ExprIsSafe window port intervals (behind popped (expr_counts left)) right first.1))
+    MatchBool (decides operator first.0) (Unit {0}) (ExprIsSafe window port intervals (advance popped (expr_counts left)) right first.1))
 ExprIsSafe window port intervals popped (tree.Conditional condition chosen other) store =
     ExprIsSafe window port intervals popped condition store
     × IfOk (value_of port condition store) (λ test.
-    MatchBool (is_true test.0) (ExprIsSafe window port intervals (behind popped (expr_counts condition)) chosen test.1)
-    (ExprIsSafe window port intervals (behind popped (expr_counts condition)) other test.1))
+    MatchBool (is_true test.0) (ExprIsSafe window port intervals (advance popped (expr_counts condition)) chosen test.1)
+    (ExprIsSafe window port intervals (advance popped (expr_counts condition)) other test.1))
 
 abbrev pub OptionIsSafe : (window : ℕ) → Port → Intervals → PopInterval → Option tree.Expr → Store → Type 0
 OptionIsSafe window port intervals popped None store = Unit {0}
@@ -55,7 +58,7 @@ VariablesAreSafe window port intervals popped cells [] store = Unit {0}
 VariablesAreSafe window port intervals popped cells (first ∷ rest) store =
     OptionIsSafe window port intervals popped first.initial store
     × IfOk (initial_cells port cells first.initial store) (λ given.
-    VariablesAreSafe window port (record { 0 = first.name; 1 = None } ∷ intervals) (behind popped (option_counts first.initial)) cells rest
+    VariablesAreSafe window port (record { 0 = first.name; 1 = None } ∷ intervals) (advance popped (option_counts first.initial)) cells rest
     (declared_in given.1 first.name given.0))
 
 -- each turn of a loop
@@ -94,22 +97,22 @@ abbrev mutual
   StmtIsSafe window port intervals popped (tree.Assign name operator value) store = ExprIsSafe window port intervals popped value store
   StmtIsSafe window port intervals popped (tree.AssignElement name index operator value) store =
       ExprIsSafe window port intervals popped index store
-      × IfOk (value_of port index store) (λ at. ExprIsSafe window port intervals (behind popped (expr_counts index)) value at.1)
+      × IfOk (value_of port index store) (λ at. ExprIsSafe window port intervals (advance popped (expr_counts index)) value at.1)
   StmtIsSafe window port intervals popped (tree.If condition chosen) store =
       ExprIsSafe window port intervals popped condition store
       × IfOk (value_of port condition store) (λ test.
-      MatchBool (is_true test.0) (StmtIsSafe window port intervals (behind popped (expr_counts condition)) chosen test.1) (Unit {0}))
+      MatchBool (is_true test.0) (StmtIsSafe window port intervals (advance popped (expr_counts condition)) chosen test.1) (Unit {0}))
   StmtIsSafe window port intervals popped (tree.IfElse condition chosen other) store =
       ExprIsSafe window port intervals popped condition store
       × IfOk (value_of port condition store) (λ test.
-      MatchBool (is_true test.0) (StmtIsSafe window port intervals (behind popped (expr_counts condition)) chosen test.1)
-      (StmtIsSafe window port intervals (behind popped (expr_counts condition)) other test.1))
+      MatchBool (is_true test.0) (StmtIsSafe window port intervals (advance popped (expr_counts condition)) chosen test.1)
+      (StmtIsSafe window port intervals (advance popped (expr_counts condition)) other test.1))
   StmtIsSafe window port intervals popped (tree.While condition body) store =
       LoopIsSafe (suc turn_limit) (λ s. ExprIsSafe window port intervals popped condition s) (λ s. StmtIsSafe window port intervals popped body s)
       (value_of port condition) (inside (stmt_done port body)) store
   StmtIsSafe window port intervals popped (tree.For first condition step body) store =
       let inner = intervals_after intervals first in
-      let begun = behind popped (stmt_counts (names_of intervals) first) in
+      let begun = advance popped (stmt_counts (names_of intervals) first) in
       let told = counted_loop (names_of intervals) first condition step body in
       StmtIsSafe window port intervals popped first store
       × IfOk (stmt_done port first store)
@@ -117,7 +120,7 @@ abbrev mutual
       (λ s.
       StmtIsSafe window port (intervals_in told inner) (popped_in told begun (stmt_counts (names_of inner) body)) body s
       × UnlessCounted told (IfOk (inside (stmt_done port body) s) (λ after. StmtIsSafe window port inner begun step after)))
-      (condition_value port condition) (λ turn. then_do (inside (stmt_done port body) turn) (inside (stmt_done port step))))
+      (condition_value port condition) (λ turn. result_and_then (inside (stmt_done port body) turn) (inside (stmt_done port step))))
   StmtIsSafe window port intervals popped (tree.Push value) store = ExprIsSafe window port intervals popped value store
   StmtIsSafe window port intervals popped (tree.Print value) store = ExprIsSafe window port intervals popped value store
   StmtIsSafe window port intervals popped (tree.Println value) store = ExprIsSafe window port intervals popped value store
@@ -127,7 +130,7 @@ abbrev mutual
   StmtsAreSafe window port intervals popped (tree.Then first rest) store =
       StmtIsSafe window port intervals popped first store
       × IfOk (stmt_done port first store) (λ middle.
-      StmtsAreSafe window port (intervals_after intervals first) (behind popped (stmt_counts (names_of intervals) first)) rest middle)
+      StmtsAreSafe window port (intervals_after intervals first) (advance popped (stmt_counts (names_of intervals) first)) rest middle)
 
 -- in each firing of a filter before a whole window, each closed peek that is run finds its item
 abbrev pub HasSafePeeks : Filter → Type 0

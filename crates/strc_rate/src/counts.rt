@@ -4,7 +4,7 @@ ghost use Rattle.std.specs.Prelude.{◌≡◌, ◌+◌, ◌*◌};
 ghost use Rattle.strc_syntax.specs.View.{expr_view};
 ghost use Rattle.strc_rate.specs.Counts as spec;
 
-use crate::constant::constant;
+use strc_interval::constant::constant;
 use strc_syntax::tree::{BinaryOperator, Expr};
 
 // From here on a count is saturated.
@@ -44,8 +44,8 @@ pub(crate) fn one_pop() -> Counts
 }
 
 /// One after the other.
-pub(crate) fn both(first: Option<Counts>, second: Option<Counts>) -> Option<Counts>
-    ensures { result ≡ spec.both first second }
+pub(crate) fn sequence(first: Option<Counts>, second: Option<Counts>) -> Option<Counts>
+    ensures { result ≡ spec.sequence first second }
 {
     match first {
         Some(first) => match second {
@@ -60,8 +60,8 @@ pub(crate) fn both(first: Option<Counts>, second: Option<Counts>) -> Option<Coun
 }
 
 /// One or the other, which must count the same.
-pub(crate) fn either(first: Option<Counts>, second: Option<Counts>) -> Option<Counts>
-    ensures { result ≡ spec.either first second }
+pub(crate) fn if_equal(first: Option<Counts>, second: Option<Counts>) -> Option<Counts>
+    ensures { result ≡ spec.if_equal first second }
 {
     match first {
         Some(first) => match second {
@@ -73,8 +73,8 @@ pub(crate) fn either(first: Option<Counts>, second: Option<Counts>) -> Option<Co
 }
 
 /// What may be left out, or run several times, must count nothing.
-pub(crate) fn nothing(counts: Option<Counts>) -> Option<Counts>
-    ensures { result ≡ spec.nothing counts }
+pub(crate) fn require_zero(counts: Option<Counts>) -> Option<Counts>
+    ensures { result ≡ spec.require_zero counts }
 {
     match counts {
         Some(counts) => if_same(no_items(), counts),
@@ -109,17 +109,17 @@ pub(crate) fn repeated(times: u64, counts: Option<Counts>) -> Option<Counts>
 }
 
 /// The side that a constant condition takes, or both.
-pub(crate) fn sides(
+pub(crate) fn branch_counts(
     condition: Option<i32>,
     chosen: Option<Counts>,
     other: Option<Counts>,
 ) -> Option<Counts>
-    ensures { result ≡ spec.sides condition chosen other }
+    ensures { result ≡ spec.branch_counts condition chosen other }
 {
     match condition {
         Some(0) => other,
         Some(_) => chosen,
-        None => either(chosen, other),
+        None => if_equal(chosen, other),
     }
 }
 
@@ -149,7 +149,7 @@ pub(crate) fn needed(need: Need, counts: Option<Counts>) -> Option<Counts>
     match need {
         Need::Always => counts,
         Need::Never => Some(no_items()),
-        Need::Sometimes => nothing(counts),
+        Need::Sometimes => require_zero(counts),
     }
 }
 

@@ -4,22 +4,23 @@ ghost use Rattle.std.specs.Prelude.{◌≡◌, IfOk, OnOk, map};
 ghost use Rattle.std.specs.Option.{option_map};
 ghost use Rattle.strc_syntax.specs.View.{expr_view, variable_view, stmt_view, block_view};
 ghost use Rattle.strc_rate.specs.Counts as spec;
-ghost use Rattle.strc_rate.specs.Peeks.{names_of};
-ghost use Rattle.strc_rate.specs.Intervals.{with_unknown, intervals_after};
-ghost use Rattle.strc_rate.specs.Seen.{loop_view};
+ghost use Rattle.strc_interval.specs.Intervals.{names_of};
+ghost use Rattle.strc_interval.specs.Intervals.{with_unknown, intervals_after};
+ghost use Rattle.strc_interval.specs.Seen.{loop_view};
 
-use crate::constant::constant;
 use crate::counts::{
-    Counts, both, need_of, needed, no_items, nothing, one_pop, one_push, repeated, sides,
+    Counts, branch_counts, need_of, needed, no_items, one_pop, one_push, repeated, require_zero,
+    sequence,
 };
-use crate::interval_scope::IntervalScope;
-use crate::loops::{CountedLoop, counted_loop};
 use strc_base::memory::NoMemory;
+use strc_interval::constant::constant;
+use strc_interval::interval_scope::IntervalScope;
+use strc_interval::loops::{CountedLoop, counted_loop};
 use strc_syntax::tree::{Expr, Stmt, Variable};
 
 /// The counts of statements in a row, behind these names.
 #[cycle(item_counts)]
-#[tactic(auto, using(crate::proofs::IntervalGrowth::growth))]
+#[tactic(auto, using(strc_interval::proofs::IntervalGrowth::growth))]
 pub(crate) fn block_counts(
     block: &[Stmt],
     names: &mut IntervalScope,
@@ -31,7 +32,7 @@ pub(crate) fn block_counts(
     let outside = names.len();
     let mut counts = Some(no_items());
     for statement in block {
-        counts = both(counts, statement_counts(statement, names)?);
+        counts = sequence(counts, statement_counts(statement, names)?);
     }
     names.leave(outside);
     Ok(counts)
@@ -39,7 +40,7 @@ pub(crate) fn block_counts(
 
 /// The counts of a statement behind these names, which it may add to.
 #[cycle(item_counts)]
-#[tactic(auto, using(crate::proofs::IntervalGrowth::growth))]
+#[tactic(auto, using(strc_interval::proofs::IntervalGrowth::growth))]
 pub(crate) fn statement_counts(
     statement: &Stmt,
     names: &mut IntervalScope,
@@ -57,15 +58,15 @@ pub(crate) fn statement_counts(
         | Stmt::Print(value)
         | Stmt::Println(value) => Ok(expression_counts(value)),
         Stmt::AssignElement(_, index, _, value) => {
-            Ok(both(expression_counts(index), expression_counts(value)))
+            Ok(sequence(expression_counts(index), expression_counts(value)))
         }
-        Stmt::Push(value) => Ok(both(expression_counts(value), Some(one_push()))),
+        Stmt::Push(value) => Ok(sequence(expression_counts(value), Some(one_push()))),
         Stmt::If(condition, chosen) => {
             let outside = names.len();
             let chosen = statement_counts(chosen, names)?;
             names.leave(outside);
-            let taken = sides(constant(condition), chosen, Some(no_items()));
-            Ok(both(expression_counts(condition), taken))
+            let taken = branch_counts(constant(condition), chosen, Some(no_items()));
+            Ok(sequence(expression_counts(condition), taken))
         }
         Stmt::IfElse(condition, chosen, other) => {
             let outside = names.len();
@@ -73,14 +74,17 @@ pub(crate) fn statement_counts(
             names.leave(outside);
             let other = statement_counts(other, names)?;
             names.leave(outside);
-            let taken = sides(constant(condition), chosen, other);
-            Ok(both(expression_counts(condition), taken))
+            let taken = branch_counts(constant(condition), chosen, other);
+            Ok(sequence(expression_counts(condition), taken))
         }
         Stmt::While(condition, body) => {
             let outside = names.len();
             let body = statement_counts(body, names)?;
             names.leave(outside);
-            Ok(both(nothing(expression_counts(condition)), nothing(body)))
+            Ok(sequence(
+                require_zero(expression_counts(condition)),
+                require_zero(body),
+            ))
         }
         Stmt::For(first, condition, step, body) => {
             let counted = counted_loop(names, first, condition, step, body);
@@ -91,7 +95,7 @@ pub(crate) fn statement_counts(
             names.leave(inside);
             let body = statement_counts(body, names)?;
             names.leave(outside);
-            Ok(both(
+            Ok(sequence(
                 first,
                 turns_counts(counted, option_counts(condition), step, body),
             ))
@@ -111,7 +115,10 @@ pub(crate) fn turns_counts(
 {
     match counted {
         Some(counted) => repeated(counted.turns, body),
-        None => both(nothing(condition), both(nothing(step), nothing(body))),
+        None => sequence(
+            require_zero(condition),
+            sequence(require_zero(step), require_zero(body)),
+        ),
     }
 }
 
@@ -127,7 +134,7 @@ fn variables_counts(
 {
     let mut counts = Some(no_items());
     for variable in variables {
-        counts = both(counts, option_counts(&variable.initial));
+        counts = sequence(counts, option_counts(&variable.initial));
         names.declare(&variable.name)?;
     }
     Ok(counts)
@@ -156,13 +163,13 @@ fn expression_counts(value: &Expr) -> Option<Counts>
         | Expr::StepElement(_, _, inner) => expression_counts(inner),
         Expr::Binary(operator, left, right) => {
             let right = needed(need_of(*operator, left), expression_counts(right));
-            both(expression_counts(left), right)
+            sequence(expression_counts(left), right)
         }
         Expr::Conditional(condition, chosen, other) => {
             let (chosen, other) = (expression_counts(chosen), expression_counts(other));
-            both(
+            sequence(
                 expression_counts(condition),
-                sides(constant(condition), chosen, other),
+                branch_counts(constant(condition), chosen, other),
             )
         }
     }

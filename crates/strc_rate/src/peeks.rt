@@ -6,25 +6,25 @@ ghost use Rattle.std.specs.Option.{option_map};
 ghost use Rattle.strc_syntax.specs.View.{expr_view, variable_view, stmt_view, block_view};
 ghost use Rattle.strc_rate.specs.Counts as counting;
 ghost use Rattle.strc_rate.specs.Peeks as spec;
-ghost use Rattle.strc_rate.specs.Peeks.{names_of};
-ghost use Rattle.strc_rate.specs.Intervals.{with_unknown, with_interval, intervals_after};
+ghost use Rattle.strc_interval.specs.Intervals.{names_of};
+ghost use Rattle.strc_interval.specs.Intervals.{with_unknown, with_interval, intervals_after};
 
-use crate::constant::constant;
 use crate::counts::{
-    Counts, Need, both, either, need_of, no_items, nothing, one_pop, one_push, repeated,
+    Counts, Need, if_equal, need_of, no_items, one_pop, one_push, repeated, require_zero, sequence,
 };
-use crate::interval_scope::IntervalScope;
-use crate::intervals::interval_of;
 use crate::item_counts::statement_counts;
-use crate::loops::{CountedLoop, counted_loop};
-use crate::sight::{PeekBounds, PopInterval, behind, in_turns, sight_at};
+use crate::sight::{PeekBounds, PopInterval, advance, in_turns, sight_at};
 use strc_base::memory::NoMemory;
+use strc_interval::constant::constant;
+use strc_interval::interval_scope::IntervalScope;
+use strc_interval::intervals::interval_of;
+use strc_interval::loops::{CountedLoop, counted_loop};
 use strc_syntax::tree::{Expr, Stmt, Variable};
 
 /// Adds what is told of the peeks of statements in a row, in order of the text, and gives the
 /// counts of the statements.
 #[cycle(peeks)]
-#[tactic(auto, using(crate::proofs::IntervalGrowth::own_growth))]
+#[tactic(auto, using(strc_interval::proofs::IntervalGrowth::own_growth))]
 pub(crate) fn check_peeks_in_block(
     block: &[Stmt],
     names: &mut IntervalScope,
@@ -43,8 +43,8 @@ pub(crate) fn check_peeks_in_block(
     let mut here = popped;
     for statement in block {
         let passed = check_peeks_in_statement(statement, names, window, here, sights)?;
-        here = behind(here, passed);
-        counts = both(counts, passed);
+        here = advance(here, passed);
+        counts = sequence(counts, passed);
     }
     names.leave(outside);
     Ok(counts)
@@ -52,7 +52,7 @@ pub(crate) fn check_peeks_in_block(
 
 /// The same of a statement, which may add to the names.
 #[cycle(peeks)]
-#[tactic(auto, using(crate::proofs::IntervalGrowth::own_growth))]
+#[tactic(auto, using(strc_interval::proofs::IntervalGrowth::own_growth))]
 fn check_peeks_in_statement(
     statement: &Stmt,
     names: &mut IntervalScope,
@@ -78,69 +78,72 @@ fn check_peeks_in_statement(
         | Stmt::Println(value) => check_peeks_in_expression(value, names, window, popped, sights),
         Stmt::AssignElement(_, index, _, value) => {
             let index = check_peeks_in_expression(index, names, window, popped, sights)?;
-            let here = behind(popped, index);
+            let here = advance(popped, index);
             let value = check_peeks_in_expression(value, names, window, here, sights)?;
-            Ok(both(index, value))
+            Ok(sequence(index, value))
         }
         Stmt::Push(value) => {
             let value = check_peeks_in_expression(value, names, window, popped, sights)?;
-            Ok(both(value, Some(one_push())))
+            Ok(sequence(value, Some(one_push())))
         }
         Stmt::If(condition, chosen) => {
             let test = check_peeks_in_expression(condition, names, window, popped, sights)?;
-            let here = behind(popped, test);
+            let here = advance(popped, test);
             let chosen = match constant(condition) {
                 Some(0) => Some(no_items()),
                 Some(_) => look_inside(chosen, names, window, here, sights)?,
                 None => {
                     let chosen = look_inside(chosen, names, window, here, sights)?;
-                    either(chosen, Some(no_items()))
+                    if_equal(chosen, Some(no_items()))
                 }
             };
-            Ok(both(test, chosen))
+            Ok(sequence(test, chosen))
         }
         Stmt::IfElse(condition, chosen, other) => {
             let test = check_peeks_in_expression(condition, names, window, popped, sights)?;
-            let here = behind(popped, test);
+            let here = advance(popped, test);
             let taken = match constant(condition) {
                 Some(0) => look_inside(other, names, window, here, sights)?,
                 Some(_) => look_inside(chosen, names, window, here, sights)?,
                 None => {
                     let chosen = look_inside(chosen, names, window, here, sights)?;
                     let other = look_inside(other, names, window, here, sights)?;
-                    either(chosen, other)
+                    if_equal(chosen, other)
                 }
             };
-            Ok(both(test, taken))
+            Ok(sequence(test, taken))
         }
         Stmt::While(condition, body) => {
             let test = check_peeks_in_expression(condition, names, window, popped, sights)?;
             let body = look_inside(body, names, window, popped, sights)?;
-            Ok(both(nothing(test), nothing(body)))
+            Ok(sequence(require_zero(test), require_zero(body)))
         }
         Stmt::For(first, condition, step, body) => {
             let counted = counted_loop(names, first, condition, step, body);
             let outside = names.len();
             let begun = check_peeks_in_statement(first, names, window, popped, sights)?;
-            let here = behind(popped, begun);
+            let here = advance(popped, begun);
             let turned = match counted {
                 Some(counted) => check_peeks_in_turns(body, counted, names, window, here, sights)?,
                 None => {
                     let test = check_peeks_in_option(condition, names, window, here, sights)?;
                     let step = look_inside(step, names, window, here, sights)?;
                     let body = look_inside(body, names, window, here, sights)?;
-                    both(nothing(test), both(nothing(step), nothing(body)))
+                    sequence(
+                        require_zero(test),
+                        sequence(require_zero(step), require_zero(body)),
+                    )
                 }
             };
             names.leave(outside);
-            Ok(both(begun, turned))
+            Ok(sequence(begun, turned))
         }
     }
 }
 
 /// The same of a statement whose names end with it.
 #[cycle(peeks)]
-#[tactic(auto, using(crate::proofs::IntervalGrowth::own_growth))]
+#[tactic(auto, using(strc_interval::proofs::IntervalGrowth::own_growth))]
 fn look_inside(
     statement: &Stmt,
     names: &mut IntervalScope,
@@ -163,7 +166,7 @@ fn look_inside(
 /// The same of the turns of a counted loop, in which its variable has an interval. Nothing is
 /// looked at in a loop of no turn.
 #[cycle(peeks)]
-#[tactic(auto, using(crate::proofs::IntervalGrowth::known_values))]
+#[tactic(auto, using(strc_interval::proofs::IntervalGrowth::known_values))]
 fn check_peeks_in_turns(
     body: &Stmt,
     counted: CountedLoop,
@@ -217,8 +220,8 @@ fn check_peeks_in_variables(
     let mut here = popped;
     for variable in variables {
         let passed = check_peeks_in_option(&variable.initial, names, window, here, sights)?;
-        here = behind(here, passed);
-        counts = both(counts, passed);
+        here = advance(here, passed);
+        counts = sequence(counts, passed);
         names.declare(&variable.name)?;
     }
     Ok(counts)
@@ -262,7 +265,7 @@ fn check_peeks_in_expression(
         Expr::Pop => Ok(Some(one_pop())),
         Expr::Peek(index) => {
             let counts = check_peeks_in_expression(index, names, window, popped, sights)?;
-            let here = behind(popped, counts);
+            let here = advance(popped, counts);
             sights.push(sight_at(window, here, interval_of(index, names)))?;
             Ok(counts)
         }
@@ -274,29 +277,29 @@ fn check_peeks_in_expression(
         }
         Expr::Binary(operator, left, right) => {
             let first = check_peeks_in_expression(left, names, window, popped, sights)?;
-            let here = behind(popped, first);
+            let here = advance(popped, first);
             let second = match need_of(*operator, left) {
                 Need::Always => check_peeks_in_expression(right, names, window, here, sights)?,
                 Need::Never => Some(no_items()),
                 Need::Sometimes => {
-                    nothing(check_peeks_in_expression(right, names, window, here, sights)?)
+                    require_zero(check_peeks_in_expression(right, names, window, here, sights)?)
                 }
             };
-            Ok(both(first, second))
+            Ok(sequence(first, second))
         }
         Expr::Conditional(condition, chosen, other) => {
             let test = check_peeks_in_expression(condition, names, window, popped, sights)?;
-            let here = behind(popped, test);
+            let here = advance(popped, test);
             let taken = match constant(condition) {
                 Some(0) => check_peeks_in_expression(other, names, window, here, sights)?,
                 Some(_) => check_peeks_in_expression(chosen, names, window, here, sights)?,
                 None => {
                     let chosen = check_peeks_in_expression(chosen, names, window, here, sights)?;
                     let other = check_peeks_in_expression(other, names, window, here, sights)?;
-                    either(chosen, other)
+                    if_equal(chosen, other)
                 }
             };
-            Ok(both(test, taken))
+            Ok(sequence(test, taken))
         }
     }
 }

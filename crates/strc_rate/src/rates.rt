@@ -9,11 +9,11 @@ ghost use Rattle.strc_rate.specs.Kept.{KeepsRates};
 ghost use Rattle.strc_rate.specs.Safe.{HasSafePeeks};
 ghost use Rattle.strc_rate.specs.Verdicts.{IsVerdict, body_view, rates_view};
 
-use crate::interval_scope::IntervalScope;
 use crate::peeks::check_peeks_in_block;
 use crate::sight::{PeekBounds, PopInterval};
 use std::alloc::{AllocError, AllocFailed, Global};
 use strc_base::memory::NoMemory;
+use strc_interval::interval_scope::IntervalScope;
 use strc_semantics::body::Body;
 use strc_syntax::tree::ItemType;
 use strc_work::code::{Code, DeclaredRates};
@@ -173,7 +173,7 @@ fn check_body(alloc: Global, code: &Code, body: Body, lacks: bool) -> Result<Bod
         Some(counts) => {
             same_rate(item_count(rates.push), counts.pushes)?;
             same_rate(item_count(rates.pop), counts.pops)?;
-            seen(alloc, code, body, &sights)
+            with_closed_peeks(alloc, code, body, &sights)
         }
         None => Err(RateError::RateUnknown),
     }
@@ -219,14 +219,15 @@ fn same_rate(declared: u32, counted: u32) -> Result<(), RateError>
 }
 
 /// The rates of a body whose counts are the declared ones, if no peek is outside of its window.
-fn seen(
+fn with_closed_peeks(
     alloc: Global,
     code: &Code,
     body: Body,
     sights: &[PeekBounds],
 ) -> Result<BodyRates, RateError>
     ensures verdict { IsVerdict body_view
-        (spec.seen (filters.body_rates body (filter_of code.now).members) sights.now) result }
+        (spec.with_closed_peeks (filters.body_rates body (filter_of code.now).members) sights.now)
+        result }
 {
     if some_outside(sights) {
         return Err(RateError::PeekOutside);

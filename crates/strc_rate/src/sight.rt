@@ -5,7 +5,7 @@ ghost use Rattle.strc_rate.specs.Counts.{Counts};
 ghost use Rattle.strc_rate.specs.Peeks as spec;
 
 use crate::counts::{Counts, saturating_product, saturating_sum};
-use crate::interval::Interval;
+use strc_interval::interval::Interval;
 
 /// Between how many items a firing has popped when it comes to a place of its text, saturated as
 /// counts are.
@@ -27,8 +27,8 @@ pub(crate) enum PeekBounds {
 }
 
 /// Behind a part that was counted.
-pub(crate) fn behind(popped: PopInterval, counts: Option<Counts>) -> PopInterval
-    ensures { result ≡ spec.behind popped counts }
+pub(crate) fn advance(popped: PopInterval, counts: Option<Counts>) -> PopInterval
+    ensures { result ≡ spec.advance popped counts }
 {
     let pops = pops_of(counts);
     PopInterval {

@@ -14,7 +14,7 @@ use Rattle.strc_balance.specs.Verdicts.{judged}
 use Rattle.strc_balance.specs.declared.error.BalanceError.{BalanceError}
 use Rattle.strc_balance.specs.declared.error.BalanceError.TheVariants as unbalanced
 use Rattle.strc_elab.specs.Instances.{Stream}
-use Rattle.strc_elab.specs.declared.error.ElabError.{ElabError}
+use Rattle.strc_scope.specs.declared.error.ElabError.{ElabError}
 use Rattle.strc_run.specs.declared.refusal.Refusal.{Refusal}
 use Rattle.strc_run.specs.declared.refusal.Refusal.TheVariants as refusal
 use Rattle.strc_run.specs.Compiling.{Compiles, Breaks, CanRun, CannotRun, CannotBalance, round_counts}

@@ -2,6 +2,7 @@
 use Rattle.std.proofs.Common.{◌≡◌, refl, ◌∙◌, ℕ, zero, suc, ◌+◌, ℤ, Bool, true, false, ◌||◌, List, [], ◌∷◌, ◌++◌, length, Option, Some, None, Result, Ok, Err}
 use Rattle.std.specs.Prelude.{nat_lt, slice_get, if◌then◌else◌}
 use Rattle.std.specs.Result.{IfOk}
+use Rattle.strc_base.specs.Results.{result_and_then}
 use Rattle.strc_syntax.specs.Tree as tree
 use Rattle.strc_syntax.specs.declared.tree.AssignOperator.{AssignOperator}
 use Rattle.strc_syntax.specs.declared.tree.AssignOperator.TheVariants as assign
@@ -14,7 +15,7 @@ use Rattle.strc_semantics.specs.Arithmetic.{is_true, binary_value}
 use Rattle.strc_semantics.specs.declared.body.Body.TheVariants as body
 use Rattle.strc_semantics.specs.Filters.{Filter, work_block, stmt_prints, stmts_print, filter_prints}
 use Rattle.strc_semantics.specs.Scoping.{cells_of}
-use Rattle.strc_semantics.specs.Firing.{then_do, Port, Traffic, Store, item_popped, looked_at, item_ahead, pushed_to, joined, value_of, assigned_value, place_of, cell_in, cell_set, declared_in, element_joined, element_set, initial_cells, variables_declared, condition_value, turned, turn_limit, looped, inside, stmt_done, stmts_done, store_at, port_of, fired}
+use Rattle.strc_semantics.specs.Firing.{Port, Traffic, Store, item_popped, looked_at, item_ahead, pushed_to, joined, value_of, assigned_value, place_of, cell_in, cell_set, declared_in, element_joined, element_set, initial_cells, variables_declared, condition_value, turned, turn_limit, looped, inside, stmt_done, stmts_done, store_at, port_of, fired}
 
 or_first : (a b : Bool) → (a || b) ≡ false → a ≡ false
 or_first true b e = e
@@ -25,7 +26,7 @@ or_second true b e = absurd (cc)
 or_second false b e = e
 
 -- what holds of the value of each step holds of both
-pub then_ok : {A B : Type 0} (result : Result A Cause) (go : A → Result B Cause) (P : A → Type 0) (Q : B → Type 0) → IfOk result P → ((a : A) → P a → IfOk (go a) Q) → IfOk (then_do result go) Q
+pub then_ok : {A B : Type 0} (result : Result A Cause) (go : A → Result B Cause) (P : A → Type 0) (Q : B → Type 0) → IfOk result P → ((a : A) → P a → IfOk (go a) Q) → IfOk (result_and_then result go) Q
 then_ok (Ok a) go P Q h next = next a h
 then_ok (Err cause) go P Q h next = tt
 
@@ -38,11 +39,11 @@ abbrev IsQuiet : List Word → Result Store Cause → Type 0
 IsQuiet words result = IfOk result (λ after. after.traffic.words ≡ words)
 
 -- what can fail, and then a store
-any_quiet : {A : Type 0} (result : Result A Cause) (go : A → Store) (words : List Word) → ((a : A) → (go a).traffic.words ≡ words) → IsQuiet words (then_do result (λ a. Ok (go a)))
+any_quiet : {A : Type 0} (result : Result A Cause) (go : A → Store) (words : List Word) → ((a : A) → (go a).traffic.words ≡ words) → IsQuiet words (result_and_then result (λ a. Ok (go a)))
 any_quiet (Ok a) go words h = h a
 any_quiet (Err cause) go words h = tt
 
-any_given : {A : Type 0} (result : Result A Cause) (go : A → ℤ × Store) (words : List Word) → ((a : A) → (go a).1.traffic.words ≡ words) → GivesQuietly words (then_do result (λ a. Ok (go a)))
+any_given : {A : Type 0} (result : Result A Cause) (go : A → ℤ × Store) (words : List Word) → ((a : A) → (go a).1.traffic.words ≡ words) → GivesQuietly words (result_and_then result (λ a. Ok (go a)))
 any_given (Ok a) go words h = h a
 any_given (Err cause) go words h = tt
 
@@ -52,7 +53,7 @@ pop_quiet : (traffic : Traffic) (item : Option ℤ) → IfOk (item_popped item t
 pop_quiet traffic None = tt
 pop_quiet traffic (Some item) = refl
 
-strict_quiet : (operator : BinaryOperator) (words : List Word) (first : ℤ × Store) (right : Result (ℤ × Store) Cause) → GivesQuietly words right → GivesQuietly words (then_do right (λ second. then_do (binary_value operator first.0 second.0) (λ value. Ok (value, second.1))))
+strict_quiet : (operator : BinaryOperator) (words : List Word) (first : ℤ × Store) (right : Result (ℤ × Store) Cause) → GivesQuietly words right → GivesQuietly words (result_and_then right (λ second. result_and_then (binary_value operator first.0 second.0) (λ value. Ok (value, second.1))))
 strict_quiet operator words first right k =
     then_ok right _ (λ given. given.1.traffic.words ≡ words) (λ given. given.1.traffic.words ≡ words) k
     (λ second l. any_given (binary_value operator first.0 second.0) (λ value. (value, second.1)) words (λ value. l))
@@ -124,7 +125,7 @@ condition_quiet port (Some condition) store words h = value_quiet port condition
 -- ---- statements
 
 -- a value, and then something that prints nothing
-then_quiet : (port : Port) (e : tree.Expr) (store : Store) (go : ℤ × Store → Store) (words : List Word) → store.traffic.words ≡ words → ((given : ℤ × Store) → (go given).traffic.words ≡ given.1.traffic.words) → IsQuiet words (then_do (value_of port e store) (λ given. Ok (go given)))
+then_quiet : (port : Port) (e : tree.Expr) (store : Store) (go : ℤ × Store → Store) (words : List Word) → store.traffic.words ≡ words → ((given : ℤ × Store) → (go given).traffic.words ≡ given.1.traffic.words) → IsQuiet words (result_and_then (value_of port e store) (λ given. Ok (go given)))
 then_quiet port e store go words h still =
     then_ok (value_of port e store) _ (λ given. given.1.traffic.words ≡ words) (λ after. after.traffic.words ≡ words)
     (value_quiet port e store words h) (λ given k. still given ∙ k)
@@ -160,7 +161,7 @@ branch_quiet false words one other h k = k
 turned_quiet : (store : Store) → IsQuiet store.traffic.words (turned store)
 turned_quiet store = by_test (nat_lt store.traffic.turns turn_limit)
   where
-    by_test : (test : Bool) → IsQuiet store.traffic.words (then_do (if test then Ok (record store.traffic { turns = store.traffic.turns + 1 }) else Err Turns) (λ traffic. Ok (record store { traffic = traffic })))
+    by_test : (test : Bool) → IsQuiet store.traffic.words (result_and_then (if test then Ok (record store.traffic { turns = store.traffic.turns + 1 }) else Err Turns) (λ traffic. Ok (record store { traffic = traffic })))
     by_test true = refl
     by_test false = tt
 
@@ -172,7 +173,7 @@ loop_quiet : (fuel : ℕ) (test : Store → Result (ℤ × Store) Cause) (does :
 loop_quiet zero test does words tests moves store h = tt
 loop_quiet (suc fuel) test does words tests moves store h =
     then_ok (test store) _ (λ given. given.1.traffic.words ≡ words) (λ after. after.traffic.words ≡ words) (tests store h)
-    (λ tested k. branch_quiet (is_true tested.0) words (then_do (turned tested.1) (λ turning. then_do (does turning) (looped fuel test does))) (Ok tested.1)
+    (λ tested k. branch_quiet (is_true tested.0) words (result_and_then (turned tested.1) (λ turning. result_and_then (does turning) (looped fuel test does))) (Ok tested.1)
     (then_ok (turned tested.1) _ (λ after. after.traffic.words ≡ tested.1.traffic.words) (λ after. after.traffic.words ≡ words) (turned_quiet tested.1)
     (λ turning l. then_ok (does turning) _ (λ after. after.traffic.words ≡ words) (λ after. after.traffic.words ≡ words) (moves turning (l ∙ k))
     (λ done m. loop_quiet fuel test does words tests moves done m))) k)
@@ -181,7 +182,7 @@ loop_quiet (suc fuel) test does words tests moves store h =
 joined_element_quiet : (port : Port) (name : List ℕ) (operator : BinaryOperator) (value : tree.Expr) (at : ℤ × Store) (words : List Word) → at.1.traffic.words ≡ words → IsQuiet words (element_joined port name operator value at)
 joined_element_quiet port name operator value at words h = by_place (place_of at.1 name at.0)
   where
-    by_place : (found : Result ℕ Cause) → IsQuiet words (then_do found (λ place. then_do (value_of port value at.1) (λ given. then_do (binary_value operator (cell_in at.1 name place) given.0) (λ new. Ok (cell_set given.1 name place new)))))
+    by_place : (found : Result ℕ Cause) → IsQuiet words (result_and_then found (λ place. result_and_then (value_of port value at.1) (λ given. result_and_then (binary_value operator (cell_in at.1 name place) given.0) (λ new. Ok (cell_set given.1 name place new)))))
     by_place (Ok place) =
         then_ok (value_of port value at.1) _ (λ given. given.1.traffic.words ≡ words) (λ after. after.traffic.words ≡ words)
         (value_quiet port value at.1 words h)
@@ -228,11 +229,11 @@ mutual
       (λ s k. inside_quiet (stmt_done port body) s words (stmt_quiet port body s words none k)) store h
   stmt_quiet port (tree.For first condition step body) store words none h =
       let rest = or_second (stmt_prints first) (stmt_prints step || stmt_prints body) none in
-      inside_quiet (λ outer. then_do (stmt_done port first outer) (λ begun. looped (suc turn_limit) (condition_value port condition) (λ turn. then_do (inside (stmt_done port body) turn) (inside (stmt_done port step))) begun)) store words
+      inside_quiet (λ outer. result_and_then (stmt_done port first outer) (λ begun. looped (suc turn_limit) (condition_value port condition) (λ turn. result_and_then (inside (stmt_done port body) turn) (inside (stmt_done port step))) begun)) store words
       (then_ok (stmt_done port first store) _ (λ after. after.traffic.words ≡ words) (λ after. after.traffic.words ≡ words)
       (stmt_quiet port first store words (or_first (stmt_prints first) (stmt_prints step || stmt_prints body) none) h)
       (λ begun k.
-      loop_quiet (suc turn_limit) (condition_value port condition) (λ turn. then_do (inside (stmt_done port body) turn) (inside (stmt_done port step))) words
+      loop_quiet (suc turn_limit) (condition_value port condition) (λ turn. result_and_then (inside (stmt_done port body) turn) (inside (stmt_done port step))) words
       (λ s l. condition_quiet port condition s words l)
       (λ s l.
       then_ok (inside (stmt_done port body) s) _ (λ after. after.traffic.words ≡ words) (λ after. after.traffic.words ≡ words)

@@ -2,7 +2,7 @@
 use Rattle.std.proofs.Common.{◌≡◌, refl, sym, subst, List, ℕ, Option, Result, Ok, Err, inl, inr}
 use Rattle.std.specs.Result.{IsErrAnd}
 use Rattle.strc_syntax.specs.Tree.{Declaration}
-use Rattle.strc_elab.specs.Answering as elaboration
+use Rattle.strc_scope.specs.Answers as elaboration
 use Rattle.strc_elab.specs.Elaboration.{elaborated}
 use Rattle.strc_elab.specs.Flattening.{nodes_of, codes_of, meaning_of, IsConnected, IsFlat, IsRefused}
 use Rattle.strc_elab.specs.Instances.{Stream}
@@ -10,8 +10,8 @@ use Rattle.strc_graph.specs.Graphs.{Graph}
 use Rattle.strc_balance.specs.Verdicts as balancing
 use Rattle.strc_balance.specs.declared.error.BalanceError.{BalanceError}
 use Rattle.strc_balance.specs.declared.error.BalanceError.TheVariants as unbalanced
-use Rattle.strc_elab.specs.declared.error.ElabError.{ElabError}
-use Rattle.strc_elab.specs.declared.error.ElabError.TheVariants as error
+use Rattle.strc_scope.specs.declared.error.ElabError.{ElabError}
+use Rattle.strc_scope.specs.declared.error.ElabError.TheVariants as error
 use Rattle.strc_run.specs.declared.plan.Plan.{Plan}
 use Rattle.strc_run.specs.declared.refusal.Refusal.{Refusal}
 use Rattle.strc_run.specs.declared.refusal.Refusal.TheVariants as refusal

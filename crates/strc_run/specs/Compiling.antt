@@ -11,8 +11,8 @@ use Rattle.strc_balance.specs.Rates.{equations_of, size_of}
 use Rattle.strc_balance.specs.Verdicts.{judged}
 use Rattle.strc_balance.specs.declared.error.BalanceError.{BalanceError}
 use Rattle.strc_balance.specs.declared.error.BalanceError.TheVariants as unbalanced
-use Rattle.strc_elab.specs.declared.error.ElabError.{ElabError}
-use Rattle.strc_elab.specs.declared.error.ElabError.TheVariants as error
+use Rattle.strc_scope.specs.declared.error.ElabError.{ElabError}
+use Rattle.strc_scope.specs.declared.error.ElabError.TheVariants as error
 use Rattle.strc_run.specs.declared.plan.Plan.{Plan}
 use Rattle.strc_run.specs.declared.refusal.Refusal.{Refusal}
 use Rattle.strc_run.specs.declared.refusal.Refusal.TheVariants as refusal

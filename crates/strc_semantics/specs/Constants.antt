@@ -1,12 +1,12 @@
 -- The value of an expression that names no variable.
 use Rattle.std.specs.Prelude.{ℤ, Bool, false, not, Result, Ok, Err, if◌then◌else◌}
+use Rattle.strc_base.specs.Results.{result_and_then}
 use Rattle.strc_syntax.specs.Tree as tree
 use Rattle.strc_syntax.specs.declared.tree.BinaryOperator.{BinaryOperator}
 use Rattle.strc_syntax.specs.declared.tree.BinaryOperator.TheVariants as binary
 use Rattle.strc_semantics.specs.declared.fault.Cause.{Cause}
 use Rattle.strc_semantics.specs.declared.fault.Cause.TheVariants.{Index}
 use Rattle.strc_semantics.specs.Arithmetic.{unary_value, binary_value, truth, is_true}
-use Rattle.strc_semantics.specs.Firing.{then_do}
 
 -- whether the left side's value is the operator's, so that the right side doesn't count
 abbrev pub decides : BinaryOperator → ℤ → Bool
@@ -23,7 +23,7 @@ both_value operator left right = binary_value operator left right
 -- the value of an operator, whose right side counts only where it is needed
 abbrev pub sides_value : BinaryOperator → ℤ → Result ℤ Cause → Result ℤ Cause
 sides_value operator left right =
-    if decides operator left then Ok left else then_do right (λ value. both_value operator left value)
+    if decides operator left then Ok left else result_and_then right (λ value. both_value operator left value)
 
 -- the value of a constant expression; what can't stand in one faults
 abbrev pub constant_value : tree.Expr → Result ℤ Cause
@@ -34,13 +34,13 @@ constant_value (tree.Element name index) = Err Index
 constant_value tree.Pop = Err Index
 constant_value (tree.Peek index) = Err Index
 constant_value (tree.Group inner) = constant_value inner
-constant_value (tree.Unary operator operand) = then_do (constant_value operand) (λ value. Ok (unary_value operator value))
+constant_value (tree.Unary operator operand) = result_and_then (constant_value operand) (λ value. Ok (unary_value operator value))
 constant_value (tree.Step operator name) = Err Index
 constant_value (tree.StepElement operator name index) = Err Index
 constant_value (tree.Binary operator left right) =
-    then_do (constant_value left) (λ value. sides_value operator value (constant_value right))
+    result_and_then (constant_value left) (λ value. sides_value operator value (constant_value right))
 constant_value (tree.Conditional condition chosen other) =
-    then_do (constant_value condition) (λ test. if is_true test then constant_value chosen else constant_value other)
+    result_and_then (constant_value condition) (λ test. if is_true test then constant_value chosen else constant_value other)
 
 -- whether an expression names no variable, and takes no item
 abbrev pub IsConstant : tree.Expr → Type 0

@@ -1,5 +1,6 @@
 -- What a filter's text does: its start and one firing.
 use Rattle.std.specs.Prelude.{ℕ, zero, suc, ◌+◌, ◌-◌, ℤ, pos, negsuc, neg_ℤ, ◌+ℤ◌, List, [], ◌∷◌, ◌++◌, length, take, drop, replicate, Option, Some, None, Result, Ok, Err, if◌then◌else◌, nat_lt, slice_get, slice_set, slice_index_or, bytes_eq, true, false}
+use Rattle.strc_base.specs.Results.{result_and_then}
 use Rattle.strc_syntax.specs.Tree as tree
 use Rattle.strc_syntax.specs.declared.tree.AssignOperator.{AssignOperator}
 use Rattle.strc_syntax.specs.declared.tree.AssignOperator.TheVariants as assign
@@ -15,11 +16,6 @@ use Rattle.strc_semantics.specs.declared.body.Body.{Body}
 use Rattle.strc_semantics.specs.Arithmetic.{wrapped, unary_value, binary_value, truth, is_true}
 use Rattle.strc_semantics.specs.Scoping.{Scope, cells_of, total}
 use Rattle.strc_semantics.specs.Filters.{Filter, sized_fields, body_block, body_rates, push_rate, pop_rate, window_size, item_count}
-
--- goes on with a result, or stops at a fault
-abbrev pub then_do : {A B : Type 0} → Result A Cause → (A → Result B Cause) → Result B Cause
-then_do (Ok value) go = go value
-then_do (Err cause) go = Err cause
 
 -- what a firing may take and give: the items at the front of its window that it may pop, as many as the pop rate, those that it may
 -- look at, as many as its window has, and room for pushes
@@ -140,15 +136,15 @@ one_more_turn traffic =
     if nat_lt traffic.turns turn_limit then Ok (record traffic { turns = traffic.turns + 1 }) else Err Turns
 
 abbrev pub turned : Store → Result Store Cause
-turned store = then_do (one_more_turn store.traffic) (λ traffic. Ok (record store { traffic = traffic }))
+turned store = result_and_then (one_more_turn store.traffic) (λ traffic. Ok (record store { traffic = traffic }))
 
 -- the value of an operator, whose right side is evaluated only where it is needed
 abbrev pub joined : BinaryOperator → ℤ × Store → (Store → Result (ℤ × Store) Cause) → Result (ℤ × Store) Cause
 joined binary.LogicalOr first right = if is_true first.0 then Ok first else right first.1
 joined binary.LogicalAnd first right = if is_true first.0 then right first.1 else Ok first
 joined operator first right =
-    then_do (right first.1) (λ second.
-    then_do (binary_value operator first.0 second.0) (λ value. Ok (value, second.1)))
+    result_and_then (right first.1) (λ second.
+    result_and_then (binary_value operator first.0 second.0) (λ value. Ok (value, second.1)))
 
 -- the value of an expression, from left to right, and the store after it
 abbrev pub value_of : Port → tree.Expr → Store → Result (ℤ × Store) Cause
@@ -156,30 +152,30 @@ value_of port (tree.Number value) store = Ok (value, store)
 value_of port (tree.Truth value) store = Ok (truth value, store)
 value_of port (tree.Read name) store = Ok (value_in store name, store)
 value_of port (tree.Element name index) store =
-    then_do (value_of port index store) (λ at.
-    then_do (place_of at.1 name at.0) (λ place. Ok (cell_in at.1 name place, at.1)))
+    result_and_then (value_of port index store) (λ at.
+    result_and_then (place_of at.1 name at.0) (λ place. Ok (cell_in at.1 name place, at.1)))
 value_of port tree.Pop store =
-    then_do (popped_from port store.traffic) (λ taken. Ok (taken.0, record store { traffic = taken.1 }))
+    result_and_then (popped_from port store.traffic) (λ taken. Ok (taken.0, record store { traffic = taken.1 }))
 value_of port (tree.Peek index) store =
-    then_do (value_of port index store) (λ place.
-    then_do (peeked_from port place.0 place.1.traffic) (λ item. Ok (item, place.1)))
+    result_and_then (value_of port index store) (λ place.
+    result_and_then (peeked_from port place.0 place.1.traffic) (λ item. Ok (item, place.1)))
 value_of port (tree.Group inner) store = value_of port inner store
 value_of port (tree.Unary operator operand) store =
-    then_do (value_of port operand store) (λ right. Ok (unary_value operator right.0, right.1))
+    result_and_then (value_of port operand store) (λ right. Ok (unary_value operator right.0, right.1))
 value_of port (tree.Step operator name) store =
     let old = value_in store name in
     let new = value_stepped operator old in
     Ok (step_value operator old new, assigned store name new)
 value_of port (tree.StepElement operator name index) store =
-    then_do (value_of port index store) (λ at.
-    then_do (place_of at.1 name at.0) (λ place.
+    result_and_then (value_of port index store) (λ at.
+    result_and_then (place_of at.1 name at.0) (λ place.
     let old = cell_in at.1 name place in
     let new = value_stepped operator old in
     Ok (step_value operator old new, cell_set at.1 name place new)))
 value_of port (tree.Binary operator left right) store =
-    then_do (value_of port left store) (λ first. joined operator first (value_of port right))
+    result_and_then (value_of port left store) (λ first. joined operator first (value_of port right))
 value_of port (tree.Conditional condition chosen other) store =
-    then_do (value_of port condition store) (λ test.
+    result_and_then (value_of port condition store) (λ test.
     if is_true test.0 then value_of port chosen test.1 else value_of port other test.1)
 
 -- the value that is assigned: `x += e` is `x = x + e`, so x is read first
@@ -194,17 +190,17 @@ assigned_value name assign.Remainder value = tree.Binary binary.Remainder (tree.
 -- an operator between an element of an array and a value
 abbrev pub element_joined : Port → List ℕ → BinaryOperator → tree.Expr → ℤ × Store → Result Store Cause
 element_joined port name operator value at =
-    then_do (place_of at.1 name at.0) (λ place.
+    result_and_then (place_of at.1 name at.0) (λ place.
     let old = cell_in at.1 name place in
-    then_do (value_of port value at.1) (λ given.
-    then_do (binary_value operator old given.0) (λ new. Ok (cell_set given.1 name place new))))
+    result_and_then (value_of port value at.1) (λ given.
+    result_and_then (binary_value operator old given.0) (λ new. Ok (cell_set given.1 name place new))))
 
 -- an element of an array is assigned: the index, then the value, then the test and the store; a compound assignment tests the index and
 -- reads the element before the value
 abbrev pub element_set : Port → List ℕ → AssignOperator → tree.Expr → ℤ × Store → Result Store Cause
 element_set port name assign.Set value at =
-    then_do (value_of port value at.1) (λ given.
-    then_do (place_of given.1 name at.0) (λ place. Ok (cell_set given.1 name place given.0)))
+    result_and_then (value_of port value at.1) (λ given.
+    result_and_then (place_of given.1 name at.0) (λ place. Ok (cell_set given.1 name place given.0)))
 element_set port name assign.Add value at = element_joined port name binary.Add value at
 element_set port name assign.Subtract value at = element_joined port name binary.Subtract value at
 element_set port name assign.Multiply value at = element_joined port name binary.Multiply value at
@@ -214,7 +210,7 @@ element_set port name assign.Remainder value at = element_joined port name binar
 -- the cells of a new variable: its initialiser's value, or zeros
 abbrev pub initial_cells : Port → (cells : ℕ) → Option tree.Expr → Store → Result (List ℤ × Store) Cause
 initial_cells port cells None store = Ok (replicate cells (pos 0), store)
-initial_cells port cells (Some initial) store = then_do (value_of port initial store) (λ given. Ok (given.0 ∷ [], given.1))
+initial_cells port cells (Some initial) store = result_and_then (value_of port initial store) (λ given. Ok (given.0 ∷ [], given.1))
 
 -- the variables of a block are forgotten at its end
 abbrev pub block_left : Store → Store → Store
@@ -225,7 +221,7 @@ block_left outer inner =
 abbrev pub variables_declared : Port → (cells : ℕ) → List tree.Variable → Store → Result Store Cause
 variables_declared port cells [] store = Ok store
 variables_declared port cells (first ∷ rest) store =
-    then_do (initial_cells port cells first.initial store) (λ given.
+    result_and_then (initial_cells port cells first.initial store) (λ given.
     variables_declared port cells rest (declared_in given.1 first.name given.0))
 
 -- a condition, which holds where there is none
@@ -237,14 +233,14 @@ condition_value port (Some condition) store = value_of port condition store
 abbrev pub looped : (fuel : ℕ) → (test : Store → Result (ℤ × Store) Cause) → (body : Store → Result Store Cause) → Store → Result Store Cause
 looped zero test body store = Err Turns
 looped (suc fuel) test body store =
-    then_do (test store) (λ tested.
+    result_and_then (test store) (λ tested.
     if is_true tested.0
-    then then_do (turned tested.1) (λ turning. then_do (body turning) (looped fuel test body))
+    then result_and_then (turned tested.1) (λ turning. result_and_then (body turning) (looped fuel test body))
     else Ok tested.1)
 
 -- a statement in a scope of its own
 abbrev pub inside : (Store → Result Store Cause) → Store → Result Store Cause
-inside does store = then_do (does store) (λ inner. Ok (block_left store inner))
+inside does store = result_and_then (does store) (λ inner. Ok (block_left store inner))
 
 abbrev mutual
   -- what a statement does
@@ -253,38 +249,38 @@ abbrev mutual
   stmt_done port (tree.Compose statement) store = Ok store
   stmt_done port (tree.Block body) store = inside (stmts_done port body) store
   stmt_done port (tree.Declare kind variables) store = variables_declared port (cells_of kind) variables store
-  stmt_done port (tree.Evaluate value) store = then_do (value_of port value store) (λ given. Ok given.1)
+  stmt_done port (tree.Evaluate value) store = result_and_then (value_of port value store) (λ given. Ok given.1)
   stmt_done port (tree.Assign name operator value) store =
-      then_do (value_of port (assigned_value name operator value) store) (λ given. Ok (assigned given.1 name given.0))
+      result_and_then (value_of port (assigned_value name operator value) store) (λ given. Ok (assigned given.1 name given.0))
   stmt_done port (tree.AssignElement name index operator value) store =
-      then_do (value_of port index store) (element_set port name operator value)
+      result_and_then (value_of port index store) (element_set port name operator value)
   stmt_done port (tree.If condition chosen) store =
-      then_do (value_of port condition store) (λ test.
+      result_and_then (value_of port condition store) (λ test.
       if is_true test.0 then inside (stmt_done port chosen) test.1 else Ok test.1)
   stmt_done port (tree.IfElse condition chosen other) store =
-      then_do (value_of port condition store) (λ test.
+      result_and_then (value_of port condition store) (λ test.
       if is_true test.0 then inside (stmt_done port chosen) test.1 else inside (stmt_done port other) test.1)
   stmt_done port (tree.While condition body) store =
       looped (suc turn_limit) (value_of port condition) (inside (stmt_done port body)) store
   stmt_done port (tree.For first condition step body) store =
       inside (λ outer.
-      then_do (stmt_done port first outer) (λ begun.
+      result_and_then (stmt_done port first outer) (λ begun.
       looped (suc turn_limit) (condition_value port condition)
-      (λ turn. then_do (inside (stmt_done port body) turn) (inside (stmt_done port step))) begun)) store
+      (λ turn. result_and_then (inside (stmt_done port body) turn) (inside (stmt_done port step))) begun)) store
   stmt_done port (tree.Push value) store =
-      then_do (value_of port value store) (λ given.
-      then_do (pushed_to port given.0 given.1.traffic) (λ traffic. Ok (record given.1 { traffic = traffic })))
+      result_and_then (value_of port value store) (λ given.
+      result_and_then (pushed_to port given.0 given.1.traffic) (λ traffic. Ok (record given.1 { traffic = traffic })))
   stmt_done port (tree.Print value) store =
-      then_do (value_of port value store) (λ given.
+      result_and_then (value_of port value store) (λ given.
       Ok (record given.1 { traffic = printed (record { value = given.0; ends_line = false }) given.1.traffic }))
   stmt_done port (tree.Println value) store =
-      then_do (value_of port value store) (λ given.
+      result_and_then (value_of port value store) (λ given.
       Ok (record given.1 { traffic = printed (record { value = given.0; ends_line = true }) given.1.traffic }))
 
   -- what statements do, one after another
   pub stmts_done : Port → tree.Stmts → Store → Result Store Cause
   stmts_done port tree.Done store = Ok store
-  stmts_done port (tree.Then first rest) store = then_do (stmt_done port first store) (stmts_done port rest)
+  stmts_done port (tree.Then first rest) store = result_and_then (stmt_done port first store) (stmts_done port rest)
 
 -- the fields with the values of their cells, each inside those before it
 abbrev pub bound_onto : Variables → Scope → List ℤ → Variables
@@ -317,18 +313,18 @@ no_io = record { front = []; ahead = []; room = 0 }
 -- a field gets its initialiser's value, where it has one
 abbrev pub initial_given : List ℕ → Option tree.Expr → Store → Result Store Cause
 initial_given name None store = Ok store
-initial_given name (Some initial) store = then_do (value_of no_io initial store) (λ given. Ok (assigned given.1 name given.0))
+initial_given name (Some initial) store = result_and_then (value_of no_io initial store) (λ given. Ok (assigned given.1 name given.0))
 
 -- the initialisers of fields that are declared together, in order
 abbrev pub fields_started : List tree.Variable → Store → Result Store Cause
 fields_started [] store = Ok store
 fields_started (first ∷ rest) store =
-    then_do (initial_given first.name first.initial store) (fields_started rest)
+    result_and_then (initial_given first.name first.initial store) (fields_started rest)
 
 -- the initialisers of the fields, in order
 abbrev pub members_started : List tree.Member → Store → Result Store Cause
 members_started [] store = Ok store
-members_started (tree.Fields kind variables ∷ rest) store = then_do (fields_started variables store) (members_started rest)
+members_started (tree.Fields kind variables ∷ rest) store = result_and_then (fields_started variables store) (members_started rest)
 members_started (tree.Init block ∷ rest) store = members_started rest store
 members_started (tree.Prework rates block ∷ rest) store = members_started rest store
 members_started (tree.Work rates block ∷ rest) store = members_started rest store
@@ -337,15 +333,15 @@ members_started (tree.Work rates block ∷ rest) store = members_started rest st
 abbrev pub inits_done : List tree.Member → Store → Result Store Cause
 inits_done [] store = Ok store
 inits_done (tree.Fields kind variables ∷ rest) store = inits_done rest store
-inits_done (tree.Init block ∷ rest) store = then_do (inside (stmts_done no_io block) store) (inits_done rest)
+inits_done (tree.Init block ∷ rest) store = result_and_then (inside (stmts_done no_io block) store) (inits_done rest)
 inits_done (tree.Prework rates block ∷ rest) store = inits_done rest store
 inits_done (tree.Work rates block ∷ rest) store = inits_done rest store
 
 -- the values of the fields' cells after their initialisers and `init`
 abbrev pub started : Filter → Result (List ℤ) Cause
 started filter =
-    then_do (members_started filter.members (store_at filter (replicate (total (sized_fields filter.members)) (pos 0)))) (λ initialised.
-    then_do (inits_done filter.members initialised) (λ store. Ok (field_values store)))
+    result_and_then (members_started filter.members (store_at filter (replicate (total (sized_fields filter.members)) (pos 0)))) (λ initialised.
+    result_and_then (inits_done filter.members initialised) (λ store. Ok (field_values store)))
 
 -- what a firing gives
 pub record Fired : Type 0 where
@@ -367,6 +363,6 @@ port_of filter body window = port_at_rates (body_rates body filter.members) wind
 -- one firing, from these values of the fields; without a prework each body is the work
 abbrev pub fired : Filter → Body → List ℤ → List ℤ → Result Fired Cause
 fired filter body fields window =
-    then_do (stmts_done (port_of filter body window) (body_block body filter.members) (store_at filter fields)) (λ store.
+    result_and_then (stmts_done (port_of filter body window) (body_block body filter.members) (store_at filter fields)) (λ store.
     let left = block_left (store_at filter fields) store in
     Ok (record { fields = field_values left; pushes = left.traffic.pushes; words = left.traffic.words }))

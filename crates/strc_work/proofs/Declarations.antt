@@ -1,11 +1,12 @@
 -- The code of declarations.
 use Rattle.std.proofs.Common.{◌≡◌, ℕ, zero, suc, ◌+◌, ◌<◌, ◌≤◌, ℤ, pos, List, [], ◌∷◌, ◌++◌, length, set, take, drop, replicate, Option, Some, None, Result, refl, sym, ap, ◌∙◌, subst, arith, length-append}
 use Rattle.std.proofs.lemmas.List.{get_or-set_same, length-set, length-take-le, length-replicate, length-drop, get_or_append_left, get_or-append-add, get_or-take, get_or-replicate}
+use Rattle.strc_base.specs.Results.{result_and_then}
 use Rattle.strc_syntax.specs.Tree as tree
 use Rattle.strc_semantics.specs.declared.fault.Cause.{Cause}
 use Rattle.strc_semantics.specs.Scoping.{Scope, total, with_declared}
 use Rattle.strc_semantics.specs.Closed.{IsClosedInitial, FitsInitial, AreClosedVariables}
-use Rattle.strc_semantics.specs.Firing.{Port, Store, then_do, value_of, declared_in, initial_cells, variables_declared}
+use Rattle.strc_semantics.specs.Firing.{Port, Store, value_of, declared_in, initial_cells, variables_declared}
 use Rattle.strc_machine.specs.Machine.{Machine, cleared, nodes_done, nodes_room}
 use Rattle.strc_work.specs.Lowering.{expr_nodes, initial_nodes, variables_nodes}
 use Rattle.strc_work.proofs.Variables.{scope_of, at, HoldsFrom, Holds, Holds-same, Holds-set_above}
@@ -155,7 +156,7 @@ variables_run port cells (first ∷ rest) names store slots closed ready room =
     let room_b : nodes_room b ≤ length slots = omega (arith, nodes_room-before a b) in
     let ready' : Ready names free store slots = record { names_are = ready.names_are; holds = ready.holds; above = omega arith; roomy = ready.roomy } in
     let go : List ℤ × Store → Result Store Cause = λ given. variables_declared port cells rest (declared_in given.1 first.name given.0) in
-    subst (Related (Reaches (with_declared names' cells rest) (length slots)) (then_do (initial_cells port cells first.initial store) go)) (sym (nodes_done-before port a b (machine_at slots store)))
+    subst (Related (Reaches (with_declared names' cells rest) (length slots)) (result_and_then (initial_cells port cells first.initial store) go)) (sym (nodes_done-before port a b (machine_at slots store)))
     (then_related (Declares names cells (length slots)) (Reaches (with_declared names' cells rest) (length slots)) (initial_cells port cells first.initial store) (nodes_done port a (machine_at slots store)) go (nodes_done port b) (initial_runs port first.initial names cells store slots closed.0 closed.1 ready' room_a within) (λ given m is declares.
     go_on port b names' (with_declared names' cells rest) (length slots) (variables_declared port cells rest) (λ store' slots' same ready''. variables_run port cells rest names' store' slots' closed.2 ready'' (omega arith))
     (declared_in given.1 first.name given.0) m (declared_reaches names first.name cells (length slots) given m some within declares)))

@@ -3,16 +3,17 @@ use Rattle.std.proofs.Common.{◌≡◌, ◌≢◌, ℕ, ◌+◌, ◌<◌, ◌�
 use Rattle.std.specs.Prelude.{unwrap_or, nat_lt}
 use Rattle.std.proofs.lemmas.List.{get_or-set_same, get_or-set_other, length-set}
 use Rattle.std.proofs.lemmas.Bool.{ltb-true}
+use Rattle.strc_base.specs.Results.{result_and_then}
 use Rattle.strc_syntax.specs.Tree as tree
 use Rattle.strc_syntax.specs.declared.tree.StepOperator.{StepOperator}
 use Rattle.strc_syntax.specs.declared.tree.StepOperator.TheVariants as step
 use Rattle.strc_semantics.specs.declared.fault.Cause.{Cause}
 use Rattle.strc_semantics.specs.declared.fault.Cause.TheVariants.{Index}
-use Rattle.strc_machine.specs.declared.inst.Inst.TheVariants as act
+use Rattle.strc_inst.specs.declared.inst.Inst.TheVariants as act
 use Rattle.strc_semantics.specs.Arithmetic.{wrapped}
 use Rattle.strc_semantics.specs.Scoping.{Scope, total, slot_of, size_of}
 use Rattle.strc_semantics.specs.Closed.{IsNamed, IsClosed}
-use Rattle.strc_semantics.specs.Firing.{Port, Store, then_do, cells_named, cell_in, with_cell, cell_set, place_in, tested_place, place_of, value_stepped, step_value, value_of}
+use Rattle.strc_semantics.specs.Firing.{Port, Store, cells_named, cell_in, with_cell, cell_set, place_in, tested_place, place_of, value_stepped, step_value, value_of}
 use Rattle.strc_machine.specs.Machine.{Machine, Act, before, slot_value, slot_written, inst_done, nodes_done, nodes_room}
 use Rattle.strc_work.specs.Lowering.{stands_at, one, step_amount, step_result, element_step_nodes, operand_slot, operand_nodes}
 use Rattle.strc_work.proofs.Variables.{scope_of, Holds, Holds-set_above, Holds-with_cell, scope_of-with_cell}
@@ -66,7 +67,7 @@ stored_holds names name store slots place value roomy names_are holds named with
 
 -- ---- an element that is read
 
-load_arrives : (names : Scope) (name : List ℕ) (into from free : ℕ) (before : List ℤ) (given : ℤ × Store) (m : Machine) (o : Option ℕ) → IsNamed names name → ((place : ℕ) → o ≡ Some place → place < size_of names name) → StandsAt names from free before given m → Related (Arrives names into free before) (then_do (tested_place o) (λ place. Ok (cell_in given.1 name place, given.1))) (then_do (tested_place o) (λ place. Ok (slot_written m into (slot_value m (slot_of names name + place)))))
+load_arrives : (names : Scope) (name : List ℕ) (into from free : ℕ) (before : List ℤ) (given : ℤ × Store) (m : Machine) (o : Option ℕ) → IsNamed names name → ((place : ℕ) → o ≡ Some place → place < size_of names name) → StandsAt names from free before given m → Related (Arrives names into free before) (result_and_then (tested_place o) (λ place. Ok (cell_in given.1 name place, given.1))) (result_and_then (tested_place o) (λ place. Ok (slot_written m into (slot_value m (slot_of names name + place)))))
 load_arrives names name into from free before given m None named below stands = refl
 load_arrives names name into from free before given m (Some place) named below stands =
     let value = named_cell names given.1 m.slots name place stands.names_are stands.holds named (below place refl) in
@@ -88,13 +89,13 @@ element_runs port name index run names into free store slots closed ready room =
     let base = slot_of names name in
     let last = act.Load into base (size_of names name) from in
     let room_a : nodes_room a ≤ length slots = omega (arith, nodes_room-before a (one last)) in
-    let meant_last : ℤ × Store → Result (ℤ × Store) Cause = λ given. then_do (place_of given.1 name given.0) (λ place. Ok (cell_in given.1 name place, given.1)) in
+    let meant_last : ℤ × Store → Result (ℤ × Store) Cause = λ given. result_and_then (place_of given.1 name given.0) (λ place. Ok (cell_in given.1 name place, given.1)) in
     let goal_is : Result (ℤ × Store) Cause → Result Machine Cause → Type 0 = Related (Arrives names into free slots) in
-    subst (goal_is (then_do (value_of port index store) meant_last)) (sym (then_last port a last (machine_at slots store)))
+    subst (goal_is (result_and_then (value_of port index store) meant_last)) (sym (then_last port a last (machine_at slots store)))
     (then_related (StandsAt names from free slots) (Arrives names into free slots) (value_of port index store) (nodes_done port a (machine_at slots store)) meant_last (inst_done port last) (operand_runs port index run names true free store slots closed.1 ready room_a) (λ given m is stands.
     let o = place_in (length (cells_named given.1.variables name)) given.0 in
     let place_is = same_place names name given.1 m.slots given.0 m from stands.names_are stands.holds closed.0 stands.value in
-    let loads : Option ℕ → Result Machine Cause = λ p. then_do (tested_place p) (λ place. Ok (slot_written m into (slot_value m (base + place)))) in
+    let loads : Option ℕ → Result Machine Cause = λ p. result_and_then (tested_place p) (λ place. Ok (slot_written m into (slot_value m (base + place)))) in
     subst (goal_is (meant_last given)) (sym (ap loads place_is))
     (load_arrives names name into from free slots given m o closed.0 (λ place e. place_within names name given.1 m.slots given.0 place stands.names_are stands.holds closed.0 e) stands)))
 
@@ -140,8 +141,8 @@ stepped_code port operator base size from into f place old new m place_is old_is
     let old3 : slot_value m3 f ≡ old = get_or-set_other m2.slots (base + place) f new (pos 0) slot_apart ∙ get_or-set_other m1.slots (f + 1) f new (pos 0) f_apart ∙ old1 in
     let new3 : slot_value m3 (f + 1) ≡ new = get_or-set_other m2.slots (base + place) (f + 1) new (pos 0) slot_apart' ∙ new2 in
     let from2 : slot_value m2 from ≡ slot_value m from = get_or-set_other m1.slots (f + 1) from new (pos 0) from_apart' ∙ get_or-set_other slots f from old (pos 0) from_apart in
-    let loads : Option ℕ → Result Machine Cause = λ o. then_do (then_do (tested_place o) (λ p. Ok (slot_written m f (slot_value m (base + p))))) (nodes_done port rest1) in
-    let stores : Option ℕ → Result Machine Cause = λ o. then_do (then_do (tested_place o) (λ p. Ok (slot_written m2 (base + p) (slot_value m2 (f + 1))))) (nodes_done port rest3) in
+    let loads : Option ℕ → Result Machine Cause = λ o. result_and_then (result_and_then (tested_place o) (λ p. Ok (slot_written m f (slot_value m (base + p))))) (nodes_done port rest1) in
+    let stores : Option ℕ → Result Machine Cause = λ o. result_and_then (result_and_then (tested_place o) (λ p. Ok (slot_written m2 (base + p) (slot_value m2 (f + 1))))) (nodes_done port rest3) in
     let adds : ℤ → Result Machine Cause = λ v. nodes_done port rest2 (slot_written m1 (f + 1) v) in
     let copies : ℤ → Result Machine Cause = λ v. Ok (slot_written m3 into v) in
     let step1 : nodes_done port (element_step_nodes operator base size from into f) m ≡ loads (Some place) = ap loads place_is in
@@ -152,10 +153,10 @@ stepped_code port operator base size from into f place old new m place_is old_is
     let step6 : nodes_done port rest3 m3 ≡ copies (step_value operator old new) = ap copies (step_result_is operator m3 f (f + 1) old new old3 new3) in
     step1 ∙ step2 ∙ step3 ∙ step4 ∙ step5 ∙ step6
 
-step_element_arrives : (port : Port) (operator : StepOperator) (names : Scope) (name : List ℕ) (into from free : ℕ) (before : List ℤ) (given : ℤ × Store) (m : Machine) (o : Option ℕ) → IsNamed names name → total names ≤ free → total names ≤ length before → from ≤ free → free + 1 + 1 < length before → ((place : ℕ) → o ≡ Some place → place < size_of names name) → place_in (size_of names name) (slot_value m from) ≡ o → StandsAt names from free before given m → Related (Arrives names into free before) (then_do (tested_place o) (λ place. let old = cell_in given.1 name place in let new = value_stepped operator old in Ok (step_value operator old new, cell_set given.1 name place new))) (nodes_done port (element_step_nodes operator (slot_of names name) (size_of names name) from into (free + 1)) m)
+step_element_arrives : (port : Port) (operator : StepOperator) (names : Scope) (name : List ℕ) (into from free : ℕ) (before : List ℤ) (given : ℤ × Store) (m : Machine) (o : Option ℕ) → IsNamed names name → total names ≤ free → total names ≤ length before → from ≤ free → free + 1 + 1 < length before → ((place : ℕ) → o ≡ Some place → place < size_of names name) → place_in (size_of names name) (slot_value m from) ≡ o → StandsAt names from free before given m → Related (Arrives names into free before) (result_and_then (tested_place o) (λ place. let old = cell_in given.1 name place in let new = value_stepped operator old in Ok (step_value operator old new, cell_set given.1 name place new))) (nodes_done port (element_step_nodes operator (slot_of names name) (size_of names name) from into (free + 1)) m)
 step_element_arrives port operator names name into from free before given m None named above roomy low room below place_is stands =
     let rest = Act (act.AddConst (free + 1 + 1) (free + 1) (step_amount operator)) (Act (act.Store (slot_of names name) (size_of names name) from (free + 1 + 1)) (one (act.Copy into (step_result operator (free + 1) (free + 1 + 1))))) in
-    let loads : Option ℕ → Result Machine Cause = λ o. then_do (then_do (tested_place o) (λ p. Ok (slot_written m (free + 1) (slot_value m (slot_of names name + p))))) (nodes_done port rest) in
+    let loads : Option ℕ → Result Machine Cause = λ o. result_and_then (result_and_then (tested_place o) (λ p. Ok (slot_written m (free + 1) (slot_value m (slot_of names name + p))))) (nodes_done port rest) in
     subst (Related (Arrives names into free before) (Err Index)) (sym (ap loads place_is)) refl
 step_element_arrives port operator names name into from free before given m (Some place) named above roomy low room below place_is stands =
     let f = free + 1 in
@@ -198,10 +199,10 @@ step_element_runs port operator name index run names into free store slots close
     let last = element_step_nodes operator base (size_of names name) from into (free + 1) in
     let room_a : nodes_room a ≤ length slots = omega (arith, nodes_room-before a last) in
     let room_last : free + 1 + 1 < length slots = omega (arith, nodes_room-before a last) in
-    let meant_last : ℤ × Store → Result (ℤ × Store) Cause = λ given. then_do (place_of given.1 name given.0) (λ place. let old = cell_in given.1 name place in let new = value_stepped operator old in Ok (step_value operator old new, cell_set given.1 name place new)) in
+    let meant_last : ℤ × Store → Result (ℤ × Store) Cause = λ given. result_and_then (place_of given.1 name given.0) (λ place. let old = cell_in given.1 name place in let new = value_stepped operator old in Ok (step_value operator old new, cell_set given.1 name place new)) in
     let goal_is : Result (ℤ × Store) Cause → Result Machine Cause → Type 0 = Related (Arrives names into free slots) in
     let low = operand_low port index names true free store slots closed.1 ready in
-    subst (goal_is (then_do (value_of port index store) meant_last)) (sym (nodes_done-before port a last (machine_at slots store)))
+    subst (goal_is (result_and_then (value_of port index store) meant_last)) (sym (nodes_done-before port a last (machine_at slots store)))
     (then_related (StandsAt names from free slots) (Arrives names into free slots) (value_of port index store) (nodes_done port a (machine_at slots store)) meant_last (nodes_done port last) (operand_runs port index run names true free store slots closed.1 ready room_a) (λ given m is stands.
     let o = place_in (length (cells_named given.1.variables name)) given.0 in
     let place_is = same_place names name given.1 m.slots given.0 m from stands.names_are stands.holds closed.0 stands.value in

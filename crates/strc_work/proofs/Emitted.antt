@@ -3,7 +3,7 @@ use Rattle.std.proofs.Common.{◌≡◌, ℕ, ◌+◌, ◌-◌, Bool, true, fals
 use Rattle.std.specs.Prelude.{unwrap_or}
 use Rattle.strc_syntax.specs.declared.tree.AssignOperator.{AssignOperator}
 use Rattle.strc_syntax.specs.declared.tree.AssignOperator.TheVariants as assign
-use Rattle.strc_machine.specs.declared.inst.Inst.TheVariants as act
+use Rattle.strc_inst.specs.declared.inst.Inst.TheVariants as act
 use Rattle.strc_semantics.specs.Firing.{assigned_value}
 use Rattle.strc_work.specs.Emission.{compound_of, old_slot, old_nodes}
 use Rattle.strc_syntax.specs.Tree as tree

@@ -2,6 +2,7 @@
 use Rattle.std.proofs.Common.{◌≡◌, ◌≢◌, ℕ, ◌+◌, ◌<◌, ◌≤◌, true, cond, ℤ, pos, neg_ℤ, ◌+ℤ◌, List, length, set, Option, Some, None, Result, Ok, Err, refl, sym, ap, ◌∙◌, subst, arith}
 use Rattle.std.specs.Prelude.{unwrap_or}
 use Rattle.std.proofs.lemmas.List.{get_or-set_same, get_or-set_other, length-set}
+use Rattle.strc_base.specs.Results.{result_and_then}
 use Rattle.strc_syntax.specs.Tree as tree
 use Rattle.strc_syntax.specs.declared.tree.UnaryOperator.{UnaryOperator}
 use Rattle.strc_syntax.specs.declared.tree.UnaryOperator.TheVariants as unary
@@ -10,11 +11,11 @@ use Rattle.strc_syntax.specs.declared.tree.BinaryOperator.TheVariants as binary
 use Rattle.strc_syntax.specs.declared.tree.StepOperator.{StepOperator}
 use Rattle.strc_syntax.specs.declared.tree.StepOperator.TheVariants as step
 use Rattle.strc_semantics.specs.declared.fault.Cause.{Cause}
-use Rattle.strc_machine.specs.declared.inst.Inst.TheVariants as act
+use Rattle.strc_inst.specs.declared.inst.Inst.TheVariants as act
 use Rattle.strc_semantics.specs.Arithmetic.{wrapped, truth, is_true, unary_value, binary_value}
 use Rattle.strc_semantics.specs.Scoping.{Scope, total, slot_of}
 use Rattle.strc_semantics.specs.Closed.{IsNamed, IsClosed}
-use Rattle.strc_semantics.specs.Firing.{Port, Store, Traffic, then_do, value_in, joined, value_of, popped_from, peeked_from, assigned, with_cell}
+use Rattle.strc_semantics.specs.Firing.{Port, Store, Traffic, value_in, joined, value_of, popped_from, peeked_from, assigned, with_cell}
 use Rattle.strc_machine.specs.Machine.{Machine, Nodes, End, Choice, before, slot_value, slot_written, inst_done, chosen_by, nodes_done, nodes_room, unary_done, binary_done}
 use Rattle.strc_work.specs.Lowering.{variable_slot, writes_no_variable, stands_at, one, unary_step, binary_step, expr_nodes, operand_slot, operand_nodes}
 use Rattle.strc_work.proofs.Variables.{scope_of, at, Holds, Holds-set_above, Holds-assigned, scope_of-with_cell, same_slots}
@@ -34,7 +35,7 @@ arrives_at_once names into free store slots value ready = record {
   size = refl;
 }
 
-pop_runs : (port : Port) (names : Scope) (into free : ℕ) (store : Store) (slots : List ℤ) (r : Result (ℤ × Traffic) Cause) → Ready names free store slots → Related (Arrives names into free slots) (then_do r (λ taken. Ok (taken.0, record store { traffic = taken.1 }))) (then_do (then_do r (λ taken. Ok (record { slots = set slots into taken.0; traffic = taken.1 }))) (nodes_done port End))
+pop_runs : (port : Port) (names : Scope) (into free : ℕ) (store : Store) (slots : List ℤ) (r : Result (ℤ × Traffic) Cause) → Ready names free store slots → Related (Arrives names into free slots) (result_and_then r (λ taken. Ok (taken.0, record store { traffic = taken.1 }))) (result_and_then (result_and_then r (λ taken. Ok (record { slots = set slots into taken.0; traffic = taken.1 }))) (nodes_done port End))
 pop_runs port names into free store slots (Ok taken) ready = record {
   slots = slots;
   written = refl;
@@ -84,7 +85,7 @@ unary_arrives names operator into from free before given after stands = record {
 }
 
 -- the last step of code whose result may be a fault
-binary_arrives : (names : Scope) (into free : ℕ) (before : List ℤ) (store : Store) (after : Machine) (r : Result ℤ Cause) → after.traffic ≡ store.traffic → scope_of store.variables ≡ names → Holds store.variables after.slots → ((k : ℕ) → total names ≤ k → k < free → at after.slots k ≡ at before k) → length after.slots ≡ length before → Related (Arrives names into free before) (then_do r (λ value. Ok (value, store))) (then_do r (λ value. Ok (slot_written after into value)))
+binary_arrives : (names : Scope) (into free : ℕ) (before : List ℤ) (store : Store) (after : Machine) (r : Result ℤ Cause) → after.traffic ≡ store.traffic → scope_of store.variables ≡ names → Holds store.variables after.slots → ((k : ℕ) → total names ≤ k → k < free → at after.slots k ≡ at before k) → length after.slots ≡ length before → Related (Arrives names into free before) (result_and_then r (λ value. Ok (value, store))) (result_and_then r (λ value. Ok (slot_written after into value)))
 binary_arrives names into free before store after (Ok value) traffic names_are holds kept size = record {
   slots = after.slots;
   written = ap (λ t. record { slots = set after.slots into value; traffic = t }) traffic;
@@ -130,25 +131,25 @@ strict_runs port operator strict left right run_left run_right names into free s
     let room_a : nodes_room a ≤ length slots = omega (arith, nodes_room-before a (before b (one last))) in
     let room_b : nodes_room b ≤ length slots = omega (arith, nodes_room-before a (before b (one last)), nodes_room-before b (one last)) in
     let above = ready.above in
-    let meant_last : ℤ → ℤ × Store → Result (ℤ × Store) Cause = λ value second. then_do (binary_value operator value second.0) (λ v. Ok (v, second.1)) in
+    let meant_last : ℤ → ℤ × Store → Result (ℤ × Store) Cause = λ value second. result_and_then (binary_value operator value second.0) (λ v. Ok (v, second.1)) in
     let meant_right : ℤ × Store → Result (ℤ × Store) Cause = λ first. joined operator first (value_of port right) in
     let goal_is : Result (ℤ × Store) Cause → Result Machine Cause → Type 0 = Related (Arrives names into free slots) in
-    subst (λ n. goal_is (then_do (value_of port left store) meant_right) (nodes_done port n (machine_at slots store))) (sym code_is)
-    (subst (goal_is (then_do (value_of port left store) meant_right)) (sym (nodes_done-before port a (before b (one last)) (machine_at slots store)))
+    subst (λ n. goal_is (result_and_then (value_of port left store) meant_right) (nodes_done port n (machine_at slots store))) (sym code_is)
+    (subst (goal_is (result_and_then (value_of port left store) meant_right)) (sym (nodes_done-before port a (before b (one last)) (machine_at slots store)))
     (then_related (StandsAt names at_left free slots) (Arrives names into free slots) (value_of port left store) (nodes_done port a (machine_at slots store)) meant_right (nodes_done port (before b (one last))) (operand_runs port left run_left names may_alias free store slots closed.0 ready room_a) (λ first m1 is_first stands1.
     let size1 = stands1.size in
     let roomy = ready.roomy in
     let ready1 : Ready names (free + 1) first.1 m1.slots = record { names_are = stands1.names_are; holds = stands1.holds; above = omega arith; roomy = omega arith } in
     let room_b1 : nodes_room b ≤ length m1.slots = omega arith in
-    let steps_are : nodes_done port (before b (one last)) m1 ≡ then_do (nodes_done port b (machine_at m1.slots first.1)) (inst_done port last) = then_last port b last m1 ∙ ap (λ m. then_do (nodes_done port b m) (inst_done port last)) (machine_is m1 first.1 stands1.traffic) in
+    let steps_are : nodes_done port (before b (one last)) m1 ≡ result_and_then (nodes_done port b (machine_at m1.slots first.1)) (inst_done port last) = then_last port b last m1 ∙ ap (λ m. result_and_then (nodes_done port b m) (inst_done port last)) (machine_is m1 first.1 stands1.traffic) in
     subst (λ r. goal_is r (nodes_done port (before b (one last)) m1)) (sym (strict.value first (value_of port right)))
-    (subst (goal_is (then_do (value_of port right first.1) (meant_last first.0))) (sym steps_are)
+    (subst (goal_is (result_and_then (value_of port right first.1) (meant_last first.0))) (sym steps_are)
     (then_related (StandsAt names at_right (free + 1) m1.slots) (Arrives names into free slots) (value_of port right first.1) (nodes_done port b (machine_at m1.slots first.1)) (meant_last first.0) (inst_done port last) (operand_runs port right run_right names true (free + 1) first.1 m1.slots closed.1 ready1 room_b1) (λ second m2 is_second stands2.
     let value1 = left_stays port names left right free store slots first second m1 m2 closed.0 ready is_second stands1 stands2.holds stands2.kept in
-    let done_is : inst_done port last m2 ≡ then_do (binary_value operator first.0 second.0) (λ value. Ok (slot_written m2 into value)) =
+    let done_is : inst_done port last m2 ≡ result_and_then (binary_value operator first.0 second.0) (λ value. Ok (slot_written m2 into value)) =
     binary_step_done port operator into at_left at_right m2
-    ∙ ap (λ v. then_do (binary_value operator v (slot_value m2 at_right)) (λ value. Ok (slot_written m2 into value))) value1
-    ∙ ap (λ v. then_do (binary_value operator first.0 v) (λ value. Ok (slot_written m2 into value))) stands2.value in
+    ∙ ap (λ v. result_and_then (binary_value operator v (slot_value m2 at_right)) (λ value. Ok (slot_written m2 into value))) value1
+    ∙ ap (λ v. result_and_then (binary_value operator first.0 v) (λ value. Ok (slot_written m2 into value))) stands2.value in
     subst (goal_is (meant_last first.0 second)) (sym done_is)
     (binary_arrives names into free slots second.1 m2 (binary_value operator first.0 second.0) stands2.traffic stands2.names_are stands2.holds (λ k low high. stands2.kept k low (omega arith) ∙ stands1.kept k low high) (stands2.size ∙ stands1.size))))))))
 
@@ -161,7 +162,7 @@ unary_runs port operator operand run names into free store slots closed ready ro
     let room_a : nodes_room a ≤ length slots = omega (arith, nodes_room-before a (one last)) in
     let meant_last : ℤ × Store → Result (ℤ × Store) Cause = λ right. Ok (unary_value operator right.0, right.1) in
     let goal_is : Result (ℤ × Store) Cause → Result Machine Cause → Type 0 = Related (Arrives names into free slots) in
-    subst (goal_is (then_do (value_of port operand store) meant_last)) (sym (then_last port a last (machine_at slots store)))
+    subst (goal_is (result_and_then (value_of port operand store) meant_last)) (sym (then_last port a last (machine_at slots store)))
     (then_related (StandsAt names from free slots) (Arrives names into free slots) (value_of port operand store) (nodes_done port a (machine_at slots store)) meant_last (inst_done port last) (operand_runs port operand run names true free store slots closed ready room_a) (λ given m is stands.
     subst (goal_is (meant_last given)) (sym (unary_step_done port operator into from m))
     (unary_arrives names operator into from free slots given m stands)))
@@ -173,13 +174,13 @@ peek_runs port index run names into free store slots closed ready room =
     let from = operand_slot names true index free in
     let last = act.Peek into from in
     let room_a : nodes_room a ≤ length slots = omega (arith, nodes_room-before a (one last)) in
-    let meant_last : ℤ × Store → Result (ℤ × Store) Cause = λ place. then_do (peeked_from port place.0 place.1.traffic) (λ item. Ok (item, place.1)) in
+    let meant_last : ℤ × Store → Result (ℤ × Store) Cause = λ place. result_and_then (peeked_from port place.0 place.1.traffic) (λ item. Ok (item, place.1)) in
     let goal_is : Result (ℤ × Store) Cause → Result Machine Cause → Type 0 = Related (Arrives names into free slots) in
-    subst (goal_is (then_do (value_of port index store) meant_last)) (sym (then_last port a last (machine_at slots store)))
+    subst (goal_is (result_and_then (value_of port index store) meant_last)) (sym (then_last port a last (machine_at slots store)))
     (then_related (StandsAt names from free slots) (Arrives names into free slots) (value_of port index store) (nodes_done port a (machine_at slots store)) meant_last (inst_done port last) (operand_runs port index run names true free store slots closed ready room_a) (λ given m is stands.
-    let done_is : inst_done port last m ≡ then_do (peeked_from port given.0 given.1.traffic) (λ item. Ok (slot_written m into item)) =
-    ap (λ v. then_do (peeked_from port v m.traffic) (λ item. Ok (slot_written m into item))) stands.value
-    ∙ ap (λ t. then_do (peeked_from port given.0 t) (λ item. Ok (slot_written m into item))) stands.traffic in
+    let done_is : inst_done port last m ≡ result_and_then (peeked_from port given.0 given.1.traffic) (λ item. Ok (slot_written m into item)) =
+    ap (λ v. result_and_then (peeked_from port v m.traffic) (λ item. Ok (slot_written m into item))) stands.value
+    ∙ ap (λ t. result_and_then (peeked_from port given.0 t) (λ item. Ok (slot_written m into item))) stands.traffic in
     subst (goal_is (meant_last given)) (sym done_is)
     (binary_arrives names into free slots given.1 m (peeked_from port given.0 given.1.traffic) stands.traffic stands.names_are stands.holds stands.kept stands.size)))
 
@@ -320,19 +321,19 @@ right_comes port e run names free before given m closed above roomy room stands 
     (comes_to_free port e run names free given.1 m.slots closed (stands_ready names free free before given m above roomy stands) fits) (λ result after there. stands_further names free free before m.slots result after stands.kept stands.size there))
 
 -- the last step of a logical operator
-logical_last : (port : Port) (names : Scope) (into free : ℕ) (slots : List ℤ) (x : Result (ℤ × Store) Cause) (y : Result Machine Cause) → Related (StandsAt names free free slots) x y → Related (Arrives names into free slots) x (then_do y (nodes_done port (one (act.Copy into free))))
+logical_last : (port : Port) (names : Scope) (into free : ℕ) (slots : List ℤ) (x : Result (ℤ × Store) Cause) (y : Result Machine Cause) → Related (StandsAt names free free slots) x y → Related (Arrives names into free slots) x (result_and_then y (nodes_done port (one (act.Copy into free))))
 logical_last port names into free slots (Ok given) (Ok m) h = copied_arrives names into free free slots given m h
 logical_last port names into free slots (Ok given) (Err d) h = h
 logical_last port names into free slots (Err c) (Ok m) h = h
 logical_last port names into free slots (Err c) (Err d) h = h
 
 -- a logical operator: the left side comes to a free slot, and where it is needed the right side
-logical_runs : (port : Port) (left : tree.Expr) → Runs port left → (meant : ℤ × Store → Result (ℤ × Store) Cause) (chosen other : Nodes) (names : Scope) (into free : ℕ) (store : Store) (slots : List ℤ) → IsClosed names left → Ready names free store slots → nodes_room (before (expr_nodes names left free (free + 1)) (Choice free chosen other (one (act.Copy into free)))) ≤ length slots → ((first : ℤ × Store) (m : Machine) → StandsAt names free free slots first m → Related (StandsAt names free free slots) (meant first) (chosen_by (is_true (slot_value m free)) (nodes_done port chosen) (nodes_done port other) m)) → Related (Arrives names into free slots) (then_do (value_of port left store) meant) (nodes_done port (before (expr_nodes names left free (free + 1)) (Choice free chosen other (one (act.Copy into free)))) (machine_at slots store))
+logical_runs : (port : Port) (left : tree.Expr) → Runs port left → (meant : ℤ × Store → Result (ℤ × Store) Cause) (chosen other : Nodes) (names : Scope) (into free : ℕ) (store : Store) (slots : List ℤ) → IsClosed names left → Ready names free store slots → nodes_room (before (expr_nodes names left free (free + 1)) (Choice free chosen other (one (act.Copy into free)))) ≤ length slots → ((first : ℤ × Store) (m : Machine) → StandsAt names free free slots first m → Related (StandsAt names free free slots) (meant first) (chosen_by (is_true (slot_value m free)) (nodes_done port chosen) (nodes_done port other) m)) → Related (Arrives names into free slots) (result_and_then (value_of port left store) meant) (nodes_done port (before (expr_nodes names left free (free + 1)) (Choice free chosen other (one (act.Copy into free)))) (machine_at slots store))
 logical_runs port left run_left meant chosen other names into free store slots closed ready room go =
     let a = expr_nodes names left free (free + 1) in
     let b = Choice free chosen other (one (act.Copy into free)) in
     let room_a : nodes_room a ≤ length slots = omega (arith, nodes_room-before a b) in
-    subst (Related (Arrives names into free slots) (then_do (value_of port left store) meant)) (sym (nodes_done-before port a b (machine_at slots store)))
+    subst (Related (Arrives names into free slots) (result_and_then (value_of port left store) meant)) (sym (nodes_done-before port a b (machine_at slots store)))
     (then_related (StandsAt names free free slots) (Arrives names into free slots) (value_of port left store) (nodes_done port a (machine_at slots store)) meant (nodes_done port b) (comes_to_free port left run_left names free store slots closed ready room_a) (λ first m is stands.
     logical_last port names into free slots (meant first) (chosen_by (is_true (slot_value m free)) (nodes_done port chosen) (nodes_done port other) m) (go first m stands)))
 
@@ -369,7 +370,7 @@ conditional_runs port condition chosen other run run_chosen run_other names into
     let room_b : nodes_room b ≤ length slots = omega (arith, nodes_room-before a choice) in
     let room_c : nodes_room c ≤ length slots = omega (arith, nodes_room-before a choice) in
     let meant : ℤ × Store → Result (ℤ × Store) Cause = λ test. cond (is_true test.0) (value_of port chosen test.1) (value_of port other test.1) in
-    subst (Related (Arrives names into free slots) (then_do (value_of port condition store) meant)) (sym (nodes_done-before port a choice (machine_at slots store)))
+    subst (Related (Arrives names into free slots) (result_and_then (value_of port condition store) meant)) (sym (nodes_done-before port a choice (machine_at slots store)))
     (then_related (StandsAt names slot free slots) (Arrives names into free slots) (value_of port condition store) (nodes_done port a (machine_at slots store)) meant (nodes_done port choice) (operand_runs port condition run names true free store slots closed.0 ready room_a) (λ test m is stands.
     subst (Related (Arrives names into free slots) (meant test)) (sym (then_end port (chosen_by (is_true (slot_value m slot)) (nodes_done port b) (nodes_done port c) m)))
     (chosen_related (Arrives names into free slots) (is_true test.0) (is_true (slot_value m slot)) (value_of port chosen test.1) (value_of port other test.1) (nodes_done port b) (nodes_done port c) m (ap is_true stands.value)

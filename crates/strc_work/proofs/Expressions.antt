@@ -3,6 +3,7 @@ use Rattle.std.proofs.Common.{◌≡◌, ◌≢◌, ℕ, ◌+◌, ◌<◌, ◌�
 use Rattle.std.specs.Prelude.{unwrap_or, if◌then◌else◌}
 use Rattle.std.proofs.lemmas.List.{get_or-set_same, get_or-set_other, length-set}
 use Rattle.std.proofs.lemmas.Bool.{false≢true}
+use Rattle.strc_base.specs.Results.{result_and_then}
 use Rattle.strc_syntax.specs.Tree as tree
 use Rattle.strc_syntax.specs.declared.tree.UnaryOperator.{UnaryOperator}
 use Rattle.strc_syntax.specs.declared.tree.UnaryOperator.TheVariants as unary
@@ -11,11 +12,11 @@ use Rattle.strc_syntax.specs.declared.tree.BinaryOperator.TheVariants as binary
 use Rattle.strc_syntax.specs.declared.tree.StepOperator.{StepOperator}
 use Rattle.strc_syntax.specs.declared.tree.StepOperator.TheVariants as step
 use Rattle.strc_semantics.specs.declared.fault.Cause.{Cause}
-use Rattle.strc_machine.specs.declared.inst.Inst.TheVariants as act
+use Rattle.strc_inst.specs.declared.inst.Inst.TheVariants as act
 use Rattle.strc_semantics.specs.Arithmetic.{unary_value, binary_value, is_true}
 use Rattle.strc_semantics.specs.Scoping.{Scope, total, slot_of, size_of}
 use Rattle.strc_semantics.specs.Closed.{IsNamed, IsClosed}
-use Rattle.strc_semantics.specs.Firing.{Port, Variables, Store, Traffic, then_do, cells_named, cell_in, value_in, place_in, tested_place, place_of, joined, value_of, popped_from, peeked_from}
+use Rattle.strc_semantics.specs.Firing.{Port, Variables, Store, Traffic, cells_named, cell_in, value_in, place_in, tested_place, place_of, joined, value_of, popped_from, peeked_from}
 use Rattle.strc_machine.specs.Machine.{Machine, Nodes, End, Choice, before, nodes_done, inst_room, nodes_room}
 use Rattle.strc_work.specs.Lowering.{variable_slot, writes_no_variable, stands_at, unless_there, one, unary_step, binary_step, step_nodes, element_step_nodes, binary_nodes, expr_nodes, operand_slot, operand_nodes}
 use Rattle.strc_work.proofs.Variables.{scope_of, at, Holds, Holds-set_above, slot_of-below, slot_of-value, size_of-some, size_of-is}
@@ -99,7 +100,7 @@ total-variables names free store slots ready = ap total ready.names_are
 -- an operator that evaluates both its sides
 pub record Strict (operator : BinaryOperator) : Type 0 where
   pub code : (left right other : Nodes) (into free : ℕ) → binary_nodes operator left right other into free ≡ other
-  pub value : (first : ℤ × Store) (right : Store → Result (ℤ × Store) Cause) → joined operator first right ≡ then_do (right first.1) (λ second. then_do (binary_value operator first.0 second.0) (λ v. Ok (v, second.1)))
+  pub value : (first : ℤ × Store) (right : Store → Result (ℤ × Store) Cause) → joined operator first right ≡ result_and_then (right first.1) (λ second. result_and_then (binary_value operator first.0 second.0) (λ v. Ok (v, second.1)))
 
 -- an operator is a logical one, or evaluates both its sides
 pub by_operator : (P : BinaryOperator → Type 0) → P binary.LogicalOr → P binary.LogicalAnd → ((operator : BinaryOperator) → Strict operator → P operator) → (operator : BinaryOperator) → P operator
@@ -167,19 +168,19 @@ both_true : (a b : Bool) → a && b ≡ true → (a ≡ true) × (b ≡ true)
 both_true true b e = (refl, e)
 both_true false b e = absurd (false≢true e)
 
-popped_keeps : (store : Store) (r : Result (ℤ × Traffic) Cause) → Keeps store.variables (then_do r (λ taken. Ok (taken.0, record store { traffic = taken.1 })))
+popped_keeps : (store : Store) (r : Result (ℤ × Traffic) Cause) → Keeps store.variables (result_and_then r (λ taken. Ok (taken.0, record store { traffic = taken.1 })))
 popped_keeps store (Ok taken) = refl
 popped_keeps store (Err cause) = tt
 
-unary_keeps : (variables : Variables) (operator : UnaryOperator) (r : Result (ℤ × Store) Cause) → Keeps variables r → Keeps variables (then_do r (λ right. Ok (unary_value operator right.0, right.1)))
+unary_keeps : (variables : Variables) (operator : UnaryOperator) (r : Result (ℤ × Store) Cause) → Keeps variables r → Keeps variables (result_and_then r (λ right. Ok (unary_value operator right.0, right.1)))
 unary_keeps variables operator (Ok given) h = h
 unary_keeps variables operator (Err cause) h = tt
 
-last_keeps : (variables : Variables) (store : Store) (r : Result ℤ Cause) → store.variables ≡ variables → Keeps variables (then_do r (λ value. Ok (value, store)))
+last_keeps : (variables : Variables) (store : Store) (r : Result ℤ Cause) → store.variables ≡ variables → Keeps variables (result_and_then r (λ value. Ok (value, store)))
 last_keeps variables store (Ok value) h = h
 last_keeps variables store (Err cause) h = tt
 
-right_keeps : (variables : Variables) (operator : BinaryOperator) (value : ℤ) (r : Result (ℤ × Store) Cause) → Keeps variables r → Keeps variables (then_do r (λ second. then_do (binary_value operator value second.0) (λ v. Ok (v, second.1))))
+right_keeps : (variables : Variables) (operator : BinaryOperator) (value : ℤ) (r : Result (ℤ × Store) Cause) → Keeps variables r → Keeps variables (result_and_then r (λ second. result_and_then (binary_value operator value second.0) (λ v. Ok (v, second.1))))
 right_keeps variables operator value (Ok second) h = last_keeps variables second.1 (binary_value operator value second.0) h
 right_keeps variables operator value (Err cause) h = tt
 
@@ -192,29 +193,29 @@ joined_keeps variables operator first right h h' =
     by_operator (λ o. Keeps variables (joined o first right)) (chosen_keeps variables (is_true first.0) (Ok first) (right first.1) h h') (chosen_keeps variables (is_true first.0) (right first.1) (Ok first) h' h) (λ o strict.
     subst (Keeps variables) (sym (strict.value first right)) (right_keeps variables o first.0 (right first.1) h')) operator
 
-left_keeps : (port : Port) (variables : Variables) (operator : BinaryOperator) (right : tree.Expr) (r : Result (ℤ × Store) Cause) → ((store : Store) → Keeps store.variables (value_of port right store)) → Keeps variables r → Keeps variables (then_do r (λ first. joined operator first (value_of port right)))
+left_keeps : (port : Port) (variables : Variables) (operator : BinaryOperator) (right : tree.Expr) (r : Result (ℤ × Store) Cause) → ((store : Store) → Keeps store.variables (value_of port right store)) → Keeps variables r → Keeps variables (result_and_then r (λ first. joined operator first (value_of port right)))
 left_keeps port variables operator right (Ok first) inside h =
     joined_keeps variables operator first (value_of port right) h (subst (λ v. Keeps v (value_of port right first.1)) h (inside first.1))
 left_keeps port variables operator right (Err cause) inside h = tt
 
-test_keeps : (variables : Variables) (chosen other : Store → Result (ℤ × Store) Cause) (r : Result (ℤ × Store) Cause) → Keeps variables r → ((store : Store) → Keeps store.variables (chosen store)) → ((store : Store) → Keeps store.variables (other store)) → Keeps variables (then_do r (λ test. if is_true test.0 then chosen test.1 else other test.1))
+test_keeps : (variables : Variables) (chosen other : Store → Result (ℤ × Store) Cause) (r : Result (ℤ × Store) Cause) → Keeps variables r → ((store : Store) → Keeps store.variables (chosen store)) → ((store : Store) → Keeps store.variables (other store)) → Keeps variables (result_and_then r (λ test. if is_true test.0 then chosen test.1 else other test.1))
 test_keeps variables chosen other (Ok test) h h' h'' =
     chosen_keeps variables (is_true test.0) (chosen test.1) (other test.1) (subst (λ v. Keeps v (chosen test.1)) h (h' test.1)) (subst (λ v. Keeps v (other test.1)) h (h'' test.1))
 test_keeps variables chosen other (Err cause) h h' h'' = tt
 
-item_keeps : (variables : Variables) (store : Store) (r : Result ℤ Cause) → store.variables ≡ variables → Keeps variables (then_do r (λ item. Ok (item, store)))
+item_keeps : (variables : Variables) (store : Store) (r : Result ℤ Cause) → store.variables ≡ variables → Keeps variables (result_and_then r (λ item. Ok (item, store)))
 item_keeps variables store (Ok item) h = h
 item_keeps variables store (Err cause) h = tt
 
-peek_keeps : (port : Port) (variables : Variables) (r : Result (ℤ × Store) Cause) → Keeps variables r → Keeps variables (then_do r (λ place. then_do (peeked_from port place.0 place.1.traffic) (λ item. Ok (item, place.1))))
+peek_keeps : (port : Port) (variables : Variables) (r : Result (ℤ × Store) Cause) → Keeps variables r → Keeps variables (result_and_then r (λ place. result_and_then (peeked_from port place.0 place.1.traffic) (λ item. Ok (item, place.1))))
 peek_keeps port variables (Ok place) h = item_keeps variables place.1 (peeked_from port place.0 place.1.traffic) h
 peek_keeps port variables (Err cause) h = tt
 
-element_by_place : (variables : Variables) (name : List ℕ) (given : ℤ × Store) (o : Option ℕ) → given.1.variables ≡ variables → Keeps variables (then_do (tested_place o) (λ place. Ok (cell_in given.1 name place, given.1)))
+element_by_place : (variables : Variables) (name : List ℕ) (given : ℤ × Store) (o : Option ℕ) → given.1.variables ≡ variables → Keeps variables (result_and_then (tested_place o) (λ place. Ok (cell_in given.1 name place, given.1)))
 element_by_place variables name given None h = tt
 element_by_place variables name given (Some place) h = h
 
-element_keeps : (variables : Variables) (name : List ℕ) (r : Result (ℤ × Store) Cause) → Keeps variables r → Keeps variables (then_do r (λ given. then_do (place_of given.1 name given.0) (λ place. Ok (cell_in given.1 name place, given.1))))
+element_keeps : (variables : Variables) (name : List ℕ) (r : Result (ℤ × Store) Cause) → Keeps variables r → Keeps variables (result_and_then r (λ given. result_and_then (place_of given.1 name given.0) (λ place. Ok (cell_in given.1 name place, given.1))))
 element_keeps variables name (Ok given) h =
     element_by_place variables name given (place_in (length (cells_named given.1.variables name)) given.0) h
 element_keeps variables name (Err cause) h = tt

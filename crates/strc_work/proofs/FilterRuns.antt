@@ -2,6 +2,7 @@
 use Rattle.std.proofs.Common.{◌≡◌, ℕ, ◌+◌, ◌-◌, ◌<◌, ◌≤◌, ℤ, pos, List, [], ◌∷◌, ◌++◌, length, take, drop, reverse, replicate, Option, Some, None, Result, Ok, refl, sym, ap, ◌∙◌, subst, arith, append_assoc}
 use Rattle.std.specs.Prelude.{unwrap_or}
 use Rattle.std.proofs.lemmas.List.{reverse-append, append-nil, length-take-le, length-drop, get_or-take, get_or-drop, get_or-replicate, length-replicate}
+use Rattle.strc_base.specs.Results.{result_and_then}
 use Rattle.strc_syntax.specs.Tree as tree
 use Rattle.strc_semantics.specs.declared.fault.Cause.{Cause}
 use Rattle.strc_semantics.specs.declared.body.Body.{Body}
@@ -9,7 +10,7 @@ use Rattle.strc_semantics.specs.declared.body.Body.TheVariants as body
 use Rattle.strc_semantics.specs.Filters.{Filter, sized_all, sized_fields, work_block, prework_block, body_block}
 use Rattle.strc_semantics.specs.Scoping.{Scope, cells_of, total, slot_of}
 use Rattle.strc_semantics.specs.Closed.{IsNamed, IsClosedInitial, AreClosedFields, AreClosed, AreClosedMembers, IsClosedFilter}
-use Rattle.strc_semantics.specs.Firing.{Variables, Store, Traffic, then_do, value_of, assigned, block_left, inside, stmts_done, bound_onto, no_traffic, store_at, field_values, no_io, initial_given, fields_started, members_started, inits_done, started, Fired, port_of, fired}
+use Rattle.strc_semantics.specs.Firing.{Variables, Store, Traffic, value_of, assigned, block_left, inside, stmts_done, bound_onto, no_traffic, store_at, field_values, no_io, initial_given, fields_started, members_started, inits_done, started, Fired, port_of, fired}
 use Rattle.strc_machine.specs.Machine.{Machine, nodes_done, nodes_room}
 use Rattle.strc_work.specs.Lowering.{stmts_nodes, field_scope, field_nodes, fields_nodes, initials_nodes, inits_nodes, start_nodes, body_nodes, slot_count}
 use Rattle.strc_work.proofs.Variables.{scope_of, at, Holds, values-Holds}
@@ -39,7 +40,7 @@ fields_run cells (first ∷ rest) names store slots closed ready room =
     let b = fields_nodes names rest in
     let room_a : nodes_room a ≤ length slots = omega (arith, nodes_room-before a b) in
     let room_b : nodes_room b ≤ length slots = omega (arith, nodes_room-before a b) in
-    subst (Related (Reaches names (length slots)) (then_do (initial_given first.name first.initial store) (fields_started rest))) (sym (nodes_done-before no_io a b (machine_at slots store)))
+    subst (Related (Reaches names (length slots)) (result_and_then (initial_given first.name first.initial store) (fields_started rest))) (sym (nodes_done-before no_io a b (machine_at slots store)))
     (then_related (Reaches names (length slots)) (Reaches names (length slots)) (initial_given first.name first.initial store) (nodes_done no_io a (machine_at slots store)) (fields_started rest) (nodes_done no_io b) (field_runs first.name first.initial names store slots (closed.0.0, closed.0.1) ready room_a) (λ given m is reaches.
     go_on no_io b names names (length slots) (fields_started rest) (λ store' slots' same ready'. fields_run cells rest names store' slots' closed.1 ready' (omega arith)) given m reaches))
 
@@ -50,7 +51,7 @@ members_run (tree.Fields kind variables ∷ rest) names store slots closed ready
     let b = initials_nodes names rest in
     let room_a : nodes_room a ≤ length slots = omega (arith, nodes_room-before a b) in
     let room_b : nodes_room b ≤ length slots = omega (arith, nodes_room-before a b) in
-    subst (Related (Reaches names (length slots)) (then_do (fields_started variables store) (members_started rest))) (sym (nodes_done-before no_io a b (machine_at slots store)))
+    subst (Related (Reaches names (length slots)) (result_and_then (fields_started variables store) (members_started rest))) (sym (nodes_done-before no_io a b (machine_at slots store)))
     (then_related (Reaches names (length slots)) (Reaches names (length slots)) (fields_started variables store) (nodes_done no_io a (machine_at slots store)) (members_started rest) (nodes_done no_io b) (fields_run (cells_of kind) variables names store slots closed.0 ready room_a) (λ given m is reaches.
     go_on no_io b names names (length slots) (members_started rest) (λ store' slots' same ready'. members_run rest names store' slots' closed.1 ready' (omega arith)) given m reaches))
 members_run (tree.Init block ∷ rest) names store slots closed ready room =
@@ -74,7 +75,7 @@ inits_run (tree.Init block ∷ rest) names store slots closed ready room =
     let b = inits_nodes names rest in
     let room_a : nodes_room a ≤ length slots = omega (arith, nodes_room-before a b) in
     let room_b : nodes_room b ≤ length slots = omega (arith, nodes_room-before a b) in
-    subst (Related (Reaches names (length slots)) (then_do (inside (stmts_done no_io block) store) (inits_done rest))) (sym (nodes_done-before no_io a b (machine_at slots store)))
+    subst (Related (Reaches names (length slots)) (result_and_then (inside (stmts_done no_io block) store) (inits_done rest))) (sym (nodes_done-before no_io a b (machine_at slots store)))
     (then_related (Reaches names (length slots)) (Reaches names (length slots)) (inside (stmts_done no_io block) store) (nodes_done no_io a (machine_at slots store)) (inits_done rest) (nodes_done no_io b) (stmt_runs no_io (tree.Block block) names store slots closed.0 ready room_a) (λ given m is reaches.
     go_on no_io b names names (length slots) (inits_done rest) (λ store' slots' same ready'. inits_run rest names store' slots' closed.1 ready' (omega arith)) given m reaches))
 inits_run (tree.Prework rates block ∷ rest) names store slots closed ready room =
@@ -182,8 +183,8 @@ start_runs filter size closed room =
     let room_b : nodes_room b ≤ length slots = omega (arith, nodes_room-before a b) in
     let zeros_are : length zeros ≡ count = length-replicate count (pos 0) in
     let ready = store_ready filter zeros slots closed zeros_are (λ k lt. get_or-replicate size k (pos 0) (pos 0) (omega arith) ∙ sym (get_or-replicate count k (pos 0) (pos 0) (omega arith))) fields in
-    let rest : Store → Result (List ℤ) Cause = λ initialised. then_do (inits_done filter.members initialised) (λ done. Ok (field_values done)) in
-    subst (Related (IsStarted filter size) (then_do (members_started filter.members store) rest)) (sym (nodes_done-before no_io a b (machine_at slots store)))
+    let rest : Store → Result (List ℤ) Cause = λ initialised. result_and_then (inits_done filter.members initialised) (λ done. Ok (field_values done)) in
+    subst (Related (IsStarted filter size) (result_and_then (members_started filter.members store) rest)) (sym (nodes_done-before no_io a b (machine_at slots store)))
     (then_related (Reaches scope (length slots)) (IsStarted filter size) (members_started filter.members store) (nodes_done no_io a (machine_at slots store)) rest (nodes_done no_io b) (members_run filter.members scope store slots closed ready room_a) (λ initialised m is reaches.
     map_related (Reaches scope (length slots)) (IsStarted filter size) field_values (inits_done filter.members initialised) (nodes_done no_io b m)
     (go_on no_io b scope scope (length slots) (inits_done filter.members) (λ store' slots' same ready'. inits_run filter.members scope store' slots' closed ready' (omega arith)) initialised m reaches) (λ given after reaches'.

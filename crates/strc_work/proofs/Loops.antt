@@ -1,12 +1,13 @@
 -- Choices between statements, and loops.
 use Rattle.std.proofs.Common.{◌≡◌, ℕ, zero, suc, ◌<◌, ◌≤◌, Bool, true, false, cond, ℤ, pos, List, length, set, Option, Some, None, Result, Ok, Err, refl, sym, ap, subst, arith}
 use Rattle.std.proofs.lemmas.List.{get_or-set_same, length-set}
+use Rattle.strc_base.specs.Results.{result_and_then}
 use Rattle.strc_syntax.specs.Tree as tree
 use Rattle.strc_semantics.specs.declared.fault.Cause.{Cause}
 use Rattle.strc_semantics.specs.Arithmetic.{is_true}
 use Rattle.strc_semantics.specs.Scoping.{Scope, total}
 use Rattle.strc_semantics.specs.Closed.{IsClosed, IsClosedInitial}
-use Rattle.strc_semantics.specs.Firing.{Port, Store, Traffic, then_do, value_of, one_more_turn, turned, turn_limit, looped, condition_value}
+use Rattle.strc_semantics.specs.Firing.{Port, Store, Traffic, value_of, one_more_turn, turned, turn_limit, looped, condition_value}
 use Rattle.strc_machine.specs.Machine.{Machine, Nodes, End, Choice, Loop, before, slot_value, turned_on, chosen_by, cycled, nodes_done, nodes_room}
 use Rattle.strc_work.specs.Lowering.{operand_slot, operand_nodes, condition_nodes, condition_slot}
 use Rattle.strc_work.proofs.Variables.{scope_of, Holds-set_above}
@@ -19,7 +20,7 @@ use Rattle.strc_work.proofs.Reaching.{Reaches, stands_reach}
 -- ---- choices
 
 -- one of two pieces of code, by a condition's value
-pub choice_runs : (port : Port) (condition : tree.Expr) (chosen other : Nodes) (does does' : Store → Result Store Cause) (names : Scope) (store : Store) (slots : List ℤ) → IsClosed names condition → Ready names (total names) store slots → nodes_room (before (operand_nodes names true condition (total names)) (Choice (operand_slot names true condition (total names)) chosen other End)) ≤ length slots → ((given : Store) (m : Machine) → Reaches names (length slots) given m → Related (Reaches names (length slots)) (does given) (nodes_done port chosen m)) → ((given : Store) (m : Machine) → Reaches names (length slots) given m → Related (Reaches names (length slots)) (does' given) (nodes_done port other m)) → Related (Reaches names (length slots)) (then_do (value_of port condition store) (λ test. cond (is_true test.0) (does test.1) (does' test.1))) (nodes_done port (before (operand_nodes names true condition (total names)) (Choice (operand_slot names true condition (total names)) chosen other End)) (machine_at slots store))
+pub choice_runs : (port : Port) (condition : tree.Expr) (chosen other : Nodes) (does does' : Store → Result Store Cause) (names : Scope) (store : Store) (slots : List ℤ) → IsClosed names condition → Ready names (total names) store slots → nodes_room (before (operand_nodes names true condition (total names)) (Choice (operand_slot names true condition (total names)) chosen other End)) ≤ length slots → ((given : Store) (m : Machine) → Reaches names (length slots) given m → Related (Reaches names (length slots)) (does given) (nodes_done port chosen m)) → ((given : Store) (m : Machine) → Reaches names (length slots) given m → Related (Reaches names (length slots)) (does' given) (nodes_done port other m)) → Related (Reaches names (length slots)) (result_and_then (value_of port condition store) (λ test. cond (is_true test.0) (does test.1) (does' test.1))) (nodes_done port (before (operand_nodes names true condition (total names)) (Choice (operand_slot names true condition (total names)) chosen other End)) (machine_at slots store))
 choice_runs port condition chosen other does does' names store slots closed ready room go go' =
     let free = total names in
     let a = operand_nodes names true condition free in
@@ -27,7 +28,7 @@ choice_runs port condition chosen other does does' names store slots closed read
     let choice = Choice slot chosen other End in
     let room_a : nodes_room a ≤ length slots = omega (arith, nodes_room-before a choice) in
     let meant : ℤ × Store → Result Store Cause = λ test. cond (is_true test.0) (does test.1) (does' test.1) in
-    subst (Related (Reaches names (length slots)) (then_do (value_of port condition store) meant)) (sym (nodes_done-before port a choice (machine_at slots store)))
+    subst (Related (Reaches names (length slots)) (result_and_then (value_of port condition store) meant)) (sym (nodes_done-before port a choice (machine_at slots store)))
     (then_related (StandsAt names slot free slots) (Reaches names (length slots)) (value_of port condition store) (nodes_done port a (machine_at slots store)) meant (nodes_done port choice) (operand_runs port condition (expr_runs port condition) names true free store slots closed ready room_a) (λ test m is stands.
     let reaches = stands_reach names slot slots test m ready.roomy stands in
     subst (Related (Reaches names (length slots)) (meant test)) (sym (then_end port (chosen_by (is_true (slot_value m slot)) (nodes_done port chosen) (nodes_done port other) m)))
@@ -75,7 +76,7 @@ test_goes_on port condition names size closed room given m reaches =
     (subst (λ n. Related (Tested names n (condition_slot names condition)) (condition_value port condition given) (nodes_done port (condition_nodes names condition) (machine_at m.slots given))) same (test_runs port condition names given m.slots closed ready (omega arith)))
 
 -- one more turn, on both sides
-turn_by_result : (names : Scope) (size : ℕ) (given : Store) (m : Machine) (r : Result Traffic Cause) → Reaches names size given m → Related (Reaches names size) (then_do r (λ traffic. Ok (record given { traffic = traffic }))) (then_do r (λ traffic. Ok (record m { traffic = traffic })))
+turn_by_result : (names : Scope) (size : ℕ) (given : Store) (m : Machine) (r : Result Traffic Cause) → Reaches names size given m → Related (Reaches names size) (result_and_then r (λ traffic. Ok (record given { traffic = traffic }))) (result_and_then r (λ traffic. Ok (record m { traffic = traffic })))
 turn_by_result names size given m (Ok traffic) reaches = record {
   traffic = refl;
   names_are = reaches.names_are;
@@ -87,7 +88,7 @@ turn_by_result names size given m (Err cause) reaches = refl
 
 turn_reaches : (names : Scope) (size : ℕ) (given : Store) (m : Machine) → Reaches names size given m → Related (Reaches names size) (turned given) (turned_on m)
 turn_reaches names size given m reaches =
-    subst (λ t. Related (Reaches names size) (turned given) (then_do (one_more_turn t) (λ traffic. Ok (record m { traffic = traffic })))) (sym reaches.traffic)
+    subst (λ t. Related (Reaches names size) (turned given) (result_and_then (one_more_turn t) (λ traffic. Ok (record m { traffic = traffic })))) (sym reaches.traffic)
     (turn_by_result names size given m (one_more_turn given.traffic) reaches)
 
 -- one more turn of a loop, or its end
@@ -101,11 +102,11 @@ turn_by_test names size false true e given m turns turns' reaches h = absurd (cc
 pub loop_runs : (names : Scope) (size slot fuel : ℕ) (test : Store → Result (ℤ × Store) Cause) (body : Store → Result Store Cause) (test' body' : Machine → Result Machine Cause) → ((given : Store) (m : Machine) → Reaches names size given m → Related (Tested names size slot) (test given) (test' m)) → ((given : Store) (m : Machine) → Reaches names size given m → Related (Reaches names size) (body given) (body' m)) → (given : Store) (m : Machine) → Reaches names size given m → Related (Reaches names size) (looped fuel test body given) (cycled fuel test' slot body' m)
 loop_runs names size slot zero test body test' body' tests turns given m reaches = refl
 loop_runs names size slot (suc fuel) test body test' body' tests turns given m reaches =
-    let again : Store → Result Store Cause = λ store. then_do (turned store) (λ turning. then_do (body turning) (looped fuel test body)) in
-    let again' : Machine → Result Machine Cause = λ machine. then_do (turned_on machine) (λ turning. then_do (body' turning) (cycled fuel test' slot body')) in
+    let again : Store → Result Store Cause = λ store. result_and_then (turned store) (λ turning. result_and_then (body turning) (looped fuel test body)) in
+    let again' : Machine → Result Machine Cause = λ machine. result_and_then (turned_on machine) (λ turning. result_and_then (body' turning) (cycled fuel test' slot body')) in
     then_related (Tested names size slot) (Reaches names size) (test given) (test' m) (λ tested. cond (is_true tested.0) (again tested.1) (Ok tested.1)) (λ tested. cond (is_true (slot_value tested slot)) (again' tested) (Ok tested)) (tests given m reaches) (λ tested m1 is tested1.
     turn_by_test names size (is_true tested.0) (is_true (slot_value m1 slot)) (ap is_true tested1.value) tested.1 m1 again again' tested1.reaches
-    (then_related (Reaches names size) (Reaches names size) (turned tested.1) (turned_on m1) (λ turning. then_do (body turning) (looped fuel test body)) (λ turning. then_do (body' turning) (cycled fuel test' slot body')) (turn_reaches names size tested.1 m1 tested1.reaches) (λ turning m2 is2 reaches2.
+    (then_related (Reaches names size) (Reaches names size) (turned tested.1) (turned_on m1) (λ turning. result_and_then (body turning) (looped fuel test body)) (λ turning. result_and_then (body' turning) (cycled fuel test' slot body')) (turn_reaches names size tested.1 m1 tested1.reaches) (λ turning m2 is2 reaches2.
     then_related (Reaches names size) (Reaches names size) (body turning) (body' m2) (looped fuel test body) (cycled fuel test' slot body') (turns turning m2 reaches2) (λ next m3 is3 reaches3.
     loop_runs names size slot fuel test body test' body' tests turns next m3 reaches3))))
 

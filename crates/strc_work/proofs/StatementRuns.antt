@@ -1,14 +1,15 @@
 -- Each statement's code does what it means.
 use Rattle.std.proofs.Common.{◌≡◌, ℕ, suc, ◌+◌, ◌≤◌, Bool, true, false, ℤ, pos, negsuc, List, length, Option, Some, Result, Ok, Err, refl, sym, ap, ◌∙◌, subst, arith}
 use Rattle.std.proofs.lemmas.List.{length-set}
+use Rattle.strc_base.specs.Results.{result_and_then}
 use Rattle.strc_syntax.specs.Tree as tree
 use Rattle.strc_syntax.specs.declared.tree.StepOperator.TheVariants as step
 use Rattle.strc_semantics.specs.declared.fault.Cause.{Cause}
-use Rattle.strc_machine.specs.declared.inst.Inst.{Inst}
-use Rattle.strc_machine.specs.declared.inst.Inst.TheVariants as act
+use Rattle.strc_inst.specs.declared.inst.Inst.{Inst}
+use Rattle.strc_inst.specs.declared.inst.Inst.TheVariants as act
 use Rattle.strc_semantics.specs.Scoping.{Scope, cells_of, total, slot_of, names_after}
 use Rattle.strc_semantics.specs.Closed.{IsClosed, IsClosedStmt}
-use Rattle.strc_semantics.specs.Firing.{Port, Store, Traffic, then_do, value_of, pushed_to, printed, assigned, assigned_value, turn_limit, looped, condition_value, inside, block_left, stmt_done, stmts_done}
+use Rattle.strc_semantics.specs.Firing.{Port, Store, Traffic, value_of, pushed_to, printed, assigned, assigned_value, turn_limit, looped, condition_value, inside, block_left, stmt_done, stmts_done}
 use Rattle.strc_machine.specs.Machine.{Machine, End, Choice, Loop, before, slot_value, inst_done, nodes_done, nodes_room}
 use Rattle.strc_work.specs.Lowering.{one, expr_nodes, operand_slot, operand_nodes, condition_nodes, condition_slot, stmt_nodes, stmts_nodes, used_nodes}
 use Rattle.strc_semantics.proofs.Growth.{stands_on_itself}
@@ -37,14 +38,14 @@ evaluated_reaches names slots given after roomy arrives =
     })
 
 -- an expression for its effects alone
-evaluation_runs : (port : Port) (e : tree.Expr) (names : Scope) (store : Store) (slots : List ℤ) → IsClosed names e → Ready names (total names) store slots → nodes_room (expr_nodes names e (total names) (total names + 1)) ≤ length slots → Related (Reaches names (length slots)) (then_do (value_of port e store) (λ given. Ok given.1)) (nodes_done port (expr_nodes names e (total names) (total names + 1)) (machine_at slots store))
+evaluation_runs : (port : Port) (e : tree.Expr) (names : Scope) (store : Store) (slots : List ℤ) → IsClosed names e → Ready names (total names) store slots → nodes_room (expr_nodes names e (total names) (total names + 1)) ≤ length slots → Related (Reaches names (length slots)) (result_and_then (value_of port e store) (λ given. Ok given.1)) (nodes_done port (expr_nodes names e (total names) (total names + 1)) (machine_at slots store))
 evaluation_runs port e names store slots closed ready room =
     let roomy = ready.roomy in
     let ready' : Ready names (total names + 1) store slots = record { names_are = ready.names_are; holds = ready.holds; above = omega arith; roomy = roomy } in
     map_related (Arrives names (total names) (total names + 1) slots) (Reaches names (length slots)) (λ given. given.1) (value_of port e store) (nodes_done port (expr_nodes names e (total names) (total names + 1)) (machine_at slots store)) (expr_runs port e names (total names) (total names + 1) store slots closed ready' room) (λ given after arrives. evaluated_reaches names slots given after roomy arrives)
 
 -- one more item is pushed, on both sides
-pushed_reaches : (names : Scope) (slots : List ℤ) (store : Store) (after : Machine) (r : Result Traffic Cause) → total names ≤ length slots → scope_of store.variables ≡ names → Holds store.variables after.slots → length after.slots ≡ length slots → Related (Reaches names (length slots)) (then_do r (λ traffic. Ok (record store { traffic = traffic }))) (then_do r (λ traffic. Ok (record after { traffic = traffic })))
+pushed_reaches : (names : Scope) (slots : List ℤ) (store : Store) (after : Machine) (r : Result Traffic Cause) → total names ≤ length slots → scope_of store.variables ≡ names → Holds store.variables after.slots → length after.slots ≡ length slots → Related (Reaches names (length slots)) (result_and_then r (λ traffic. Ok (record store { traffic = traffic }))) (result_and_then r (λ traffic. Ok (record after { traffic = traffic })))
 pushed_reaches names slots store after (Ok traffic) roomy names_are holds same = record {
   traffic = refl;
   names_are = names_are;
@@ -67,37 +68,37 @@ printed_reaches names slots ends_line slot given after roomy stands = record {
 }
 
 -- a statement that uses an expression's value in a last step
-used_runs : (port : Port) (e : tree.Expr) (last : ℕ → Inst) (meant : ℤ × Store → Result Store Cause) (names : Scope) (store : Store) (slots : List ℤ) → IsClosed names e → Ready names (total names) store slots → nodes_room (used_nodes names e last) ≤ length slots → ((given : ℤ × Store) (m : Machine) → StandsAt names (operand_slot names true e (total names)) (total names) slots given m → Related (Reaches names (length slots)) (meant given) (inst_done port (last (operand_slot names true e (total names))) m)) → Related (Reaches names (length slots)) (then_do (value_of port e store) meant) (nodes_done port (used_nodes names e last) (machine_at slots store))
+used_runs : (port : Port) (e : tree.Expr) (last : ℕ → Inst) (meant : ℤ × Store → Result Store Cause) (names : Scope) (store : Store) (slots : List ℤ) → IsClosed names e → Ready names (total names) store slots → nodes_room (used_nodes names e last) ≤ length slots → ((given : ℤ × Store) (m : Machine) → StandsAt names (operand_slot names true e (total names)) (total names) slots given m → Related (Reaches names (length slots)) (meant given) (inst_done port (last (operand_slot names true e (total names))) m)) → Related (Reaches names (length slots)) (result_and_then (value_of port e store) meant) (nodes_done port (used_nodes names e last) (machine_at slots store))
 used_runs port e last meant names store slots closed ready room go =
     let free = total names in
     let a = operand_nodes names true e free in
     let slot = operand_slot names true e free in
     let room_a : nodes_room a ≤ length slots = omega (arith, nodes_room-before a (one (last slot))) in
-    subst (Related (Reaches names (length slots)) (then_do (value_of port e store) meant)) (sym (then_last port a (last slot) (machine_at slots store)))
+    subst (Related (Reaches names (length slots)) (result_and_then (value_of port e store) meant)) (sym (then_last port a (last slot) (machine_at slots store)))
     (then_related (StandsAt names slot free slots) (Reaches names (length slots)) (value_of port e store) (nodes_done port a (machine_at slots store)) meant (inst_done port (last slot)) (operand_runs port e (expr_runs port e) names true free store slots closed ready room_a) (λ given m is stands. go given m stands))
 
 push_runs : (port : Port) (e : tree.Expr) → RunsStmt port (tree.Push e)
 push_runs port e names store slots closed ready room =
     let roomy = ready.roomy in
     let slot = operand_slot names true e (total names) in
-    let meant : ℤ × Store → Result Store Cause = λ given. then_do (pushed_to port given.0 given.1.traffic) (λ traffic. Ok (record given.1 { traffic = traffic })) in
+    let meant : ℤ × Store → Result Store Cause = λ given. result_and_then (pushed_to port given.0 given.1.traffic) (λ traffic. Ok (record given.1 { traffic = traffic })) in
     used_runs port e act.Push meant names store slots closed ready room (λ given m stands.
-    let done_is : inst_done port (act.Push slot) m ≡ then_do (pushed_to port given.0 given.1.traffic) (λ traffic. Ok (record m { traffic = traffic })) =
-    ap (λ v. then_do (pushed_to port v m.traffic) (λ traffic. Ok (record m { traffic = traffic }))) stands.value
-    ∙ ap (λ t. then_do (pushed_to port given.0 t) (λ traffic. Ok (record m { traffic = traffic }))) stands.traffic in
+    let done_is : inst_done port (act.Push slot) m ≡ result_and_then (pushed_to port given.0 given.1.traffic) (λ traffic. Ok (record m { traffic = traffic })) =
+    ap (λ v. result_and_then (pushed_to port v m.traffic) (λ traffic. Ok (record m { traffic = traffic }))) stands.value
+    ∙ ap (λ t. result_and_then (pushed_to port given.0 t) (λ traffic. Ok (record m { traffic = traffic }))) stands.traffic in
     subst (Related (Reaches names (length slots)) (meant given)) (sym done_is)
     (pushed_reaches names slots given.1 m (pushed_to port given.0 given.1.traffic) roomy stands.names_are stands.holds stands.size))
 
 -- ---- loops
 
 -- the body of a loop of three parts, and its step
-turn_goes_on : (port : Port) (body step : tree.Stmt) → RunsStmt port body → RunsStmt port step → (names : Scope) (size : ℕ) → IsClosedStmt names body → IsClosedStmt names step → nodes_room (before (stmt_nodes names body) (stmt_nodes names step)) ≤ size → (given : Store) (m : Machine) → Reaches names size given m → Related (Reaches names size) (then_do (inside (stmt_done port body) given) (inside (stmt_done port step))) (nodes_done port (before (stmt_nodes names body) (stmt_nodes names step)) m)
+turn_goes_on : (port : Port) (body step : tree.Stmt) → RunsStmt port body → RunsStmt port step → (names : Scope) (size : ℕ) → IsClosedStmt names body → IsClosedStmt names step → nodes_room (before (stmt_nodes names body) (stmt_nodes names step)) ≤ size → (given : Store) (m : Machine) → Reaches names size given m → Related (Reaches names size) (result_and_then (inside (stmt_done port body) given) (inside (stmt_done port step))) (nodes_done port (before (stmt_nodes names body) (stmt_nodes names step)) m)
 turn_goes_on port body step run_body run_step names size closed closed' room given m reaches =
     let a = stmt_nodes names body in
     let b = stmt_nodes names step in
     let room_a : nodes_room a ≤ size = omega (arith, nodes_room-before a b) in
     let room_b : nodes_room b ≤ size = omega (arith, nodes_room-before a b) in
-    subst (Related (Reaches names size) (then_do (inside (stmt_done port body) given) (inside (stmt_done port step)))) (sym (nodes_done-before port a b m))
+    subst (Related (Reaches names size) (result_and_then (inside (stmt_done port body) given) (inside (stmt_done port step)))) (sym (nodes_done-before port a b m))
     (then_related (Reaches names size) (Reaches names size) (inside (stmt_done port body) given) (nodes_done port a m) (inside (stmt_done port step)) (nodes_done port b) (inside_goes_on port body run_body names size closed room_a given m reaches) (λ next m' is reaches'.
     inside_goes_on port step run_step names size closed' room_b next m' reaches'))
 
@@ -112,10 +113,10 @@ for_runs port first condition step body run_first run_step run_body names store 
     let room_a : nodes_room a ≤ size = omega (arith, nodes_room-before a b) in
     let room_test : nodes_room (condition_nodes names' condition) ≤ size = omega (arith, nodes_room-before a b) in
     let room_turn : nodes_room turn ≤ size = omega (arith, nodes_room-before a b) in
-    let turns : Store → Result Store Cause = λ turning. then_do (inside (stmt_done port body) turning) (inside (stmt_done port step)) in
+    let turns : Store → Result Store Cause = λ turning. result_and_then (inside (stmt_done port body) turning) (inside (stmt_done port step)) in
     let loops : Store → Result Store Cause = looped (suc turn_limit) (condition_value port condition) turns in
-    map_related (Reaches names' size) (Reaches names size) (block_left store) (then_do (stmt_done port first store) loops) (nodes_done port (before a b) (machine_at slots store))
-    (subst (Related (Reaches names' size) (then_do (stmt_done port first store) loops)) (sym (nodes_done-before port a b (machine_at slots store)))
+    map_related (Reaches names' size) (Reaches names size) (block_left store) (result_and_then (stmt_done port first store) loops) (nodes_done port (before a b) (machine_at slots store))
+    (subst (Related (Reaches names' size) (result_and_then (stmt_done port first store) loops)) (sym (nodes_done-before port a b (machine_at slots store)))
     (then_related (Reaches names' size) (Reaches names' size) (stmt_done port first store) (nodes_done port a (machine_at slots store)) loops (nodes_done port b) (run_first names store slots closed.0 ready room_a) (λ begun m is reaches.
     loop_nodes_run port condition turn turns names' size closed.1 room_test (λ given m' reaches'. turn_goes_on port body step run_body run_step names' size closed.3 closed.2 room_turn given m' reaches') begun m reaches)))
     (λ inner after reaches. left_reaches names slots store inner after ready (reaches_on names size first inner after reaches))
@@ -211,5 +212,5 @@ mutual
       let b = stmts_nodes (names_after names first) rest in
       let room_a : nodes_room a ≤ length slots = omega (arith, nodes_room-before a b) in
       let room_b : nodes_room b ≤ length slots = omega (arith, nodes_room-before a b) in
-      subst (Related (ReachesOn names (length slots)) (then_do (stmt_done port first store) (stmts_done port rest))) (sym (nodes_done-before port a b (machine_at slots store)))
+      subst (Related (ReachesOn names (length slots)) (result_and_then (stmt_done port first store) (stmts_done port rest))) (sym (nodes_done-before port a b (machine_at slots store)))
       (then_related (Reaches (names_after names first) (length slots)) (ReachesOn names (length slots)) (stmt_done port first store) (nodes_done port a (machine_at slots store)) (stmts_done port rest) (nodes_done port b) (stmt_runs port first names store slots closed.0 ready room_a) (λ given m is reaches. rest_runs port first rest (stmts_runs port rest) names slots given m closed.1 room_b reaches))

@@ -3,9 +3,9 @@ use Rattle.std.proofs.lemmas.Result.{IfOk-weaker}
 use Rattle.strc_syntax.specs.View.{stmt_view, block_view}
 use Rattle.strc_syntax.proofs.Blocks.{stmt_view-Block, block_view-drop}
 use Rattle.strc_rate.specs.Counts.{stmt_counts, stmts_counts}
-use Rattle.strc_rate.specs.Peeks.{names_of}
+use Rattle.strc_interval.specs.Intervals.{names_of}
 use Rattle.strc_rate.proofs.Counting.{first_stmts, first_runnable, runnable_step, stmts_step}
-use Rattle.strc_rate.proofs.IntervalGrowth.{stands_on_itself, stands_on_after}
+use Rattle.strc_interval.proofs.IntervalGrowth.{stands_on_itself, stands_on_after}
 use Rattle.strc_rate.proofs.item_counts.+item_counts.Goals as goal
 
 pub block_counts-loop-statement-init : goal.block_counts-loop-statement-init
@@ -24,8 +24,8 @@ block_counts-loop-statement-preserved t c =
     let here = c.in_ok-statement_counts.field-0 in
     let names = c.in_ok-statement_counts.ensures.names in
     record {
-      counted = stmts_step so_far here c.both-counts.result _ c.loop-statement.names c.statement_counts.new.names (stmt_view x) (block_view (drop (i + 1) all)) (block_view (drop i all)) c.in_ok-statement_counts.ensures.counts names c.both-counts.ensures (block_view-drop all i x c.loop-statement-test.true c.statement-item.is) c.loop-statement.invariant.counted;
-      runnable = runnable_step so_far here c.both-counts.result c.both-counts.ensures;
+      counted = stmts_step so_far here c.sequence-counts.result _ c.loop-statement.names c.statement_counts.new.names (stmt_view x) (block_view (drop (i + 1) all)) (block_view (drop i all)) c.in_ok-statement_counts.ensures.counts names c.sequence-counts.ensures (block_view-drop all i x c.loop-statement-test.true c.statement-item.is) c.loop-statement.invariant.counted;
+      runnable = runnable_step so_far here c.sequence-counts.result c.sequence-counts.ensures;
       names = rw names (stands_on_after c.args.names.now c.loop-statement.names (stmt_view x) c.loop-statement.invariant.names);
     }
 

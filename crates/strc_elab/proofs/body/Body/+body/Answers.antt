@@ -1,15 +1,18 @@
 use Rattle.std.proofs.Common.{rules, ◌≡◌, suc, true, false, length, Option, Some, Ok, Err, refl, sym, ap, ◌∙◌, subst, arith}
 use Rattle.std.specs.Option.{option_map}
+use Rattle.strc_base.specs.Results.{result_and_then}
 use Rattle.strc_syntax.specs.Tree as tree
 use Rattle.strc_syntax.specs.View.{expr_view, stmt_view, block_view}
 use Rattle.strc_semantics.specs.Arithmetic.{is_true}
 use Rattle.strc_semantics.specs.Firing as firing
 use Rattle.strc_semantics.specs.Firing.{turn_limit}
 use Rattle.strc_elab.specs.Elaboration as spec
-use Rattle.strc_elab.specs.Elaboration.{then_do, computed, condition_given, inside, stmt_run, stmts_run}
-use Rattle.strc_elab.specs.Answering.{IsRefusal, Runs, progress_of}
+use Rattle.strc_scope.specs.Statements.{computed}
+use Rattle.strc_elab.specs.Elaboration.{condition_evaluated, inside, stmt_run, stmts_run}
+use Rattle.strc_scope.specs.Answers.{IsRefusal}
+use Rattle.strc_elab.specs.Answering.{Runs, progress_of}
 use Rattle.strc_elab.specs.Loops.{while_looped, for_looped}
-use Rattle.strc_elab.specs.Saying.{store_of}
+use Rattle.strc_scope.specs.Saying.{store_of}
 use Rattle.strc_elab.specs.Tasks.{setting_of}
 use Rattle.strc_elab.proofs.Bodies.{inside_refused, inside_ran, left_is, block_is, block_names_left, statement_names_left, stmts_go_on, names_go_on, chosen_runs, seen_condition, for_runs}
 use Rattle.strc_elab.proofs.LoopRuns.{Test, Step, test_refused, loop_ends, turn_refused, body_refused, loop_goes_on, loop_over}
@@ -76,7 +79,7 @@ statement-returns-then-is_true-clause-runs g t c =
     let tested = progress_of c.eval_condition.new.progress in
     let value = c.in_ok-eval_condition-in-If.field-0 in
     let truth : c.is_true.result ≡ is_true value = search rules in
-    let whole : stmt_run setting names c.args.start (stmt_view c.args.statement.now) p ≡ chosen tested = ap (λ s. stmt_run setting names c.args.start s p) is ∙ chosen_runs (condition_given setting names (Some condition) p) chosen other value tested true c.in_ok-eval_condition-in-If.ensures.tests (sym truth ∙ c.if-is_true.true) in
+    let whole : stmt_run setting names c.args.start (stmt_view c.args.statement.now) p ≡ chosen tested = ap (λ s. stmt_run setting names c.args.start s p) is ∙ chosen_runs (condition_evaluated setting names (Some condition) p) chosen other value tested true c.in_ok-eval_condition-in-If.ensures.tests (sym truth ∙ c.if-is_true.true) in
     let after = progress_of c.inside.new.progress in
     let ran : Runs (within (stmt_view c.deref-then-is_true.result.now) tested) c.inside.result after = subst (λ n. Runs (inside (stmt_run setting n (length n) (stmt_view c.deref-then-is_true.result.now)) tested) c.inside.result after) c.eval_condition.ensures.names c.inside.ensures.runs in
     let here : Runs (chosen tested) c.inside.result after = subst (λ s. Runs (within (stmt_view s) tested) c.inside.result after) c.deref-then-is_true.ensures ran in
@@ -95,7 +98,7 @@ statement-returns-then-is_true-2-clause-runs g t c =
     let tested = progress_of c.eval_condition-in-IfElse.new.progress in
     let value = c.in_ok-eval_condition-in-IfElse.field-0 in
     let truth : c.is_true-in-IfElse.result ≡ is_true value = search rules in
-    let whole : stmt_run setting names c.args.start (stmt_view c.args.statement.now) p ≡ chosen tested = ap (λ s. stmt_run setting names c.args.start s p) is ∙ chosen_runs (condition_given setting names (Some condition) p) chosen other value tested true c.in_ok-eval_condition-in-IfElse.ensures.tests (sym truth ∙ c.if-is_true-2.true) in
+    let whole : stmt_run setting names c.args.start (stmt_view c.args.statement.now) p ≡ chosen tested = ap (λ s. stmt_run setting names c.args.start s p) is ∙ chosen_runs (condition_evaluated setting names (Some condition) p) chosen other value tested true c.in_ok-eval_condition-in-IfElse.ensures.tests (sym truth ∙ c.if-is_true-2.true) in
     let after = progress_of c.inside-then-is_true-2.new.progress in
     let ran : Runs (within (stmt_view c.deref-then-is_true-2.result.now) tested) c.inside-then-is_true-2.result after = subst (λ n. Runs (inside (stmt_run setting n (length n) (stmt_view c.deref-then-is_true-2.result.now)) tested) c.inside-then-is_true-2.result after) c.eval_condition-in-IfElse.ensures.names c.inside-then-is_true-2.ensures.runs in
     let here : Runs (chosen tested) c.inside-then-is_true-2.result after = subst (λ s. Runs (within (stmt_view s) tested) c.inside-then-is_true-2.result after) c.deref-then-is_true-2.ensures ran in
@@ -114,7 +117,7 @@ statement-returns-else-is_true-2-clause-runs g t c =
     let tested = progress_of c.eval_condition-in-IfElse.new.progress in
     let value = c.in_ok-eval_condition-in-IfElse.field-0 in
     let truth : c.is_true-in-IfElse.result ≡ is_true value = search rules in
-    let whole : stmt_run setting names c.args.start (stmt_view c.args.statement.now) p ≡ other tested = ap (λ s. stmt_run setting names c.args.start s p) is ∙ chosen_runs (condition_given setting names (Some condition) p) chosen other value tested false c.in_ok-eval_condition-in-IfElse.ensures.tests (sym truth ∙ c.if-is_true-2.false) in
+    let whole : stmt_run setting names c.args.start (stmt_view c.args.statement.now) p ≡ other tested = ap (λ s. stmt_run setting names c.args.start s p) is ∙ chosen_runs (condition_evaluated setting names (Some condition) p) chosen other value tested false c.in_ok-eval_condition-in-IfElse.ensures.tests (sym truth ∙ c.if-is_true-2.false) in
     let after = progress_of c.inside-else-is_true-2.new.progress in
     let ran : Runs (within (stmt_view c.deref-else-is_true-2.result.now) tested) c.inside-else-is_true-2.result after = subst (λ n. Runs (inside (stmt_run setting n (length n) (stmt_view c.deref-else-is_true-2.result.now)) tested) c.inside-else-is_true-2.result after) c.eval_condition-in-IfElse.ensures.names c.inside-else-is_true-2.ensures.runs in
     let here : Runs (other tested) c.inside-else-is_true-2.result after = subst (λ s. Runs (within (stmt_view s) tested) c.inside-else-is_true-2.result after) c.deref-else-is_true-2.ensures ran in
@@ -138,8 +141,8 @@ statement-returns-in-For-clause-runs g t c =
     let step = stmt_view c.deref-in-For-2.result.now in
     let body = stmt_view c.deref-in-For-3.result.now in
     let condition = option_map expr_view c.in-For.condition in
-    let seen = option_map (λ e. expr_view e.now) c.as_ref.result in
-    let is : stmt_view c.args.statement.now ≡ tree.For first seen step body =
+    let captures = option_map (λ e. expr_view e.now) c.as_ref.result in
+    let is : stmt_view c.args.statement.now ≡ tree.For first captures step body =
     ap stmt_view c.in-For.is
     ∙ ap (λ s. tree.For (stmt_view s) condition (stmt_view c.in-For.step.value) (stmt_view c.in-For.body.value)) (sym c.deref-in-For.ensures)
     ∙ ap (λ s. tree.For first condition (stmt_view s) (stmt_view c.in-For.body.value)) (sym c.deref-in-For-2.ensures)
@@ -201,14 +204,14 @@ while_turns-returns-in_err-eval_condition-clause-runs g t c =
     let setting = setting_of c.args.self.now.task in
     let names = c.args.progress.now.store.variables.names in
     let condition : Option tree.Expr = Some (expr_view c.args.condition.now) in
-    let test : Test = condition_given setting names condition in
+    let test : Test = condition_evaluated setting names condition in
     let body : Step = inside (stmt_run setting names (length names) (stmt_view c.args.body.now)) in
     let whole = while_looped setting names (expr_view c.args.condition.now) (stmt_view c.args.body.now) (suc turn_limit) (progress_of c.args.progress.now) in
     let round = c.loop-round._round in
     let left = c.loop-round.invariant.left in
     let m = progress_of c.loop-round.progress in
     let e = c.in_err-eval_condition.field-0.0 in
-    let met : IsRefusal (test m) e = subst (λ n. IsRefusal (condition_given setting n condition m) e) c.loop-round.invariant.names c.in_err-eval_condition.ensures.tests in
+    let met : IsRefusal (test m) e = subst (λ n. IsRefusal (condition_evaluated setting n condition m) e) c.loop-round.invariant.names c.in_err-eval_condition.ensures.tests in
     let told : Runs whole (Err e) (progress_of c.eval_condition.new.progress) = test_refused test body round m whole e c.loop-round-test.true left met in
     search rules
 
@@ -217,7 +220,7 @@ while_turns-returns-then-not-is_true-clause-runs g t c =
     let setting = setting_of c.args.self.now.task in
     let names = c.args.progress.now.store.variables.names in
     let condition : Option tree.Expr = Some (expr_view c.args.condition.now) in
-    let test : Test = condition_given setting names condition in
+    let test : Test = condition_evaluated setting names condition in
     let body : Step = inside (stmt_run setting names (length names) (stmt_view c.args.body.now)) in
     let whole = while_looped setting names (expr_view c.args.condition.now) (stmt_view c.args.body.now) (suc turn_limit) (progress_of c.args.progress.now) in
     let round = c.loop-round._round in
@@ -225,7 +228,7 @@ while_turns-returns-then-not-is_true-clause-runs g t c =
     let m = progress_of c.loop-round.progress in
     let tested = progress_of c.eval_condition.new.progress in
     let value = c.in_ok-eval_condition.field-0 in
-    let met : test m ≡ Ok (value, tested) = subst (λ n. condition_given setting n condition m ≡ Ok (value, tested)) c.loop-round.invariant.names c.in_ok-eval_condition.ensures.tests in
+    let met : test m ≡ Ok (value, tested) = subst (λ n. condition_evaluated setting n condition m ≡ Ok (value, tested)) c.loop-round.invariant.names c.in_ok-eval_condition.ensures.tests in
     let truth : c.is_true.result ≡ is_true value = search rules in
     let ends : is_true value ≡ false = sym truth ∙ c.if-not-is_true.true in
     loop_ends test body round m tested value whole c.loop-round-test.true left met ends
@@ -235,7 +238,7 @@ while_turns-returns-in_err-turn-clause-runs g t c =
     let setting = setting_of c.args.self.now.task in
     let names = c.args.progress.now.store.variables.names in
     let condition : Option tree.Expr = Some (expr_view c.args.condition.now) in
-    let test : Test = condition_given setting names condition in
+    let test : Test = condition_evaluated setting names condition in
     let body : Step = inside (stmt_run setting names (length names) (stmt_view c.args.body.now)) in
     let whole = while_looped setting names (expr_view c.args.condition.now) (stmt_view c.args.body.now) (suc turn_limit) (progress_of c.args.progress.now) in
     let round = c.loop-round._round in
@@ -243,7 +246,7 @@ while_turns-returns-in_err-turn-clause-runs g t c =
     let m = progress_of c.loop-round.progress in
     let tested = progress_of c.eval_condition.new.progress in
     let value = c.in_ok-eval_condition.field-0 in
-    let met : test m ≡ Ok (value, tested) = subst (λ n. condition_given setting n condition m ≡ Ok (value, tested)) c.loop-round.invariant.names c.in_ok-eval_condition.ensures.tests in
+    let met : test m ≡ Ok (value, tested) = subst (λ n. condition_evaluated setting n condition m ≡ Ok (value, tested)) c.loop-round.invariant.names c.in_ok-eval_condition.ensures.tests in
     let truth : c.is_true.result ≡ is_true value = search rules in
     let holds : is_true value ≡ true = sym truth ∙ c.if-not-is_true.false in
     let e = c.in_err-turn.field-0.0 in
@@ -256,7 +259,7 @@ while_turns-returns-in_err-inside-clause-runs g t c =
     let setting = setting_of c.args.self.now.task in
     let names = c.args.progress.now.store.variables.names in
     let condition : Option tree.Expr = Some (expr_view c.args.condition.now) in
-    let test : Test = condition_given setting names condition in
+    let test : Test = condition_evaluated setting names condition in
     let body : Step = inside (stmt_run setting names (length names) (stmt_view c.args.body.now)) in
     let whole = while_looped setting names (expr_view c.args.condition.now) (stmt_view c.args.body.now) (suc turn_limit) (progress_of c.args.progress.now) in
     let round = c.loop-round._round in
@@ -264,7 +267,7 @@ while_turns-returns-in_err-inside-clause-runs g t c =
     let m = progress_of c.loop-round.progress in
     let tested = progress_of c.eval_condition.new.progress in
     let value = c.in_ok-eval_condition.field-0 in
-    let met : test m ≡ Ok (value, tested) = subst (λ n. condition_given setting n condition m ≡ Ok (value, tested)) c.loop-round.invariant.names c.in_ok-eval_condition.ensures.tests in
+    let met : test m ≡ Ok (value, tested) = subst (λ n. condition_evaluated setting n condition m ≡ Ok (value, tested)) c.loop-round.invariant.names c.in_ok-eval_condition.ensures.tests in
     let truth : c.is_true.result ≡ is_true value = search rules in
     let holds : is_true value ≡ true = sym truth ∙ c.if-not-is_true.false in
     let store = store_of c.turn.new.store in
@@ -281,7 +284,7 @@ while_turns-loop-round-preserved g t c =
     let setting = setting_of c.args.self.now.task in
     let names = c.args.progress.now.store.variables.names in
     let condition : Option tree.Expr = Some (expr_view c.args.condition.now) in
-    let test : Test = condition_given setting names condition in
+    let test : Test = condition_evaluated setting names condition in
     let body : Step = inside (stmt_run setting names (length names) (stmt_view c.args.body.now)) in
     let whole = while_looped setting names (expr_view c.args.condition.now) (stmt_view c.args.body.now) (suc turn_limit) (progress_of c.args.progress.now) in
     let round = c.loop-round._round in
@@ -289,7 +292,7 @@ while_turns-loop-round-preserved g t c =
     let m = progress_of c.loop-round.progress in
     let tested = progress_of c.eval_condition.new.progress in
     let value = c.in_ok-eval_condition.field-0 in
-    let met : test m ≡ Ok (value, tested) = subst (λ n. condition_given setting n condition m ≡ Ok (value, tested)) c.loop-round.invariant.names c.in_ok-eval_condition.ensures.tests in
+    let met : test m ≡ Ok (value, tested) = subst (λ n. condition_evaluated setting n condition m ≡ Ok (value, tested)) c.loop-round.invariant.names c.in_ok-eval_condition.ensures.tests in
     let truth : c.is_true.result ≡ is_true value = search rules in
     let holds : is_true value ≡ true = sym truth ∙ c.if-not-is_true.false in
     let store = store_of c.turn.new.store in
@@ -308,7 +311,7 @@ while_turns-returns-clause-runs g t c =
     let setting = setting_of c.args.self.now.task in
     let names = c.args.progress.now.store.variables.names in
     let condition : Option tree.Expr = Some (expr_view c.args.condition.now) in
-    let test : Test = condition_given setting names condition in
+    let test : Test = condition_evaluated setting names condition in
     let body : Step = inside (stmt_run setting names (length names) (stmt_view c.args.body.now)) in
     let whole = while_looped setting names (expr_view c.args.condition.now) (stmt_view c.args.body.now) (suc turn_limit) (progress_of c.args.progress.now) in
     let round = c.loop-round._round in
@@ -328,16 +331,16 @@ for_turns-returns-in_err-eval_condition-clause-runs g t c =
     let setting = setting_of c.args.self.now.task in
     let names = c.args.progress.now.store.variables.names in
     let condition : Option tree.Expr = option_map (λ e. expr_view e.now) c.args.condition in
-    let test : Test = condition_given setting names condition in
+    let test : Test = condition_evaluated setting names condition in
     let turns : Step = inside (stmt_run setting names (length names) (stmt_view c.args.body.now)) in
     let steps : Step = inside (stmt_run setting names (length names) (stmt_view c.args.step.now)) in
-    let body : Step = λ turn. then_do (turns turn) steps in
+    let body : Step = λ turn. result_and_then (turns turn) steps in
     let whole = for_looped setting names condition (stmt_view c.args.step.now) (stmt_view c.args.body.now) (suc turn_limit) (progress_of c.args.progress.now) in
     let round = c.loop-round._round in
     let left = c.loop-round.invariant.left in
     let m = progress_of c.loop-round.progress in
     let e = c.in_err-eval_condition.field-0.0 in
-    let met : IsRefusal (test m) e = subst (λ n. IsRefusal (condition_given setting n condition m) e) c.loop-round.invariant.names c.in_err-eval_condition.ensures.tests in
+    let met : IsRefusal (test m) e = subst (λ n. IsRefusal (condition_evaluated setting n condition m) e) c.loop-round.invariant.names c.in_err-eval_condition.ensures.tests in
     let told : Runs whole (Err e) (progress_of c.eval_condition.new.progress) = test_refused test body round m whole e c.loop-round-test.true left met in
     search rules
 
@@ -346,17 +349,17 @@ for_turns-returns-then-not-is_true-clause-runs g t c =
     let setting = setting_of c.args.self.now.task in
     let names = c.args.progress.now.store.variables.names in
     let condition : Option tree.Expr = option_map (λ e. expr_view e.now) c.args.condition in
-    let test : Test = condition_given setting names condition in
+    let test : Test = condition_evaluated setting names condition in
     let turns : Step = inside (stmt_run setting names (length names) (stmt_view c.args.body.now)) in
     let steps : Step = inside (stmt_run setting names (length names) (stmt_view c.args.step.now)) in
-    let body : Step = λ turn. then_do (turns turn) steps in
+    let body : Step = λ turn. result_and_then (turns turn) steps in
     let whole = for_looped setting names condition (stmt_view c.args.step.now) (stmt_view c.args.body.now) (suc turn_limit) (progress_of c.args.progress.now) in
     let round = c.loop-round._round in
     let left = c.loop-round.invariant.left in
     let m = progress_of c.loop-round.progress in
     let tested = progress_of c.eval_condition.new.progress in
     let value = c.in_ok-eval_condition.field-0 in
-    let met : test m ≡ Ok (value, tested) = subst (λ n. condition_given setting n condition m ≡ Ok (value, tested)) c.loop-round.invariant.names c.in_ok-eval_condition.ensures.tests in
+    let met : test m ≡ Ok (value, tested) = subst (λ n. condition_evaluated setting n condition m ≡ Ok (value, tested)) c.loop-round.invariant.names c.in_ok-eval_condition.ensures.tests in
     let truth : c.is_true.result ≡ is_true value = search rules in
     let ends : is_true value ≡ false = sym truth ∙ c.if-not-is_true.true in
     loop_ends test body round m tested value whole c.loop-round-test.true left met ends
@@ -366,17 +369,17 @@ for_turns-returns-in_err-turn-clause-runs g t c =
     let setting = setting_of c.args.self.now.task in
     let names = c.args.progress.now.store.variables.names in
     let condition : Option tree.Expr = option_map (λ e. expr_view e.now) c.args.condition in
-    let test : Test = condition_given setting names condition in
+    let test : Test = condition_evaluated setting names condition in
     let turns : Step = inside (stmt_run setting names (length names) (stmt_view c.args.body.now)) in
     let steps : Step = inside (stmt_run setting names (length names) (stmt_view c.args.step.now)) in
-    let body : Step = λ turn. then_do (turns turn) steps in
+    let body : Step = λ turn. result_and_then (turns turn) steps in
     let whole = for_looped setting names condition (stmt_view c.args.step.now) (stmt_view c.args.body.now) (suc turn_limit) (progress_of c.args.progress.now) in
     let round = c.loop-round._round in
     let left = c.loop-round.invariant.left in
     let m = progress_of c.loop-round.progress in
     let tested = progress_of c.eval_condition.new.progress in
     let value = c.in_ok-eval_condition.field-0 in
-    let met : test m ≡ Ok (value, tested) = subst (λ n. condition_given setting n condition m ≡ Ok (value, tested)) c.loop-round.invariant.names c.in_ok-eval_condition.ensures.tests in
+    let met : test m ≡ Ok (value, tested) = subst (λ n. condition_evaluated setting n condition m ≡ Ok (value, tested)) c.loop-round.invariant.names c.in_ok-eval_condition.ensures.tests in
     let truth : c.is_true.result ≡ is_true value = search rules in
     let holds : is_true value ≡ true = sym truth ∙ c.if-not-is_true.false in
     let e = c.in_err-turn.field-0.0 in
@@ -389,17 +392,17 @@ for_turns-returns-in_err-inside-clause-runs g t c =
     let setting = setting_of c.args.self.now.task in
     let names = c.args.progress.now.store.variables.names in
     let condition : Option tree.Expr = option_map (λ e. expr_view e.now) c.args.condition in
-    let test : Test = condition_given setting names condition in
+    let test : Test = condition_evaluated setting names condition in
     let turns : Step = inside (stmt_run setting names (length names) (stmt_view c.args.body.now)) in
     let steps : Step = inside (stmt_run setting names (length names) (stmt_view c.args.step.now)) in
-    let body : Step = λ turn. then_do (turns turn) steps in
+    let body : Step = λ turn. result_and_then (turns turn) steps in
     let whole = for_looped setting names condition (stmt_view c.args.step.now) (stmt_view c.args.body.now) (suc turn_limit) (progress_of c.args.progress.now) in
     let round = c.loop-round._round in
     let left = c.loop-round.invariant.left in
     let m = progress_of c.loop-round.progress in
     let tested = progress_of c.eval_condition.new.progress in
     let value = c.in_ok-eval_condition.field-0 in
-    let met : test m ≡ Ok (value, tested) = subst (λ n. condition_given setting n condition m ≡ Ok (value, tested)) c.loop-round.invariant.names c.in_ok-eval_condition.ensures.tests in
+    let met : test m ≡ Ok (value, tested) = subst (λ n. condition_evaluated setting n condition m ≡ Ok (value, tested)) c.loop-round.invariant.names c.in_ok-eval_condition.ensures.tests in
     let truth : c.is_true.result ≡ is_true value = search rules in
     let holds : is_true value ≡ true = sym truth ∙ c.if-not-is_true.false in
     let store = store_of c.turn.new.store in
@@ -417,17 +420,17 @@ for_turns-returns-in_err-inside-2-clause-runs g t c =
     let setting = setting_of c.args.self.now.task in
     let names = c.args.progress.now.store.variables.names in
     let condition : Option tree.Expr = option_map (λ e. expr_view e.now) c.args.condition in
-    let test : Test = condition_given setting names condition in
+    let test : Test = condition_evaluated setting names condition in
     let turns : Step = inside (stmt_run setting names (length names) (stmt_view c.args.body.now)) in
     let steps : Step = inside (stmt_run setting names (length names) (stmt_view c.args.step.now)) in
-    let body : Step = λ turn. then_do (turns turn) steps in
+    let body : Step = λ turn. result_and_then (turns turn) steps in
     let whole = for_looped setting names condition (stmt_view c.args.step.now) (stmt_view c.args.body.now) (suc turn_limit) (progress_of c.args.progress.now) in
     let round = c.loop-round._round in
     let left = c.loop-round.invariant.left in
     let m = progress_of c.loop-round.progress in
     let tested = progress_of c.eval_condition.new.progress in
     let value = c.in_ok-eval_condition.field-0 in
-    let met : test m ≡ Ok (value, tested) = subst (λ n. condition_given setting n condition m ≡ Ok (value, tested)) c.loop-round.invariant.names c.in_ok-eval_condition.ensures.tests in
+    let met : test m ≡ Ok (value, tested) = subst (λ n. condition_evaluated setting n condition m ≡ Ok (value, tested)) c.loop-round.invariant.names c.in_ok-eval_condition.ensures.tests in
     let truth : c.is_true.result ≡ is_true value = search rules in
     let holds : is_true value ≡ true = sym truth ∙ c.if-not-is_true.false in
     let store = store_of c.turn.new.store in
@@ -448,17 +451,17 @@ for_turns-loop-round-preserved g t c =
     let setting = setting_of c.args.self.now.task in
     let names = c.args.progress.now.store.variables.names in
     let condition : Option tree.Expr = option_map (λ e. expr_view e.now) c.args.condition in
-    let test : Test = condition_given setting names condition in
+    let test : Test = condition_evaluated setting names condition in
     let turns : Step = inside (stmt_run setting names (length names) (stmt_view c.args.body.now)) in
     let steps : Step = inside (stmt_run setting names (length names) (stmt_view c.args.step.now)) in
-    let body : Step = λ turn. then_do (turns turn) steps in
+    let body : Step = λ turn. result_and_then (turns turn) steps in
     let whole = for_looped setting names condition (stmt_view c.args.step.now) (stmt_view c.args.body.now) (suc turn_limit) (progress_of c.args.progress.now) in
     let round = c.loop-round._round in
     let left = c.loop-round.invariant.left in
     let m = progress_of c.loop-round.progress in
     let tested = progress_of c.eval_condition.new.progress in
     let value = c.in_ok-eval_condition.field-0 in
-    let met : test m ≡ Ok (value, tested) = subst (λ n. condition_given setting n condition m ≡ Ok (value, tested)) c.loop-round.invariant.names c.in_ok-eval_condition.ensures.tests in
+    let met : test m ≡ Ok (value, tested) = subst (λ n. condition_evaluated setting n condition m ≡ Ok (value, tested)) c.loop-round.invariant.names c.in_ok-eval_condition.ensures.tests in
     let truth : c.is_true.result ≡ is_true value = search rules in
     let holds : is_true value ≡ true = sym truth ∙ c.if-not-is_true.false in
     let store = store_of c.turn.new.store in
@@ -481,10 +484,10 @@ for_turns-returns-clause-runs g t c =
     let setting = setting_of c.args.self.now.task in
     let names = c.args.progress.now.store.variables.names in
     let condition : Option tree.Expr = option_map (λ e. expr_view e.now) c.args.condition in
-    let test : Test = condition_given setting names condition in
+    let test : Test = condition_evaluated setting names condition in
     let turns : Step = inside (stmt_run setting names (length names) (stmt_view c.args.body.now)) in
     let steps : Step = inside (stmt_run setting names (length names) (stmt_view c.args.step.now)) in
-    let body : Step = λ turn. then_do (turns turn) steps in
+    let body : Step = λ turn. result_and_then (turns turn) steps in
     let whole = for_looped setting names condition (stmt_view c.args.step.now) (stmt_view c.args.body.now) (suc turn_limit) (progress_of c.args.progress.now) in
     let round = c.loop-round._round in
     let left = c.loop-round.invariant.left in

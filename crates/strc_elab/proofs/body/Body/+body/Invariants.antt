@@ -5,7 +5,7 @@ use Rattle.strc_syntax.specs.View.{expr_view, stmt_view, block_view}
 use Rattle.strc_semantics.specs.Firing.{turn_limit}
 use Rattle.strc_elab.specs.Elaboration as spec
 use Rattle.strc_elab.specs.Answering.{progress_of}
-use Rattle.strc_elab.specs.Loops.{while_looped, for_looped, names_behind}
+use Rattle.strc_elab.specs.Loops.{while_looped, for_looped, names_after_block}
 use Rattle.strc_elab.specs.Tasks.{setting_of}
 use Rattle.strc_elab.proofs.body.Body.+body.Given as goal
 
@@ -33,7 +33,7 @@ decreases-for_turns g l = 4 * max (the_size l.step.now) (the_size l.body.now) + 
 abbrev pub invariant-statements-loop-statement : goal.invariant-statements-loop-statement
 invariant-statements-loop-statement g l = record {
   left : spec.stmts_run (setting_of l.self.task) l.progress.store.variables.names l.start (block_view (drop l.statement-index l.block)) (progress_of l.progress) ≡ spec.stmts_run (setting_of l.self.task) l.initial.progress.store.variables.names l.start (block_view l.block) (progress_of l.initial.progress);
-  names : names_behind l.progress.store.variables.names (block_view (drop l.statement-index l.block)) ≡ names_behind l.initial.progress.store.variables.names (block_view l.block);
+  names : names_after_block l.progress.store.variables.names (block_view (drop l.statement-index l.block)) ≡ names_after_block l.initial.progress.store.variables.names (block_view l.block);
 }
 
 abbrev pub invariant-while_turns-loop-round : goal.invariant-while_turns-loop-round

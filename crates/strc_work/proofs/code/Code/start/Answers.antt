@@ -3,7 +3,7 @@ use Rattle.strc_semantics.specs.Filters.{filter_of}
 use Rattle.strc_machine.specs.Code.{code_of}
 use Rattle.strc_machine.specs.Running.{machine_of, port_within, fresh_io, Tells}
 use Rattle.strc_machine.specs.Flat.{node_done}
-use Rattle.strc_machine.specs.declared.port.FiringLimits.{FiringLimits}
+use Rattle.strc_inst.specs.declared.port.FiringLimits.{FiringLimits}
 use Rattle.strc_work.specs.Lowering.{slot_count}
 use Rattle.strc_semantics.specs.Firing.{started}
 use Rattle.strc_work.specs.Answers.{Starts}

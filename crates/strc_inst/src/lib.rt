@@ -1,0 +1,16 @@
+// Takes an instruction, the slots that it names, and a firing's items so far.
+// Gives what it does to them, and whether the firing goes on.
+// The theorem to rely on: `dispatch::take_inst` does what specs/Machine says of the instruction.
+// Stands on strc_semantics, whose arithmetic and faults it has.
+#![tactic(auto)]
+
+pub mod condition;
+pub mod dispatch;
+pub mod inst;
+pub mod io;
+mod operation;
+pub mod port;
+mod slots;
+mod superinstructions;
+pub mod trap;
+pub mod window;

@@ -1,0 +1,12 @@
+-- What the code keeps, as the definitions see it.
+use Rattle.strc_interval.specs.declared.loops.First.{First}
+use Rattle.strc_interval.specs.declared.loops.CountedLoop.{CountedLoop}
+use Rattle.strc_interval.specs.Loops as loops
+
+-- a variable and its first value
+abbrev pub first_view : First → loops.First
+first_view first = record { name = first.name.now; value = first.value }
+
+-- a counted loop
+abbrev pub loop_view : CountedLoop → loops.Loop
+loop_view told = record { name = told.name.now; start = told.start; move = told.step; turns = told.turns }

@@ -1,0 +1,132 @@
+// The program `strc_planning_bench`: plans graphs of three shapes, of 1,024 and of 4,096 nodes.
+// Takes the word `times`, or no word.
+// Gives a line for each graph: its nodes and channels, and how often its last node fires in a
+// round; with `times` also the least of nine times that planning took, and how it grew.
+// There is no theorem here; `balance` has its own.
+// Stands on strc_balance, which it times, and on strc_graph, whose graphs it makes.
+#![tactic(auto)]
+
+mod shapes;
+
+use crate::shapes::{Shape, graph_of};
+use std::io::ErrorKind;
+use std::process::ExitCode;
+use std::time::{Duration, Instant};
+use std::{env, io};
+use strc_balance::balance::balance;
+use strc_balance::condition::can_balance;
+use strc_balance::counts::Counts;
+use strc_balance::error::BalanceError;
+use strc_graph::graph::Graph;
+
+const SHAPES: [Shape; 3] = [Shape::Chain, Shape::SplitJoin, Shape::Ladder];
+
+/// How many nodes the small and the large graph of a shape have.
+const SMALL: u32 = 1024;
+
+const LARGE: u32 = 4096;
+
+/// How often each graph is planned; the least time counts.
+const REPEATS: u32 = 9;
+
+/// What a graph's plan is, and the least time that it took.
+#[derive(Clone, Copy)]
+struct Plan {
+    nodes: usize,
+    channels: usize,
+    last: u32,
+    took: Duration,
+}
+
+fn main(rt: HostRuntime) -> ExitCode {
+    match print_plans(&rt) {
+        Ok(()) => ExitCode::SUCCESS,
+        Err(error) => {
+            let _ = eprintln!(rt; "strc_planning_bench: {error}");
+            ExitCode::FAILURE
+        }
+    }
+}
+
+fn print_plans(rt: &HostRuntime) -> io::Result<()> {
+    let timed = wants_times(rt)?;
+    for shape in &SHAPES {
+        let small = plan_of(rt, *shape, SMALL)?;
+        let large = plan_of(rt, *shape, LARGE)?;
+        print_plan(rt, *shape, small)?;
+        print_plan(rt, *shape, large)?;
+        if timed {
+            print_times(rt, *shape, small.took, large.took)?;
+        }
+    }
+    Ok(())
+}
+
+/// Whether a word of the command line is `times`.
+fn wants_times(rt: &HostRuntime) -> io::Result<bool> {
+    for word in env::args(rt)? {
+        if word.as_str() == "times" {
+            return Ok(true);
+        }
+    }
+    Ok(false)
+}
+
+fn print_plan(rt: &HostRuntime, shape: Shape, plan: Plan) -> io::Result<()> {
+    println!(rt;
+        "{shape}: {} nodes, {} channels, the last fires {} times",
+        plan.nodes, plan.channels, plan.last
+    )
+}
+
+fn print_times(rt: &HostRuntime, shape: Shape, small: Duration, large: Duration) -> io::Result<()> {
+    let small = small.as_micros();
+    let large = large.as_micros();
+    println!(rt;
+        "{shape}: {small} and {large} microseconds, {} percent",
+        large.saturating_mul(100).checked_div(small).unwrap_or(0)
+    )
+}
+
+/// The plan of a graph of this shape and of so many nodes.
+fn plan_of(rt: &HostRuntime, shape: Shape, nodes: u32) -> io::Result<Plan> {
+    let graph = match graph_of(rt.alloc(), shape, nodes)? {
+        Some(graph) => graph,
+        None => return Err(io::Error::new(ErrorKind::InvalidData, "not a graph")),
+    };
+    match can_balance(rt.alloc(), &graph) {
+        Ok(true) => {}
+        Ok(false) => return Err(io::Error::new(ErrorKind::InvalidData, "not to be balanced")),
+        Err(_) => return Err(io::Error::from(ErrorKind::OutOfMemory)),
+    }
+    let mut least = Duration::MAX;
+    let mut last = 0;
+    for _ in 0..REPEATS {
+        let begun = Instant::now(rt)?;
+        let counts = counts_of(balance(rt.alloc(), &graph))?;
+        least = least.min(begun.elapsed(rt)?);
+        last = last_of(&counts);
+    }
+    Ok(Plan {
+        nodes: graph.nodes().len(),
+        channels: graph.channels().len(),
+        last,
+        took: least,
+    })
+}
+
+fn counts_of(answer: Result<Counts, BalanceError>) -> io::Result<Counts> {
+    match answer {
+        Ok(counts) => Ok(counts),
+        Err(BalanceError::NoMemory) => Err(io::Error::from(ErrorKind::OutOfMemory)),
+        Err(_) => Err(io::Error::new(ErrorKind::InvalidData, "not balanced")),
+    }
+}
+
+/// How often the last node fires.
+fn last_of(counts: &Counts) -> u32 {
+    match counts.as_slice().last() {
+        Some(count) => *count,
+        None => 0,
+    }
+}

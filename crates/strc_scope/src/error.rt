@@ -1,0 +1,66 @@
+// Why a program isn't elaborated.
+
+ghost use Rattle.std.specs.Prelude.{◌≡◌};
+ghost use Rattle.strc_scope.specs.declared.error.ElabError.TheVariants as refused;
+
+use std::alloc::{AllocError, AllocFailed};
+use strc_base::memory::NoMemory;
+use strc_lex::token::Name;
+use strc_semantics::fault::Cause;
+
+/// Why a program has no stream, or a stream no graph. Declarations are numbered from 0.
+#[derive(Debug, Drop)]
+pub enum ElabError {
+    /// A split-join, a feedback loop, a `FileReader` or a `FileWriter` would be elaborated, which
+    /// isn't done yet.
+    NotYet,
+    /// A variable or a stream that isn't declared.
+    UnknownName { name: Name },
+    /// A type, kind or part isn't the one that must stand there; the declaration that holds it.
+    TypeMismatch { stream: usize },
+    /// No declaration can be the main stream, or the named one can't.
+    NoMain,
+    /// Several declarations can be the main stream, and none is named.
+    ManyMains,
+    /// A stream would stand deeper than 64 levels, the main one being at level 1.
+    DepthLimit,
+    /// More than 4,096 nodes.
+    NodeLimit,
+    /// The wrong number of arguments; the declaration that holds the statement.
+    BadArguments { stream: usize },
+    /// A fault in the statements of a composite stream, in a rate, a length, an initialiser or
+    /// `init`.
+    ConstFault { cause: Cause },
+    /// More than one node takes the input.
+    TwoInputs,
+    /// More than one node prints.
+    TwoOutputs,
+    /// The nodes aren't all connected.
+    Disconnected,
+    /// Memory was refused.
+    NoMemory,
+}
+
+impl From<NoMemory> for ElabError {
+    ghost from_gives = { λ _ e. e ≡ refused.NoMemory };
+
+    fn from(_error: NoMemory) -> ElabError {
+        ElabError::NoMemory
+    }
+}
+
+impl From<AllocError> for ElabError {
+    ghost from_gives = { λ _ e. e ≡ refused.NoMemory };
+
+    fn from(_error: AllocError) -> ElabError {
+        ElabError::NoMemory
+    }
+}
+
+impl<T: Drop> From<AllocFailed<T>> for ElabError {
+    ghost from_gives = { λ _ e. e ≡ refused.NoMemory };
+
+    fn from(_error: AllocFailed<T>) -> ElabError {
+        ElabError::NoMemory
+    }
+}
