@@ -5,8 +5,8 @@ ghost use Rattle.std.specs.Int.{IsGcd};
 ghost use Rattle.strc_balance.specs.Divisors as spec;
 ghost use Rattle.strc_balance.specs.Balance.{fraction_passes};
 
-// The greatest count of a round, and the greatest part of a fraction.
-pub(crate) const COUNT_LIMIT: u128 = 1_000_000;
+/// The greatest count of a node in a round or in start-up, and the greatest part of a fraction.
+pub const COUNT_LIMIT: u128 = 1_000_000;
 
 /// A count as a fraction of another one, in lowest terms.
 #[derive(Clone, Copy)]

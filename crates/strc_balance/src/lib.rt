@@ -19,3 +19,5 @@ mod multiples;
 mod propagation;
 mod rates;
 mod solution;
+
+pub use fraction::COUNT_LIMIT;

@@ -1,13 +1,18 @@
-// The program `strc_planning_bench`: plans graphs of three shapes, of 1,024 and of 4,096 nodes.
+// The program `strc_planning_bench`: plans graphs of three shapes, of 1,024 and of 4,096 nodes, and
+// programs of filters that look ahead.
 // Takes the word `times`, or no word.
 // Gives a line for each graph: its nodes and channels, and how often its last node fires in a
-// round; with `times` also the least of nine times that planning took, and how it grew.
-// There is no theorem here; `balance` has its own.
-// Stands on strc_balance, which it times, and on strc_graph, whose graphs it makes.
+// round; and for each program how often its source fires before the first round. With `times` also
+// the least of nine times that planning took, and how it grew.
+// There is no theorem here; `balance` and `startup` have their own.
+// Stands on strc_balance and strc_startup, which it times, on strc_graph, whose graphs it makes, and
+// on strc_run, which compiles the programs.
 #![tactic(auto)]
 
+mod peeks;
 mod shapes;
 
+use crate::peeks::{Peeks, Primed, prime};
 use crate::shapes::{Shape, graph_of};
 use std::io::ErrorKind;
 use std::process::ExitCode;
@@ -28,6 +33,29 @@ const LARGE: u32 = 4096;
 
 /// How often each graph is planned; the least time counts.
 const REPEATS: u32 = 9;
+
+/// Programs of filters that look far ahead: the longest row that is primed, and one more.
+const FAR: [Peeks; 2] = [
+    Peeks {
+        filters: 15,
+        peek: 65_536,
+    },
+    Peeks {
+        filters: 16,
+        peek: 65_536,
+    },
+];
+
+/// Programs of 1,024 and of 4,096 nodes.
+const FEW_AHEAD: Peeks = Peeks {
+    filters: 1022,
+    peek: 200,
+};
+
+const MANY_AHEAD: Peeks = Peeks {
+    filters: 4094,
+    peek: 200,
+};
 
 /// What a graph's plan is, and the least time that it took.
 #[derive(Clone, Copy)]
@@ -56,10 +84,38 @@ fn print_plans(rt: &HostRuntime) -> io::Result<()> {
         print_plan(rt, *shape, small)?;
         print_plan(rt, *shape, large)?;
         if timed {
-            print_times(rt, *shape, small.took, large.took)?;
+            print_growth(rt, shape.name(), small.took, large.took)?;
         }
     }
+    print_startups(rt, timed)
+}
+
+fn print_startups(rt: &HostRuntime, timed: bool) -> io::Result<()> {
+    for peeks in &FAR {
+        let far = prime(rt, *peeks, 1)?;
+        print_startup(rt, *peeks, far)?;
+    }
+    let small = prime(rt, FEW_AHEAD, REPEATS)?;
+    let large = prime(rt, MANY_AHEAD, REPEATS)?;
+    print_startup(rt, FEW_AHEAD, small)?;
+    print_startup(rt, MANY_AHEAD, large)?;
+    if timed {
+        print_growth(rt, "start-up", small.took, large.took)?;
+    }
     Ok(())
+}
+
+fn print_startup(rt: &HostRuntime, peeks: Peeks, primed: Primed) -> io::Result<()> {
+    match primed.source {
+        Some(count) => println!(rt;
+            "start-up: {} filters of peek {}, the source fires {count} times",
+            peeks.filters, peeks.peek
+        ),
+        None => println!(rt;
+            "start-up: {} filters of peek {}, a node would fire too often",
+            peeks.filters, peeks.peek
+        ),
+    }
 }
 
 /// Whether a word of the command line is `times`.
@@ -79,11 +135,11 @@ fn print_plan(rt: &HostRuntime, shape: Shape, plan: Plan) -> io::Result<()> {
     )
 }
 
-fn print_times(rt: &HostRuntime, shape: Shape, small: Duration, large: Duration) -> io::Result<()> {
+fn print_growth(rt: &HostRuntime, name: &str, small: Duration, large: Duration) -> io::Result<()> {
     let small = small.as_micros();
     let large = large.as_micros();
     println!(rt;
-        "{shape}: {small} and {large} microseconds, {} percent",
+        "{name}: {small} and {large} microseconds, {} percent",
         large.saturating_mul(100).checked_div(small).unwrap_or(0)
     )
 }

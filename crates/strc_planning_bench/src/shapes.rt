@@ -20,11 +20,17 @@ pub(crate) enum Shape {
 
 impl Display for Shape {
     fn fmt<W: Write>(&self, f: &mut Formatter<W>) -> fmt::Result {
-        f.write_str(match self {
+        f.write_str(self.name())
+    }
+}
+
+impl Shape {
+    pub(crate) fn name(&self) -> &'static str {
+        match self {
             Shape::Chain => "chain",
             Shape::SplitJoin => "split-join",
             Shape::Ladder => "ladder",
-        })
+        }
     }
 }
 

@@ -1,0 +1,6 @@
+pub mod Startup
+pub mod Rates
+pub mod Waiting
+pub mod Raises
+pub mod Sentences
+pub mod Examples

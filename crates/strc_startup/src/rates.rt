@@ -1,0 +1,88 @@
+// The rates of a graph's channels, and its nodes' first counts.
+
+ghost use Rattle.std.specs.Prelude.{◌≡◌, ◌<◌, ◌≤◌, ◌^◌, All, IfOk, map};
+ghost use Rattle.strc_graph.specs.Graphs.{JoinsPorts};
+ghost use Rattle.strc_graph.specs.NodeView.{node_view, channel_view};
+ghost use Rattle.strc_startup.specs.Rates as spec;
+ghost use Rattle.strc_startup.specs.Waiting.{IsBounded};
+
+use crate::channel_rates::ChannelRates;
+use std::alloc::{AllocError, Global};
+use strc_graph::graph::{Channel, Node};
+use strc_graph::rates::{pops_at, pushes_at, window_at};
+
+/// The rates of each channel.
+pub(crate) fn rates_of(
+    alloc: Global,
+    nodes: &[Node],
+    channels: &[Channel],
+) -> Result<Vec<ChannelRates>, AllocError>
+    requires { All (JoinsPorts (map node_view nodes.now)) (map channel_view channels.now) }
+    ensures rates { IfOk result (λ rates. rates.items
+        ≡ map (spec.rates_of_channel (map node_view nodes.now)) (map channel_view channels.now)) }
+    ensures bounds { IfOk result (λ rates. All IsBounded rates.items) }
+{
+    let mut rates = Vec::with_capacity(alloc, channels.len())?;
+    for channel in channels {
+        rates.push(rates_of_channel(nodes, channel))?;
+    }
+    Ok(rates)
+}
+
+/// The rates of a channel.
+fn rates_of_channel(nodes: &[Node], channel: &Channel) -> ChannelRates
+    requires { JoinsPorts (map node_view nodes.now) (channel_view channel.now) }
+    ensures rates { result ≡ spec.rates_of_channel (map node_view nodes.now)
+        (channel_view channel.now) }
+    ensures bounds { IsBounded result }
+{
+    let source = &nodes[channel.source.node as usize];
+    let target = &nodes[channel.target.node as usize];
+    let output = channel.source.port as usize;
+    let input = channel.target.port as usize;
+    ChannelRates {
+        source: channel.source.node as usize,
+        enqueued: channel.enqueued.len() as u128,
+        first_push: pushes_at(source, 0, output),
+        push: pushes_at(source, 1, output),
+        target: channel.target.node as usize,
+        prework_window: prework_window(target, input),
+        first_pop: pops_at(target, 0, input),
+        pop: pops_at(target, 1, input),
+        window: window_at(target, 1, input),
+    }
+}
+
+/// How many items a node's prework looks at, at an input port; 0 where it has none.
+fn prework_window(node: &Node, port: usize) -> u128
+    ensures window { result ≡ spec.window_of_prework (node_view node.now) port }
+    ensures bound { result < 2 ^ 96 }
+{
+    if has_prework(node) {
+        window_at(node, 0, port)
+    } else {
+        0
+    }
+}
+
+/// Whether a node has a prework.
+fn has_prework(node: &Node) -> bool
+    ensures { result ≡ spec.has_prework (node_view node.now) }
+{
+    match node {
+        Node::Filter(instance) | Node::Copy(instance, _) => instance.code.has_prework(),
+        _ => false,
+    }
+}
+
+/// How often each node fires at least.
+pub(crate) fn first_counts(alloc: Global, nodes: &[Node]) -> Result<Vec<u32>, AllocError>
+    ensures { IfOk result (λ counts. counts.items
+        ≡ map spec.first_count (map node_view nodes.now)) }
+{
+    let mut counts = Vec::with_capacity(alloc, nodes.len())?;
+    for node in nodes {
+        counts.push(u32::from(has_prework(node)))?;
+    }
+    Ok(counts)
+}
