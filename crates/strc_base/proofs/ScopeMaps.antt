@@ -94,7 +94,8 @@ value_named-none {T = T} (first ∷ rest) (value ∷ values) name e at =
 pub leave-with_values : {T : Type 0} (names : List (List ℕ)) (values : List T) (start : ℕ)
     → length values ≡ length names
     → with_values (drop (length names - start) names) (reverse (take start values))
-    ≡ drop (length (with_values names (reverse values)) - start) (with_values names (reverse values))
+    ≡ drop (length (with_values names (reverse values)) - start)
+    (with_values names (reverse values))
 leave-with_values names values start e =
     let turned : length (reverse values) ≡ length names = length-reverse values ∙ e in
     ap (with_values (drop (length names - start) names))

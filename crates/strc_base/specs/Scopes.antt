@@ -15,10 +15,11 @@ names_of declared = names_in (reverse declared)
 -- whether each stands beside the slot of the variable that it hides
 abbrev pub KeepShadowed : List Declared → Type 0
 KeepShadowed [] = Unit {0}
-KeepShadowed (first ∷ rest) = (first.shadows ≡ number_named (names_in rest) first.name.items) × KeepShadowed rest
+KeepShadowed (first ∷ rest) = (first.shadows ≡ number_named (names_in rest) first.name.items)
+    × KeepShadowed rest
 
--- what is true of a scope: its names are few, each keeps what it hides, and the table has the slot of each name's
--- innermost variable
+-- what is true of a scope: its names are few, each keeps what it hides, and the table has the slot
+-- of each name's innermost variable
 pub record KeepsSlots (seen : List Declared) (table : List ℕ → Option ℕ) : Type 0 where
   pub few : length seen < 2 ^ 32
   pub hidden : KeepShadowed seen

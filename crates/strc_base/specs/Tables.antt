@@ -8,4 +8,5 @@ slot_in table name = get_by (λ key. bytes_eq name key.items) table
 
 -- whether a table has this slot for a name, and for every other name what it had
 abbrev pub IsUpdated : (List ℕ → Option ℕ) → List ℕ → Option ℕ → (List ℕ → Option ℕ) → Type 0
-IsUpdated old name slot new = (sought : List ℕ) → new sought ≡ cond (bytes_eq name sought) slot (old sought)
+IsUpdated old name slot new = (sought : List ℕ)
+    → new sought ≡ cond (bytes_eq name sought) slot (old sought)

@@ -13,30 +13,61 @@ use Rattle.strc_check.specs.Resolution as judged
 use Rattle.strc_check.specs.Typing.{TypedNames}
 use Rattle.strc_syntax.proofs.Blocks.{member_view-Init, member_view-Prework, member_view-Work}
 
-pub init_judged : (constants : List (List ℕ × ℤ)) (input output : ItemType) (fields : TypedNames) (before : List (List ℕ)) (context : judged.Context) (m : Member) (block : Vec Stmt Global) (items : List Stmt) → context ≡ judged.init_context constants → items ≡ block.items → m ≡ Init block → result_and_then (judged.body_resolved context fields (block_view items)) (λ b. Ok (tree.Init b)) ≡ judged.member_resolved constants input output fields before (member_view m)
+pub init_judged : (constants : List (List ℕ × ℤ)) (input output : ItemType) (fields : TypedNames)
+    (before : List (List ℕ)) (context : judged.Context) (m : Member) (block : Vec Stmt Global)
+    (items : List Stmt) → context ≡ judged.init_context constants → items ≡ block.items
+    → m ≡ Init block → result_and_then (judged.body_resolved context fields (block_view items))
+    (λ b. Ok (tree.Init b)) ≡ judged.member_resolved constants input output fields before
+    (member_view m)
 init_judged constants input output fields before context m block items at held is =
-    ap (λ s. result_and_then (judged.body_resolved s fields (block_view items)) (λ b. Ok (tree.Init b))) at
-    ∙ ap (λ l. result_and_then (judged.body_resolved (judged.init_context constants) fields (block_view l)) (λ b. Ok (tree.Init b))) held
-    ∙ ap (judged.member_resolved constants input output fields before) (sym (member_view-Init block))
+    ap (λ s. result_and_then (judged.body_resolved s fields (block_view items))
+    (λ b. Ok (tree.Init b))) at
+    ∙ ap (λ l. result_and_then (judged.body_resolved (judged.init_context constants) fields
+    (block_view l)) (λ b. Ok (tree.Init b))) held
+    ∙ ap (judged.member_resolved constants input output fields before)
+    (sym (member_view-Init block))
     ∙ ap (λ x. judged.member_resolved constants input output fields before (member_view x)) (sym is)
 
 -- the judgement of a body with its rates
-abbrev pub work_judged : (constants : List (List ℕ × ℤ)) (input output : ItemType) (fields : TypedNames) → List RateTree → List Stmt → Result judged.Work LowerError
-work_judged constants input output fields rates block = judged.work_resolved constants input output fields (record { rates = map rate_view rates; block = block_view block })
+abbrev pub work_judged : (constants : List (List ℕ × ℤ)) (input output : ItemType)
+    (fields : TypedNames) → List RateTree → List Stmt → Result judged.Work LowerError
+work_judged constants input output fields rates block =
+    judged.work_resolved constants input output fields
+    (record { rates = map rate_view rates; block = block_view block })
 
-work_same : (constants : List (List ℕ × ℤ)) (input output : ItemType) (fields : TypedNames) (go : judged.Work → Result tree.Member LowerError) (rates rates' : List RateTree) (block block' : List Stmt) → rates ≡ rates' → block ≡ block' → result_and_then (work_judged constants input output fields rates block) go ≡ result_and_then (work_judged constants input output fields rates' block') go
+work_same : (constants : List (List ℕ × ℤ)) (input output : ItemType) (fields : TypedNames)
+    (go : judged.Work → Result tree.Member LowerError) (rates rates' : List RateTree)
+    (block block' : List Stmt) → rates ≡ rates' → block ≡ block'
+    → result_and_then (work_judged constants input output fields rates block) go
+    ≡ result_and_then (work_judged constants input output fields rates' block') go
 work_same constants input output fields go rates rates' block block' same same' =
     ap (λ r. result_and_then (work_judged constants input output fields r block) go) same
     ∙ ap (λ b. result_and_then (work_judged constants input output fields rates' b) go) same'
 
-pub prework_judged : (constants : List (List ℕ × ℤ)) (input output : ItemType) (fields : TypedNames) (before : List (List ℕ)) (m : Member) (rates : Vec RateTree Global) (block : Vec Stmt Global) (written : List RateTree) (items : List Stmt) → written ≡ rates.items → items ≡ block.items → m ≡ Prework rates block → result_and_then (work_judged constants input output fields written items) (λ w. Ok (tree.Prework w.rates w.block)) ≡ judged.member_resolved constants input output fields before (member_view m)
+pub prework_judged : (constants : List (List ℕ × ℤ)) (input output : ItemType) (fields : TypedNames)
+    (before : List (List ℕ)) (m : Member) (rates : Vec RateTree Global) (block : Vec Stmt Global)
+    (written : List RateTree) (items : List Stmt) → written ≡ rates.items → items ≡ block.items
+    → m ≡ Prework rates block → result_and_then
+    (work_judged constants input output fields written items)
+    (λ w. Ok (tree.Prework w.rates w.block))
+    ≡ judged.member_resolved constants input output fields before (member_view m)
 prework_judged constants input output fields before m rates block written items held held' is =
-    work_same constants input output fields (λ w. Ok (tree.Prework w.rates w.block)) written rates.items items block.items held held'
-    ∙ ap (judged.member_resolved constants input output fields before) (sym (member_view-Prework rates block))
+    work_same constants input output fields
+    (λ w. Ok (tree.Prework w.rates w.block)) written rates.items items block.items held held'
+    ∙ ap (judged.member_resolved constants input output fields before)
+    (sym (member_view-Prework rates block))
     ∙ ap (λ x. judged.member_resolved constants input output fields before (member_view x)) (sym is)
 
-pub main_work_judged : (constants : List (List ℕ × ℤ)) (input output : ItemType) (fields : TypedNames) (before : List (List ℕ)) (m : Member) (rates : Vec RateTree Global) (block : Vec Stmt Global) (written : List RateTree) (items : List Stmt) → written ≡ rates.items → items ≡ block.items → m ≡ Work rates block → result_and_then (work_judged constants input output fields written items) (λ w. Ok (tree.Work w.rates w.block)) ≡ judged.member_resolved constants input output fields before (member_view m)
+pub main_work_judged : (constants : List (List ℕ × ℤ)) (input output : ItemType)
+    (fields : TypedNames) (before : List (List ℕ)) (m : Member) (rates : Vec RateTree Global)
+    (block : Vec Stmt Global) (written : List RateTree) (items : List Stmt) → written ≡ rates.items
+    → items ≡ block.items → m ≡ Work rates block
+    → result_and_then (work_judged constants input output fields written items)
+    (λ w. Ok (tree.Work w.rates w.block))
+    ≡ judged.member_resolved constants input output fields before (member_view m)
 main_work_judged constants input output fields before m rates block written items held held' is =
-    work_same constants input output fields (λ w. Ok (tree.Work w.rates w.block)) written rates.items items block.items held held'
-    ∙ ap (judged.member_resolved constants input output fields before) (sym (member_view-Work rates block))
+    work_same constants input output fields
+    (λ w. Ok (tree.Work w.rates w.block)) written rates.items items block.items held held'
+    ∙ ap (judged.member_resolved constants input output fields before)
+    (sym (member_view-Work rates block))
     ∙ ap (λ x. judged.member_resolved constants input output fields before (member_view x)) (sym is)

@@ -1,5 +1,6 @@
 -- Variables that are added to others, with their types.
-use Rattle.std.proofs.Common.{◌≡◌, ◌-◌, List, [], ◌∷◌, ◌++◌, length, drop, refl, ap, ◌∙◌, arith, length-append}
+use Rattle.std.proofs.Common.{◌≡◌, ◌-◌, List, [], ◌∷◌, ◌++◌, length, drop, refl, ap, ◌∙◌, arith}
+use Rattle.std.proofs.Common.{length-append}
 use Rattle.std.proofs.Math.Seq.{drop-append_seam}
 use Rattle.strc_syntax.specs.Tree as tree
 use Rattle.strc_check.specs.declared.types.ValueType.{ValueType}
@@ -14,14 +15,23 @@ pub stands_on_itself : (base : TypedNames) → StandsOn base base
 stands_on_itself base = record { inner = []; is = refl }
 
 -- a declaration adds names
-pub stands_on_declared : (base names : TypedNames) (kind : ValueType) (variables : List tree.Variable) → StandsOn base names → StandsOn base (with_declared names kind variables)
+pub stands_on_declared : (base names : TypedNames) (kind : ValueType)
+    (variables : List tree.Variable) → StandsOn base names
+    → StandsOn base (with_declared names kind variables)
 stands_on_declared base names kind [] h = h
 stands_on_declared base names kind (first ∷ rest) h =
-    stands_on_declared base (record { 0 = first.name; 1 = kind } ∷ names) kind rest (record { inner = record { 0 = first.name; 1 = kind } ∷ h.inner; is = ap (λ l. record { 0 = first.name; 1 = kind } ∷ l) h.is })
+    stands_on_declared base (record { 0 = first.name; 1 = kind } ∷ names) kind rest
+    (record {
+      inner = record { 0 = first.name; 1 = kind } ∷ h.inner;
+      is =
+          ap (λ l. record { 0 = first.name; 1 = kind } ∷ l) h.is;
+    })
 
 -- no other statement adds a name
-pub stands_on_after : (base names : TypedNames) (s : tree.Stmt) → StandsOn base names → StandsOn base (names_after names s)
-stands_on_after base names (tree.Declare kind variables) h = stands_on_declared base names (type_of kind) variables h
+pub stands_on_after : (base names : TypedNames) (s : tree.Stmt) → StandsOn base names
+    → StandsOn base (names_after names s)
+stands_on_after base names (tree.Declare kind variables) h =
+    stands_on_declared base names (type_of kind) variables h
 stands_on_after base names tree.Empty h = h
 stands_on_after base names (tree.Compose statement) h = h
 stands_on_after base names (tree.Block body) h = h
@@ -37,16 +47,25 @@ stands_on_after base names (tree.Print value) h = h
 stands_on_after base names (tree.Println value) h = h
 
 -- without the inner ones the names are as before
-pub drop_inner : (base names : TypedNames) → StandsOn base names → drop (length names - length base) names ≡ base
+pub drop_inner : (base names : TypedNames) → StandsOn base names
+    → drop (length names - length base) names ≡ base
 drop_inner base names h =
-    let e : length (h.inner ++ base) - length base ≡ length h.inner = omega (arith, length-append h.inner base) in
-    ap (λ l. drop (length l - length base) l) h.is ∙ ap (λ n. drop n (h.inner ++ base)) e ∙ drop-append_seam h.inner base
+    let e : length (h.inner ++ base) - length base ≡ length h.inner =
+    omega (arith, length-append h.inner base) in
+    ap (λ l. drop (length l - length base) l) h.is ∙ ap (λ n. drop n (h.inner ++ base)) e
+    ∙ drop-append_seam h.inner base
 
 -- a statement's own variables are forgotten
-pub drop_own : (names : TypedNames) (s : tree.Stmt) → drop (length (names_after names s) - length names) (names_after names s) ≡ names
-drop_own names s = drop_inner names (names_after names s) (stands_on_after names names s (stands_on_itself names))
+pub drop_own : (names : TypedNames) (s : tree.Stmt)
+    → drop (length (names_after names s) - length names) (names_after names s) ≡ names
+drop_own names s = drop_inner names (names_after names s)
+    (stands_on_after names names s (stands_on_itself names))
 
 -- the variables of two statements are forgotten
-pub drop_both : (names : TypedNames) (s s' : tree.Stmt) → drop (length (names_after (names_after names s) s') - length names) (names_after (names_after names s) s') ≡ names
+pub drop_both : (names : TypedNames) (s s' : tree.Stmt)
+    → drop (length (names_after (names_after names s) s') - length names)
+    (names_after (names_after names s) s') ≡ names
 drop_both names s s' =
-    drop_inner names (names_after (names_after names s) s') (stands_on_after names (names_after names s) s' (stands_on_after names names s (stands_on_itself names)))
+    drop_inner names (names_after (names_after names s) s')
+    (stands_on_after names (names_after names s) s'
+    (stands_on_after names names s (stands_on_itself names)))

@@ -1,5 +1,7 @@
 -- The rules on names and types, and the filter with its constants put in.
-use Rattle.std.specs.Prelude.{ℕ, ◌+◌, ℤ, pos, Bool, true, false, ◌==◌, ◌&&◌, ◌||◌, not, if◌then◌else◌, List, [], ◌∷◌, length, Option, Some, None, Result, Ok, Err, nat_lt}
+use Rattle.std.specs.Prelude.{ℕ, ◌+◌, ℤ, pos, Bool, true, false, ◌==◌, ◌&&◌, ◌||◌, not}
+use Rattle.std.specs.Prelude.{if◌then◌else◌, List, [], ◌∷◌, length, Option, Some, None, Result, Ok}
+use Rattle.std.specs.Prelude.{Err, nat_lt}
 use Rattle.std.specs.Int.RustNames.{int_lt}
 use Rattle.strc_base.specs.Results.{result_and_then}
 use Rattle.strc_syntax.specs.Tree as tree
@@ -23,7 +25,8 @@ use Rattle.strc_check.specs.declared.types.ValueType.{ValueType}
 use Rattle.strc_check.specs.declared.types.ValueType.TheVariants.{Int, Boolean, Array}
 use Rattle.strc_base.specs.Names.{has_name, value_named}
 use Rattle.strc_semantics.specs.Filters.{Filter, work_count}
-use Rattle.strc_check.specs.Typing.{TypedNames, same_type, is_array, names_with, names_after, block_names, fields_behind}
+use Rattle.strc_check.specs.Typing.{TypedNames, same_type, is_array, names_with, names_after}
+use Rattle.strc_check.specs.Typing.{block_names, fields_behind}
 use Rattle.strc_semantics.specs.Constants.{constant_value}
 
 -- goes on where a rule is kept
@@ -31,8 +34,8 @@ abbrev pub where_kept : {A : Type 0} → Bool → Result A LowerError → Result
 where_kept true next = next
 where_kept false next = Err refused.TypeMismatch
 
--- where a text stands: its constants, whether it may pop and peek, push and print, and whether it is fixed before the
--- start, so that it reads no variable
+-- where a text stands: its constants, whether it may pop and peek, push and print, and whether it
+-- is fixed before the start, so that it reads no variable
 pub record Context : Type 0 where
   pub constants : List (List ℕ × ℤ)
   pub pops : Bool
@@ -54,10 +57,12 @@ abbrev pub constant_read : List ℕ → Option ℤ → Result Typed LowerError
 constant_read name None = Err (refused.UnknownName name)
 constant_read name (Some value) = Ok (record { kind = Int; value = tree.Number value })
 
--- what a name stands for that is read: its innermost variable, which is no array, or else a constant
+-- what a name stands for that is read: its innermost variable, which is no array, or else a
+-- constant
 abbrev pub read_as : Context → List ℕ → Option ValueType → Result Typed LowerError
 read_as context name (Some kind) =
-    where_kept (not context.constants_only) (where_kept (not (is_array kind)) (Ok (record { kind = kind; value = tree.Read name })))
+    where_kept (not context.constants_only)
+    (where_kept (not (is_array kind)) (Ok (record { kind = kind; value = tree.Read name })))
 read_as context name None = constant_read name (value_named context.constants name)
 
 abbrev pub name_resolved : Context → TypedNames → List ℕ → Result Typed LowerError
@@ -125,7 +130,8 @@ conditional_typed condition chosen other =
 -- a look at an item
 abbrev pub peek_typed : (pops : Bool) → Typed → Result Typed LowerError
 peek_typed pops index =
-    where_kept pops (result_and_then (expect_type Int index) (λ index'. Ok (record { kind = Int; value = tree.Peek index' })))
+    where_kept pops (result_and_then (expect_type Int index)
+    (λ index'. Ok (record { kind = Int; value = tree.Peek index' })))
 
 -- an expression in brackets
 abbrev pub group_typed : Typed → Typed
@@ -134,60 +140,85 @@ group_typed inner = record { kind = inner.kind; value = tree.Group inner.value }
 -- a name that is stepped: a variable that holds a number
 abbrev pub step_resolved : Context → TypedNames → List ℕ → Result (List ℕ) LowerError
 step_resolved context names name =
-    where_kept (not context.constants_only) (result_and_then (write_resolved context names name) (λ kind. where_kept (same_type kind Int) (Ok name)))
+    where_kept (not context.constants_only)
+    (result_and_then (write_resolved context names name)
+    (λ kind. where_kept (same_type kind Int) (Ok name)))
 
 -- the name of an array, of which an element is read or written
 abbrev pub array_resolved : Context → TypedNames → List ℕ → Result (List ℕ) LowerError
 array_resolved context names name =
-    where_kept (not context.constants_only) (result_and_then (write_resolved context names name) (λ kind. where_kept (is_array kind) (Ok name)))
+    where_kept (not context.constants_only)
+    (result_and_then (write_resolved context names name)
+    (λ kind. where_kept (is_array kind) (Ok name)))
 
 -- an element of an array, and its step
 abbrev pub element_typed : List ℕ → Typed → Result Typed LowerError
-element_typed name index = result_and_then (expect_type Int index) (λ index'. Ok (record { kind = Int; value = tree.Element name index' }))
+element_typed name index = result_and_then (expect_type Int index)
+    (λ index'. Ok (record { kind = Int; value = tree.Element name index' }))
 
 abbrev pub step_element_typed : StepOperator → List ℕ → Typed → Result Typed LowerError
 step_element_typed operator name index =
-    result_and_then (expect_type Int index) (λ index'. Ok (record { kind = Int; value = tree.StepElement operator name index' }))
+    result_and_then (expect_type Int index)
+    (λ index'. Ok (record { kind = Int; value = tree.StepElement operator name index' }))
 
 -- an expression, among these names of variables
 abbrev pub expr_resolved : Context → TypedNames → tree.Expr → Result Typed LowerError
-expr_resolved context names (tree.Number value) = Ok (record { kind = Int; value = tree.Number value })
-expr_resolved context names (tree.Truth value) = Ok (record { kind = Boolean; value = tree.Truth value })
+expr_resolved context names (tree.Number value) =
+    Ok (record { kind = Int; value = tree.Number value })
+expr_resolved context names (tree.Truth value) =
+    Ok (record { kind = Boolean; value = tree.Truth value })
 expr_resolved context names (tree.Read name) = name_resolved context names name
 expr_resolved context names (tree.Element name index) =
     result_and_then (array_resolved context names name) (λ name'.
     result_and_then (expr_resolved context names index) (λ index'. element_typed name' index'))
-expr_resolved context names tree.Pop = where_kept context.pops (Ok (record { kind = Int; value = tree.Pop }))
-expr_resolved context names (tree.Peek index) = result_and_then (expr_resolved context names index) (λ index'. peek_typed context.pops index')
+expr_resolved context names tree.Pop = where_kept context.pops
+    (Ok (record { kind = Int; value = tree.Pop }))
+expr_resolved context names (tree.Peek index) =
+    result_and_then (expr_resolved context names index) (λ index'. peek_typed context.pops index')
 expr_resolved context names (tree.Group inner) =
     result_and_then (expr_resolved context names inner) (λ inner'. Ok (group_typed inner'))
 expr_resolved context names (tree.Unary operator operand) =
-    result_and_then (expr_resolved context names operand) (λ operand'. unary_typed operator operand')
+    result_and_then (expr_resolved context names operand)
+    (λ operand'. unary_typed operator operand')
 expr_resolved context names (tree.Step operator name) =
-    result_and_then (step_resolved context names name) (λ name'. Ok (record { kind = Int; value = tree.Step operator name' }))
+    result_and_then (step_resolved context names name)
+    (λ name'. Ok (record { kind = Int; value = tree.Step operator name' }))
 expr_resolved context names (tree.StepElement operator name index) =
     result_and_then (array_resolved context names name) (λ name'.
-    result_and_then (expr_resolved context names index) (λ index'. step_element_typed operator name' index'))
+    result_and_then (expr_resolved context names index)
+    (λ index'. step_element_typed operator name' index'))
 expr_resolved context names (tree.Binary operator left right) =
     result_and_then (expr_resolved context names left) (λ left'.
-    result_and_then (expr_resolved context names right) (λ right'. binary_typed operator left' right'))
+    result_and_then (expr_resolved context names right)
+    (λ right'. binary_typed operator left' right'))
 expr_resolved context names (tree.Conditional condition chosen other) =
     result_and_then (expr_resolved context names condition) (λ condition'.
     result_and_then (expr_resolved context names chosen) (λ chosen'.
-    result_and_then (expr_resolved context names other) (λ other'. conditional_typed condition' chosen' other')))
+    result_and_then (expr_resolved context names other)
+    (λ other'. conditional_typed condition' chosen' other')))
 
 -- an expression of this type
 abbrev pub expr_as : Context → TypedNames → ValueType → tree.Expr → Result tree.Expr LowerError
-expr_as context names kind value = result_and_then (expr_resolved context names value) (λ typed. expect_type kind typed)
+expr_as context names kind value = result_and_then (expr_resolved context names value)
+    (λ typed. expect_type kind typed)
 
 -- an initialiser or a condition of this type, where there is one
-abbrev pub initial_resolved : Context → TypedNames → ValueType → Option tree.Expr → Result (Option tree.Expr) LowerError
+abbrev pub initial_resolved : Context → TypedNames → ValueType → Option tree.Expr
+    → Result (Option tree.Expr) LowerError
 initial_resolved context names kind None = Ok None
-initial_resolved context names kind (Some value) = result_and_then (expr_as context names kind value) (λ value'. Ok (Some value'))
+initial_resolved context names kind (Some value) =
+    result_and_then (expr_as context names kind value) (λ value'. Ok (Some value'))
 
 -- the site of rates and of lengths
 abbrev pub rate_context : List (List ℕ × ℤ) → Context
-rate_context constants = record { constants = constants; pops = false; pushes = false; prints = false; constants_only = true }
+rate_context constants = record {
+  constants = constants;
+  pops = false;
+  pushes = false;
+  prints =
+      false;
+  constants_only = true;
+}
 
 -- the value of a constant expression, or its fault
 abbrev pub value_given : Result ℤ Cause → Result ℤ LowerError
@@ -197,7 +228,8 @@ value_given (Err cause) = Err (refused.ConstFault cause)
 -- the number of a rate or of a length, over constants alone
 abbrev pub number_resolved : List (List ℕ × ℤ) → TypedNames → tree.Expr → Result ℤ LowerError
 number_resolved constants names value =
-    result_and_then (expr_as (rate_context constants) names Int value) (λ value'. value_given (constant_value value'))
+    result_and_then (expr_as (rate_context constants) names Int value)
+    (λ value'. value_given (constant_value value'))
 
 -- a declared type: what a name of it stands for, and how it is written, with a number as its length
 pub record ResolvedType : Type 0 where
@@ -212,24 +244,29 @@ array_type number =
     else Ok (record { kind = Array; written = tree.Array (tree.Number number) })
 
 -- a declared type, with the constants and the names that can be seen where it stands
-abbrev pub type_resolved : List (List ℕ × ℤ) → TypedNames → tree.VariableType → Result ResolvedType LowerError
+abbrev pub type_resolved : List (List ℕ × ℤ) → TypedNames → tree.VariableType
+    → Result ResolvedType LowerError
 type_resolved constants names tree.Boolean = Ok (record { kind = Boolean; written = tree.Boolean })
 type_resolved constants names tree.Int = Ok (record { kind = Int; written = tree.Int })
-type_resolved constants names (tree.Array length) = result_and_then (number_resolved constants names length) (λ number. array_type number)
+type_resolved constants names (tree.Array length) =
+    result_and_then (number_resolved constants names length) (λ number. array_type number)
 
 -- a variable, whose name no other one of its block has
-abbrev pub variable_resolved : Context → TypedNames → (outer : ℕ) → ValueType → tree.Variable → Result tree.Variable LowerError
+abbrev pub variable_resolved : Context → TypedNames → (outer : ℕ) → ValueType → tree.Variable
+    → Result tree.Variable LowerError
 variable_resolved context names outer kind variable =
     where_kept (not (has_name (block_names outer names) variable.name))
     (result_and_then (initial_resolved context names kind variable.initial) (λ initial'.
     Ok (record { name = variable.name; initial = initial' })))
 
 -- the variables of a declaration, each seen by those behind it
-abbrev pub variables_resolved : Context → TypedNames → (outer : ℕ) → ValueType → List tree.Variable → Result (List tree.Variable) LowerError
+abbrev pub variables_resolved : Context → TypedNames → (outer : ℕ) → ValueType → List tree.Variable
+    → Result (List tree.Variable) LowerError
 variables_resolved context names outer kind [] = Ok []
 variables_resolved context names outer kind (first ∷ rest) =
     result_and_then (variable_resolved context names outer kind first) (λ first'.
-    result_and_then (variables_resolved context (record { 0 = first.name; 1 = kind } ∷ names) outer kind rest) (λ rest'.
+    result_and_then (variables_resolved context
+    (record { 0 = first.name; 1 = kind } ∷ names) outer kind rest) (λ rest'.
     Ok (first' ∷ rest')))
 
 -- the type of what is assigned to a variable of this type
@@ -242,18 +279,22 @@ assigned_type assign.Divide kind = where_kept (same_type kind Int) (Ok kind)
 assigned_type assign.Remainder kind = where_kept (same_type kind Int) (Ok kind)
 
 -- an assignment to a variable
-abbrev pub assign_resolved : Context → TypedNames → List ℕ → AssignOperator → tree.Expr → Result tree.Stmt LowerError
+abbrev pub assign_resolved : Context → TypedNames → List ℕ → AssignOperator → tree.Expr
+    → Result tree.Stmt LowerError
 assign_resolved context names name operator value =
     result_and_then (write_resolved context names name) (λ kind.
     result_and_then (assigned_type operator kind) (λ kind'.
-    result_and_then (expr_as context names kind' value) (λ value'. Ok (tree.Assign name operator value'))))
+    result_and_then (expr_as context names kind' value)
+    (λ value'. Ok (tree.Assign name operator value'))))
 
 -- an assignment to an element
-abbrev pub element_assign_resolved : Context → TypedNames → List ℕ → (index : tree.Expr) → AssignOperator → tree.Expr → Result tree.Stmt LowerError
+abbrev pub element_assign_resolved : Context → TypedNames → List ℕ → (index : tree.Expr)
+    → AssignOperator → tree.Expr → Result tree.Stmt LowerError
 element_assign_resolved context names name index operator value =
     result_and_then (array_resolved context names name) (λ name'.
     result_and_then (expr_as context names Int index) (λ index'.
-    result_and_then (expr_as context names Int value) (λ value'. Ok (tree.AssignElement name' index' operator value'))))
+    result_and_then (expr_as context names Int value)
+    (λ value'. Ok (tree.AssignElement name' index' operator value'))))
 
 -- a number that is given away, where that may be
 abbrev pub given_resolved : Context → TypedNames → Bool → tree.Expr → Result tree.Expr LowerError
@@ -265,45 +306,59 @@ abbrev mutual
   stmt_resolved context names outer tree.Empty = Ok tree.Empty
   stmt_resolved context names outer (tree.Compose statement) = Err refused.TypeMismatch
   stmt_resolved context names outer (tree.Block body) =
-      result_and_then (stmts_resolved context names (length names) body) (λ body'. Ok (tree.Block body'))
+      result_and_then (stmts_resolved context names (length names) body)
+      (λ body'. Ok (tree.Block body'))
   stmt_resolved context names outer (tree.Declare kind variables) =
       result_and_then (type_resolved context.constants names kind) (λ resolved.
-      result_and_then (variables_resolved context names outer resolved.kind variables) (λ variables'.
+      result_and_then (variables_resolved context names outer resolved.kind variables)
+      (λ variables'.
       Ok (tree.Declare resolved.written variables')))
   stmt_resolved context names outer (tree.Evaluate value) =
       result_and_then (expr_resolved context names value) (λ typed. Ok (tree.Evaluate typed.value))
-  stmt_resolved context names outer (tree.Assign name operator value) = assign_resolved context names name operator value
+  stmt_resolved context names outer (tree.Assign name operator value) =
+      assign_resolved context names name operator value
   stmt_resolved context names outer (tree.AssignElement name index operator value) =
       element_assign_resolved context names name index operator value
   stmt_resolved context names outer (tree.If condition chosen) =
       result_and_then (expr_as context names Boolean condition) (λ condition'.
-      result_and_then (stmt_resolved context names (length names) chosen) (λ chosen'. Ok (tree.If condition' chosen')))
+      result_and_then (stmt_resolved context names (length names) chosen)
+      (λ chosen'. Ok (tree.If condition' chosen')))
   stmt_resolved context names outer (tree.IfElse condition chosen other) =
       result_and_then (expr_as context names Boolean condition) (λ condition'.
       result_and_then (stmt_resolved context names (length names) chosen) (λ chosen'.
-      result_and_then (stmt_resolved context names (length names) other) (λ other'. Ok (tree.IfElse condition' chosen' other'))))
+      result_and_then (stmt_resolved context names (length names) other)
+      (λ other'. Ok (tree.IfElse condition' chosen' other'))))
   stmt_resolved context names outer (tree.While condition body) =
       result_and_then (expr_as context names Boolean condition) (λ condition'.
-      result_and_then (stmt_resolved context names (length names) body) (λ body'. Ok (tree.While condition' body')))
+      result_and_then (stmt_resolved context names (length names) body)
+      (λ body'. Ok (tree.While condition' body')))
   stmt_resolved context names outer (tree.For first condition step body) =
       result_and_then (stmt_resolved context names (length names) first) (λ first'.
-      result_and_then (initial_resolved context (names_after names first) Boolean condition) (λ condition'.
-      result_and_then (stmt_resolved context (names_after names first) (length (names_after names first)) step) (λ step'.
-      result_and_then (stmt_resolved context (names_after names first) (length (names_after names first)) body) (λ body'.
+      result_and_then (initial_resolved context (names_after names first) Boolean condition)
+      (λ condition'.
+      result_and_then (stmt_resolved context (names_after names first)
+      (length (names_after names first)) step) (λ step'.
+      result_and_then (stmt_resolved context (names_after names first)
+      (length (names_after names first)) body) (λ body'.
       Ok (tree.For first' condition' step' body')))))
   stmt_resolved context names outer (tree.Push value) =
-      result_and_then (given_resolved context names context.pushes value) (λ value'. Ok (tree.Push value'))
+      result_and_then (given_resolved context names context.pushes value)
+      (λ value'. Ok (tree.Push value'))
   stmt_resolved context names outer (tree.Print value) =
-      result_and_then (given_resolved context names context.prints value) (λ value'. Ok (tree.Print value'))
+      result_and_then (given_resolved context names context.prints value)
+      (λ value'. Ok (tree.Print value'))
   stmt_resolved context names outer (tree.Println value) =
-      result_and_then (given_resolved context names context.prints value) (λ value'. Ok (tree.Println value'))
+      result_and_then (given_resolved context names context.prints value)
+      (λ value'. Ok (tree.Println value'))
 
   -- the statements of a block, each among the names that are declared before it
-  pub stmts_resolved : Context → TypedNames → (outer : ℕ) → tree.Stmts → Result tree.Stmts LowerError
+  pub stmts_resolved : Context → TypedNames → (outer : ℕ) → tree.Stmts
+      → Result tree.Stmts LowerError
   stmts_resolved context names outer tree.Done = Ok tree.Done
   stmts_resolved context names outer (tree.Then first rest) =
       result_and_then (stmt_resolved context names outer first) (λ first'.
-      result_and_then (stmts_resolved context (names_after names first) outer rest) (λ rest'. Ok (tree.Then first' rest')))
+      result_and_then (stmts_resolved context (names_after names first) outer rest)
+      (λ rest'. Ok (tree.Then first' rest')))
 
 -- whether items flow on a side
 abbrev pub carries_items : ItemType → Bool
@@ -312,11 +367,25 @@ carries_items item.Void = false
 
 -- the sites: initialisers and `init`, as also the block of a composite stream; and bodies
 abbrev pub init_context : List (List ℕ × ℤ) → Context
-init_context constants = record { constants = constants; pops = false; pushes = false; prints = false; constants_only = false }
+init_context constants = record {
+  constants = constants;
+  pops = false;
+  pushes = false;
+  prints =
+      false;
+  constants_only = false;
+}
 
 abbrev pub body_context : List (List ℕ × ℤ) → (input output : ItemType) → Context
 body_context constants input output =
-    record { constants = constants; pops = carries_items input; pushes = carries_items output; prints = true; constants_only = false }
+    record {
+      constants = constants;
+      pops = carries_items input;
+      pushes =
+          carries_items output;
+      prints = true;
+      constants_only = false;
+    }
 
 -- the side of a filter that a rate speaks of
 abbrev pub side_of : (input output : ItemType) → RateKind → ItemType
@@ -326,33 +395,41 @@ side_of input output kind.Peek = input
 
 -- whether a rate may be declared: above 0 only where items flow
 abbrev pub rate_fits : ItemType → ItemType → RateKind → ℤ → Bool
-rate_fits input output kind number = not (int_lt (pos 0) number && not (carries_items (side_of input output kind)))
+rate_fits input output kind number = not (int_lt (pos 0) number
+    && not (carries_items (side_of input output kind)))
 
 -- a rate, on a side where it may be declared
-abbrev pub rate_resolved : List (List ℕ × ℤ) → (fields : TypedNames) → ItemType → ItemType → tree.Rate → Result tree.Rate LowerError
+abbrev pub rate_resolved : List (List ℕ × ℤ) → (fields : TypedNames) → ItemType → ItemType
+    → tree.Rate → Result tree.Rate LowerError
 rate_resolved constants fields input output rate =
     result_and_then (number_resolved constants fields rate.rate) (λ number.
-    where_kept (rate_fits input output rate.kind number) (Ok (record { kind = rate.kind; rate = tree.Number number })))
+    where_kept (rate_fits input output rate.kind number)
+    (Ok (record { kind = rate.kind; rate = tree.Number number })))
 
-abbrev pub rates_resolved : List (List ℕ × ℤ) → (fields : TypedNames) → ItemType → ItemType → List tree.Rate → Result (List tree.Rate) LowerError
+abbrev pub rates_resolved : List (List ℕ × ℤ) → (fields : TypedNames) → ItemType → ItemType
+    → List tree.Rate → Result (List tree.Rate) LowerError
 rates_resolved constants fields input output [] = Ok []
 rates_resolved constants fields input output (first ∷ rest) =
     result_and_then (rate_resolved constants fields input output first) (λ first'.
-    result_and_then (rates_resolved constants fields input output rest) (λ rest'. Ok (first' ∷ rest')))
+    result_and_then (rates_resolved constants fields input output rest)
+    (λ rest'. Ok (first' ∷ rest')))
 
 -- a field, whose name no earlier one has; it sees all fields
-abbrev pub field_resolved : Context → (fields : TypedNames) (before : List (List ℕ)) → ValueType → tree.Variable → Result tree.Variable LowerError
+abbrev pub field_resolved : Context → (fields : TypedNames) (before : List (List ℕ)) → ValueType
+    → tree.Variable → Result tree.Variable LowerError
 field_resolved context fields before kind variable =
     where_kept (not (has_name before variable.name))
     (result_and_then (initial_resolved context fields kind variable.initial) (λ initial'.
     Ok (record { name = variable.name; initial = initial' })))
 
 -- fields that are declared together, with those before them
-abbrev pub fields_resolved : Context → (fields : TypedNames) (before : List (List ℕ)) → ValueType → List tree.Variable → Result (List tree.Variable) LowerError
+abbrev pub fields_resolved : Context → (fields : TypedNames) (before : List (List ℕ)) → ValueType
+    → List tree.Variable → Result (List tree.Variable) LowerError
 fields_resolved context fields before kind [] = Ok []
 fields_resolved context fields before kind (first ∷ rest) =
     result_and_then (field_resolved context fields before kind first) (λ first'.
-    result_and_then (fields_resolved context fields (first.name ∷ before) kind rest) (λ rest'. Ok (first' ∷ rest')))
+    result_and_then (fields_resolved context fields (first.name ∷ before) kind rest)
+    (λ rest'. Ok (first' ∷ rest')))
 
 -- the names of the fields after a member
 abbrev pub fields_after : List (List ℕ) → tree.Member → List (List ℕ)
@@ -360,7 +437,8 @@ fields_after before (tree.Fields kind variables) = names_with before variables
 fields_after before _ = before
 
 -- the block of a body or of `init`, among the fields
-abbrev pub body_resolved : Context → (fields : TypedNames) → tree.Stmts → Result tree.Stmts LowerError
+abbrev pub body_resolved : Context → (fields : TypedNames) → tree.Stmts
+    → Result tree.Stmts LowerError
 body_resolved context fields block = stmts_resolved context fields (length fields) block
 
 -- a body with its rates
@@ -368,33 +446,43 @@ pub record Work : Type 0 where
   pub rates : List tree.Rate
   pub block : tree.Stmts
 
-abbrev pub work_resolved : (constants : List (List ℕ × ℤ)) (input output : ItemType) (fields : TypedNames) → Work → Result Work LowerError
+abbrev pub work_resolved : (constants : List (List ℕ × ℤ)) (input output : ItemType)
+    (fields : TypedNames) → Work → Result Work LowerError
 work_resolved constants input output fields work =
     result_and_then (rates_resolved constants fields input output work.rates) (λ rates'.
-    result_and_then (body_resolved (body_context constants input output) fields work.block) (λ block'.
+    result_and_then (body_resolved (body_context constants input output) fields work.block)
+    (λ block'.
     Ok (record { rates = rates'; block = block' })))
 
 -- a member, with the fields before it; it sees all fields
-abbrev pub member_resolved : (constants : List (List ℕ × ℤ)) (input output : ItemType) (fields : TypedNames) (before : List (List ℕ)) → tree.Member → Result tree.Member LowerError
+abbrev pub member_resolved : (constants : List (List ℕ × ℤ)) (input output : ItemType)
+    (fields : TypedNames) (before : List (List ℕ)) → tree.Member → Result tree.Member LowerError
 member_resolved constants input output fields before (tree.Fields kind variables) =
     result_and_then (type_resolved constants fields kind) (λ resolved.
-    result_and_then (fields_resolved (init_context constants) fields before resolved.kind variables) (λ variables'.
+    result_and_then (fields_resolved (init_context constants) fields before resolved.kind variables)
+    (λ variables'.
     Ok (tree.Fields resolved.written variables')))
 member_resolved constants input output fields before (tree.Init block) =
-    result_and_then (body_resolved (init_context constants) fields block) (λ block'. Ok (tree.Init block'))
+    result_and_then (body_resolved (init_context constants) fields block)
+    (λ block'. Ok (tree.Init block'))
 member_resolved constants input output fields before (tree.Prework rates block) =
-    result_and_then (work_resolved constants input output fields (record { rates = rates; block = block })) (λ work'.
+    result_and_then (work_resolved constants input output fields
+    (record { rates = rates; block = block })) (λ work'.
     Ok (tree.Prework work'.rates work'.block))
 member_resolved constants input output fields before (tree.Work rates block) =
-    result_and_then (work_resolved constants input output fields (record { rates = rates; block = block })) (λ work'.
+    result_and_then (work_resolved constants input output fields
+    (record { rates = rates; block = block })) (λ work'.
     Ok (tree.Work work'.rates work'.block))
 
 -- the members, in order of the text
-abbrev pub members_resolved : (constants : List (List ℕ × ℤ)) (input output : ItemType) (fields : TypedNames) (before : List (List ℕ)) → List tree.Member → Result (List tree.Member) LowerError
+abbrev pub members_resolved : (constants : List (List ℕ × ℤ)) (input output : ItemType)
+    (fields : TypedNames) (before : List (List ℕ)) → List tree.Member
+    → Result (List tree.Member) LowerError
 members_resolved constants input output fields before [] = Ok []
 members_resolved constants input output fields before (first ∷ rest) =
     result_and_then (member_resolved constants input output fields before first) (λ first'.
-    result_and_then (members_resolved constants input output fields (fields_after before first) rest) (λ rest'. Ok (first' ∷ rest')))
+    result_and_then (members_resolved constants input output fields
+    (fields_after before first) rest) (λ rest'. Ok (first' ∷ rest')))
 
 -- how many preworks there are
 abbrev pub prework_count : List tree.Member → ℕ
@@ -414,11 +502,13 @@ init_count (tree.Work rates block ∷ rest) = init_count rest
 
 -- whether there is one work, and at most one prework and one `init`
 abbrev pub has_parts : List tree.Member → Bool
-has_parts members = (work_count members == 1) && (nat_lt (prework_count members) 2 && nat_lt (init_count members) 2)
+has_parts members = (work_count members == 1)
+    && (nat_lt (prework_count members) 2 && nat_lt (init_count members) 2)
 
 -- a filter with its constants put in, or the first rule that it breaks
 abbrev pub filter_resolved : List (List ℕ × ℤ) → Filter → Result Filter LowerError
 filter_resolved constants filter =
     where_kept (has_parts filter.members)
-    (result_and_then (members_resolved constants filter.input filter.output (fields_behind [] filter.members) [] filter.members) (λ members'.
+    (result_and_then (members_resolved constants filter.input filter.output
+    (fields_behind [] filter.members) [] filter.members) (λ members'.
     Ok (record filter { members = members' })))

@@ -34,7 +34,8 @@ names_with names (first ∷ rest) = names_with (first.name ∷ names) rest
 -- the names that can be seen behind a declaration, the last one innermost
 abbrev pub with_declared : TypedNames → ValueType → List tree.Variable → TypedNames
 with_declared names kind [] = names
-with_declared names kind (first ∷ rest) = with_declared (record { 0 = first.name; 1 = kind } ∷ names) kind rest
+with_declared names kind (first ∷ rest) =
+    with_declared (record { 0 = first.name; 1 = kind } ∷ names) kind rest
 
 -- the names that can be seen after a statement
 abbrev pub names_after : TypedNames → tree.Stmt → TypedNames
@@ -48,7 +49,8 @@ block_names outer names = take (length names - outer) (plain_names names)
 -- the fields behind these members, with those before them
 abbrev pub fields_behind : TypedNames → List tree.Member → TypedNames
 fields_behind names [] = names
-fields_behind names (tree.Fields kind variables ∷ rest) = fields_behind (with_declared names (type_of kind) variables) rest
+fields_behind names (tree.Fields kind variables ∷ rest) =
+    fields_behind (with_declared names (type_of kind) variables) rest
 fields_behind names (tree.Init block ∷ rest) = fields_behind names rest
 fields_behind names (tree.Prework rates block ∷ rest) = fields_behind names rest
 fields_behind names (tree.Work rates block ∷ rest) = fields_behind names rest

@@ -45,7 +45,11 @@ declared_view resolved = record { kind = resolved.kind; written = type_view reso
 
 -- a body with its rates as the judgement sees it
 abbrev pub work_view : ResolvedWork → judged.Work
-work_view work = record { rates = map rate_view work.rates.items; block = block_view work.block.items }
+work_view work = record {
+  rates = map rate_view work.rates.items;
+  block =
+      block_view work.block.items;
+}
 
 -- a list of statements, of variables, and of rates
 abbrev pub Statements : Type 0

@@ -16,11 +16,14 @@ some_same : {A : Type 0} (one other : A) → Some one ≡ Some other → one ≡
 some_same one other is = cc
 
 -- the name and the rows of what was met
-met_both : {B : Type 0} (met : Option B) (name : B → Text) (rows : B → List Row) (text : Text) (all : List Row) → option_map name met ≡ Some text
-    → option_map (λ (p : Text × List Row). p.1) (option_map {U = Text × List Row} (λ b. (name b, rows b)) met) ≡ Some all
+met_both : {B : Type 0} (met : Option B) (name : B → Text) (rows : B → List Row) (text : Text)
+    (all : List Row) → option_map name met ≡ Some text
+    → option_map (λ (p : Text × List Row). p.1)
+    (option_map {U = Text × List Row} (λ b. (name b, rows b)) met) ≡ Some all
     → option_map {U = Text × List Row} (λ b. (name b, rows b)) met ≡ Some (text, all)
 met_both None name rows text all named found = cc
-met_both (Some b) name rows text all named found = rw (some_same _ _ named, some_same _ _ found) refl
+met_both (Some b) name rows text all named found =
+    rw (some_same _ _ named, some_same _ _ found) refl
 
 pub subcommand_met : (matches : ArgMatches) (name : Text) (rows : List Row)
     → subcommand_name_of matches ≡ Some name
@@ -64,11 +67,14 @@ no_number name rows run none (inr (inr is)) = cc
 
 -- how a text is read as a number of 32 bits
 abbrev pub Gives : Text → Result ℕ ParseIntError → Type 0
-Gives text result = ParsesUnsigned 32 10 text result × ExplainsUnsignedError 10 text result × HasUnsignedDigitsIfOk text result
+Gives text result = ParsesUnsigned 32 10 text result × ExplainsUnsignedError 10 text result
+    × HasUnsignedDigitsIfOk text result
 
 -- what is read of a text that may be given
-pub reads : (given : Option Text) (number : Option ℕ) → (given ≡ None → ◌≡◌ {A = Result (Option ℕ) ParseIntError} (Ok number) (Ok None))
-    → ((text : Text) → given ≡ Some text → TriesOne Gives text (Ok number)) → IsNumberOf given number
+pub reads : (given : Option Text) (number : Option ℕ)
+    → (given ≡ None → ◌≡◌ {A = Result (Option ℕ) ParseIntError} (Ok number) (Ok None))
+    → ((text : Text) → given ≡ Some text → TriesOne Gives text (Ok number))
+    → IsNumberOf given number
 reads None None none some = tt
 reads None (Some number) none some = let bad = none refl in cc
 reads (Some text) (Some number) none some =
@@ -76,8 +82,11 @@ reads (Some text) (Some number) none some =
     (parsed.0.0.0, sym parsed.0.1, subst (λ (n : ℕ). n < 2 ^ 32) (sym parsed.0.1) parsed.0.0.1)
 reads (Some text) None none some = some text refl
 
-pub reads_none : (given : Option Text) (error : ParseIntError) → (given ≡ None → ◌≡◌ {A = Result (Option ℕ) ParseIntError} (Err error) (Ok None))
-    → ((text : Text) → given ≡ Some text → TriesOne Gives text (Err error)) → (number : Option ℕ) → IsNumberOf given number → ⊥
+pub reads_none : (given : Option Text) (error : ParseIntError)
+    → (given ≡ None → ◌≡◌ {A = Result (Option ℕ) ParseIntError} (Err error) (Ok None))
+    → ((text : Text) → given ≡ Some text → TriesOne Gives text (Err error)) → (number : Option ℕ)
+    → IsNumberOf given number → ⊥
 reads_none None error none some number is = let bad = none refl in cc
-reads_none (Some text) error none some (Some number) is = (some text refl).0 (is.0, subst (λ (n : ℕ). n < 2 ^ 32) (sym is.1) is.2)
+reads_none (Some text) error none some (Some number) is =
+    (some text refl).0 (is.0, subst (λ (n : ℕ). n < 2 ^ 32) (sym is.1) is.2)
 reads_none (Some text) error none some None is = is

@@ -5,7 +5,8 @@ use Rattle.std.specs.Prelude.{◌≡◌, ◌⊎◌, ℕ, ◌<◌, ◌^◌, pos, 
 use Rattle.std.specs.Prelude.{Option, Some, None, IsSome, option_map, string_bytes, codes}
 use Rattle.std.specs.Str.Parse.{IsNumeral, digits_value, without_leading_plus}
 use Rattle.clap.specs.Walk.{Row, Rule, Text, first_of, one_of}
-use Rattle.clap.specs.Simple.{App, new_app, new_rule, on_top, subcommand_of, with_rule, with_subcommand}
+use Rattle.clap.specs.Simple.{App, new_app, new_rule, on_top, subcommand_of, with_rule}
+use Rattle.clap.specs.Simple.{with_subcommand}
 use Rattle.clap.specs.Faults.{fault_of}
 use Rattle.clap.specs.Kinds.{Kinds}
 use Rattle.clap.specs.declared.builder.value_parser.ValueParser.TheVariants.{Signed}
@@ -53,7 +54,8 @@ plan_app = with_rule (with_rule (new_app (codes "plan")) file_rule) main_rule
 -- the words of the program, which wants a subcommand
 abbrev pub strc_app : App
 strc_app =
-    let strc = on_top (λ shape. record shape { subcommand_required = true }) (new_app (codes "strc")) in
+    let strc = on_top (λ shape. record shape { subcommand_required = true })
+    (new_app (codes "strc")) in
     with_subcommand (with_subcommand (with_subcommand strc run_app.top) check_app.top) plan_app.top
 
 -- decimal digits, with a plus sign before them or none, that write this number of 32 bits
@@ -103,7 +105,8 @@ pub record IsCommand (met : Option (Text × List Row)) : Type 0 where
   pub known : IsKnown name rows
   pub file : IsSome (first_of (codes "FILE") rows)
 
--- the kinds of error that the words may come to, other than out of memory; none where the words are taken
+-- the kinds of error that the words may come to, other than out of memory; none where the words are
+-- taken
 abbrev pub faults : List Text → Kinds
 faults words = fault_of strc_app words
 

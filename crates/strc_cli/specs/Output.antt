@@ -47,13 +47,15 @@ cause_name cause.Turns = codes "Turns"
 -- `fault DivZero node 1 firing 1 round 1`
 abbrev pub fault_line : Fault → List ℕ
 fault_line fault =
-    codes "fault " ++ cause_name fault.cause ++ codes " node " ++ decimal fault.node ++ codes " firing " ++ decimal fault.firing
+    codes "fault " ++ cause_name fault.cause ++ codes " node " ++ decimal fault.node
+    ++ codes " firing " ++ decimal fault.firing
     ++ codes " round " ++ decimal fault.round ++ line_end
 
 -- all that a run writes
 abbrev pub outcome_text : Outcome → List ℕ
 outcome_text (outcome.Done words) = words_text words.items
-outcome_text (outcome.Fault fault words) = words_text words.items ++ closing words.items ++ fault_line fault
+outcome_text (outcome.Fault fault words) =
+    words_text words.items ++ closing words.items ++ fault_line fault
 
 -- `ok nodes 6 channels 6`
 abbrev pub check_line : ℕ → ℕ → List ℕ
@@ -83,16 +85,20 @@ refusal_words (refusal.Lex at) = codes "E1 Lex" ++ codes " at " ++ decimal at
 refusal_words (refusal.Parse token) = codes "E2 Parse" ++ codes " token " ++ decimal token
 refusal_words refusal.TextTooLong = codes "E3 TextTooLong"
 refusal_words (refusal.UnknownName name) = codes "E4 UnknownName" ++ codes " name " ++ name
-refusal_words (refusal.TypeMismatch stream) = codes "E5 TypeMismatch" ++ codes " stream " ++ decimal stream
+refusal_words (refusal.TypeMismatch stream) =
+    codes "E5 TypeMismatch" ++ codes " stream " ++ decimal stream
 refusal_words refusal.NoMain = codes "E6 NoMain"
 refusal_words refusal.ManyMains = codes "E7 ManyMains"
 refusal_words refusal.DepthLimit = codes "E8 DepthLimit"
 refusal_words refusal.NodeLimit = codes "E9 NodeLimit"
-refusal_words (refusal.BadArguments stream) = codes "E10 BadArguments" ++ codes " stream " ++ decimal stream
-refusal_words (refusal.ConstFault cause) = codes "E12 ConstFault" ++ codes " cause " ++ cause_name cause
+refusal_words (refusal.BadArguments stream) =
+    codes "E10 BadArguments" ++ codes " stream " ++ decimal stream
+refusal_words (refusal.ConstFault cause) =
+    codes "E12 ConstFault" ++ codes " cause " ++ cause_name cause
 refusal_words (refusal.RateUnknown node) = codes "E13 RateUnknown" ++ codes " node " ++ decimal node
 refusal_words (refusal.RateMismatch node declared counted) =
-    codes "E14 RateMismatch" ++ codes " node " ++ decimal node ++ (codes " declared " ++ decimal declared ++ codes " counted " ++ decimal counted)
+    codes "E14 RateMismatch" ++ codes " node " ++ decimal node
+    ++ (codes " declared " ++ decimal declared ++ codes " counted " ++ decimal counted)
 refusal_words (refusal.PeekOutside node) = codes "E15 PeekOutside" ++ codes " node " ++ decimal node
 refusal_words (refusal.RateLimit node) = codes "E16 RateLimit" ++ codes " node " ++ decimal node
 refusal_words refusal.TwoInputs = codes "E17 TwoInputs"

@@ -70,9 +70,11 @@ Writes bytes (Err error.Write) before after = FailedIn bytes before after
 Writes bytes (Err error.Read) before after = ⊥
 Writes bytes (Err error.Memory) before after = ⊥
 
--- how telling an answer went: written whole, with its status; or in part, for a failure of the device; or not at all
+-- how telling an answer went: written whole, with its status; or in part, for a failure of the
+-- device; or not at all
 abbrev pub TellsAnswer : Result Answer Stop → Result Status CliError → Device → Device → Type 0
-TellsAnswer answer (Ok status) before after = (status ≡ answer_status answer) × Wrote (answer_text answer) before after
+TellsAnswer answer (Ok status) before after =
+    (status ≡ answer_status answer) × Wrote (answer_text answer) before after
 TellsAnswer answer (Err error.Write) before after = FailedIn (answer_text answer) before after
 TellsAnswer answer (Err error.Read) before after = ⊥
 TellsAnswer answer (Err error.Memory) before after = WroteNothing before after

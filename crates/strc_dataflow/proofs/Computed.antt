@@ -1,41 +1,74 @@
 -- The rows, computed from the definitions.
-use Rattle.std.proofs.Common.{◌≡◌, refl, ap, ◌∙◌, ℕ, true, [], ◌∷◌, zero, suc, ◌<◌, ◌≤◌, arith, get_or}
+use Rattle.std.proofs.Common.{◌≡◌, refl, ap, ◌∙◌, ℕ, true, [], ◌∷◌, zero, suc, ◌<◌, ◌≤◌, arith}
+use Rattle.std.proofs.Common.{get_or}
 use Rattle.strc_dataflow.specs.Rounds.{gives_in_round, IsBalanced, IsSupplied}
 use Rattle.strc_dataflow.specs.Node.{total, at_port_0}
-use Rattle.strc_dataflow.specs.Histories.{all_below, windows, finds, begun, after_firing, advance_if, advance, runs}
+use Rattle.strc_dataflow.specs.Histories.{all_below, windows, finds, begun, after_firing}
+use Rattle.strc_dataflow.specs.Histories.{advance_if, advance, runs}
 use Rattle.strc_dataflow.specs.Flat.{items_of, arrived, runs_at, Origin.Input}
-use Rattle.strc_dataflow.specs.Streams.{source_at_0, delayed, prepend, node_layout, maybe_layout, chained_layout, beside_layout, fed_back_layout, layout, any_code, flat, chained, beside, iterate, around, back_of, turn, loop_solution, fed_back, no_part, node_part, reader_part, maybe_part, part, solution}
+use Rattle.strc_dataflow.specs.Streams.{source_at_0, delayed, prepend, node_layout, maybe_layout}
+use Rattle.strc_dataflow.specs.Streams.{chained_layout, beside_layout, fed_back_layout, layout}
+use Rattle.strc_dataflow.specs.Streams.{any_code, flat, chained, beside, iterate, around, back_of}
+use Rattle.strc_dataflow.specs.Streams.{turn, loop_solution, fed_back, no_part, node_part}
+use Rattle.strc_dataflow.specs.Streams.{reader_part, maybe_part, part, solution}
 use Rattle.strc_dataflow.specs.Order.{raised, tally, counts_after, supply_of, supply}
-use Rattle.strc_dataflow.specs.Machine.{put, at_first, fired_once, unless_faulted, go, stop_at, or_else, first_fault}
-use Rattle.strc_dataflow.specs.Answer.{words_of, stream_runs, round_outcome, rounds, startup_outcome, whole_run}
-use Rattle.strc_dataflow.specs.RoundRobin.{span_start, one_cycle, dealt, duplicated, woven, places, cycles, port_at}
-use Rattle.strc_dataflow.specs.Examples.{inputs, takes, looks_at, gives, quotient, fires, example, Block.Counter, Block.Negation, Block.Printer}
-use Rattle.strc_dataflow.specs.Rows.{Shown, shown, Program, by_node, EquationsSay, IsRow, minimal, MinimalRow, fibonacci, FibonacciRow, division, DivisionFaultRow, weights, WeightsRow, two_quotients, DownstreamFaultRow, two_branches, TwoFaultsRow, loop_fault, FaultInLoopRow, ExampleSplitters, PlacesRow, startup_fault, StartupFaultRow, MatchedRow, BalanceRow}
+use Rattle.strc_dataflow.specs.Machine.{put, at_first, fired_once, unless_faulted, go, stop_at}
+use Rattle.strc_dataflow.specs.Machine.{or_else, first_fault}
+use Rattle.strc_dataflow.specs.Answer.{words_of, stream_runs, round_outcome, rounds}
+use Rattle.strc_dataflow.specs.Answer.{startup_outcome, whole_run}
+use Rattle.strc_dataflow.specs.RoundRobin.{span_start, one_cycle, dealt, duplicated, woven, places}
+use Rattle.strc_dataflow.specs.RoundRobin.{cycles, port_at}
+use Rattle.strc_dataflow.specs.Examples.{inputs, takes, looks_at, gives, quotient, fires, example}
+use Rattle.strc_dataflow.specs.Examples.{Block.Counter, Block.Negation, Block.Printer}
+use Rattle.strc_dataflow.specs.Rows.{Shown, shown, Program, by_node, EquationsSay, IsRow, minimal}
+use Rattle.strc_dataflow.specs.Rows.{MinimalRow, fibonacci, FibonacciRow, division}
+use Rattle.strc_dataflow.specs.Rows.{DivisionFaultRow, weights, WeightsRow, two_quotients}
+use Rattle.strc_dataflow.specs.Rows.{DownstreamFaultRow, two_branches, TwoFaultsRow, loop_fault}
+use Rattle.strc_dataflow.specs.Rows.{FaultInLoopRow, ExampleSplitters, PlacesRow, startup_fault}
+use Rattle.strc_dataflow.specs.Rows.{StartupFaultRow, MatchedRow, BalanceRow}
 use Rattle.strc_dataflow.proofs.Blocks.{block_keeps, splitter_block, duplicate_block, joiner_block}
-use Rattle.strc_dataflow.proofs.Tests.{ready_test, order_test, within_test, tally_test, schedule_test, schedule_from_test, tally_from_test, order_from_test}
+use Rattle.strc_dataflow.proofs.Tests.{ready_test, order_test, within_test, tally_test}
+use Rattle.strc_dataflow.proofs.Tests.{schedule_test, schedule_from_test, tally_from_test}
+use Rattle.strc_dataflow.proofs.Tests.{order_from_test}
 use Rattle.strc_dataflow.proofs.Again.{each_round}
 use Rattle.strc_dataflow.proofs.Theorem.{stream_run_gives, stream_answer_is_run}
 
 -- A row from what computes: its orders pass the test, the equations say so, and the run shows it.
 row_from :
     (p : Program) (expected : Shown)
-    → schedule_test example (flat p.stream) p.input p.startup p.round p.startup_order p.round_order p.rounds ≡ true
+    → schedule_test example (flat p.stream) p.input p.startup p.round p.startup_order p.round_order
+    p.rounds ≡ true
     → EquationsSay p expected
-    → shown p.printer (whole_run example (flat p.stream) p.input p.round_order p.startup_order p.rounds) ≡ expected
+    → shown p.printer (whole_run example (flat p.stream) p.input p.round_order p.startup_order
+    p.rounds) ≡ expected
     → IsRow p expected
 row_from p expected valid equations run =
-    let schedule = schedule_from_test example (flat p.stream) p.input p.startup p.round p.startup_order p.round_order p.rounds valid in
+    let schedule = schedule_from_test example
+    (flat p.stream) p.input p.startup p.round p.startup_order p.round_order p.rounds valid in
     record {
       schedule = schedule;
       equations = equations;
       run = run;
-      answer = stream_run_gives example p.stream p.input (by_node p.startup) (by_node p.round) p.startup_order p.round_order p.rounds (λ node. block_keeps ((flat p.stream).code node)) schedule;
-      only = λ outcome h. ap (shown p.printer) (stream_answer_is_run example p.stream p.input (by_node p.startup) (by_node p.round) p.startup_order p.round_order p.rounds (λ node. block_keeps ((flat p.stream).code node)) schedule outcome h) ∙ run;
+      answer = stream_run_gives example p.stream p.input (by_node p.startup)
+          (by_node p.round) p.startup_order p.round_order p.rounds
+          (λ node. block_keeps ((flat p.stream).code node)) schedule;
+      only = λ outcome h. ap (shown p.printer)
+          (stream_answer_is_run example p.stream p.input (by_node p.startup)
+          (by_node p.round) p.startup_order p.round_order p.rounds
+          (λ node. block_keeps ((flat p.stream).code node)) schedule outcome h) ∙ run;
     }
 
--- What rows compute with: a proof that names it on its unfolding line computes with all definitions of the crate.
+-- What rows compute with: a proof that names it on its unfolding line computes with all definitions
+-- of the crate.
 unfoldable pub all_definitions : ℕ
-unfolding total at_port_0 all_below windows finds begun after_firing advance_if advance runs items_of arrived runs_at source_at_0 delayed prepend node_layout maybe_layout chained_layout beside_layout fed_back_layout layout any_code flat chained beside iterate around back_of turn loop_solution fed_back no_part node_part reader_part maybe_part part solution raised tally counts_after supply_of supply put at_first fired_once unless_faulted go stop_at or_else first_fault words_of stream_runs round_outcome rounds startup_outcome whole_run span_start inputs takes looks_at gives quotient one_cycle fires example shown ready_test order_test within_test tally_test schedule_test
+unfolding total at_port_0 all_below windows finds begun after_firing advance_if advance runs
+    items_of arrived runs_at source_at_0 delayed prepend node_layout maybe_layout chained_layout
+    beside_layout fed_back_layout layout any_code flat chained beside iterate around back_of turn
+    loop_solution fed_back no_part node_part reader_part maybe_part part solution raised tally
+    counts_after supply_of supply put at_first fired_once unless_faulted go stop_at or_else
+    first_fault words_of stream_runs round_outcome rounds startup_outcome whole_run span_start
+    inputs takes looks_at gives quotient one_cycle fires example shown ready_test order_test
+    within_test tally_test schedule_test
 all_definitions = 0
 
 pub minimal_row : MinimalRow
@@ -89,8 +122,10 @@ matched_row = record {
 }
   where
     windows_at :
-        (node firing port : ℕ) → node < 2 → port < inputs (get_or (Negation ∷ Printer ∷ []) node Counter)
-        → looks_at (get_or (Negation ∷ Printer ∷ []) node Counter) port ≤ gives (get_or (Counter ∷ Negation ∷ Printer ∷ []) node Counter) port
+        (node firing port : ℕ) → node < 2
+        → port < inputs (get_or (Negation ∷ Printer ∷ []) node Counter)
+        → looks_at (get_or (Negation ∷ Printer ∷ []) node Counter) port
+        ≤ gives (get_or (Counter ∷ Negation ∷ Printer ∷ []) node Counter) port
     windows_at zero firing zero below within = omega arith
     windows_at zero firing (suc port) below within = absurd (omega arith)
     windows_at (suc zero) firing zero below within = omega arith
@@ -98,15 +133,18 @@ matched_row = record {
     windows_at (suc (suc node)) firing port below within = absurd (omega arith)
 
     pops_at :
-        (node firing port : ℕ) → node < 2 → port < inputs (get_or (Negation ∷ Printer ∷ []) node Counter)
-        → takes (get_or (Negation ∷ Printer ∷ []) node Counter) port ≤ gives (get_or (Counter ∷ Negation ∷ Printer ∷ []) node Counter) port
+        (node firing port : ℕ) → node < 2
+        → port < inputs (get_or (Negation ∷ Printer ∷ []) node Counter)
+        → takes (get_or (Negation ∷ Printer ∷ []) node Counter) port
+        ≤ gives (get_or (Counter ∷ Negation ∷ Printer ∷ []) node Counter) port
     pops_at zero firing zero below within = omega arith
     pops_at zero firing (suc port) below within = absurd (omega arith)
     pops_at (suc zero) firing zero below within = omega arith
     pops_at (suc zero) firing (suc port) below within = absurd (omega arith)
     pops_at (suc (suc node)) firing port below within = absurd (omega arith)
 
-fibonacci_balanced : IsBalanced example (flat fibonacci.stream) (by_node fibonacci.startup) (by_node fibonacci.round)
+fibonacci_balanced : IsBalanced example (flat fibonacci.stream) (by_node fibonacci.startup)
+    (by_node fibonacci.round)
 unfolding all_definitions gives_in_round
 fibonacci_balanced zero zero within channel = refl
 fibonacci_balanced zero (suc zero) within channel = refl
@@ -141,10 +179,17 @@ pub balance_row : BalanceRow
 unfolding all_definitions
 balance_row = (
   fibonacci_balanced,
-  λ k. each_round example (flat fibonacci.stream) [] (by_node fibonacci.startup) (by_node fibonacci.round) fibonacci.round_order k
+  λ k. each_round example (flat fibonacci.stream) [] (by_node fibonacci.startup)
+      (by_node fibonacci.round) fibonacci.round_order k
       (tally_from_test fibonacci.round_order fibonacci.round refl)
-      (record { windows_repeat = λ node firing port h. refl; pops_repeat = λ node firing port h. refl; pushes_repeat = λ node firing port h. refl })
+      (record {
+        windows_repeat = λ node firing port h. refl;
+        pops_repeat =
+            λ node firing port h. refl;
+        pushes_repeat = λ node firing port h. refl;
+      })
       fibonacci_balanced
       (fibonacci_supplied (counts_after (by_node fibonacci.startup) (by_node fibonacci.round) k))
-      (order_from_test example (flat fibonacci.stream) [] fibonacci.round_order (counts_after (by_node fibonacci.startup) (by_node fibonacci.round) 0) refl),
+      (order_from_test example (flat fibonacci.stream) [] fibonacci.round_order
+      (counts_after (by_node fibonacci.startup) (by_node fibonacci.round) 0) refl),
 )

@@ -1,5 +1,6 @@
 -- A small concrete meaning, and streams of the language's examples over it.
-use Rattle.std.specs.Prelude.{ℕ, zero, suc, Bool, true, cond, eqb, ℤ, pos, negsuc, ◌+ℤ◌, ◌-ℤ◌, neg_ℤ, int_div, List, [], ◌∷◌, length, get_or, take, drop, sum}
+use Rattle.std.specs.Prelude.{ℕ, zero, suc, Bool, true, cond, eqb, ℤ, pos, negsuc, ◌+ℤ◌, ◌-ℤ◌}
+use Rattle.std.specs.Prelude.{neg_ℤ, int_div, List, [], ◌∷◌, length, get_or, take, drop, sum}
 use Rattle.strc_dataflow.specs.Node.{ByPort, Fired, Fired.Fires, Fired.Faults, Meaning, at_port_0}
 use Rattle.strc_dataflow.specs.RoundRobin.{span_start, one_cycle}
 
@@ -63,12 +64,15 @@ quotient n (negsuc d) state = Fires state (at_port_0 (int_div n (negsuc d) ∷ [
 unfoldable pub fires : Block → ℤ → ByPort → Fired ℤ Cause Word
 fires Counter x seen = Fires (x +ℤ pos 1) (at_port_0 (x ∷ [])) []
 fires Identity x seen = Fires x (at_port_0 (seen 0)) []
-fires Adder x seen = Fires x (at_port_0 ((get_or (seen 0) 1 (pos 0) +ℤ get_or (seen 0) 0 (pos 0)) ∷ [])) []
+fires Adder x seen = Fires x (at_port_0 ((get_or (seen 0) 1 (pos 0) +ℤ get_or (seen 0) 0 (pos 0))
+    ∷ [])) []
 fires Negation x seen = Fires x (at_port_0 (neg_ℤ (get_or (seen 0) 0 (pos 0)) ∷ [])) []
 fires (Quotient n k) x seen = quotient n (get_or (seen 0) 0 (pos 0) -ℤ k) x
 fires Printer x seen = Fires x (λ port. []) (line (get_or (seen 0) 0 (pos 0)) ∷ [])
-fires (RoundRobinSplitter weights) x seen = Fires x (λ port. take (get_or weights port 0) (drop (span_start weights port) (seen 0))) []
-fires (DuplicateSplitter weights) x seen = Fires x (λ port. cond (eqb (get_or weights port 0) 0) [] (seen 0)) []
+fires (RoundRobinSplitter weights) x seen =
+    Fires x (λ port. take (get_or weights port 0) (drop (span_start weights port) (seen 0))) []
+fires (DuplicateSplitter weights) x seen =
+    Fires x (λ port. cond (eqb (get_or weights port 0) 0) [] (seen 0)) []
 fires (RoundRobinJoiner weights) x seen = Fires x (at_port_0 (one_cycle weights 0 seen)) []
 
 unfoldable pub example : Meaning Block ℤ Cause Word

@@ -1,4 +1,5 @@
--- A flat graph by sources, and its equations (Lee and Messerschmitt 1987; Kahn's equations on finite lists).
+-- A flat graph by sources, and its equations (Lee and Messerschmitt 1987; Kahn's equations on
+-- finite lists).
 use Rattle.std.specs.Prelude.{◌≡◌, ℕ, ℤ, List, [], ◌++◌}
 use Rattle.strc_dataflow.specs.Node.{ByPort, Meaning}
 use Rattle.strc_dataflow.specs.Histories.{Run, runs}
@@ -31,11 +32,14 @@ module _ {State Cause Word : Type 0} (input : List ℤ) (now : ℕ → Run State
   unfoldable pub arrived : Source → List ℤ
   arrived source = source.enqueued ++ items_of source.origin
 
-module _ {Code State Cause Word : Type 0} (meaning : Meaning Code State Cause Word) (graph : Graph Code) where
+module _ {Code State Cause Word : Type 0} (meaning : Meaning Code State Cause Word)
+    (graph : Graph Code) where
   -- Each node's run, by its number of firings and its inputs.
   unfoldable pub runs_at : (counts : ℕ → ℕ) (inputs : ℕ → ByPort) → ℕ → Run State Cause Word
   runs_at counts inputs node = runs meaning (graph.code node) (counts node) (inputs node)
 
-  -- The flat equations: each input is what has come to it when each node did its number of firings over its inputs.
+  -- The flat equations: each input is what has come to it when each node did its number of firings
+  -- over its inputs.
   abbrev pub Solves : (counts : ℕ → ℕ) (input : List ℤ) (inputs : ℕ → ByPort) → Type 0
-  Solves counts input inputs = (node port : ℕ) → inputs node port ≡ arrived input (runs_at counts inputs) (graph.source node port)
+  Solves counts input inputs = (node port : ℕ)
+      → inputs node port ≡ arrived input (runs_at counts inputs) (graph.source node port)

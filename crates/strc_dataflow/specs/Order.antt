@@ -1,7 +1,9 @@
 -- Orders of firings by counts alone (Lee and Messerschmitt 1987: admissible sequential schedules).
-use Rattle.std.specs.Prelude.{◌≡◌, ℕ, suc, ◌+◌, ◌-◌, ◌*◌, ◌<◌, ◌≤◌, cond, eqb, ℤ, List, [], ◌∷◌, length}
+use Rattle.std.specs.Prelude.{◌≡◌, ℕ, suc, ◌+◌, ◌-◌, ◌*◌, ◌<◌, ◌≤◌, cond, eqb, ℤ, List, [], ◌∷◌}
+use Rattle.std.specs.Prelude.{length}
 use Rattle.strc_dataflow.specs.Node.{Meaning, total}
-use Rattle.strc_dataflow.specs.Flat.{Origin, Origin.Nowhere, Origin.Input, Origin.Port, Source, Graph}
+use Rattle.strc_dataflow.specs.Flat.{Origin, Origin.Nowhere, Origin.Input, Origin.Port, Source}
+use Rattle.strc_dataflow.specs.Flat.{Graph}
 
 -- Counts with one more firing of a node.
 unfoldable pub raised : (ℕ → ℕ) → ℕ → ℕ → ℕ
@@ -21,7 +23,8 @@ tally (other ∷ order) node = raised (tally order) other node
 unfoldable pub counts_after : (startup round : ℕ → ℕ) → ℕ → ℕ → ℕ
 counts_after startup round k node = startup node + k * round node
 
-module _ {Code State Cause Word : Type 0} (meaning : Meaning Code State Cause Word) (graph : Graph Code) (input : List ℤ) where
+module _ {Code State Cause Word : Type 0} (meaning : Meaning Code State Cause Word)
+    (graph : Graph Code) (input : List ℤ) where
   -- How many items an origin has given, by counts.
   unfoldable pub supply_of : (ℕ → ℕ) → Origin → ℕ
   supply_of counts Nowhere = 0
@@ -32,16 +35,20 @@ module _ {Code State Cause Word : Type 0} (meaning : Meaning Code State Cause Wo
   unfoldable pub supply : (ℕ → ℕ) → Source → ℕ
   supply counts source = length source.enqueued + supply_of counts source.origin
 
-  -- How many items wait at an input port, by counts: those that have come without those that were taken.
+  -- How many items wait at an input port, by counts: those that have come without those that were
+  -- taken.
   unfoldable pub fill : (ℕ → ℕ) → ℕ → ℕ → ℕ
-  fill counts node port = supply counts (graph.source node port) - total (meaning.popped (graph.code node)) (counts node) port
+  fill counts node port = supply counts (graph.source node port)
+      - total (meaning.popped (graph.code node)) (counts node) port
 
   -- By counts, the node's next firing finds its windows.
   abbrev pub IsReady : (ℕ → ℕ) → ℕ → Type 0
   IsReady counts node =
       (port : ℕ)
       → port < meaning.ports (graph.code node)
-      → total (meaning.popped (graph.code node)) (counts node) port + meaning.window (graph.code node) (counts node) port ≤ supply counts (graph.source node port)
+      → total (meaning.popped (graph.code node)) (counts node) port
+      + meaning.window (graph.code node) (counts node) port
+      ≤ supply counts (graph.source node port)
 
   -- By counts, each firing of the order finds its windows.
   abbrev pub IsOrder : (ℕ → ℕ) → List ℕ → Type 0
@@ -49,7 +56,8 @@ module _ {Code State Cause Word : Type 0} (meaning : Meaning Code State Cause Wo
   IsOrder counts (node ∷ order) = IsReady counts node × IsOrder (raised counts node) order
 
   -- Start-up and k rounds: orders with these counts in which each firing finds its windows.
-  pub record IsSchedule (startup round : ℕ → ℕ) (startup_order round_order : List ℕ) (k : ℕ) : Type 0 where
+  pub record IsSchedule (startup round : ℕ → ℕ) (startup_order round_order : List ℕ)
+      (k : ℕ) : Type 0 where
     pub startup_counts : (node : ℕ) → tally startup_order node ≡ startup node
     pub round_counts : (node : ℕ) → tally round_order node ≡ round node
     pub startup_finds : IsOrder (λ node. 0) startup_order

@@ -1,6 +1,8 @@
--- Streams as trees (StreamIt specification 2.1, "Pipelines", "Split-joins", "Feedback loops"), the flat graph that a tree means, and the
--- solution of its equations by recursion over the tree, on whole lists, with no order of firings and no buffers.
-use Rattle.std.specs.Prelude.{ℕ, zero, suc, ◌+◌, ℤ, List, [], ◌∷◌, ◌++◌, length, get_or, Option, Some, None}
+-- Streams as trees (StreamIt specification 2.1, "Pipelines", "Split-joins", "Feedback loops"), the
+-- flat graph that a tree means, and the solution of its equations by recursion over the tree, on
+-- whole lists, with no order of firings and no buffers.
+use Rattle.std.specs.Prelude.{ℕ, zero, suc, ◌+◌, ℤ, List, [], ◌∷◌, ◌++◌, length, get_or, Option}
+use Rattle.std.specs.Prelude.{Some, None}
 use Rattle.strc_dataflow.specs.Node.{ByPort, Meaning, total, at_port_0}
 use Rattle.strc_dataflow.specs.Histories.{runs}
 use Rattle.strc_dataflow.specs.Flat.{Origin.Nowhere, Origin.Input, Origin.Port, Source, Graph}
@@ -15,7 +17,8 @@ mutual
     Pipeline : Streams Code → Stream Code
     -- splitter, children, joiner
     SplitJoin : Option Code → Streams Code → Option Code → Stream Code
-    -- joiner, body, splitter, loop, and the items enqueued on the channel from the loop to the joiner
+    -- joiner, body, splitter, loop, and the items enqueued on the channel from the loop to the
+    -- joiner
     FeedbackLoop : Code → Stream Code → Code → Stream Code → List ℤ → Stream Code
 
   -- One stream or more, in order.
@@ -25,8 +28,8 @@ mutual
 
 -- The flat graph
 
--- Nodes in preorder, each with its code; from the number of the first node and the sources of what comes in, the sources of each
--- node's input ports; from that number, the sources of what goes out.
+-- Nodes in preorder, each with its code; from the number of the first node and the sources of what
+-- comes in, the sources of each node's input ports; from that number, the sources of what goes out.
 pub record Layout (Code : Type 0) : Type 0 where
   pub codes : List Code
   pub sources : ℕ → (ℕ → Source) → List (ℕ → Source)
@@ -61,13 +64,19 @@ module _ {Code : Type 0} where
   -- A splitter or joiner that isn't there: nothing passes.
   unfoldable pub maybe_layout : Option Code → Layout Code
   maybe_layout (Some code) = node_layout code
-  maybe_layout None = record { codes = []; sources = λ first before. []; outlet = λ first port. nothing }
+  maybe_layout None = record {
+    codes = [];
+    sources = λ first before. [];
+    outlet =
+        λ first port. nothing;
+  }
 
   -- What the first gives is what the second takes.
   unfoldable pub chained_layout : Layout Code → Layout Code → Layout Code
   chained_layout a b = record {
     codes = a.codes ++ b.codes;
-    sources = λ first before. a.sources first before ++ b.sources (first + length a.codes) (a.outlet first);
+    sources = λ first before. a.sources first before
+        ++ b.sources (first + length a.codes) (a.outlet first);
     outlet = λ first. b.outlet (first + length a.codes);
   }
 
@@ -75,28 +84,36 @@ module _ {Code : Type 0} where
   unfoldable pub beside_layout : Layout Code → Layout Code → Layout Code
   beside_layout a b = record {
     codes = a.codes ++ b.codes;
-    sources = λ first before. a.sources first (source_at_0 (before 0)) ++ b.sources (first + length a.codes) (λ port. before (suc port));
+    sources = λ first before. a.sources first (source_at_0 (before 0))
+        ++ b.sources (first + length a.codes) (λ port. before (suc port));
     outlet = λ first. prepend (a.outlet first 0) (b.outlet (first + length a.codes));
   }
 
-  -- What leaves the body at port 1 comes back, through the loop and after the enqueued items, at the body's port 1.
+  -- What leaves the body at port 1 comes back, through the loop and after the enqueued items, at
+  -- the body's port 1.
   unfoldable pub fed_back_layout : Layout Code → Layout Code → List ℤ → Layout Code
   fed_back_layout body loop enqueued = record {
     codes = body.codes ++ loop.codes;
     sources = λ first before.
         let second = first + length body.codes in
-        body.sources first (prepend (before 0) (source_at_0 (delayed enqueued (loop.outlet second 0)))) ++ loop.sources second (source_at_0 (body.outlet first 1));
+        body.sources first (prepend (before 0)
+        (source_at_0 (delayed enqueued (loop.outlet second 0))))
+        ++ loop.sources second (source_at_0 (body.outlet first 1));
     outlet = λ first. source_at_0 (body.outlet first 0);
   }
 
 unfoldable mutual
   pub layout : {Code : Type 0} → Stream Code → Layout Code
   layout (One code) = node_layout code
-  layout (Reader code) = record (node_layout code) { sources = λ first before. source_at_0 (record { enqueued = []; origin = Input }) ∷ [] }
+  layout (Reader code) = record (node_layout code)
+      { sources = λ first before. source_at_0 (record { enqueued = []; origin = Input }) ∷ [] }
   layout (Pipeline streams) = pipeline_layout streams
-  layout (SplitJoin splitter streams joiner) = chained_layout (maybe_layout splitter) (chained_layout (branch_layout streams) (maybe_layout joiner))
+  layout (SplitJoin splitter streams joiner) =
+      chained_layout (maybe_layout splitter)
+      (chained_layout (branch_layout streams) (maybe_layout joiner))
   layout (FeedbackLoop joiner body splitter loop enqueued) =
-      fed_back_layout (chained_layout (node_layout joiner) (chained_layout (layout body) (node_layout splitter))) (layout loop) enqueued
+      fed_back_layout (chained_layout (node_layout joiner)
+      (chained_layout (layout body) (node_layout splitter))) (layout loop) enqueued
 
   pub pipeline_layout : {Code : Type 0} → Streams Code → Layout Code
   pipeline_layout (Last stream) = layout stream
@@ -119,8 +136,9 @@ unfoldable mutual
   any_code_of (Last stream) = any_code stream
   any_code_of (More stream streams) = any_code stream
 
--- The flat graph of a stream that takes nothing from outside: its nodes in preorder, in a split-join the splitter, the children, the
--- joiner, in a feedback loop the joiner, body, splitter, loop.
+-- The flat graph of a stream that takes nothing from outside: its nodes in preorder, in a
+-- split-join the splitter, the children, the joiner, in a feedback loop the joiner, body, splitter,
+-- loop.
 unfoldable pub flat : {Code : Type 0} → Stream Code → Graph Code
 flat stream = record {
   size = length (layout stream).codes;
@@ -135,8 +153,8 @@ pub record Solution : Type 0 where
   pub taken : List ByPort
   pub given : ByPort
 
--- A part of a stream: the number of its nodes; from the number of its first node, how many items its firings push at an output port by
--- their rates, and its solution where these lists come in.
+-- A part of a stream: the number of its nodes; from the number of its first node, how many items
+-- its firings push at an output port by their rates, and its solution where these lists come in.
 pub record Part : Type 0 where
   pub size : ℕ
   pub most : ℕ → ℕ → ℕ
@@ -182,7 +200,8 @@ module _ (body loop : Part) (enqueued : List ℤ) (first : ℕ) (lists : ByPort)
   unfoldable pub turn : List ℤ → List ℤ
   turn back = enqueued ++ (back_of back).given 0
 
-  -- The list that comes back begins as the enqueued items and is put anew once more than it can have items, so that it grows no longer.
+  -- The list that comes back begins as the enqueued items and is put anew once more than it can
+  -- have items, so that it grows no longer.
   unfoldable pub loop_solution : List ℤ
   loop_solution = iterate (suc (length enqueued + loop.most (first + body.size) 0)) turn enqueued
 
@@ -191,26 +210,39 @@ fed_back body loop enqueued = record {
   size = body.size + loop.size;
   most = λ first. prepend (body.most first 0) (λ port. 0);
   solve = λ first lists.
-      let x = around body loop enqueued first lists (loop_solution body loop enqueued first lists) in
-      let y = back_of body loop enqueued first lists (loop_solution body loop enqueued first lists) in
+      let x = around body loop enqueued first lists
+      (loop_solution body loop enqueued first lists) in
+      let y = back_of body loop enqueued first lists
+      (loop_solution body loop enqueued first lists) in
       record { taken = x.taken ++ y.taken; given = at_port_0 (x.given 0) };
 }
 
 -- A splitter or joiner that isn't there: nothing passes.
 unfoldable pub no_part : Part
-no_part = record { size = 0; most = λ first port. 0; solve = λ first lists. record { taken = []; given = λ port. [] } }
+no_part = record {
+  size = 0;
+  most = λ first port. 0;
+  solve =
+      λ first lists. record { taken = []; given = λ port. [] };
+}
 
-module _ {Code State Cause Word : Type 0} (meaning : Meaning Code State Cause Word) (counts : ℕ → ℕ) (input : List ℤ) where
+module _ {Code State Cause Word : Type 0} (meaning : Meaning Code State Cause Word) (counts : ℕ → ℕ)
+    (input : List ℤ) where
   unfoldable pub node_part : Code → Part
   node_part code = record {
     size = 1;
     most = λ first. total (meaning.pushed code) (counts first);
-    solve = λ first lists. record { taken = lists ∷ []; given = (runs meaning code (counts first) lists).pushes };
+    solve = λ first lists. record {
+      taken = lists ∷ [];
+      given =
+          (runs meaning code (counts first) lists).pushes;
+    };
   }
 
   -- A node that takes the program's input, whatever comes in.
   unfoldable pub reader_part : Code → Part
-  reader_part code = record (node_part code) { solve = λ first lists. (node_part code).solve first (at_port_0 input) }
+  reader_part code = record (node_part code)
+      { solve = λ first lists. (node_part code).solve first (at_port_0 input) }
 
   unfoldable pub maybe_part : Option Code → Part
   maybe_part (Some code) = node_part code
@@ -221,9 +253,11 @@ module _ {Code State Cause Word : Type 0} (meaning : Meaning Code State Cause Wo
     part (One code) = node_part code
     part (Reader code) = reader_part code
     part (Pipeline streams) = pipeline_part streams
-    part (SplitJoin splitter streams joiner) = chained (maybe_part splitter) (chained (branch_part streams) (maybe_part joiner))
+    part (SplitJoin splitter streams joiner) =
+        chained (maybe_part splitter) (chained (branch_part streams) (maybe_part joiner))
     part (FeedbackLoop joiner body splitter loop enqueued) =
-        fed_back (chained (node_part joiner) (chained (part body) (node_part splitter))) (part loop) enqueued
+        fed_back (chained (node_part joiner) (chained (part body) (node_part splitter)))
+        (part loop) enqueued
 
     pub pipeline_part : Streams Code → Part
     pipeline_part (Last stream) = part stream
@@ -233,6 +267,7 @@ module _ {Code State Cause Word : Type 0} (meaning : Meaning Code State Cause Wo
     branch_part (Last stream) = beside (part stream) no_part
     branch_part (More stream streams) = beside (part stream) (branch_part streams)
 
-  -- The solution of a stream that takes nothing from outside: each node's inputs, by the node's number of firings.
+  -- The solution of a stream that takes nothing from outside: each node's inputs, by the node's
+  -- number of firings.
   unfoldable pub solution : Stream Code → ℕ → ByPort
   solution stream node = get_or ((part stream).solve 0 (λ port. [])).taken node (λ port. [])

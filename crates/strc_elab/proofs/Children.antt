@@ -21,18 +21,27 @@ listed_chain [] = refl
 listed_chain (first ∷ rest) = ap (λ (l : List tree.Member). first ∷ l) (listed_chain rest)
 
 -- an anonymous filter's text is that of its members
-pub filter_child : (setting : Setting) (names : TypedNames) (types : StreamType) (members : Vec Member Global) (progress : Progress)
+pub filter_child : (setting : Setting) (names : TypedNames) (types : StreamType)
+    (members : Vec Member Global) (progress : Progress)
     → child_run setting names (child_view (Filter types members)) progress
-    ≡ found_run setting (Ok (unnamed_found setting names (FilterText None (filter_parts types.input types.output members.items)) progress.store)) progress
+    ≡ found_run setting (Ok (unnamed_found setting names
+    (FilterText None (filter_parts types.input types.output members.items)) progress.store))
+    progress
 filter_child setting names types members progress =
     ap (λ child. child_run setting names child progress) (child_view_filter types members)
-    ∙ ap (λ (l : List tree.Member). found_run setting (Ok (unnamed_found setting names (FilterText None (record { input = types.input; output = types.output; members = l })) progress.store)) progress)
+    ∙ ap (λ (l : List tree.Member). found_run setting
+    (Ok (unnamed_found setting names (FilterText None
+    (record { input = types.input; output = types.output; members = l })) progress.store))
+    progress)
     (listed_chain (map member_view members.items))
 
 -- an anonymous composite stream's text is that of its block
-pub composite_child : (setting : Setting) (names : TypedNames) (written : Option StreamType) (kind : CompositeKind) (block : Vec Stmt Global) (progress : Progress)
+pub composite_child : (setting : Setting) (names : TypedNames) (written : Option StreamType)
+    (kind : CompositeKind) (block : Vec Stmt Global) (progress : Progress)
     → child_run setting names (child_view (Composite written kind block)) progress
-    ≡ found_run setting (Ok (unnamed_found setting names (CompositeText written kind (block_view block.items)) progress.store)) progress
+    ≡ found_run setting (Ok (unnamed_found setting names
+    (CompositeText written kind (block_view block.items)) progress.store)) progress
 composite_child setting names written kind block progress =
     ap (λ child. child_run setting names child progress) (child_view_composite written kind block)
-    ∙ ap (λ body. found_run setting (Ok (unnamed_found setting names (CompositeText written kind body) progress.store)) progress) (sym (row_of_views block.items))
+    ∙ ap (λ body. found_run setting (Ok (unnamed_found setting names
+    (CompositeText written kind body) progress.store)) progress) (sym (row_of_views block.items))

@@ -1,5 +1,6 @@
 -- What the examples mean, by computing it.
-use Rattle.std.proofs.Common.{◌≡◌, ◌+◌, ℕ, zero, suc, Bool, true, false, cond, [], length, Some, Result, Ok, Err, nat_lt, refl, ap}
+use Rattle.std.proofs.Common.{◌≡◌, ◌+◌, ℕ, zero, suc, Bool, true, false, cond, [], length, Some}
+use Rattle.std.proofs.Common.{Result, Ok, Err, nat_lt, refl, ap}
 use Rattle.std.specs.Int.{int_wrap}
 use Rattle.strc_base.specs.Results.{result_and_then}
 use Rattle.strc_syntax.specs.Tree as tree
@@ -9,9 +10,12 @@ use Rattle.strc_semantics.specs.Firing.{turn_limit}
 use Rattle.strc_check.specs.Typing.{TypedNames}
 use Rattle.strc_semantics.specs.declared.fault.Cause.TheVariants.{Turns}
 use Rattle.strc_scope.specs.Statements.{computed}
-use Rattle.strc_elab.specs.Elaboration.{Setting, Progress, condition_evaluated, inside, looped, stmt_run, stmts_run, stream_elaborated, initial_progress, pipeline_elaborated, level_limit, filter_limit}
+use Rattle.strc_elab.specs.Elaboration.{Setting, Progress, condition_evaluated, inside, looped}
+use Rattle.strc_elab.specs.Elaboration.{stmt_run, stmts_run, stream_elaborated, initial_progress}
+use Rattle.strc_elab.specs.Elaboration.{pipeline_elaborated, level_limit, filter_limit}
 use Rattle.strc_elab.specs.Instances.{Stream}
-use Rattle.strc_elab.specs.Examples.{RecursionRow, EndlessRow, LoopRow, EndlessLoopRow, endless_loop, both_added, block}
+use Rattle.strc_elab.specs.Examples.{RecursionRow, EndlessRow, LoopRow, EndlessLoopRow}
+use Rattle.strc_elab.specs.Examples.{endless_loop, both_added, block}
 use Rattle.strc_scope.specs.declared.error.ElabError.{ElabError}
 use Rattle.strc_scope.specs.declared.error.ElabError.TheVariants.{ConstFault}
 
@@ -28,11 +32,13 @@ unfolding level_limit filter_limit turn_limit int_wrap
 loop_is = refl
 
 -- a turn is too many, or the next ones make too many
-turn_by_value : (within : Bool) (progress : Progress) (next : Progress → Result Progress ElabError) → ((turning : Progress) → next turning ≡ Err (ConstFault Turns))
+turn_by_value : (within : Bool) (progress : Progress) (next : Progress → Result Progress ElabError)
+    → ((turning : Progress) → next turning ≡ Err (ConstFault Turns))
     → result_and_then
     (result_and_then
     (computed
-    (result_and_then (cond within (Ok (record progress.store.traffic { turns = progress.store.traffic.turns + 1 })) (Err Turns)) (λ traffic.
+    (result_and_then (cond within (Ok (record progress.store.traffic
+    { turns = progress.store.traffic.turns + 1 })) (Err Turns)) (λ traffic.
     Ok (record progress.store { traffic = traffic }))))
     (λ store. Ok (record progress { store = store })))
     next
@@ -42,22 +48,35 @@ turn_by_value false progress next fails = refl
 
 -- a loop whose condition always holds, and which does nothing, makes too many turns
 turns_run_out : (fuel : ℕ) (setting : Setting) (names : TypedNames) (progress : Progress)
-    → looped fuel (condition_evaluated setting names (Some (tree.Truth true))) (inside (stmt_run setting names (length names) tree.Empty)) progress ≡ Err (ConstFault Turns)
+    → looped fuel (condition_evaluated setting names (Some (tree.Truth true)))
+    (inside (stmt_run setting names (length names) tree.Empty)) progress ≡ Err (ConstFault Turns)
 turns_run_out zero setting names progress = refl
 turns_run_out (suc fuel) setting names progress =
     turn_by_value (nat_lt progress.store.traffic.turns turn_limit) progress
-    (λ turning. result_and_then (inside (stmt_run setting names (length names) tree.Empty) turning) (looped fuel (condition_evaluated setting names (Some (tree.Truth true))) (inside (stmt_run setting names (length names) tree.Empty))))
+    (λ turning. result_and_then (inside (stmt_run setting names (length names) tree.Empty) turning)
+    (looped fuel (condition_evaluated setting names (Some (tree.Truth true)))
+    (inside (stmt_run setting names (length names) tree.Empty))))
     (λ turning. turns_run_out fuel setting names _)
 
 -- where the main stream's body stands
 abbrev main_setting : Setting
-main_setting = record { program = endless_loop; place = record { declaration = 4; constants = [] }; elaborate = stream_elaborated endless_loop 63 }
+main_setting = record {
+  program = endless_loop;
+  place =
+      record { declaration = 4; constants = [] };
+  elaborate = stream_elaborated endless_loop 63;
+}
 
 -- the main stream, from its first statement on
 abbrev main_after : Result Progress ElabError → Result Stream ElabError
 main_after first =
-    result_and_then (result_and_then (result_and_then first (stmts_run main_setting [] 0 (block both_added))) (λ progress. pipeline_elaborated 4 (Some (record { input = Void; output = Void })) progress.types progress)) (λ made. Ok made.stream)
+    result_and_then (result_and_then (result_and_then first
+    (stmts_run main_setting [] 0 (block both_added)))
+    (λ progress. pipeline_elaborated 4
+    (Some (record { input = Void; output = Void })) progress.types progress))
+    (λ made. Ok made.stream)
 
 pub endless_loop_is : EndlessLoopRow
 unfolding level_limit
-endless_loop_is = ap main_after (turns_run_out (suc turn_limit) main_setting [] (initial_progress (record { turns = 0; filters = 0 })))
+endless_loop_is = ap main_after (turns_run_out (suc turn_limit) main_setting []
+    (initial_progress (record { turns = 0; filters = 0 })))

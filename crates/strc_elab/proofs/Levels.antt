@@ -1,29 +1,52 @@
 -- Streams in one another, level by level.
 use Rattle.std.proofs.Common.{◌≡◌, ℕ, zero, suc, ◌-◌, List, [], refl, ap, ◌∙◌, arith}
 use Rattle.strc_syntax.specs.Tree.{Declaration}
-use Rattle.strc_elab.specs.Elaboration.{Tally, text_elaborated, stream_elaborated, main_elaborated, level_limit}
+use Rattle.strc_elab.specs.Elaboration.{Tally, text_elaborated, stream_elaborated, main_elaborated}
+use Rattle.strc_elab.specs.Elaboration.{level_limit}
 use Rattle.strc_scope.specs.Texts.{Constants, Place, Text, text_of}
 
 -- a stream that may have a level is what its text makes of the streams of the levels below
-pub stream_elaborated-level : (program : List Declaration) (levels : ℕ) (place : Place) (text : Text) (tally : Tally) → (levels ≡ 0 → ⊥)
-    → stream_elaborated program levels place text tally ≡ text_elaborated (record { program = program; place = place; elaborate = stream_elaborated program (levels - 1) }) text tally
+pub stream_elaborated-level : (program : List Declaration) (levels : ℕ) (place : Place)
+    (text : Text) (tally : Tally) → (levels ≡ 0 → ⊥)
+    → stream_elaborated program levels place text tally
+    ≡ text_elaborated (record {
+      program = program;
+      place = place;
+      elaborate =
+          stream_elaborated program (levels - 1);
+    }) text tally
 stream_elaborated-level program zero place text tally some = absurd (some refl)
 stream_elaborated-level program (suc levels) place text tally some =
     let below : levels ≡ suc levels - 1 = omega arith in
-    ap (λ n. text_elaborated (record { program = program; place = place; elaborate = stream_elaborated program n }) text tally) below
+    ap (λ n. text_elaborated (record {
+      program = program;
+      place = place;
+      elaborate =
+          stream_elaborated program n;
+    }) text tally) below
 
 -- a stream without a level isn't made
-pub stream_elaborated-none : (program : List Declaration) (levels : ℕ) (place : Place) (text : Text) (tally : Tally) → levels ≡ 0 → stream_elaborated program levels place text tally ≡ stream_elaborated program 0 place text tally
-stream_elaborated-none program levels place text tally none = ap (λ n. stream_elaborated program n place text tally) none
+pub stream_elaborated-none : (program : List Declaration) (levels : ℕ) (place : Place) (text : Text)
+    (tally : Tally) → levels ≡ 0 → stream_elaborated program levels place text tally
+    ≡ stream_elaborated program 0 place text tally
+stream_elaborated-none program levels place text tally none =
+    ap (λ n. stream_elaborated program n place text tally) none
 
 level_limit_is : 64 ≡ level_limit
 unfolding level_limit
 level_limit_is = refl
 
 -- the main stream stands at the first level, and sees no constants
-pub main_elaborated-task : (program : List Declaration) (found : ℕ × Declaration) (constants : Constants) (text : Text) → constants ≡ [] → text ≡ text_of found.1.name found.1.stream
-    → stream_elaborated program 64 (record { declaration = found.0; constants = constants }) text (record { turns = 0; filters = 0 }) ≡ main_elaborated program found
+pub main_elaborated-task : (program : List Declaration) (found : ℕ × Declaration)
+    (constants : Constants) (text : Text) → constants ≡ []
+    → text ≡ text_of found.1.name found.1.stream
+    → stream_elaborated program 64 (record { declaration = found.0; constants = constants }) text
+    (record { turns = 0; filters = 0 }) ≡ main_elaborated program found
 main_elaborated-task program found constants text none is =
-    ap (λ n. stream_elaborated program n (record { declaration = found.0; constants = constants }) text (record { turns = 0; filters = 0 })) level_limit_is
-    ∙ ap (λ c. stream_elaborated program level_limit (record { declaration = found.0; constants = c }) text (record { turns = 0; filters = 0 })) none
-    ∙ ap (λ t. stream_elaborated program level_limit (record { declaration = found.0; constants = [] }) t (record { turns = 0; filters = 0 })) is
+    ap (λ n. stream_elaborated program n (record { declaration = found.0; constants = constants })
+    text (record { turns = 0; filters = 0 })) level_limit_is
+    ∙ ap (λ c. stream_elaborated program level_limit
+    (record { declaration = found.0; constants = c }) text (record { turns = 0; filters = 0 }))
+    none
+    ∙ ap (λ t. stream_elaborated program level_limit
+    (record { declaration = found.0; constants = [] }) t (record { turns = 0; filters = 0 })) is

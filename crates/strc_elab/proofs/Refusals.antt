@@ -6,7 +6,8 @@ use Rattle.strc_scope.specs.declared.error.ElabError.{ElabError}
 use Rattle.strc_scope.specs.declared.error.ElabError.TheVariants as refused
 
 -- where one judgement refuses as another does, a refusal of the other is one of it
-pub refused_as : {A B : Type 0} (r : Result A ElabError) (s : Result B ElabError) (e : ElabError) → (r ≡ Err e → s ≡ Err e) → IsRefusal r e → IsRefusal s e
+pub refused_as : {A B : Type 0} (r : Result A ElabError) (s : Result B ElabError) (e : ElabError)
+    → (r ≡ Err e → s ≡ Err e) → IsRefusal r e → IsRefusal s e
 refused_as r s refused.NotYet carry h = carry h
 refused_as r s (refused.UnknownName name) carry h = carry h
 refused_as r s (refused.TypeMismatch stream) carry h = carry h
@@ -22,17 +23,23 @@ refused_as r s refused.Disconnected carry h = carry h
 refused_as r s refused.NoMemory carry h = tt
 
 -- equal judgements have the same refusals
-pub refused_same : {A : Type 0} (r s : Result A ElabError) (e : ElabError) → s ≡ r → IsRefusal r e → IsRefusal s e
+pub refused_same : {A : Type 0} (r s : Result A ElabError) (e : ElabError) → s ≡ r → IsRefusal r e
+    → IsRefusal s e
 refused_same r s e same h = refused_as r s e (λ is. same ∙ is) h
 
 -- the first of two steps is refused
-pub first_refused : {A B : Type 0} (r : Result A ElabError) (go : A → Result B ElabError) (e : ElabError) → IsRefusal r e → IsRefusal (result_and_then r go) e
-first_refused r go e h = refused_as r (result_and_then r go) e (λ is. ap (λ x. result_and_then x go) is) h
+pub first_refused : {A B : Type 0} (r : Result A ElabError) (go : A → Result B ElabError)
+    (e : ElabError) → IsRefusal r e → IsRefusal (result_and_then r go) e
+first_refused r go e h = refused_as r (result_and_then r go) e
+    (λ is. ap (λ x. result_and_then x go) is) h
 
 -- the second of two steps is refused
-pub second_refused : {A B : Type 0} (r : Result A ElabError) (go : A → Result B ElabError) (x : A) (e : ElabError) → r ≡ Ok x → IsRefusal (go x) e → IsRefusal (result_and_then r go) e
-second_refused r go x e is h = refused_same (go x) (result_and_then r go) e (ap (λ y. result_and_then y go) is) h
+pub second_refused : {A B : Type 0} (r : Result A ElabError) (go : A → Result B ElabError) (x : A)
+    (e : ElabError) → r ≡ Ok x → IsRefusal (go x) e → IsRefusal (result_and_then r go) e
+second_refused r go x e is h = refused_same (go x) (result_and_then r go) e
+    (ap (λ y. result_and_then y go) is) h
 
 -- both of two steps are done
-pub both_done : {A B : Type 0} (r : Result A ElabError) (go : A → Result B ElabError) (x : A) (y : B) → r ≡ Ok x → go x ≡ Ok y → result_and_then r go ≡ Ok y
+pub both_done : {A B : Type 0} (r : Result A ElabError) (go : A → Result B ElabError) (x : A)
+    (y : B) → r ≡ Ok x → go x ≡ Ok y → result_and_then r go ≡ Ok y
 both_done r go x y is next = ap (λ z. result_and_then z go) is ∙ next

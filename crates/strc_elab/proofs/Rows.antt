@@ -1,5 +1,6 @@
 -- The flat graph of a stream as nodes in a row.
-use Rattle.std.proofs.Common.{◌≡◌, ℕ, zero, suc, ◌+◌, ◌<◌, ◌≤◌, false, List, [], ◌∷◌, ◌++◌, length, get_or, slice_get, refl, sym, ap, ◌∙◌, arith}
+use Rattle.std.proofs.Common.{◌≡◌, ℕ, zero, suc, ◌+◌, ◌<◌, ◌≤◌, false, List, [], ◌∷◌, ◌++◌, length}
+use Rattle.std.proofs.Common.{get_or, slice_get, refl, sym, ap, ◌∙◌, arith}
 use Rattle.std.specs.List.{AllByRecursion}
 use Rattle.std.specs.Option.{option_map_or}
 use Rattle.std.proofs.lemmas.Bool.{lt-ltb}
@@ -14,20 +15,24 @@ use Rattle.strc_graph.specs.Graphs.{NodeCode, ports_of, input_ports, output_port
 use Rattle.strc_graph.specs.Graphs.{inputs_at, outputs_at}
 use Rattle.strc_graph.proofs.Carriers.{CarriesAll}
 use Rattle.strc_elab.specs.Flattening.{tree_of, nodes_of, row_nodes, codes_of, meaning_of}
-use Rattle.strc_elab.proofs.Chains.{items_from, row_sources, stream_is_row, row_sources-head, row_sources-at, length-row_sources}
+use Rattle.strc_elab.proofs.Chains.{items_from, row_sources, stream_is_row, row_sources-head}
+use Rattle.strc_elab.proofs.Chains.{row_sources-at, length-row_sources}
 
 -- a graph's nodes stand in a row
 pub record IsRowGraph (graph : flats.Graph NodeCode) (nodes : List NodeCode) : Type 0 where
   pub size : graph.size ≡ length nodes
-  pub inputs : (node : ℕ) → node < length nodes → inputs_at nodes node ≡ input_ports (graph.code node)
-  pub outputs : (node : ℕ) → node < length nodes → outputs_at nodes node ≡ output_ports (graph.code node)
+  pub inputs : (node : ℕ) → node < length nodes
+      → inputs_at nodes node ≡ input_ports (graph.code node)
+  pub outputs : (node : ℕ) → node < length nodes
+      → outputs_at nodes node ≡ output_ports (graph.code node)
   pub takes : (node port : ℕ) → node < length nodes
       → takes_at nodes node port ≡ carries_in (graph.code node) port
   pub gives : (node port : ℕ) → node < length nodes
       → gives_at nodes node port ≡ carries_out (graph.code node) port
   pub carries : AllByRecursion CarriesAll nodes
   pub head : (port : ℕ) → graph.source 0 port ≡ nothing
-  pub links : (node port : ℕ) → suc node < length nodes → graph.source (suc node) port ≡ items_from node port
+  pub links : (node port : ℕ) → suc node < length nodes
+      → graph.source (suc node) port ≡ items_from node port
   pub past : (node port : ℕ) → length nodes ≤ node → graph.source node port ≡ nothing
 
 captures_at : {A : Type 0} (view : NodeCode → A) (none : A) (nodes : List NodeCode) (node : ℕ)
@@ -77,20 +82,27 @@ abbrev pub no_sources : ℕ → Source
 no_sources port = nothing
 
 -- the sources of a well-typed stream's flat graph
-at_node : (stream : Stream) → IsWellTyped stream → (node port : ℕ) → (meaning_of stream).source node port ≡ get_or (row_sources 0 no_sources (nodes_of stream)) node no_sources port
+at_node : (stream : Stream) → IsWellTyped stream → (node port : ℕ)
+    → (meaning_of stream).source node port
+    ≡ get_or (row_sources 0 no_sources (nodes_of stream)) node no_sources port
 unfolding flat
-at_node stream typed node port = ap (λ (l : List (ℕ → Source)). get_or l node no_sources port) ((stream_is_row stream typed).sources 0 no_sources)
+at_node stream typed node port = ap (λ (l : List (ℕ → Source)). get_or l node no_sources port)
+    ((stream_is_row stream typed).sources 0 no_sources)
 
-code_at : (stream : Stream) → IsWellTyped stream → (node : ℕ) → (meaning_of stream).code node ≡ get_or (nodes_of stream) node (any_code (tree_of stream))
+code_at : (stream : Stream) → IsWellTyped stream → (node : ℕ)
+    → (meaning_of stream).code node ≡ get_or (nodes_of stream) node (any_code (tree_of stream))
 unfolding flat
-code_at stream typed node = ap (λ l. get_or l node (any_code (tree_of stream))) (stream_is_row stream typed).codes
+code_at stream typed node = ap (λ l. get_or l node (any_code (tree_of stream)))
+    (stream_is_row stream typed).codes
 
-size_is : (stream : Stream) → IsWellTyped stream → (meaning_of stream).size ≡ length (nodes_of stream)
+size_is : (stream : Stream) → IsWellTyped stream
+    → (meaning_of stream).size ≡ length (nodes_of stream)
 unfolding flat
 size_is stream typed = ap length (stream_is_row stream typed).codes
 
 -- a well-typed stream's flat graph has its nodes in a row
-pub meaning_is_row : (stream : Stream) → IsWellTyped stream → IsRowGraph (meaning_of stream) (nodes_of stream)
+pub meaning_is_row : (stream : Stream) → IsWellTyped stream
+    → IsRowGraph (meaning_of stream) (nodes_of stream)
 meaning_is_row stream typed = record {
   size = size_is stream typed;
   inputs = λ node less. at input_ports 0 node less;
@@ -98,9 +110,15 @@ meaning_is_row stream typed = record {
   takes = λ node port less. at (λ code. carries_in code port) false node less;
   gives = λ node port less. at (λ code. carries_out code port) false node less;
   carries = nodes_carry stream;
-  head = λ port. at_node stream typed 0 port ∙ ap (λ (s : ℕ → Source). s port) (row_sources-head (nodes_of stream) 0 no_sources);
-  links = λ node port less. at_node stream typed (suc node) port ∙ ap (λ (s : ℕ → Source). s port) (row_sources-at (nodes_of stream) 0 node no_sources no_sources less) ∙ ap (λ n. items_from n port) (zero_first node);
-  past = λ node port above. at_node stream typed node port ∙ ap (λ (s : ℕ → Source). s port) (get_or_past (row_sources 0 no_sources (nodes_of stream)) node no_sources (far node above));
+  head = λ port. at_node stream typed 0 port
+      ∙ ap (λ (s : ℕ → Source). s port) (row_sources-head (nodes_of stream) 0 no_sources);
+  links = λ node port less. at_node stream typed (suc node) port
+      ∙ ap (λ (s : ℕ → Source). s port) (row_sources-at
+      (nodes_of stream) 0 node no_sources no_sources less)
+      ∙ ap (λ n. items_from n port) (zero_first node);
+  past = λ node port above. at_node stream typed node port
+      ∙ ap (λ (s : ℕ → Source). s port) (get_or_past
+      (row_sources 0 no_sources (nodes_of stream)) node no_sources (far node above));
 }
   where
     at : {A : Type 0} (view : NodeCode → A) (none : A) (node : ℕ) → node < length (nodes_of stream)
@@ -113,5 +131,6 @@ meaning_is_row stream typed = record {
     zero_first : (node : ℕ) → 0 + node ≡ node
     zero_first node = omega arith
 
-    far : (node : ℕ) → length (nodes_of stream) ≤ node → length (row_sources 0 no_sources (nodes_of stream)) ≤ node
+    far : (node : ℕ) → length (nodes_of stream) ≤ node
+        → length (row_sources 0 no_sources (nodes_of stream)) ≤ node
     far node above = omega (arith, above, length-row_sources (nodes_of stream) 0 no_sources)

@@ -9,14 +9,16 @@ unfolding filter_limit
 filter_limit_is = refl
 
 -- a filter within the limit is counted
-pub one_more-under : (tally : Tally) → tally.filters < 4096 → one_more tally (λ t. Ok t) ≡ Ok (record tally { filters = tally.filters + 1 })
+pub one_more-under : (tally : Tally) → tally.filters < 4096
+    → one_more tally (λ t. Ok t) ≡ Ok (record tally { filters = tally.filters + 1 })
 one_more-under tally below =
     let lt : tally.filters < filter_limit = omega (arith, filter_limit_is) in
     let e : nat_lt tally.filters filter_limit ≡ true = lt-ltb tally.filters filter_limit lt in
     rw e refl
 
 -- a filter past the limit is refused
-pub one_more-over : (tally : Tally) → 4096 ≤ tally.filters → one_more {A = Tally} tally (λ t. Ok t) ≡ Err NodeLimit
+pub one_more-over : (tally : Tally) → 4096 ≤ tally.filters
+    → one_more {A = Tally} tally (λ t. Ok t) ≡ Err NodeLimit
 one_more-over tally above =
     let ge : filter_limit ≤ tally.filters = omega (arith, filter_limit_is) in
     let e : nat_lt tally.filters filter_limit ≡ false = le-ltb tally.filters filter_limit ge in

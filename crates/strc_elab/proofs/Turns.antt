@@ -11,15 +11,20 @@ turn_limit_is = refl
 
 -- a turn within the limit is counted
 pub turned_under : (store : Store) → store.traffic.turns < TURN_LIMIT
-    → turned store ≡ Ok (record store { traffic = record store.traffic { turns = store.traffic.turns + 1 } })
+    → turned store ≡ Ok (record store {
+      traffic =
+          record store.traffic { turns = store.traffic.turns + 1 };
+    })
 turned_under store below =
     let lt : store.traffic.turns < turn_limit = omega (arith, turn_limit_is) in
-    let e : nat_lt store.traffic.turns turn_limit ≡ true = lt-ltb store.traffic.turns turn_limit lt in
+    let e : nat_lt store.traffic.turns turn_limit ≡ true =
+    lt-ltb store.traffic.turns turn_limit lt in
     rw e refl
 
 -- a turn past the limit is a fault
 pub turned_over : (store : Store) → TURN_LIMIT ≤ store.traffic.turns → turned store ≡ Err Turns
 turned_over store above =
     let ge : turn_limit ≤ store.traffic.turns = omega (arith, turn_limit_is) in
-    let e : nat_lt store.traffic.turns turn_limit ≡ false = le-ltb store.traffic.turns turn_limit ge in
+    let e : nat_lt store.traffic.turns turn_limit ≡ false =
+    le-ltb store.traffic.turns turn_limit ge in
     rw e refl

@@ -19,16 +19,19 @@ progress_of progress = record {
 }
 
 -- an answer is the condition's value, with the body as far as it has run after it
-abbrev pub Tests : Result (ℤ × spec.Progress) ElabError → Result ℤ ElabError → spec.Progress → Type 0
+abbrev pub Tests : Result (ℤ × spec.Progress) ElabError → Result ℤ ElabError → spec.Progress
+    → Type 0
 Tests expected (Ok value) after = expected ≡ Ok (value, after)
 Tests expected (Err refusal) after = IsRefusal expected refusal
 
 -- an answer is the body as far as it has run
-abbrev pub Runs : Result spec.Progress ElabError → Result (Unit {0}) ElabError → spec.Progress → Type 0
+abbrev pub Runs : Result spec.Progress ElabError → Result (Unit {0}) ElabError → spec.Progress
+    → Type 0
 Runs expected (Ok done) after = expected ≡ Ok after
 Runs expected (Err refusal) after = IsRefusal expected refusal
 
 -- an answer is the constants that arguments are bound to, with the store after it
-abbrev pub Binds : Result (Constants × firing.Store) ElabError → Result Constants ElabError → firing.Store → Type 0
+abbrev pub Binds : Result (Constants × firing.Store) ElabError → Result Constants ElabError
+    → firing.Store → Type 0
 Binds expected (Ok bound) after = expected ≡ Ok (bound, after)
 Binds expected (Err refusal) after = IsRefusal expected refusal

@@ -1,6 +1,8 @@
--- Which stream of instances a program means: composite streams' bodies run, in order of execution, up to the first rule that is broken
--- (StreamIt specification 2.1, "Streams", "Pipelines").
-use Rattle.std.specs.Prelude.{ℕ, zero, suc, ◌+◌, ℤ, pos, Bool, true, false, ◌&&◌, not, nat_lt, nat_eq, List, [], ◌∷◌, ◌++◌, length, Option, Some, None, unwrap_or, Result, Ok, Err, if◌then◌else◌}
+-- Which stream of instances a program means: composite streams' bodies run, in order of execution,
+-- up to the first rule that is broken (StreamIt specification 2.1, "Streams", "Pipelines").
+use Rattle.std.specs.Prelude.{ℕ, zero, suc, ◌+◌, ℤ, pos, Bool, true, false, ◌&&◌, not, nat_lt}
+use Rattle.std.specs.Prelude.{nat_eq, List, [], ◌∷◌, ◌++◌, length, Option, Some, None, unwrap_or}
+use Rattle.std.specs.Prelude.{Result, Ok, Err, if◌then◌else◌}
 use Rattle.std.specs.List.{list_any}
 use Rattle.std.specs.Cmp.Lexicographic.{pointwise}
 use Rattle.strc_base.specs.Results.{result_and_then}
@@ -25,10 +27,13 @@ use Rattle.strc_semantics.specs.declared.fault.Cause.TheVariants as causes
 use Rattle.strc_check.specs.declared.types.ValueType.TheVariants as kind
 use Rattle.strc_elab.specs.Instances.{Stream, in_a_row}
 use Rattle.strc_elab.specs.Instances as instance
-use Rattle.strc_scope.specs.Texts.{Constants, Place, Text, FilterText, CompositeText, IdentityText, ReaderText, WriterText, anonymous, text_of, parameters_of, is_doubled, declared_from, captures}
+use Rattle.strc_scope.specs.Texts.{Constants, Place, Text, FilterText, CompositeText, IdentityText}
+use Rattle.strc_scope.specs.Texts.{ReaderText, WriterText, anonymous, text_of, parameters_of}
+use Rattle.strc_scope.specs.Texts.{is_doubled, declared_from, captures}
 use Rattle.strc_scope.specs.declared.error.ElabError.{ElabError}
 use Rattle.strc_scope.specs.declared.error.ElabError.TheVariants as refused
-use Rattle.strc_scope.specs.Statements.{ruled, computed, eval_checked, simple_done, declaration_done}
+use Rattle.strc_scope.specs.Statements.{ruled, computed, eval_checked, simple_done}
+use Rattle.strc_scope.specs.Statements.{declaration_done}
 
 -- goes on where a rule is kept
 abbrev pub where_kept : {A : Type 0} → Bool → ElabError → Result A ElabError → Result A ElabError
@@ -40,7 +45,8 @@ pub record Tally : Type 0 where
   pub turns : ℕ
   pub filters : ℕ
 
--- what the elaboration of a stream gives: its instances, what it takes and gives, and the tally after it
+-- what the elaboration of a stream gives: its instances, what it takes and gives, and the tally
+-- after it
 pub record Elaborated : Type 0 where
   pub stream : Stream
   pub types : StreamType
@@ -52,7 +58,8 @@ pub record Setting : Type 0 where
   pub place : Place
   pub elaborate : Place → Text → Tally → Result Elaborated ElabError
 
--- how far a body has run: its variables and the turns so far, its children with their type in a row, and how many filters there are
+-- how far a body has run: its variables and the turns so far, its children with their type in a
+-- row, and how many filters there are
 pub record Progress : Type 0 where
   pub store : Store
   pub children : List Stream
@@ -61,70 +68,98 @@ pub record Progress : Type 0 where
 
 -- a step of a body that works on its variables alone
 abbrev pub on_store : (Store → Result Store ElabError) → Progress → Result Progress ElabError
-on_store does progress = result_and_then (does progress.store) (λ store. Ok (record progress { store = store }))
+on_store does progress = result_and_then (does progress.store)
+    (λ store. Ok (record progress { store = store }))
 
 -- a condition, which holds where there is none
-abbrev pub condition_evaluated : Setting → TypedNames → Option tree.Expr → Progress → Result (ℤ × Progress) ElabError
+abbrev pub condition_evaluated : Setting → TypedNames → Option tree.Expr → Progress
+    → Result (ℤ × Progress) ElabError
 condition_evaluated setting names None progress = Ok (pos 1, progress)
 condition_evaluated setting names (Some condition) progress =
-    result_and_then (eval_checked setting.place names kind.Boolean condition progress.store) (λ test. Ok (test.0, record progress { store = test.1 }))
+    result_and_then (eval_checked setting.place names kind.Boolean condition progress.store)
+    (λ test. Ok (test.0, record progress { store = test.1 }))
 
 -- statements in a scope of their own
 abbrev pub inside : (Progress → Result Progress ElabError) → Progress → Result Progress ElabError
-inside runs progress = result_and_then (runs progress) (λ inner. Ok (record inner { store = block_left progress.store inner.store }))
+inside runs progress = result_and_then (runs progress)
+    (λ inner. Ok (record inner { store = block_left progress.store inner.store }))
 
 -- one more turn of a loop
 abbrev pub turned : Progress → Result Progress ElabError
-turned progress = result_and_then (computed (firing.turned progress.store)) (λ store. Ok (record progress { store = store }))
+turned progress = result_and_then (computed (firing.turned progress.store))
+    (λ store. Ok (record progress { store = store }))
 
 -- a loop: as long as the test holds, one more turn; `fuel` is more than the turns that there may be
-abbrev pub looped : (fuel : ℕ) → (test : Progress → Result (ℤ × Progress) ElabError) → (body : Progress → Result Progress ElabError) → Progress → Result Progress ElabError
+abbrev pub looped : (fuel : ℕ) → (test : Progress → Result (ℤ × Progress) ElabError)
+    → (body : Progress → Result Progress ElabError) → Progress → Result Progress ElabError
 looped zero test body progress = Err (refused.ConstFault causes.Turns)
 looped (suc fuel) test body progress =
     result_and_then (test progress) (λ tested.
     if is_true tested.0
-    then result_and_then (turned tested.1) (λ turning. result_and_then (body turning) (looped fuel test body))
+    then result_and_then (turned tested.1)
+    (λ turning. result_and_then (body turning) (looped fuel test body))
     else Ok tested.1)
 
 -- children
 
--- a child before it is elaborated: where its text stands, its text, and the store after its arguments
+-- a child before it is elaborated: where its text stands, its text, and the store after its
+-- arguments
 pub record Found : Type 0 where
   pub place : Place
   pub text : Text
   pub store : Store
 
 -- the arguments of a child, from left to right, bound to its parameters
-abbrev pub arguments_given : Setting → TypedNames → (parameters : List (List ℕ)) → List tree.Expr → Constants → Store → Result (Constants × Store) ElabError
+abbrev pub arguments_given : Setting → TypedNames → (parameters : List (List ℕ)) → List tree.Expr
+    → Constants → Store → Result (Constants × Store) ElabError
 arguments_given setting names [] arguments bound store = Ok (bound, store)
 arguments_given setting names (parameter ∷ parameters) [] bound store = Ok (bound, store)
 arguments_given setting names (parameter ∷ parameters) (argument ∷ arguments) bound store =
     result_and_then (eval_checked setting.place names kind.Int argument store) (λ value.
-    arguments_given setting names parameters arguments (record { 0 = parameter; 1 = value.0 } ∷ bound) value.1)
+    arguments_given setting names parameters arguments
+    (record { 0 = parameter; 1 = value.0 } ∷ bound) value.1)
 
--- a child by the name of its declaration: the name is known, each parameter has an argument, and no two parameters have one name
-abbrev pub named_found : Setting → TypedNames → List ℕ → Option (ℕ × Declaration) → List tree.Expr → Store → Result Found ElabError
+-- a child by the name of its declaration: the name is known, each parameter has an argument, and no
+-- two parameters have one name
+abbrev pub named_found : Setting → TypedNames → List ℕ → Option (ℕ × Declaration) → List tree.Expr
+    → Store → Result Found ElabError
 named_found setting names name None arguments store = Err (refused.UnknownName name)
 named_found setting names name (Some (number, declaration)) arguments store =
-    where_kept (nat_eq (length arguments) (length (parameters_of declaration))) (refused.BadArguments setting.place.declaration)
-    (result_and_then (arguments_given setting names (parameters_of declaration) arguments [] store) (λ bound.
+    where_kept (nat_eq (length arguments) (length (parameters_of declaration)))
+    (refused.BadArguments setting.place.declaration)
+    (result_and_then (arguments_given setting names (parameters_of declaration) arguments [] store)
+    (λ bound.
     where_kept (not (is_doubled (parameters_of declaration))) (refused.TypeMismatch number)
-    (Ok (record { place = record { declaration = number; constants = bound.0 }; text = text_of declaration.name declaration.stream; store = bound.1 }))))
+    (Ok (record {
+      place = record { declaration = number; constants = bound.0 };
+      text =
+          text_of declaration.name declaration.stream;
+      store = bound.1;
+    }))))
 
--- a child without a name: it stands in the same declaration, and sees the numbers of its surroundings
+-- a child without a name: it stands in the same declaration, and sees the numbers of its
+-- surroundings
 abbrev pub unnamed_found : Setting → TypedNames → Text → Store → Found
 unnamed_found setting names text store = record {
-  place = record { declaration = setting.place.declaration; constants = captures names store.variables setting.place.constants };
+  place = record {
+    declaration = setting.place.declaration;
+    constants =
+        captures names store.variables setting.place.constants;
+  };
   text = text;
   store = store;
 }
 
 abbrev pub child_found : Setting → TypedNames → tree.Child → Store → Result Found ElabError
 child_found setting names (tree.Named name arguments) store =
-    named_found setting names name (declared_from 0 setting.program name) (unwrap_or arguments []) store
-child_found setting names (tree.Identity brackets) store = Ok (unnamed_found setting names IdentityText store)
-child_found setting names (tree.FileReader text) store = Ok (unnamed_found setting names ReaderText store)
-child_found setting names (tree.FileWriter text) store = Ok (unnamed_found setting names WriterText store)
+    named_found setting names name (declared_from 0 setting.program name)
+    (unwrap_or arguments []) store
+child_found setting names (tree.Identity brackets) store =
+    Ok (unnamed_found setting names IdentityText store)
+child_found setting names (tree.FileReader text) store =
+    Ok (unnamed_found setting names ReaderText store)
+child_found setting names (tree.FileWriter text) store =
+    Ok (unnamed_found setting names WriterText store)
 child_found setting names (tree.AnonymousFilter types members) store =
     Ok (unnamed_found setting names (FilterText None (anonymous types members)) store)
 child_found setting names (tree.AnonymousComposite written kind block) store =
@@ -138,10 +173,12 @@ same_item item.Int item.Void = false
 same_item item.Void item.Int = false
 
 -- the type of a pipeline so far with one more child, which takes what the last one gives
-abbrev pub types_joined : (declaration : ℕ) → Option StreamType → StreamType → Result StreamType ElabError
+abbrev pub types_joined : (declaration : ℕ) → Option StreamType → StreamType
+    → Result StreamType ElabError
 types_joined declaration None next = Ok next
 types_joined declaration (Some before) next =
-    where_kept (same_item before.output next.input) (refused.TypeMismatch declaration) (Ok (record { input = before.input; output = next.output }))
+    where_kept (same_item before.output next.input) (refused.TypeMismatch declaration)
+    (Ok (record { input = before.input; output = next.output }))
 
 -- a pipeline with one more child
 abbrev pub child_added : Setting → Progress → Store → Elaborated → Result Progress ElabError
@@ -158,59 +195,77 @@ child_added setting progress store made =
 abbrev pub found_run : Setting → Result Found ElabError → Progress → Result Progress ElabError
 found_run setting outcome progress =
     result_and_then outcome (λ found.
-    result_and_then (setting.elaborate found.place found.text (record { turns = found.store.traffic.turns; filters = progress.filters })) (λ made.
+    result_and_then (setting.elaborate found.place found.text
+    (record { turns = found.store.traffic.turns; filters = progress.filters })) (λ made.
     child_added setting progress found.store made))
 
 -- a child of a pipeline, elaborated at the moment that its statement runs
 abbrev pub child_run : Setting → TypedNames → tree.Child → Progress → Result Progress ElabError
-child_run setting names child progress = found_run setting (child_found setting names child progress.store) progress
+child_run setting names child progress = found_run setting
+    (child_found setting names child progress.store) progress
 
 -- a stream statement in a pipeline, which has no other than `add`
 abbrev pub composed : Setting → TypedNames → tree.Composition → Progress → Result Progress ElabError
-composed setting names (tree.ChildOf role.Add child) progress = child_run setting names child progress
+composed setting names (tree.ChildOf role.Add child) progress =
+    child_run setting names child progress
 composed setting names _ progress = Err (refused.TypeMismatch setting.place.declaration)
 
 -- bodies
 
 abbrev mutual
-  -- a statement of a pipeline's body, among the names that can be seen, of which so many stand outside its block
-  pub stmt_run : Setting → TypedNames → (outer : ℕ) → tree.Stmt → Progress → Result Progress ElabError
+  -- a statement of a pipeline's body, among the names that can be seen, of which so many stand
+  -- outside its block
+  pub stmt_run : Setting → TypedNames → (outer : ℕ) → tree.Stmt → Progress
+      → Result Progress ElabError
   stmt_run setting names outer tree.Empty progress = Ok progress
-  stmt_run setting names outer (tree.Block body) progress = inside (stmts_run setting names (length names) body) progress
-  stmt_run setting names outer (tree.Declare kind variables) progress = on_store (declaration_done setting.place names outer kind variables) progress
-  stmt_run setting names outer (tree.Evaluate value) progress = on_store (simple_done setting.place names outer (tree.Evaluate value)) progress
+  stmt_run setting names outer (tree.Block body) progress =
+      inside (stmts_run setting names (length names) body) progress
+  stmt_run setting names outer (tree.Declare kind variables) progress =
+      on_store (declaration_done setting.place names outer kind variables) progress
+  stmt_run setting names outer (tree.Evaluate value) progress =
+      on_store (simple_done setting.place names outer (tree.Evaluate value)) progress
   stmt_run setting names outer (tree.Assign name operator value) progress =
       on_store (simple_done setting.place names outer (tree.Assign name operator value)) progress
   stmt_run setting names outer (tree.AssignElement name index operator value) progress =
-      on_store (simple_done setting.place names outer (tree.AssignElement name index operator value)) progress
+      on_store (simple_done setting.place names outer
+      (tree.AssignElement name index operator value)) progress
   stmt_run setting names outer (tree.If condition chosen) progress =
       result_and_then (condition_evaluated setting names (Some condition) progress) (λ test.
-      if is_true test.0 then inside (stmt_run setting names (length names) chosen) test.1 else Ok test.1)
+      if is_true test.0 then inside (stmt_run setting names (length names) chosen) test.1
+      else Ok test.1)
   stmt_run setting names outer (tree.IfElse condition chosen other) progress =
       result_and_then (condition_evaluated setting names (Some condition) progress) (λ test.
       if is_true test.0
       then inside (stmt_run setting names (length names) chosen) test.1
       else inside (stmt_run setting names (length names) other) test.1)
   stmt_run setting names outer (tree.While condition body) progress =
-      looped (suc turn_limit) (condition_evaluated setting names (Some condition)) (inside (stmt_run setting names (length names) body)) progress
+      looped (suc turn_limit) (condition_evaluated setting names (Some condition))
+      (inside (stmt_run setting names (length names) body)) progress
   stmt_run setting names outer (tree.For first condition step body) progress =
       inside (λ outside.
       result_and_then (stmt_run setting names (length names) first outside) (λ begun.
       looped (suc turn_limit) (condition_evaluated setting (names_after names first) condition)
       (λ turn.
-      result_and_then (inside (stmt_run setting (names_after names first) (length (names_after names first)) body) turn)
+      result_and_then (inside (stmt_run setting (names_after names first)
+      (length (names_after names first)) body) turn)
       (inside (stmt_run setting (names_after names first) (length (names_after names first)) step)))
       begun)) progress
-  stmt_run setting names outer (tree.Push value) progress = on_store (simple_done setting.place names outer (tree.Push value)) progress
-  stmt_run setting names outer (tree.Print value) progress = on_store (simple_done setting.place names outer (tree.Print value)) progress
-  stmt_run setting names outer (tree.Println value) progress = on_store (simple_done setting.place names outer (tree.Println value)) progress
-  stmt_run setting names outer (tree.Compose statement) progress = composed setting names statement progress
+  stmt_run setting names outer (tree.Push value) progress =
+      on_store (simple_done setting.place names outer (tree.Push value)) progress
+  stmt_run setting names outer (tree.Print value) progress =
+      on_store (simple_done setting.place names outer (tree.Print value)) progress
+  stmt_run setting names outer (tree.Println value) progress =
+      on_store (simple_done setting.place names outer (tree.Println value)) progress
+  stmt_run setting names outer (tree.Compose statement) progress =
+      composed setting names statement progress
 
   -- statements one after another, each among the names that are declared before it
-  pub stmts_run : Setting → TypedNames → (outer : ℕ) → tree.Stmts → Progress → Result Progress ElabError
+  pub stmts_run : Setting → TypedNames → (outer : ℕ) → tree.Stmts → Progress
+      → Result Progress ElabError
   stmts_run setting names outer tree.Done progress = Ok progress
   stmts_run setting names outer (tree.Then first rest) progress =
-      result_and_then (stmt_run setting names outer first progress) (stmts_run setting (names_after names first) outer rest)
+      result_and_then (stmt_run setting names outer first progress)
+      (stmts_run setting (names_after names first) outer rest)
 
 -- streams
 
@@ -224,17 +279,20 @@ level_limit = LEVEL_LIMIT
 
 -- one more filter, unless the limit is reached
 abbrev pub one_more : {A : Type 0} → Tally → (Tally → Result A ElabError) → Result A ElabError
-one_more tally go = where_kept (nat_lt tally.filters filter_limit) refused.NodeLimit (go (record tally { filters = tally.filters + 1 }))
+one_more tally go = where_kept (nat_lt tally.filters filter_limit) refused.NodeLimit
+    (go (record tally { filters = tally.filters + 1 }))
 
 -- a filter whose start doesn't fault
 abbrev pub started_as : {A : Type 0} → Filter → Result A Cause → Result Filter ElabError
 started_as filter (Ok fields) = Ok filter
 started_as filter (Err cause) = Err (refused.ConstFault cause)
 
--- an instance of a filter: its constants are put in, its text is checked, and then its initialisers and `init` run
+-- an instance of a filter: its constants are put in, its text is checked, and then its initialisers
+-- and `init` run
 abbrev pub instance_of : Place → Filter → Result Filter ElabError
 instance_of place filter =
-    result_and_then (ruled place.declaration (filter_resolved place.constants filter)) (λ resolved. started_as resolved (started resolved))
+    result_and_then (ruled place.declaration (filter_resolved place.constants filter))
+    (λ resolved. started_as resolved (started resolved))
 
 -- what a filter takes and gives
 abbrev pub filter_types : Filter → StreamType
@@ -243,7 +301,8 @@ filter_types filter = record { input = filter.input; output = filter.output }
 -- one type is the other, where one is written
 abbrev pub is_as_written : Option StreamType → StreamType → Bool
 is_as_written None found = true
-is_as_written (Some written) found = same_item written.input found.input && same_item written.output found.output
+is_as_written (Some written) found = same_item written.input found.input
+    && same_item written.output found.output
 
 -- a body before it runs
 abbrev pub initial_progress : Tally → Progress
@@ -255,7 +314,8 @@ initial_progress tally = record {
 }
 
 -- a pipeline whose body has run: it has a child, and its type is the written one
-abbrev pub pipeline_elaborated : (declaration : ℕ) → Option StreamType → Option StreamType → Progress → Result Elaborated ElabError
+abbrev pub pipeline_elaborated : (declaration : ℕ) → Option StreamType → Option StreamType
+    → Progress → Result Elaborated ElabError
 pipeline_elaborated declaration written None progress = Err (refused.TypeMismatch declaration)
 pipeline_elaborated declaration written (Some found) progress =
     where_kept (is_as_written written found) (refused.TypeMismatch declaration)
@@ -266,7 +326,8 @@ pipeline_elaborated declaration written (Some found) progress =
     }))
 
 -- a composite stream; split-joins and feedback loops aren't elaborated yet
-abbrev pub composite_elaborated : Setting → Option StreamType → CompositeKind → tree.Stmts → Tally → Result Elaborated ElabError
+abbrev pub composite_elaborated : Setting → Option StreamType → CompositeKind → tree.Stmts → Tally
+    → Result Elaborated ElabError
 composite_elaborated setting written composite.Pipeline block tally =
     result_and_then (stmts_run setting [] 0 block (initial_progress tally)) (λ progress.
     pipeline_elaborated setting.place.declaration written progress.types progress)
@@ -278,19 +339,36 @@ abbrev pub text_elaborated : Setting → Text → Tally → Result Elaborated El
 text_elaborated setting (FilterText name filter) tally =
     one_more tally (λ tally'.
     result_and_then (instance_of setting.place filter) (λ resolved.
-    Ok (record { stream = instance.Filter name resolved; types = filter_types resolved; tally = tally' })))
-text_elaborated setting (CompositeText written kind block) tally = composite_elaborated setting written kind block tally
+    Ok (record {
+      stream = instance.Filter name resolved;
+      types = filter_types resolved;
+      tally =
+          tally';
+    })))
+text_elaborated setting (CompositeText written kind block) tally =
+    composite_elaborated setting written kind block tally
 text_elaborated setting IdentityText tally =
     one_more tally (λ tally'.
-    Ok (record { stream = instance.Identity; types = record { input = item.Int; output = item.Int }; tally = tally' }))
+    Ok (record {
+      stream = instance.Identity;
+      types =
+          record { input = item.Int; output = item.Int };
+      tally = tally';
+    }))
 text_elaborated setting ReaderText tally = Err refused.NotYet
 text_elaborated setting WriterText tally = Err refused.NotYet
 
 -- a stream that may have so many levels, its own among them
-abbrev pub stream_elaborated : List Declaration → (levels : ℕ) → Place → Text → Tally → Result Elaborated ElabError
+abbrev pub stream_elaborated : List Declaration → (levels : ℕ) → Place → Text → Tally
+    → Result Elaborated ElabError
 stream_elaborated program zero place text tally = Err refused.DepthLimit
 stream_elaborated program (suc levels) place text tally =
-    text_elaborated (record { program = program; place = place; elaborate = stream_elaborated program levels }) text tally
+    text_elaborated (record {
+      program = program;
+      place = place;
+      elaborate =
+          stream_elaborated program levels;
+    }) text tally
 
 -- the main stream
 
@@ -298,7 +376,8 @@ stream_elaborated program (suc levels) place text tally =
 abbrev pub doubled_from : (earlier : List (List ℕ)) → ℕ → List Declaration → Option ℕ
 doubled_from earlier number [] = None
 doubled_from earlier number (first ∷ others) =
-    if list_any (λ name. pointwise nat_eq first.name name) earlier then Some number else doubled_from (earlier ++ first.name ∷ []) (number + 1) others
+    if list_any (λ name. pointwise nat_eq first.name name) earlier then Some number
+    else doubled_from (earlier ++ first.name ∷ []) (number + 1) others
 
 abbrev pub not_doubled : Option ℕ → Result (Unit {0}) ElabError
 not_doubled None = Ok tt
@@ -312,14 +391,16 @@ types_of (tree.Composite types kind block) = types
 -- whether a declaration can be the main stream: it takes and gives nothing, and has no parameters
 abbrev pub can_be_main : Declaration → Bool
 can_be_main declaration =
-    is_as_written (Some (record { input = item.Void; output = item.Void })) (types_of declaration.stream)
+    is_as_written (Some (record { input = item.Void; output = item.Void }))
+    (types_of declaration.stream)
     && nat_eq (length (parameters_of declaration)) 0
 
 -- the declarations that can be the main stream, with their numbers
 abbrev pub mains_from : ℕ → List Declaration → List (ℕ × Declaration)
 mains_from number [] = []
 mains_from number (first ∷ others) =
-    if can_be_main first then (number, first) ∷ mains_from (number + 1) others else mains_from (number + 1) others
+    if can_be_main first then (number, first)
+    ∷ mains_from (number + 1) others else mains_from (number + 1) others
 
 -- the only one
 abbrev pub only_main : List (ℕ × Declaration) → Result (ℕ × Declaration) ElabError
@@ -339,7 +420,8 @@ main_of program (Some name) = named_main (declared_from 0 program name)
 -- the main stream's place and text
 abbrev pub main_elaborated : List Declaration → ℕ × Declaration → Result Elaborated ElabError
 main_elaborated program found =
-    stream_elaborated program level_limit (record { declaration = found.0; constants = [] }) (text_of found.1.name found.1.stream) (record { turns = 0; filters = 0 })
+    stream_elaborated program level_limit (record { declaration = found.0; constants = [] })
+    (text_of found.1.name found.1.stream) (record { turns = 0; filters = 0 })
 
 -- the stream that a program means, or the first rule that it breaks
 abbrev pub elaborated : List Declaration → Option (List ℕ) → Result Stream ElabError

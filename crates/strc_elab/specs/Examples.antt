@@ -65,7 +65,8 @@ printing = tree.Work (pop_one ∷ []) (block (tree.Println tree.Pop ∷ [])) ∷
 
 -- `work push 1 pop 1 { push(pop() + 1); }`
 abbrev adding : List tree.Member
-adding = tree.Work (push_one ∷ pop_one ∷ []) (block (tree.Push (tree.Binary binary.Add tree.Pop (tree.Number (pos 1))) ∷ [])) ∷ []
+adding = tree.Work (push_one ∷ pop_one ∷ [])
+    (block (tree.Push (tree.Binary binary.Add tree.Pop (tree.Number (pos 1))) ∷ [])) ∷ []
 
 -- `add A;`, and `add A(e);`
 abbrev add : List ℕ → tree.Stmt
@@ -79,7 +80,8 @@ abbrev declared : List ℕ → Option (List (List ℕ)) → tree.Stream → Decl
 declared name parameters stream = record { name = name; parameters = parameters; stream = stream }
 
 abbrev pipeline : (input output : ItemType) → List tree.Stmt → tree.Stream
-pipeline input output statements = tree.Composite (record { input = input; output = output }) composite.Pipeline (block statements)
+pipeline input output statements = tree.Composite
+    (record { input = input; output = output }) composite.Pipeline (block statements)
 
 -- `n - 1`, and `n > 1`
 abbrev one_less : tree.Expr
@@ -116,20 +118,25 @@ endless_recursion = program (add letter_a ∷ add_with letter_r one_less ∷ [])
 
 -- `work push 1 pop 1 { push(pop() * e); }`
 abbrev multiplying : tree.Expr → tree.Member
-multiplying factor = tree.Work (push_one ∷ pop_one ∷ []) (block (tree.Push (tree.Binary binary.Multiply tree.Pop factor) ∷ []))
+multiplying factor = tree.Work (push_one ∷ pop_one ∷ [])
+    (block (tree.Push (tree.Binary binary.Multiply tree.Pop factor) ∷ []))
 
 -- add int->int filter { work push 1 pop 1 { push(pop() * i); } };
 abbrev add_multiplier : tree.Stmt
 add_multiplier =
-    tree.Compose (tree.ChildOf Add (tree.AnonymousFilter (record { input = Int; output = Int }) (tree.And (multiplying (tree.Read letter_i)) tree.NoMember)))
+    tree.Compose (tree.ChildOf Add (tree.AnonymousFilter (record { input = Int; output = Int })
+    (tree.And (multiplying (tree.Read letter_i)) tree.NoMember)))
 
 -- for (int i = 1; i <= 3; i++) ..
 abbrev for_three : tree.Stmt → tree.Stmt
 for_three body =
-    tree.For (tree.Declare tree.Int (record { name = letter_i; initial = Some (tree.Number (pos 1)) } ∷ []))
-    (Some (tree.Binary binary.LessOrEqual (tree.Read letter_i) (tree.Number (pos 3)))) (tree.Evaluate (tree.Step step.IncrementAfter letter_i)) body
+    tree.For (tree.Declare tree.Int (record
+    { name = letter_i; initial = Some (tree.Number (pos 1)) } ∷ []))
+    (Some (tree.Binary binary.LessOrEqual (tree.Read letter_i) (tree.Number (pos 3))))
+    (tree.Evaluate (tree.Step step.IncrementAfter letter_i)) body
 
--- add S; for (int i = 1; i <= 3; i++) add int->int filter { work push 1 pop 1 { push(pop() * i); } }; add P;
+-- add S; for (int i = 1; i <= 3; i++) add int->int filter { work push 1 pop 1 { push(pop() * i); }
+-- }; add P;
 abbrev pub loop : List Declaration
 loop = program [] (add letter_s ∷ for_three add_multiplier ∷ add letter_p ∷ [])
 
@@ -143,7 +150,8 @@ endless_loop = program [] (tree.While (tree.Truth true) tree.Empty ∷ both_adde
 
 -- a filter of a name
 abbrev filter : List ℕ → (input output : ItemType) → List tree.Member → Stream
-filter name input output members = instance.Filter (Some name) (record { input = input; output = output; members = members })
+filter name input output members = instance.Filter (Some name)
+    (record { input = input; output = output; members = members })
 
 abbrev row : List Stream → Stream
 row streams = instance.Pipeline (in_a_row streams)
@@ -156,7 +164,9 @@ adder = filter letter_a Int Int adding
 abbrev pub RecursionRow : Type 0
 RecursionRow =
     elaborated recursion None
-    ≡ Ok (row (filter letter_s Void Int counting ∷ row (adder ∷ row (adder ∷ row (adder ∷ []) ∷ []) ∷ []) ∷ filter letter_p Int Void printing ∷ []))
+    ≡ Ok (row (filter letter_s Void Int counting
+    ∷ row (adder ∷ row (adder ∷ row (adder ∷ []) ∷ []) ∷ []) ∷ filter letter_p Int Void printing
+    ∷ []))
 
 -- one that never ends is too deep
 abbrev pub EndlessRow : Type 0
@@ -164,13 +174,15 @@ EndlessRow = elaborated endless_recursion None ≡ Err DepthLimit
 
 -- a filter without a name, which multiplies by this number
 abbrev multiplier : ℤ → Stream
-multiplier factor = instance.Filter None (record { input = Int; output = Int; members = multiplying (tree.Number factor) ∷ [] })
+multiplier factor = instance.Filter None (record
+    { input = Int; output = Int; members = multiplying (tree.Number factor) ∷ [] })
 
 -- an anonymous stream in a loop sees the loop's variable at that moment
 abbrev pub LoopRow : Type 0
 LoopRow =
     elaborated loop None
-    ≡ Ok (row (filter letter_s Void Int counting ∷ multiplier (pos 1) ∷ multiplier (pos 2) ∷ multiplier (pos 3) ∷ filter letter_p Int Void printing ∷ []))
+    ≡ Ok (row (filter letter_s Void Int counting ∷ multiplier (pos 1) ∷ multiplier (pos 2)
+    ∷ multiplier (pos 3) ∷ filter letter_p Int Void printing ∷ []))
 
 -- a loop that never ends makes too many turns
 abbrev pub EndlessLoopRow : Type 0

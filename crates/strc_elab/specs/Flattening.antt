@@ -1,6 +1,7 @@
--- The flat graph that a stream of instances means, and which streams have one that can be run (StreamIt specification 2.1, "Streams"; Lee
--- and Messerschmitt 1987).
-use Rattle.std.specs.Prelude.{◌≡◌, ℕ, ◌<◌, ◌≤◌, true, List, [], ◌∷◌, ◌++◌, length, All, AllPairs, count_by, codes, ◌⊎◌, Result, Ok, Err}
+-- The flat graph that a stream of instances means, and which streams have one that can be run
+-- (StreamIt specification 2.1, "Streams"; Lee and Messerschmitt 1987).
+use Rattle.std.specs.Prelude.{◌≡◌, ℕ, ◌<◌, ◌≤◌, true, List, [], ◌∷◌, ◌++◌, length, All, AllPairs}
+use Rattle.std.specs.Prelude.{count_by, codes, ◌⊎◌, Result, Ok, Err}
 use Rattle.strc_dataflow.specs.Streams as trees
 use Rattle.strc_dataflow.specs.Flat as flat
 use Rattle.strc_elab.specs.declared.connection.TheConstants.{NODE_LIMIT}
@@ -15,7 +16,8 @@ use Rattle.strc_graph.specs.Graphs.{source_in, filter_name}
 -- the tree of a stream
 
 abbrev mutual
-  -- a stream as a tree of nodes; a pipeline has a child, and one that had none would pass its items on
+  -- a stream as a tree of nodes; a pipeline has a child, and one that had none would pass its items
+  -- on
   pub tree_of : Stream → trees.Stream NodeCode
   tree_of (Filter name filter) = trees.One (graphs.Filter name filter)
   tree_of Identity = trees.One graphs.Identity
@@ -65,7 +67,8 @@ abbrev mutual
 
 -- one channel before another: by the node that it leaves, and then by the port
 abbrev pub IsBefore : Channel → Channel → Type 0
-IsBefore first second = (first.source.node < second.source.node) ⊎ ((first.source.node ≡ second.source.node) × (first.source.port < second.source.port))
+IsBefore first second = (first.source.node < second.source.node)
+    ⊎ ((first.source.node ≡ second.source.node) × (first.source.port < second.source.port))
 
 -- a graph of nodes and channels is the flat graph of a stream
 pub record IsFlat (stream : Stream) (graph : Graph) : Type 0 where
@@ -77,7 +80,8 @@ pub record IsFlat (stream : Stream) (graph : Graph) : Type 0 where
   -- each channel joins ports that carry items
   pub joined : All (JoinsCarriers graph.nodes) graph.channels
   -- and is one of those
-  pub channels : All (λ channel. (meaning_of stream).source channel.target.node channel.target.port ≡ source_of channel) graph.channels
+  pub channels : All (λ channel. (meaning_of stream).source channel.target.node channel.target.port
+      ≡ source_of channel) graph.channels
   -- and no two leave one port
   pub ordered : AllPairs IsBefore graph.channels
 
@@ -95,11 +99,13 @@ pub record Feeds (graph : flat.Graph NodeCode) (node other : ℕ) : Type 0 where
 pub data Path (graph : flat.Graph NodeCode) : ℕ → ℕ → Type 0 where
   Here : {node : ℕ} → Path graph node node
   Along : {node next last : ℕ} → Feeds graph node next → Path graph next last → Path graph node last
-  Against : {node next last : ℕ} → Feeds graph next node → Path graph next last → Path graph node last
+  Against : {node next last : ℕ} → Feeds graph next node → Path graph next last
+      → Path graph node last
 
 -- from each node there is a path to each other
 abbrev pub IsConnected : flat.Graph NodeCode → Type 0
-IsConnected graph = (node other : ℕ) → node < graph.size → other < graph.size → Path graph node other
+IsConnected graph = (node other : ℕ) → node < graph.size → other < graph.size
+    → Path graph node other
 
 -- which graphs can be run
 
@@ -114,19 +120,24 @@ pub record IsAccepted (nodes : List NodeCode) (Connected : Type 0) : Type 0 wher
   pub one_output : count_by gives_words nodes ≤ 1
   pub connected : Connected
 
--- the refusal is that of the first test that fails: of the number of nodes, of inputs, of outputs, of connections
+-- the refusal is that of the first test that fails: of the number of nodes, of inputs, of outputs,
+-- of connections
 abbrev pub IsRefused : List NodeCode → (Connected : Type 0) → ElabError → Type 0
 IsRefused nodes Connected refusal.NodeLimit = node_limit < length nodes
-IsRefused nodes Connected refusal.TwoInputs = (length nodes ≤ node_limit) × (1 < count_by reads_input nodes)
+IsRefused nodes Connected refusal.TwoInputs =
+    (length nodes ≤ node_limit) × (1 < count_by reads_input nodes)
 IsRefused nodes Connected refusal.TwoOutputs =
-    (length nodes ≤ node_limit) × (count_by reads_input nodes ≤ 1) × (1 < count_by gives_words nodes)
+    (length nodes ≤ node_limit) × (count_by reads_input nodes ≤ 1)
+    × (1 < count_by gives_words nodes)
 IsRefused nodes Connected refusal.Disconnected =
-    (length nodes ≤ node_limit) × (count_by reads_input nodes ≤ 1) × (count_by gives_words nodes ≤ 1) × ¬ Connected
+    (length nodes ≤ node_limit) × (count_by reads_input nodes ≤ 1)
+    × (count_by gives_words nodes ≤ 1) × ¬ Connected
 IsRefused nodes Connected refusal.NoMemory = Unit {0}
 IsRefused nodes Connected _ = ⊥
 
 -- the answer is the judgement's, or memory was refused
-abbrev pub IsVerdict : {A : Type 0} → List NodeCode → (Connected : Type 0) → Result A ElabError → Type 0
+abbrev pub IsVerdict : {A : Type 0} → List NodeCode → (Connected : Type 0) → Result A ElabError
+    → Type 0
 IsVerdict nodes Connected (Ok accepted) = IsAccepted nodes Connected
 IsVerdict nodes Connected (Err refused) = IsRefused nodes Connected refused
 

@@ -1,4 +1,5 @@
--- A stream of instances: what a program's text becomes when its composite streams have run (StreamIt specification 2.1, "Streams").
+-- A stream of instances: what a program's text becomes when its composite streams have run
+-- (StreamIt specification 2.1, "Streams").
 use Rattle.std.specs.Prelude.{ℕ, List, [], ◌∷◌, Option}
 use Rattle.strc_semantics.specs.Filters as filters
 

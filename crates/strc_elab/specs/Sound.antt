@@ -13,11 +13,13 @@ use Rattle.strc_elab.specs.Types.{IsWellTyped, input_of, output_of}
 
 -- a node is an instance of a filter's text, or passes its items on
 abbrev pub IsInstance : NodeCode → Type 0
-IsInstance (Filter name filter) = (place : Place) × (source : filters.Filter) × (instance_of place source ≡ Ok filter)
+IsInstance (Filter name filter) = (place : Place) × (source : filters.Filter)
+    × (instance_of place source ≡ Ok filter)
 IsInstance Identity = Unit {0}
 IsInstance _ = ⊥
 
--- a stream of instances that takes and gives nothing, and in which each child takes what the one before it gives
+-- a stream of instances that takes and gives nothing, and in which each child takes what the one
+-- before it gives
 pub record IsElaborated (stream : Stream) : Type 0 where
   pub typed : IsWellTyped stream
   pub input : input_of stream ≡ item.Void
@@ -27,4 +29,5 @@ pub record IsElaborated (stream : Stream) : Type 0 where
 -- each stream that a program means is one
 abbrev pub ElaboratedIsSound : Type 0
 ElaboratedIsSound =
-    (program : List Declaration) (main : Option (List ℕ)) (stream : Stream) → elaborated program main ≡ Ok stream → IsElaborated stream
+    (program : List Declaration) (main : Option (List ℕ)) (stream : Stream)
+    → elaborated program main ≡ Ok stream → IsElaborated stream

@@ -19,8 +19,11 @@ use Rattle.strc_elab.specs.declared.task.Elaborated.{Elaborated}
 
 -- a text
 abbrev pub text_view : Text → texts.Text
-text_view (text.Filter name types members) = texts.FilterText (option_map (λ n. n.now) name) (filter_parts types.input types.output members.now)
-text_view (text.Composite written kind block) = texts.CompositeText written kind (block_view block.now)
+text_view (text.Filter name types members) =
+    texts.FilterText (option_map (λ n. n.now) name)
+    (filter_parts types.input types.output members.now)
+text_view (text.Composite written kind block) =
+    texts.CompositeText written kind (block_view block.now)
 text_view text.Identity = texts.IdentityText
 text_view text.Reader = texts.ReaderText
 text_view text.Writer = texts.WriterText
@@ -40,7 +43,8 @@ tally_of task = record { turns = task.tally.turns; filters = task.tally.filters 
 -- the table has the number of each declaration by its name
 abbrev pub KnowsNames : Task → Type 0
 KnowsNames task =
-    (name : List ℕ) → get_by (λ k. pointwise nat_eq name k.now) task.numbers.now ≡ place_from 0 (map (λ d. d.name) task.declarations.now) name
+    (name : List ℕ) → get_by (λ k. pointwise nat_eq name k.now) task.numbers.now
+    ≡ place_from 0 (map (λ d. d.name) task.declarations.now) name
 
 -- what is made
 abbrev pub elaborated_view : Elaborated → spec.Elaborated
@@ -52,12 +56,16 @@ elaborated_view made = record {
 
 -- an answer is what the definitions make of the task
 abbrev pub IsMade : Task → Result Elaborated ElabError → Type 0
-IsMade task result = IsVerdict elaborated_view (spec.stream_elaborated (program_of task) task.levels (place_of task) (text_view task.text) (tally_of task)) result
+IsMade task result = IsVerdict elaborated_view
+    (spec.stream_elaborated (program_of task) task.levels (place_of task) (text_view task.text)
+    (tally_of task)) result
 
 -- a function value that elaborates texts with so many levels
-pub record Elaborates (levels : ℕ) (pre : Task → Type 0) (post : Task → Result Elaborated ElabError → Type 0) : Type 0 where
+pub record Elaborates (levels : ℕ) (pre : Task → Type 0)
+    (post : Task → Result Elaborated ElabError → Type 0) : Type 0 where
   pub callable : (task : Task) → task.levels ≡ levels → KnowsNames task → pre task
-  pub elaborates : (task : Task) (result : Result Elaborated ElabError) → task.levels ≡ levels → post task result → IsMade task result
+  pub elaborates : (task : Task) (result : Result Elaborated ElabError) → task.levels ≡ levels
+      → post task result → IsMade task result
 
 -- what the body of a task's text stands in
 abbrev pub setting_of : Task → spec.Setting
@@ -67,6 +75,8 @@ setting_of task = record {
   elaborate = spec.stream_elaborated (program_of task) (task.levels - 1);
 }
 
--- what a body's rules stand on: the table knows the names, and the function value elaborates the level below
-unfoldable pub IsReady : Task → (pre : Task → Type 0) (post : Task → Result Elaborated ElabError → Type 0) → Type 0
+-- what a body's rules stand on: the table knows the names, and the function value elaborates the
+-- level below
+unfoldable pub IsReady : Task → (pre : Task → Type 0)
+    (post : Task → Result Elaborated ElabError → Type 0) → Type 0
 IsReady task pre post = KnowsNames task × Elaborates (task.levels - 1) pre post

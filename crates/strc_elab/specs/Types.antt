@@ -1,4 +1,5 @@
--- What streams take and give (StreamIt specification 2.1, "Streams"): items or nothing, on each side.
+-- What streams take and give (StreamIt specification 2.1, "Streams"): items or nothing, on each
+-- side.
 use Rattle.std.specs.Prelude.{◌≡◌}
 use Rattle.strc_syntax.specs.declared.tree.ItemType.{ItemType}
 use Rattle.strc_syntax.specs.declared.tree.ItemType.TheVariants as item
@@ -48,4 +49,5 @@ abbrev mutual
   -- streams in a row
   pub AreWellTyped : Streams → Type 0
   AreWellTyped Done = Unit {0}
-  AreWellTyped (More first rest) = IsWellTyped first × IsTaken (output_of first) rest × AreWellTyped rest
+  AreWellTyped (More first rest) = IsWellTyped first × IsTaken (output_of first) rest
+      × AreWellTyped rest

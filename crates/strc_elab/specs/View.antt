@@ -2,7 +2,8 @@
 use Rattle.std.specs.Prelude.{List, [], ◌∷◌}
 use Rattle.strc_semantics.specs.Filters.{filter_of}
 use Rattle.strc_elab.specs.Instances as instances
-use Rattle.strc_elab.specs.declared.stream.Stream.{Stream, Row_of-Stream, end_of-Stream, more_of-Stream}
+use Rattle.strc_elab.specs.declared.stream.Stream.{Stream, Row_of-Stream, end_of-Stream}
+use Rattle.strc_elab.specs.declared.stream.Stream.{more_of-Stream}
 use Rattle.strc_elab.specs.declared.stream.Stream.TheVariants as stream
 
 abbrev mutual

@@ -1,5 +1,6 @@
 -- Arguments, parameters and types of streams are read again.
-use Rattle.std.proofs.Common.{◌≡◌, ℕ, ◌+◌, max, false, List, [], ◌∷◌, length, Option, Some, None, Ok, refl, arith}
+use Rattle.std.proofs.Common.{◌≡◌, ℕ, ◌+◌, max, false, List, [], ◌∷◌, length, Option, Some, None}
+use Rattle.std.proofs.Common.{Ok, refl, arith}
 use Rattle.std.specs.List.{AllByRecursion}
 use Rattle.strc_lex.specs.declared.token.TokenKind.{TokenKind}
 use Rattle.strc_lex.specs.declared.token.TokenKind.TheVariants as token
@@ -13,14 +14,29 @@ use Rattle.strc_syntax.specs.declared.tree.CompositeKind.TheVariants as composit
 use Rattle.strc_syntax.specs.declared.tree.Brackets.{Brackets}
 use Rattle.strc_syntax.specs.declared.tree.Brackets.TheVariants as brackets
 use Rattle.strc_syntax.specs.Tree as tree
-use Rattle.strc_grammar.specs.Grammar.{expr_spelled, each_spelled, brackets_spelled, next_argument_spelled, listed_spelled, arguments_spelled, kind_keyword, type_keyword, stream_type_spelled, int_items_spelled, file_spelled, parameter_spelled, next_parameter_spelled, listed_parameters_spelled, parameters_spelled, IsExpr, AreArguments, expr_height, arguments_height, highest}
-use Rattle.strc_grammar.specs.Reading.{is_punctuation, is_keyword, expect, expect_keyword, name, text, no_comma, next_argument, more_arguments, listed_arguments, arguments, empty_brackets, parameter, next_parameter, more_parameters, listed_parameters, parameters, item_type, stream_type, composite_kind, int_items, bracketed_text, file}
+use Rattle.strc_grammar.specs.Grammar.{expr_spelled, each_spelled, brackets_spelled}
+use Rattle.strc_grammar.specs.Grammar.{next_argument_spelled, listed_spelled, arguments_spelled}
+use Rattle.strc_grammar.specs.Grammar.{kind_keyword, type_keyword, stream_type_spelled}
+use Rattle.strc_grammar.specs.Grammar.{int_items_spelled, file_spelled, parameter_spelled}
+use Rattle.strc_grammar.specs.Grammar.{next_parameter_spelled, listed_parameters_spelled}
+use Rattle.strc_grammar.specs.Grammar.{parameters_spelled, IsExpr, AreArguments, expr_height}
+use Rattle.strc_grammar.specs.Grammar.{arguments_height, highest}
+use Rattle.strc_grammar.specs.Reading.{is_punctuation, is_keyword, expect, expect_keyword, name}
+use Rattle.strc_grammar.specs.Reading.{text, no_comma, next_argument, more_arguments}
+use Rattle.strc_grammar.specs.Reading.{listed_arguments, arguments, empty_brackets, parameter}
+use Rattle.strc_grammar.specs.Reading.{next_parameter, more_parameters, listed_parameters}
+use Rattle.strc_grammar.specs.Reading.{parameters, item_type, stream_type, composite_kind}
+use Rattle.strc_grammar.specs.Reading.{int_items, bracketed_text, file}
 use Rattle.strc_grammar.proofs.Completeness.{Complete, Complete-then, expect_punctuation}
 use Rattle.strc_grammar.proofs.ExpressionCompleteness.{expr_length, expression_completeness, found}
-use Rattle.strc_grammar.proofs.Lists.{TallCompleteness, each_taller_completeness, ItemCompleteness, each_completeness}
-use Rattle.strc_grammar.proofs.SimpleCompleteness.{Ends, Ends-bracket, Ends-comma, Complete-max, Complete-done, opens}
+use Rattle.strc_grammar.proofs.Lists.{TallCompleteness, each_taller_completeness, ItemCompleteness}
+use Rattle.strc_grammar.proofs.Lists.{each_completeness}
+use Rattle.strc_grammar.proofs.SimpleCompleteness.{Ends, Ends-bracket, Ends-comma, Complete-max}
+use Rattle.strc_grammar.proofs.SimpleCompleteness.{Complete-done, opens}
 
-no_comma_bracket : (rest : List TokenKind) → no_comma (token.Punctuation punctuation.CloseParen ∷ rest) ≡ Some (token.Punctuation punctuation.CloseParen ∷ rest)
+no_comma_bracket : (rest : List TokenKind)
+    → no_comma (token.Punctuation punctuation.CloseParen ∷ rest)
+    ≡ Some (token.Punctuation punctuation.CloseParen ∷ rest)
 unfolding no_comma is_punctuation
 no_comma_bracket rest = refl
 
@@ -28,7 +44,8 @@ no_comma_bracket rest = refl
 
 module _ (d : ℕ) where
   abbrev IsNextCompleteness : tree.Expr → Type 0
-  IsNextCompleteness e = TallCompleteness next_argument_spelled expr_height (next_argument d) no_comma Ends d e
+  IsNextCompleteness e = TallCompleteness next_argument_spelled expr_height
+      (next_argument d) no_comma Ends d e
 
   next_completeness : (e : tree.Expr) → IsExpr e → IsNextCompleteness e
   unfolding next_argument no_comma is_punctuation
@@ -39,105 +56,146 @@ module _ (d : ℕ) where
     long = λ rest. omega (arith, expr_length e rest);
   }
 
-  nexts_completeness : (others : List tree.Expr) → AllByRecursion IsExpr others → AllByRecursion IsNextCompleteness others
+  nexts_completeness : (others : List tree.Expr) → AllByRecursion IsExpr others
+      → AllByRecursion IsNextCompleteness others
   nexts_completeness [] shape = tt
-  nexts_completeness (e ∷ others) shape = (next_completeness e shape.0, nexts_completeness others shape.1)
+  nexts_completeness (e ∷ others) shape =
+      (next_completeness e shape.0, nexts_completeness others shape.1)
 
-  follow : (others : List tree.Expr) → AllByRecursion IsNextCompleteness others → (rest : List TokenKind) → Ends rest → Ends (each_spelled next_argument_spelled others rest)
+  follow : (others : List tree.Expr) → AllByRecursion IsNextCompleteness others
+      → (rest : List TokenKind) → Ends rest → Ends (each_spelled next_argument_spelled others rest)
   follow [] complete rest ends = ends
-  follow (e ∷ others) complete rest ends = complete.0.follows (each_spelled next_argument_spelled others rest)
+  follow (e ∷ others) complete rest ends =
+      complete.0.follows (each_spelled next_argument_spelled others rest)
 
   listed_completeness : (es : List tree.Expr) → AllByRecursion IsExpr es → (rest : List TokenKind)
-      → Complete d (highest expr_height es) ((es, highest expr_height es), token.Punctuation punctuation.CloseParen ∷ rest) (listed_arguments d (listed_spelled es (token.Punctuation punctuation.CloseParen ∷ rest)))
+      → Complete d (highest expr_height es)
+      ((es, highest expr_height es), token.Punctuation punctuation.CloseParen ∷ rest)
+      (listed_arguments d (listed_spelled es (token.Punctuation punctuation.CloseParen ∷ rest)))
   unfolding listed_arguments more_arguments is_punctuation
-  listed_completeness [] shape rest = Complete-done d 0 (([], 0), token.Punctuation punctuation.CloseParen ∷ rest) _ (omega arith) refl
+  listed_completeness [] shape rest = Complete-done d 0
+      (([], 0), token.Punctuation punctuation.CloseParen ∷ rest) _ (omega arith) refl
   listed_completeness (e ∷ others) shape rest =
       let end : List TokenKind = token.Punctuation punctuation.CloseParen ∷ rest in
       let past = each_spelled next_argument_spelled others end in
       let high : ℕ = max (expr_height e) (highest expr_height others) in
       let complete = nexts_completeness others shape.1 in
       let follows : Ends past = follow others complete end (Ends-bracket rest) in
-      let stays : is_punctuation punctuation.CloseParen (expr_spelled e past) ≡ false = (opens e past).no_bracket in
-      rw stays (Complete-then d (expr_height e) high (found e past) ((e ∷ others, high), end) _ _ (expression_completeness e shape.0 d past follows.stops) (omega arith)
-      (λ low. Complete-max d (expr_height e) (highest expr_height others) ((e ∷ others, high), end) _ low
-      (each_taller_completeness next_argument_spelled expr_height (next_argument d) no_comma Ends d others complete (e ∷ []) (expr_height e) (length past + 1) end end (no_comma_bracket rest) (Ends-bracket rest) (omega arith))))
+      let stays : is_punctuation punctuation.CloseParen (expr_spelled e past) ≡ false =
+      (opens e past).no_bracket in
+      rw stays (Complete-then d (expr_height e) high (found e past) ((e ∷ others, high), end) _ _
+      (expression_completeness e shape.0 d past follows.stops) (omega arith)
+      (λ low. Complete-max d (expr_height e) (highest expr_height others)
+      ((e ∷ others, high), end) _ low
+      (each_taller_completeness next_argument_spelled expr_height
+      (next_argument d) no_comma Ends d others complete (e ∷ []) (expr_height e)
+      (length past + 1) end end (no_comma_bracket rest) (Ends-bracket rest) (omega arith))))
 
   -- before a semicolon
-  pub arguments_completeness : (given : Option (List tree.Expr)) → AreArguments given → (rest : List TokenKind)
-      → Complete d (arguments_height given) (given, arguments_height given, token.Punctuation punctuation.Semicolon ∷ rest) (arguments d (arguments_spelled given (token.Punctuation punctuation.Semicolon ∷ rest)))
+  pub arguments_completeness : (given : Option (List tree.Expr)) → AreArguments given
+      → (rest : List TokenKind)
+      → Complete d (arguments_height given)
+      (given, arguments_height given, token.Punctuation punctuation.Semicolon ∷ rest)
+      (arguments d (arguments_spelled given (token.Punctuation punctuation.Semicolon ∷ rest)))
   unfolding arguments is_punctuation
-  arguments_completeness None shape rest = Complete-done d 0 (None, 0, token.Punctuation punctuation.Semicolon ∷ rest) _ (omega arith) refl
+  arguments_completeness None shape rest =
+      Complete-done d 0 (None, 0, token.Punctuation punctuation.Semicolon ∷ rest) _
+      (omega arith) refl
   arguments_completeness (Some es) shape rest =
       let after : List TokenKind = token.Punctuation punctuation.Semicolon ∷ rest in
       let high : ℕ = highest expr_height es in
-      Complete-then d high high ((es, high), token.Punctuation punctuation.CloseParen ∷ after) (Some es, high, after) _ _ (listed_completeness es shape after) (omega arith)
-      (λ low. rw (expect_punctuation punctuation.CloseParen after) (Complete-done d high (Some es, high, after) _ low refl))
+      Complete-then d high high ((es, high), token.Punctuation punctuation.CloseParen ∷ after)
+      (Some es, high, after) _ _ (listed_completeness es shape after) (omega arith)
+      (λ low. rw (expect_punctuation punctuation.CloseParen after)
+      (Complete-done d high (Some es, high, after) _ low refl))
 
-pub brackets_completeness : (pair : Brackets) (rest : List TokenKind) → empty_brackets (brackets_spelled pair (token.Punctuation punctuation.Semicolon ∷ rest)) ≡ Ok (pair, token.Punctuation punctuation.Semicolon ∷ rest)
+pub brackets_completeness : (pair : Brackets) (rest : List TokenKind)
+    → empty_brackets (brackets_spelled pair (token.Punctuation punctuation.Semicolon ∷ rest))
+    ≡ Ok (pair, token.Punctuation punctuation.Semicolon ∷ rest)
 unfolding empty_brackets expect is_punctuation
 brackets_completeness brackets.Written rest = refl
 brackets_completeness brackets.Missing rest = refl
 
 -- ---- parameters
 
-parameter_completeness : (x : List ℕ) (rest : List TokenKind) → parameter (parameter_spelled x rest) ≡ Ok (x, rest)
+parameter_completeness : (x : List ℕ) (rest : List TokenKind)
+    → parameter (parameter_spelled x rest) ≡ Ok (x, rest)
 unfolding parameter expect_keyword is_keyword name
 parameter_completeness x rest = refl
 
 abbrev IsParameterCompleteness : List ℕ → Type 0
-IsParameterCompleteness x = ItemCompleteness next_parameter_spelled (λ _. 0) next_parameter no_comma 0 x
+IsParameterCompleteness x = ItemCompleteness next_parameter_spelled
+    (λ _. 0) next_parameter no_comma 0 x
 
 next_parameter_completeness : (x : List ℕ) → IsParameterCompleteness x
 unfolding next_parameter no_comma is_punctuation
-next_parameter_completeness x = record { reads = λ rest. Complete-done 0 0 (x, rest) _ (omega arith) (parameter_completeness x rest); stays = λ rest. refl; long = λ rest. omega arith }
+next_parameter_completeness x = record {
+  reads =
+      λ rest. Complete-done 0 0 (x, rest) _ (omega arith) (parameter_completeness x rest);
+  stays =
+      λ rest. refl;
+  long = λ rest. omega arith;
+}
 
 all_parameters_completeness : (xs : List (List ℕ)) → AllByRecursion IsParameterCompleteness xs
 all_parameters_completeness [] = tt
-all_parameters_completeness (x ∷ others) = (next_parameter_completeness x, all_parameters_completeness others)
+all_parameters_completeness (x ∷ others) =
+    (next_parameter_completeness x, all_parameters_completeness others)
 
 no_height : (xs : List (List ℕ)) → highest (λ _. 0) xs ≡ 0
 no_height [] = refl
 no_height (x ∷ others) = let none = no_height others in omega arith
 
 listed_parameters_completeness : (xs : List (List ℕ)) (rest : List TokenKind)
-    → listed_parameters (listed_parameters_spelled xs (token.Punctuation punctuation.CloseParen ∷ rest)) ≡ Ok (xs, token.Punctuation punctuation.CloseParen ∷ rest)
+    → listed_parameters (listed_parameters_spelled xs
+    (token.Punctuation punctuation.CloseParen ∷ rest))
+    ≡ Ok (xs, token.Punctuation punctuation.CloseParen ∷ rest)
 unfolding listed_parameters more_parameters is_punctuation
 listed_parameters_completeness [] rest = refl
 listed_parameters_completeness (x ∷ others) rest =
     let end : List TokenKind = token.Punctuation punctuation.CloseParen ∷ rest in
     let past = each_spelled next_parameter_spelled others end in
-    let more = (each_completeness next_parameter_spelled (λ _. 0) next_parameter no_comma 0 others (all_parameters_completeness others) (x ∷ []) (length past + 1) end end (no_comma_bracket rest) (omega arith)).fits
+    let more = (each_completeness next_parameter_spelled (λ _. 0) next_parameter no_comma 0 others
+    (all_parameters_completeness others) (x ∷ []) (length past + 1) end end
+    (no_comma_bracket rest) (omega arith)).fits
     (omega (arith, no_height others)) in
     rw (parameter_completeness x past) more
 
 -- before a brace
 pub parameters_completeness : (given : Option (List (List ℕ))) (rest : List TokenKind)
-    → parameters (parameters_spelled given (token.Punctuation punctuation.OpenBrace ∷ rest)) ≡ Ok (given, token.Punctuation punctuation.OpenBrace ∷ rest)
+    → parameters (parameters_spelled given (token.Punctuation punctuation.OpenBrace ∷ rest))
+    ≡ Ok (given, token.Punctuation punctuation.OpenBrace ∷ rest)
 unfolding parameters is_punctuation
 parameters_completeness None rest = refl
 parameters_completeness (Some xs) rest =
     let after : List TokenKind = token.Punctuation punctuation.OpenBrace ∷ rest in
-    rw (listed_parameters_completeness xs after, expect_punctuation punctuation.CloseParen after) refl
+    rw (listed_parameters_completeness xs after, expect_punctuation punctuation.CloseParen after)
+    refl
 
 -- ---- types of streams
 
-types_completeness : (i o : ItemType) (rest : List TokenKind) → stream_type (type_keyword i ∷ token.Punctuation punctuation.Arrow ∷ type_keyword o ∷ rest) ≡ Ok (record { input = i; output = o }, rest)
+types_completeness : (i o : ItemType) (rest : List TokenKind)
+    → stream_type (type_keyword i ∷ token.Punctuation punctuation.Arrow ∷ type_keyword o ∷ rest)
+    ≡ Ok (record { input = i; output = o }, rest)
 unfolding stream_type item_type expect is_punctuation
 types_completeness item.Int item.Int rest = refl
 types_completeness item.Int item.Void rest = refl
 types_completeness item.Void item.Int rest = refl
 types_completeness item.Void item.Void rest = refl
 
-pub stream_type_completeness : (types : StreamType) (rest : List TokenKind) → stream_type (stream_type_spelled types rest) ≡ Ok (types, rest)
+pub stream_type_completeness : (types : StreamType) (rest : List TokenKind)
+    → stream_type (stream_type_spelled types rest) ≡ Ok (types, rest)
 stream_type_completeness types rest = types_completeness types.input types.output rest
 
-pub kind_stands : (kind : CompositeKind) (rest : List TokenKind) → composite_kind (kind_keyword kind ∷ rest) ≡ Some kind
+pub kind_stands : (kind : CompositeKind) (rest : List TokenKind)
+    → composite_kind (kind_keyword kind ∷ rest) ≡ Some kind
 unfolding composite_kind
 kind_stands composite.Pipeline rest = refl
 kind_stands composite.Splitjoin rest = refl
 kind_stands composite.Feedbackloop rest = refl
 
-pub kind_is_no_filter : (kind : CompositeKind) (rest : List TokenKind) → is_keyword keyword.Filter (kind_keyword kind ∷ rest) ≡ false
+pub kind_is_no_filter : (kind : CompositeKind) (rest : List TokenKind)
+    → is_keyword keyword.Filter (kind_keyword kind ∷ rest) ≡ false
 unfolding is_keyword
 kind_is_no_filter composite.Pipeline rest = refl
 kind_is_no_filter composite.Splitjoin rest = refl
@@ -147,6 +205,7 @@ pub int_items_completeness : (rest : List TokenKind) → int_items (int_items_sp
 unfolding int_items expect is_punctuation expect_keyword is_keyword
 int_items_completeness rest = refl
 
-pub file_completeness : (found : List ℕ) (rest : List TokenKind) → file (file_spelled found rest) ≡ Ok (found, rest)
+pub file_completeness : (found : List ℕ) (rest : List TokenKind)
+    → file (file_spelled found rest) ≡ Ok (found, rest)
 unfolding file bracketed_text text int_items expect is_punctuation expect_keyword is_keyword
 file_completeness found rest = refl

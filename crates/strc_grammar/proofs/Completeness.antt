@@ -1,5 +1,7 @@
--- Reading a spelled tree again: it is read where its height is within the depth, and else nests too deep.
-use Rattle.std.proofs.Common.{◌≡◌, ℕ, suc, ◌+◌, ◌<◌, ◌≤◌, List, ◌∷◌, Result, Ok, Err, refl, arith, inl, inr}
+-- Reading a spelled tree again: it is read where its height is within the depth, and else nests too
+-- deep.
+use Rattle.std.proofs.Common.{◌≡◌, ℕ, suc, ◌+◌, ◌<◌, ◌≤◌, List, ◌∷◌, Result, Ok, Err, refl, arith}
+use Rattle.std.proofs.Common.{inl, inr}
 use Rattle.std.proofs.lemmas.Bool.{cases_lt, lt-ltb, le-ltb}
 use denote.Enum.Bare.{true_same}
 use Rattle.strc_lex.specs.contracts.token.Punctuation.{the_type as punctuation_type}
@@ -10,14 +12,16 @@ use Rattle.strc_lex.specs.declared.token.Keyword.{Keyword}
 use Rattle.strc_lex.specs.declared.token.Punctuation.{Punctuation}
 use Rattle.strc_grammar.specs.declared.error.Fault.{Fault}
 use Rattle.strc_grammar.specs.declared.error.Fault.TheVariants.{Nesting}
-use Rattle.strc_grammar.specs.Reading.{◌>>=◌, is_punctuation, is_keyword, expect, expect_keyword, raised}
+use Rattle.strc_grammar.specs.Reading.{◌>>=◌, is_punctuation, is_keyword, expect, expect_keyword}
+use Rattle.strc_grammar.specs.Reading.{raised}
 
 pub record Complete (depth height : ℕ) {X : Type 0} (x : X) (read : Result X Fault) : Type 0 where
   pub fits : height ≤ depth → read ≡ Ok x
   pub over : depth < height → read ≡ Err Nesting
 
 -- a step after a tree that was read again
-pub Complete-then : (depth height next : ℕ) {X Y : Type 0} (x : X) (y : Y) (read : Result X Fault) (f : X → Result Y Fault) → Complete depth height x read → height ≤ next
+pub Complete-then : (depth height next : ℕ) {X Y : Type 0} (x : X) (y : Y) (read : Result X Fault)
+    (f : X → Result Y Fault) → Complete depth height x read → height ≤ next
     → (height ≤ depth → Complete depth next y (f x)) → Complete depth next y (read >>= f)
 Complete-then depth height next x y read f complete le then = record {
   fits = λ h. let low : height ≤ depth = omega arith in rw (complete.fits low) ((then low).fits h);
@@ -28,7 +32,8 @@ Complete-then depth height next x y read f complete le then = record {
 }
 
 -- the same one depth below, for a part of a node
-pub Complete-inside : (d height next : ℕ) {X Y : Type 0} (x : X) (y : Y) (read : Result X Fault) (f : X → Result Y Fault) → Complete d height x read → height + 1 ≤ next
+pub Complete-inside : (d height next : ℕ) {X Y : Type 0} (x : X) (y : Y) (read : Result X Fault)
+    (f : X → Result Y Fault) → Complete d height x read → height + 1 ≤ next
     → (height ≤ d → Complete (suc d) next y (f x)) → Complete (suc d) next y (read >>= f)
 Complete-inside d height next x y read f complete le then = record {
   fits = λ h. let low : height ≤ d = omega arith in rw (complete.fits low) ((then low).fits h);
@@ -39,14 +44,17 @@ Complete-inside d height next x y read f complete le then = record {
 }
 
 -- a leaf, which any depth above 0 has
-pub Complete-leaf : (d : ℕ) {X : Type 0} (x : X) (read : Result X Fault) → read ≡ Ok x → Complete (suc d) 1 x read
+pub Complete-leaf : (d : ℕ) {X : Type 0} (x : X) (read : Result X Fault) → read ≡ Ok x
+    → Complete (suc d) 1 x read
 Complete-leaf d x read e = record { fits = λ h. e; over = λ h. absurd (omega arith) }
 
-pub expect_punctuation : (wanted : Punctuation) (rest : List TokenKind) → expect wanted (token.Punctuation wanted ∷ rest) ≡ Ok rest
+pub expect_punctuation : (wanted : Punctuation) (rest : List TokenKind)
+    → expect wanted (token.Punctuation wanted ∷ rest) ≡ Ok rest
 unfolding expect is_punctuation
 expect_punctuation wanted rest = rw (true_same punctuation_type wanted wanted refl) refl
 
-pub expect_keyword_lem : (wanted : Keyword) (rest : List TokenKind) → expect_keyword wanted (token.Keyword wanted ∷ rest) ≡ Ok rest
+pub expect_keyword_lem : (wanted : Keyword) (rest : List TokenKind)
+    → expect_keyword wanted (token.Keyword wanted ∷ rest) ≡ Ok rest
 unfolding expect_keyword is_keyword
 expect_keyword_lem wanted rest = rw (true_same keyword_type wanted wanted refl) refl
 
@@ -59,7 +67,8 @@ unfolding raised
 raised_high depth height le = rw (le-ltb height depth le) refl
 
 -- a node above a part that was read
-pub Complete-raised : (depth height : ℕ) {Y : Type 0} (y : Y) (f : ℕ → Result Y Fault) → f (height + 1) ≡ Ok y → Complete depth (height + 1) y (raised depth height >>= f)
+pub Complete-raised : (depth height : ℕ) {Y : Type 0} (y : Y) (f : ℕ → Result Y Fault)
+    → f (height + 1) ≡ Ok y → Complete depth (height + 1) y (raised depth height >>= f)
 Complete-raised depth height y f e = record {
   fits = λ h. let lt : height < depth = omega arith in rw (raised_low depth height lt) e;
   over = λ h. let le : depth ≤ height = omega arith in rw (raised_high depth height le) refl;

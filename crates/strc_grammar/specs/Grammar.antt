@@ -1,5 +1,6 @@
 -- The grammar: which tokens spell a tree, which trees are well shaped, and how high they are.
-use Rattle.std.specs.Prelude.{◌≡◌, ℕ, ◌+◌, ◌<◌, ◌≤◌, max, Bool, true, false, List, [], ◌∷◌, length, map, Option, Some, None, Result, Ok, Err}
+use Rattle.std.specs.Prelude.{◌≡◌, ℕ, ◌+◌, ◌<◌, ◌≤◌, max, Bool, true, false, List, [], ◌∷◌, length}
+use Rattle.std.specs.Prelude.{map, Option, Some, None, Result, Ok, Err}
 use Rattle.std.specs.List.{AllByRecursion}
 use Rattle.strc_lex.specs.declared.token.Token.{Token}
 use Rattle.strc_lex.specs.declared.token.TokenKind.{TokenKind}
@@ -73,11 +74,15 @@ assign_punctuation assign.Divide = punctuation.SlashAssign
 assign_punctuation assign.Remainder = punctuation.PercentAssign
 
 -- a variable or an element with its step, before what follows
-abbrev pub step_spelled : StepOperator → (List TokenKind → List TokenKind) → List TokenKind → List TokenKind
+abbrev pub step_spelled : StepOperator → (List TokenKind → List TokenKind) → List TokenKind
+    → List TokenKind
 step_spelled step.IncrementFirst target rest = token.Punctuation punctuation.PlusPlus ∷ target rest
-step_spelled step.DecrementFirst target rest = token.Punctuation punctuation.MinusMinus ∷ target rest
-step_spelled step.IncrementAfter target rest = target (token.Punctuation punctuation.PlusPlus ∷ rest)
-step_spelled step.DecrementAfter target rest = target (token.Punctuation punctuation.MinusMinus ∷ rest)
+step_spelled step.DecrementFirst target rest =
+    token.Punctuation punctuation.MinusMinus ∷ target rest
+step_spelled step.IncrementAfter target rest =
+    target (token.Punctuation punctuation.PlusPlus ∷ rest)
+step_spelled step.DecrementAfter target rest =
+    target (token.Punctuation punctuation.MinusMinus ∷ rest)
 
 abbrev pub truth_keyword : Bool → TokenKind
 truth_keyword true = token.Keyword keyword.True
@@ -89,21 +94,31 @@ expr_spelled (tree.Number value) rest = token.Number value ∷ rest
 expr_spelled (tree.Truth value) rest = truth_keyword value ∷ rest
 expr_spelled (tree.Read name) rest = token.Name name ∷ rest
 expr_spelled (tree.Element name index) rest =
-    token.Name name ∷ token.Punctuation punctuation.OpenBracket ∷ expr_spelled index (token.Punctuation punctuation.CloseBracket ∷ rest)
-expr_spelled tree.Pop rest = token.Keyword keyword.Pop ∷ token.Punctuation punctuation.OpenParen ∷ token.Punctuation punctuation.CloseParen ∷ rest
+    token.Name name ∷ token.Punctuation punctuation.OpenBracket
+    ∷ expr_spelled index (token.Punctuation punctuation.CloseBracket ∷ rest)
+expr_spelled tree.Pop rest = token.Keyword keyword.Pop ∷ token.Punctuation punctuation.OpenParen
+    ∷ token.Punctuation punctuation.CloseParen ∷ rest
 expr_spelled (tree.Peek index) rest =
-    token.Keyword keyword.Peek ∷ token.Punctuation punctuation.OpenParen ∷ expr_spelled index (token.Punctuation punctuation.CloseParen ∷ rest)
-expr_spelled (tree.Group inner) rest = token.Punctuation punctuation.OpenParen ∷ expr_spelled inner (token.Punctuation punctuation.CloseParen ∷ rest)
-expr_spelled (tree.Unary operator operand) rest = token.Punctuation (unary_punctuation operator) ∷ expr_spelled operand rest
-expr_spelled (tree.Step operator name) rest = step_spelled operator (λ after. token.Name name ∷ after) rest
+    token.Keyword keyword.Peek ∷ token.Punctuation punctuation.OpenParen
+    ∷ expr_spelled index (token.Punctuation punctuation.CloseParen ∷ rest)
+expr_spelled (tree.Group inner) rest = token.Punctuation punctuation.OpenParen
+    ∷ expr_spelled inner (token.Punctuation punctuation.CloseParen ∷ rest)
+expr_spelled (tree.Unary operator operand) rest =
+    token.Punctuation (unary_punctuation operator) ∷ expr_spelled operand rest
+expr_spelled (tree.Step operator name) rest =
+    step_spelled operator (λ after. token.Name name ∷ after) rest
 expr_spelled (tree.StepElement operator name index) rest =
-    step_spelled operator (λ after. token.Name name ∷ token.Punctuation punctuation.OpenBracket ∷ expr_spelled index (token.Punctuation punctuation.CloseBracket ∷ after)) rest
-expr_spelled (tree.Binary operator left right) rest = expr_spelled left (token.Punctuation (binary_punctuation operator) ∷ expr_spelled right rest)
+    step_spelled operator (λ after. token.Name name ∷ token.Punctuation punctuation.OpenBracket
+    ∷ expr_spelled index (token.Punctuation punctuation.CloseBracket ∷ after)) rest
+expr_spelled (tree.Binary operator left right) rest =
+    expr_spelled left (token.Punctuation (binary_punctuation operator) ∷ expr_spelled right rest)
 expr_spelled (tree.Conditional condition chosen other) rest =
-    expr_spelled condition (token.Punctuation punctuation.Question ∷ expr_spelled chosen (token.Punctuation punctuation.Colon ∷ expr_spelled other rest))
+    expr_spelled condition (token.Punctuation punctuation.Question
+    ∷ expr_spelled chosen (token.Punctuation punctuation.Colon ∷ expr_spelled other rest))
 
 -- trees in a row, each as it is spelled
-abbrev pub each_spelled : {A : Type 0} → (A → List TokenKind → List TokenKind) → List A → List TokenKind → List TokenKind
+abbrev pub each_spelled : {A : Type 0} → (A → List TokenKind → List TokenKind) → List A
+    → List TokenKind → List TokenKind
 each_spelled spelled [] rest = rest
 each_spelled spelled (first ∷ others) rest = spelled first (each_spelled spelled others rest)
 
@@ -111,12 +126,15 @@ each_spelled spelled (first ∷ others) rest = spelled first (each_spelled spell
 abbrev pub type_spelled : tree.VariableType → List TokenKind → List TokenKind
 type_spelled tree.Boolean rest = token.Keyword keyword.Boolean ∷ rest
 type_spelled tree.Int rest = token.Keyword keyword.Int ∷ rest
-type_spelled (tree.Array count) rest = token.Keyword keyword.Int ∷ token.Punctuation punctuation.OpenBracket ∷ expr_spelled count (token.Punctuation punctuation.CloseBracket ∷ rest)
+type_spelled (tree.Array count) rest = token.Keyword keyword.Int
+    ∷ token.Punctuation punctuation.OpenBracket
+    ∷ expr_spelled count (token.Punctuation punctuation.CloseBracket ∷ rest)
 
 -- `= e`, or nothing
 abbrev pub initial_spelled : Option tree.Expr → List TokenKind → List TokenKind
 initial_spelled None rest = rest
-initial_spelled (Some initial) rest = token.Punctuation punctuation.Assign ∷ expr_spelled initial rest
+initial_spelled (Some initial) rest = token.Punctuation punctuation.Assign
+    ∷ expr_spelled initial rest
 
 -- `x` or `x = e`
 abbrev pub variable_spelled : tree.Variable → List TokenKind → List TokenKind
@@ -129,20 +147,24 @@ next_spelled variable rest = token.Punctuation punctuation.Comma ∷ variable_sp
 -- variables with commas between them
 abbrev pub variables_spelled : List tree.Variable → List TokenKind → List TokenKind
 variables_spelled [] rest = rest
-variables_spelled (first ∷ others) rest = variable_spelled first (each_spelled next_spelled others rest)
+variables_spelled (first ∷ others) rest =
+    variable_spelled first (each_spelled next_spelled others rest)
 
 -- `int x = 1, y`
-abbrev pub declared_spelled : tree.VariableType → List tree.Variable → List TokenKind → List TokenKind
+abbrev pub declared_spelled : tree.VariableType → List tree.Variable → List TokenKind
+    → List TokenKind
 declared_spelled kind variables rest = type_spelled kind (variables_spelled variables rest)
 
 -- A statement without its semicolon. No other form has one.
 abbrev pub part_spelled : tree.Stmt → List TokenKind → List TokenKind
 part_spelled (tree.Declare kind variables) rest = declared_spelled kind variables rest
 part_spelled (tree.Evaluate value) rest = expr_spelled value rest
-part_spelled (tree.Assign name operator value) rest = token.Name name ∷ token.Punctuation (assign_punctuation operator) ∷ expr_spelled value rest
+part_spelled (tree.Assign name operator value) rest =
+    token.Name name ∷ token.Punctuation (assign_punctuation operator) ∷ expr_spelled value rest
 part_spelled (tree.AssignElement name index operator value) rest =
     token.Name name ∷ token.Punctuation punctuation.OpenBracket
-    ∷ expr_spelled index (token.Punctuation punctuation.CloseBracket ∷ token.Punctuation (assign_punctuation operator) ∷ expr_spelled value rest)
+    ∷ expr_spelled index (token.Punctuation punctuation.CloseBracket
+    ∷ token.Punctuation (assign_punctuation operator) ∷ expr_spelled value rest)
 part_spelled _ rest = rest
 
 -- the condition of a `for`, or nothing
@@ -152,10 +174,12 @@ condition_spelled (Some condition) rest = expr_spelled condition rest
 
 -- `(e)`
 abbrev pub bracketed_spelled : tree.Expr → List TokenKind → List TokenKind
-bracketed_spelled value rest = token.Punctuation punctuation.OpenParen ∷ expr_spelled value (token.Punctuation punctuation.CloseParen ∷ rest)
+bracketed_spelled value rest = token.Punctuation punctuation.OpenParen
+    ∷ expr_spelled value (token.Punctuation punctuation.CloseParen ∷ rest)
 
 -- `(first; condition; step)`
-abbrev pub heading_spelled : tree.Stmt → Option tree.Expr → tree.Stmt → List TokenKind → List TokenKind
+abbrev pub heading_spelled : tree.Stmt → Option tree.Expr → tree.Stmt → List TokenKind
+    → List TokenKind
 heading_spelled first condition step rest =
     token.Punctuation punctuation.OpenParen
     ∷ part_spelled first (token.Punctuation punctuation.Semicolon
@@ -164,27 +188,34 @@ heading_spelled first condition step rest =
 
 -- `()`, or nothing
 abbrev pub brackets_spelled : Brackets → List TokenKind → List TokenKind
-brackets_spelled brackets.Written rest = token.Punctuation punctuation.OpenParen ∷ token.Punctuation punctuation.CloseParen ∷ rest
+brackets_spelled brackets.Written rest = token.Punctuation punctuation.OpenParen
+    ∷ token.Punctuation punctuation.CloseParen ∷ rest
 brackets_spelled brackets.Missing rest = rest
 
 -- a further expression, after its comma
 abbrev pub next_argument_spelled : tree.Expr → List TokenKind → List TokenKind
-next_argument_spelled argument rest = token.Punctuation punctuation.Comma ∷ expr_spelled argument rest
+next_argument_spelled argument rest = token.Punctuation punctuation.Comma
+    ∷ expr_spelled argument rest
 
 -- expressions with commas between them
 abbrev pub listed_spelled : List tree.Expr → List TokenKind → List TokenKind
 listed_spelled [] rest = rest
-listed_spelled (first ∷ others) rest = expr_spelled first (each_spelled next_argument_spelled others rest)
+listed_spelled (first ∷ others) rest = expr_spelled first
+    (each_spelled next_argument_spelled others rest)
 
 -- `(1, 2)`, or nothing
 abbrev pub arguments_spelled : Option (List tree.Expr) → List TokenKind → List TokenKind
 arguments_spelled None rest = rest
-arguments_spelled (Some arguments) rest = token.Punctuation punctuation.OpenParen ∷ listed_spelled arguments (token.Punctuation punctuation.CloseParen ∷ rest)
+arguments_spelled (Some arguments) rest =
+    token.Punctuation punctuation.OpenParen
+    ∷ listed_spelled arguments (token.Punctuation punctuation.CloseParen ∷ rest)
 
 -- `duplicate`, or `roundrobin` with its weights
 abbrev pub splitter_spelled : tree.Splitter → List TokenKind → List TokenKind
-splitter_spelled (tree.Duplicate pair) rest = token.Keyword keyword.Duplicate ∷ brackets_spelled pair rest
-splitter_spelled (tree.Roundrobin weights) rest = token.Keyword keyword.Roundrobin ∷ arguments_spelled weights rest
+splitter_spelled (tree.Duplicate pair) rest =
+    token.Keyword keyword.Duplicate ∷ brackets_spelled pair rest
+splitter_spelled (tree.Roundrobin weights) rest =
+    token.Keyword keyword.Roundrobin ∷ arguments_spelled weights rest
 
 abbrev pub role_keyword : Role → TokenKind
 role_keyword role.Add = token.Keyword keyword.Add
@@ -202,7 +233,8 @@ type_keyword item.Void = token.Keyword keyword.Void
 
 -- `int->void`
 abbrev pub stream_type_spelled : StreamType → List TokenKind → List TokenKind
-stream_type_spelled types rest = type_keyword types.input ∷ token.Punctuation punctuation.Arrow ∷ type_keyword types.output ∷ rest
+stream_type_spelled types rest = type_keyword types.input ∷ token.Punctuation punctuation.Arrow
+    ∷ type_keyword types.output ∷ rest
 
 -- the type of an anonymous stream, or nothing
 abbrev pub found_type_spelled : Option StreamType → List TokenKind → List TokenKind
@@ -211,12 +243,14 @@ found_type_spelled (Some types) rest = stream_type_spelled types rest
 
 -- `<int>`
 abbrev pub int_items_spelled : List TokenKind → List TokenKind
-int_items_spelled rest = token.Punctuation punctuation.Less ∷ token.Keyword keyword.Int ∷ token.Punctuation punctuation.Greater ∷ rest
+int_items_spelled rest = token.Punctuation punctuation.Less ∷ token.Keyword keyword.Int
+    ∷ token.Punctuation punctuation.Greater ∷ rest
 
 -- `<int>("numbers");`
 abbrev pub file_spelled : List ℕ → List TokenKind → List TokenKind
 file_spelled text rest =
-    int_items_spelled (token.Punctuation punctuation.OpenParen ∷ token.StringLiteral text ∷ token.Punctuation punctuation.CloseParen ∷ token.Punctuation punctuation.Semicolon ∷ rest)
+    int_items_spelled (token.Punctuation punctuation.OpenParen ∷ token.StringLiteral text
+    ∷ token.Punctuation punctuation.CloseParen ∷ token.Punctuation punctuation.Semicolon ∷ rest)
 
 abbrev pub rate_keyword : RateKind → TokenKind
 rate_keyword rate.Push = token.Keyword keyword.Push
@@ -230,21 +264,36 @@ rate_spelled written rest = rate_keyword written.kind ∷ expr_spelled written.r
 abbrev mutual
   -- the tokens of a statement, before what follows
   pub stmt_spelled : tree.Stmt → List TokenKind → List TokenKind
-  stmt_spelled tree.Empty rest = part_spelled tree.Empty (token.Punctuation punctuation.Semicolon ∷ rest)
-  stmt_spelled (tree.Block body) rest = token.Punctuation punctuation.OpenBrace ∷ row_spelled body (token.Punctuation punctuation.CloseBrace ∷ rest)
-  stmt_spelled (tree.Declare kind variables) rest = part_spelled (tree.Declare kind variables) (token.Punctuation punctuation.Semicolon ∷ rest)
-  stmt_spelled (tree.Evaluate value) rest = part_spelled (tree.Evaluate value) (token.Punctuation punctuation.Semicolon ∷ rest)
-  stmt_spelled (tree.Assign name operator value) rest = part_spelled (tree.Assign name operator value) (token.Punctuation punctuation.Semicolon ∷ rest)
+  stmt_spelled tree.Empty rest = part_spelled tree.Empty
+      (token.Punctuation punctuation.Semicolon ∷ rest)
+  stmt_spelled (tree.Block body) rest = token.Punctuation punctuation.OpenBrace
+      ∷ row_spelled body (token.Punctuation punctuation.CloseBrace ∷ rest)
+  stmt_spelled (tree.Declare kind variables) rest =
+      part_spelled (tree.Declare kind variables) (token.Punctuation punctuation.Semicolon ∷ rest)
+  stmt_spelled (tree.Evaluate value) rest =
+      part_spelled (tree.Evaluate value) (token.Punctuation punctuation.Semicolon ∷ rest)
+  stmt_spelled (tree.Assign name operator value) rest =
+      part_spelled (tree.Assign name operator value)
+      (token.Punctuation punctuation.Semicolon ∷ rest)
   stmt_spelled (tree.AssignElement name index operator value) rest =
-      part_spelled (tree.AssignElement name index operator value) (token.Punctuation punctuation.Semicolon ∷ rest)
-  stmt_spelled (tree.If condition chosen) rest = token.Keyword keyword.If ∷ bracketed_spelled condition (stmt_spelled chosen rest)
+      part_spelled (tree.AssignElement name index operator value)
+      (token.Punctuation punctuation.Semicolon ∷ rest)
+  stmt_spelled (tree.If condition chosen) rest =
+      token.Keyword keyword.If ∷ bracketed_spelled condition (stmt_spelled chosen rest)
   stmt_spelled (tree.IfElse condition chosen other) rest =
-      token.Keyword keyword.If ∷ bracketed_spelled condition (stmt_spelled chosen (token.Keyword keyword.Else ∷ stmt_spelled other rest))
-  stmt_spelled (tree.While condition body) rest = token.Keyword keyword.While ∷ bracketed_spelled condition (stmt_spelled body rest)
-  stmt_spelled (tree.For first condition step body) rest = token.Keyword keyword.For ∷ heading_spelled first condition step (stmt_spelled body rest)
-  stmt_spelled (tree.Push value) rest = token.Keyword keyword.Push ∷ bracketed_spelled value (token.Punctuation punctuation.Semicolon ∷ rest)
-  stmt_spelled (tree.Print value) rest = token.Keyword keyword.Print ∷ bracketed_spelled value (token.Punctuation punctuation.Semicolon ∷ rest)
-  stmt_spelled (tree.Println value) rest = token.Keyword keyword.Println ∷ bracketed_spelled value (token.Punctuation punctuation.Semicolon ∷ rest)
+      token.Keyword keyword.If ∷ bracketed_spelled condition
+      (stmt_spelled chosen (token.Keyword keyword.Else ∷ stmt_spelled other rest))
+  stmt_spelled (tree.While condition body) rest =
+      token.Keyword keyword.While ∷ bracketed_spelled condition (stmt_spelled body rest)
+  stmt_spelled (tree.For first condition step body) rest =
+      token.Keyword keyword.For ∷ heading_spelled first condition step (stmt_spelled body rest)
+  stmt_spelled (tree.Push value) rest = token.Keyword keyword.Push
+      ∷ bracketed_spelled value (token.Punctuation punctuation.Semicolon ∷ rest)
+  stmt_spelled (tree.Print value) rest = token.Keyword keyword.Print
+      ∷ bracketed_spelled value (token.Punctuation punctuation.Semicolon ∷ rest)
+  stmt_spelled (tree.Println value) rest =
+      token.Keyword keyword.Println ∷ bracketed_spelled value
+      (token.Punctuation punctuation.Semicolon ∷ rest)
   stmt_spelled (tree.Compose statement) rest = composition_spelled statement rest
 
   -- the statements of a block, without its braces
@@ -255,31 +304,50 @@ abbrev mutual
   -- a statement of a composite stream; `enqueue` has no brackets of its own
   pub composition_spelled : tree.Composition → List TokenKind → List TokenKind
   composition_spelled (tree.ChildOf role child) rest = role_keyword role ∷ child_spelled child rest
-  composition_spelled (tree.Split splitter) rest = token.Keyword keyword.Split ∷ splitter_spelled splitter (token.Punctuation punctuation.Semicolon ∷ rest)
+  composition_spelled (tree.Split splitter) rest =
+      token.Keyword keyword.Split ∷ splitter_spelled splitter
+      (token.Punctuation punctuation.Semicolon ∷ rest)
   composition_spelled (tree.Join weights) rest =
-      token.Keyword keyword.Join ∷ token.Keyword keyword.Roundrobin ∷ arguments_spelled weights (token.Punctuation punctuation.Semicolon ∷ rest)
-  composition_spelled (tree.Enqueue value) rest = token.Keyword keyword.Enqueue ∷ expr_spelled value (token.Punctuation punctuation.Semicolon ∷ rest)
+      token.Keyword keyword.Join ∷ token.Keyword keyword.Roundrobin
+      ∷ arguments_spelled weights (token.Punctuation punctuation.Semicolon ∷ rest)
+  composition_spelled (tree.Enqueue value) rest =
+      token.Keyword keyword.Enqueue ∷ expr_spelled value
+      (token.Punctuation punctuation.Semicolon ∷ rest)
 
   -- a child: a named one has a semicolon, an anonymous one ends at its brace
   pub child_spelled : tree.Child → List TokenKind → List TokenKind
-  child_spelled (tree.Named name arguments) rest = token.Name name ∷ arguments_spelled arguments (token.Punctuation punctuation.Semicolon ∷ rest)
+  child_spelled (tree.Named name arguments) rest =
+      token.Name name ∷ arguments_spelled arguments (token.Punctuation punctuation.Semicolon ∷ rest)
   child_spelled (tree.Identity pair) rest =
-      token.Keyword keyword.Identity ∷ int_items_spelled (brackets_spelled pair (token.Punctuation punctuation.Semicolon ∷ rest))
-  child_spelled (tree.FileReader text) rest = token.Keyword keyword.FileReader ∷ file_spelled text rest
-  child_spelled (tree.FileWriter text) rest = token.Keyword keyword.FileWriter ∷ file_spelled text rest
+      token.Keyword keyword.Identity ∷ int_items_spelled
+      (brackets_spelled pair (token.Punctuation punctuation.Semicolon ∷ rest))
+  child_spelled (tree.FileReader text) rest =
+      token.Keyword keyword.FileReader ∷ file_spelled text rest
+  child_spelled (tree.FileWriter text) rest =
+      token.Keyword keyword.FileWriter ∷ file_spelled text rest
   child_spelled (tree.AnonymousFilter types members) rest =
-      stream_type_spelled types (token.Keyword keyword.Filter ∷ token.Punctuation punctuation.OpenBrace ∷ members_spelled members (token.Punctuation punctuation.CloseBrace ∷ rest))
+      stream_type_spelled types (token.Keyword keyword.Filter
+      ∷ token.Punctuation punctuation.OpenBrace
+      ∷ members_spelled members (token.Punctuation punctuation.CloseBrace ∷ rest))
   child_spelled (tree.AnonymousComposite types kind block) rest =
-      found_type_spelled types (kind_keyword kind ∷ token.Punctuation punctuation.OpenBrace ∷ row_spelled block (token.Punctuation punctuation.CloseBrace ∷ rest))
+      found_type_spelled types (kind_keyword kind ∷ token.Punctuation punctuation.OpenBrace
+      ∷ row_spelled block (token.Punctuation punctuation.CloseBrace ∷ rest))
 
   -- a part of a filter
   pub member_spelled : tree.Member → List TokenKind → List TokenKind
-  member_spelled (tree.Fields kind variables) rest = declared_spelled kind variables (token.Punctuation punctuation.Semicolon ∷ rest)
-  member_spelled (tree.Init block) rest = token.Keyword keyword.Init ∷ token.Punctuation punctuation.OpenBrace ∷ row_spelled block (token.Punctuation punctuation.CloseBrace ∷ rest)
+  member_spelled (tree.Fields kind variables) rest =
+      declared_spelled kind variables (token.Punctuation punctuation.Semicolon ∷ rest)
+  member_spelled (tree.Init block) rest =
+      token.Keyword keyword.Init ∷ token.Punctuation punctuation.OpenBrace
+      ∷ row_spelled block (token.Punctuation punctuation.CloseBrace ∷ rest)
   member_spelled (tree.Prework rates block) rest =
-      token.Keyword keyword.Prework ∷ each_spelled rate_spelled rates (token.Punctuation punctuation.OpenBrace ∷ row_spelled block (token.Punctuation punctuation.CloseBrace ∷ rest))
+      token.Keyword keyword.Prework ∷ each_spelled rate_spelled rates
+      (token.Punctuation punctuation.OpenBrace
+      ∷ row_spelled block (token.Punctuation punctuation.CloseBrace ∷ rest))
   member_spelled (tree.Work rates block) rest =
-      token.Keyword keyword.Work ∷ each_spelled rate_spelled rates (token.Punctuation punctuation.OpenBrace ∷ row_spelled block (token.Punctuation punctuation.CloseBrace ∷ rest))
+      token.Keyword keyword.Work ∷ each_spelled rate_spelled rates
+      (token.Punctuation punctuation.OpenBrace
+      ∷ row_spelled block (token.Punctuation punctuation.CloseBrace ∷ rest))
 
   pub members_spelled : tree.Members → List TokenKind → List TokenKind
   members_spelled tree.NoMember rest = rest
@@ -287,7 +355,8 @@ abbrev mutual
 
 -- a block with its braces
 abbrev pub block_spelled : tree.Stmts → List TokenKind → List TokenKind
-block_spelled block rest = token.Punctuation punctuation.OpenBrace ∷ row_spelled block (token.Punctuation punctuation.CloseBrace ∷ rest)
+block_spelled block rest = token.Punctuation punctuation.OpenBrace
+    ∷ row_spelled block (token.Punctuation punctuation.CloseBrace ∷ rest)
 
 -- a parameter: `int n`
 abbrev pub parameter_spelled : List ℕ → List TokenKind → List TokenKind
@@ -300,26 +369,31 @@ next_parameter_spelled name rest = token.Punctuation punctuation.Comma ∷ param
 -- parameters with commas between them
 abbrev pub listed_parameters_spelled : List (List ℕ) → List TokenKind → List TokenKind
 listed_parameters_spelled [] rest = rest
-listed_parameters_spelled (first ∷ others) rest = parameter_spelled first (each_spelled next_parameter_spelled others rest)
+listed_parameters_spelled (first ∷ others) rest =
+    parameter_spelled first (each_spelled next_parameter_spelled others rest)
 
 -- `(int n, int m)`, or nothing
 abbrev pub parameters_spelled : Option (List (List ℕ)) → List TokenKind → List TokenKind
 parameters_spelled None rest = rest
 parameters_spelled (Some parameters) rest =
-    token.Punctuation punctuation.OpenParen ∷ listed_parameters_spelled parameters (token.Punctuation punctuation.CloseParen ∷ rest)
+    token.Punctuation punctuation.OpenParen
+    ∷ listed_parameters_spelled parameters (token.Punctuation punctuation.CloseParen ∷ rest)
 
 -- a named stream
-abbrev pub stream_spelled : List ℕ → Option (List (List ℕ)) → tree.Stream → List TokenKind → List TokenKind
+abbrev pub stream_spelled : List ℕ → Option (List (List ℕ)) → tree.Stream → List TokenKind
+    → List TokenKind
 stream_spelled name parameters (tree.Filter input output members) rest =
     stream_type_spelled (record { input = input; output = output })
-    (token.Keyword keyword.Filter ∷ token.Name name ∷ parameters_spelled parameters (token.Punctuation punctuation.OpenBrace
+    (token.Keyword keyword.Filter ∷ token.Name name
+    ∷ parameters_spelled parameters (token.Punctuation punctuation.OpenBrace
     ∷ each_spelled member_spelled members (token.Punctuation punctuation.CloseBrace ∷ rest)))
 stream_spelled name parameters (tree.Composite types kind block) rest =
     stream_type_spelled types
     (kind_keyword kind ∷ token.Name name ∷ parameters_spelled parameters (block_spelled block rest))
 
 abbrev pub declaration_spelled : tree.Declaration → List TokenKind → List TokenKind
-declaration_spelled declaration rest = stream_spelled declaration.name declaration.parameters declaration.stream rest
+declaration_spelled declaration rest = stream_spelled declaration.name declaration.parameters
+    declaration.stream rest
 
 -- the tokens of a program
 abbrev pub spelling : List tree.Declaration → List TokenKind
@@ -352,14 +426,16 @@ precedence binary.Remainder = 1
 abbrev pub lowest_precedence : ℕ
 lowest_precedence = 11
 
--- the rank of an expression: its operator's precedence, or 0 where nothing stands between two operands
+-- the rank of an expression: its operator's precedence, or 0 where nothing stands between two
+-- operands
 abbrev pub rank : tree.Expr → ℕ
 rank (tree.Binary operator left right) = precedence operator
 rank (tree.Conditional condition chosen other) = lowest_precedence
 rank _ = 0
 
--- A prefix operator takes an operand; a binary one takes no side of lower precedence, and on its right none of equal precedence; the
--- condition of `c ? a : b` is no such expression itself, and its other two parts are any.
+-- A prefix operator takes an operand; a binary one takes no side of lower precedence, and on its
+-- right none of equal precedence; the condition of `c ? a : b` is no such expression itself, and
+-- its other two parts are any.
 abbrev pub IsExpr : tree.Expr → Type 0
 IsExpr (tree.Number value) = Unit {0}
 IsExpr (tree.Truth value) = Unit {0}
@@ -371,8 +447,11 @@ IsExpr (tree.Group inner) = IsExpr inner
 IsExpr (tree.Unary operator operand) = (rank operand ≡ 0) × IsExpr operand
 IsExpr (tree.Step operator name) = Unit {0}
 IsExpr (tree.StepElement operator name index) = IsExpr index
-IsExpr (tree.Binary operator left right) = (rank left ≤ precedence operator) × (rank right < precedence operator) × IsExpr left × IsExpr right
-IsExpr (tree.Conditional condition chosen other) = (rank condition < lowest_precedence) × IsExpr condition × IsExpr chosen × IsExpr other
+IsExpr (tree.Binary operator left right) =
+    (rank left ≤ precedence operator) × (rank right < precedence operator) × IsExpr left
+    × IsExpr right
+IsExpr (tree.Conditional condition chosen other) =
+    (rank condition < lowest_precedence) × IsExpr condition × IsExpr chosen × IsExpr other
 
 abbrev pub IsOptional : Option tree.Expr → Type 0
 IsOptional None = Unit {0}
@@ -414,7 +493,8 @@ takes_else _ = false
 -- a rate keyword stands at most once
 abbrev pub AreRates : List tree.Rate → Type 0
 AreRates [] = Unit {0}
-AreRates (first ∷ others) = IsExpr first.rate × AllByRecursion (λ other. first.kind ≡ other.kind → ⊥) others × AreRates others
+AreRates (first ∷ others) = IsExpr first.rate
+    × AllByRecursion (λ other. first.kind ≡ other.kind → ⊥) others × AreRates others
 
 abbrev pub AreArguments : Option (List tree.Expr) → Type 0
 AreArguments None = Unit {0}
@@ -432,11 +512,14 @@ abbrev mutual
   IsStmt (tree.Declare kind variables) = IsFirst (tree.Declare kind variables)
   IsStmt (tree.Evaluate value) = IsStep (tree.Evaluate value)
   IsStmt (tree.Assign name operator value) = IsStep (tree.Assign name operator value)
-  IsStmt (tree.AssignElement name index operator value) = IsStep (tree.AssignElement name index operator value)
+  IsStmt (tree.AssignElement name index operator value) =
+      IsStep (tree.AssignElement name index operator value)
   IsStmt (tree.If condition chosen) = IsExpr condition × IsStmt chosen
-  IsStmt (tree.IfElse condition chosen other) = IsExpr condition × (takes_else chosen ≡ false) × IsStmt chosen × IsStmt other
+  IsStmt (tree.IfElse condition chosen other) =
+      IsExpr condition × (takes_else chosen ≡ false) × IsStmt chosen × IsStmt other
   IsStmt (tree.While condition body) = IsExpr condition × IsStmt body
-  IsStmt (tree.For first condition step body) = IsFirst first × IsOptional condition × IsStep step × IsStmt body
+  IsStmt (tree.For first condition step body) =
+      IsFirst first × IsOptional condition × IsStep step × IsStmt body
   IsStmt (tree.Push value) = IsExpr value
   IsStmt (tree.Print value) = IsExpr value
   IsStmt (tree.Println value) = IsExpr value
@@ -483,7 +566,8 @@ IsTree program = AllByRecursion IsDeclaration program
 
 -- ---- heights
 
--- A leaf has height 1, any other node one more than its highest part. An element is a node above its index.
+-- A leaf has height 1, any other node one more than its highest part. An element is a node above
+-- its index.
 abbrev pub expr_height : tree.Expr → ℕ
 expr_height (tree.Number value) = 1
 expr_height (tree.Truth value) = 1
@@ -496,7 +580,8 @@ expr_height (tree.Unary operator operand) = expr_height operand + 1
 expr_height (tree.Step operator name) = 2
 expr_height (tree.StepElement operator name index) = expr_height index + 2
 expr_height (tree.Binary operator left right) = max (expr_height left) (expr_height right) + 1
-expr_height (tree.Conditional condition chosen other) = max (expr_height condition) (max (expr_height chosen) (expr_height other)) + 1
+expr_height (tree.Conditional condition chosen other) =
+    max (expr_height condition) (max (expr_height chosen) (expr_height other)) + 1
 
 -- the greatest of these heights, or 0
 abbrev pub highest : {A : Type 0} → (A → ℕ) → List A → ℕ
@@ -539,12 +624,15 @@ abbrev mutual
   stmt_height (tree.Declare kind variables) = declared_height kind variables + 1
   stmt_height (tree.Evaluate value) = expr_height value + 1
   stmt_height (tree.Assign name operator value) = expr_height value + 1
-  stmt_height (tree.AssignElement name index operator value) = max (expr_height index + 1) (expr_height value) + 1
+  stmt_height (tree.AssignElement name index operator value) =
+      max (expr_height index + 1) (expr_height value) + 1
   stmt_height (tree.If condition chosen) = max (expr_height condition) (stmt_height chosen) + 1
-  stmt_height (tree.IfElse condition chosen other) = max (max (expr_height condition) (stmt_height chosen)) (stmt_height other) + 1
+  stmt_height (tree.IfElse condition chosen other) =
+      max (max (expr_height condition) (stmt_height chosen)) (stmt_height other) + 1
   stmt_height (tree.While condition body) = max (expr_height condition) (stmt_height body) + 1
   stmt_height (tree.For first condition step body) =
-      max (max (stmt_height first) (max (optional_height condition) (stmt_height step))) (stmt_height body) + 1
+      max (max (stmt_height first) (max (optional_height condition) (stmt_height step)))
+      (stmt_height body) + 1
   stmt_height (tree.Push value) = expr_height value + 1
   stmt_height (tree.Print value) = expr_height value + 1
   stmt_height (tree.Println value) = expr_height value + 1
@@ -599,13 +687,16 @@ height_limit = HEIGHT_LIMIT
 
 -- the tokens are those of this program, which is well shaped and not too high
 abbrev pub Parses : List TokenKind → List tree.Declaration → Type 0
-Parses tokens program = (tokens ≡ spelling program) × IsTree program × (height program ≤ height_limit)
+Parses tokens program = (tokens ≡ spelling program) × IsTree program
+    × (height program ≤ height_limit)
 
--- What a refusal says: tokens that no program has, at a place within them; or tokens that no program within the limit
--- has, of which there are more than 200.
+-- What a refusal says: tokens that no program has, at a place within them; or tokens that no
+-- program within the limit has, of which there are more than 200.
 abbrev pub Refuses : List TokenKind → ParseError → Type 0
-Refuses tokens (refusal.Parse place) = (place ≤ length tokens) × ((program : List tree.Declaration) → IsTree program → tokens ≡ spelling program → ⊥)
-Refuses tokens refusal.Nesting = (200 < length tokens) × ((program : List tree.Declaration) → Parses tokens program → ⊥)
+Refuses tokens (refusal.Parse place) = (place ≤ length tokens)
+    × ((program : List tree.Declaration) → IsTree program → tokens ≡ spelling program → ⊥)
+Refuses tokens refusal.Nesting = (200 < length tokens)
+    × ((program : List tree.Declaration) → Parses tokens program → ⊥)
 Refuses tokens refusal.NoMemory = Unit {0}
 
 -- the answer to the tokens of this program: it, or that memory ran out
@@ -616,4 +707,5 @@ IsFound program (Err _) = ⊥
 
 -- no two programs have one spelling
 abbrev pub IsUnambiguous : Type 0
-IsUnambiguous = (first second : List tree.Declaration) → IsTree first → IsTree second → spelling first ≡ spelling second → first ≡ second
+IsUnambiguous = (first second : List tree.Declaration) → IsTree first → IsTree second
+    → spelling first ≡ spelling second → first ≡ second

@@ -1,6 +1,8 @@
--- Reading trees from the front of a token list, rule by rule, as the code does: expressions, and what has no statement
--- in it. It serves the proofs: no public clause cites it.
-use Rattle.std.specs.Prelude.{◌≡◌, ℕ, zero, suc, ◌+◌, ◌-◌, max, Bool, true, false, if◌then◌else◌, ◌==◌, nat_lt, List, [], ◌∷◌, ◌++◌, length, Option, Some, None, Result, Ok, Err}
+-- Reading trees from the front of a token list, rule by rule, as the code does: expressions, and
+-- what has no statement in it. It serves the proofs: no public clause cites it.
+use Rattle.std.specs.Prelude.{◌≡◌, ℕ, zero, suc, ◌+◌, ◌-◌, max, Bool, true, false, if◌then◌else◌}
+use Rattle.std.specs.Prelude.{◌==◌, nat_lt, List, [], ◌∷◌, ◌++◌, length, Option, Some, None, Result}
+use Rattle.std.specs.Prelude.{Ok, Err}
 use denote.Enum.Bare.{sameb}
 use Rattle.strc_lex.specs.contracts.token.Punctuation.{the_type as punctuation_type}
 use Rattle.strc_lex.specs.contracts.token.Keyword.{the_type as keyword_type}
@@ -93,7 +95,8 @@ unfoldable pub expect : Punctuation → List TokenKind → Result (List TokenKin
 expect wanted tokens = if is_punctuation wanted tokens then Ok (tail tokens) else unexpected tokens
 
 unfoldable pub expect_keyword : Keyword → List TokenKind → Result (List TokenKind) Fault
-expect_keyword wanted tokens = if is_keyword wanted tokens then Ok (tail tokens) else unexpected tokens
+expect_keyword wanted tokens = if is_keyword wanted tokens then Ok (tail tokens)
+    else unexpected tokens
 
 abbrev pub name_by : Option TokenKind → List TokenKind → Read (List ℕ)
 name_by (Some (token.Name name)) tokens = Ok (name, tail tokens)
@@ -114,22 +117,29 @@ text tokens = text_by (first tokens) tokens
 unfoldable pub raised : ℕ → ℕ → Result ℕ Fault
 raised depth height = if nat_lt height depth then Ok (height + 1) else Err Nesting
 
--- A loop with at most so many turns: where it stops, with what follows it, and what a turn makes of what there is so far.
-abbrev pub repeated_by : {S : Type 0} → (S → List TokenKind → Read S) → (S → List TokenKind → Read S) → S → List TokenKind → Option (List TokenKind) → Read S
+-- A loop with at most so many turns: where it stops, with what follows it, and what a turn makes of
+-- what there is so far.
+abbrev pub repeated_by : {S : Type 0} → (S → List TokenKind → Read S)
+    → (S → List TokenKind → Read S) → S → List TokenKind → Option (List TokenKind) → Read S
 repeated_by turn goes_on so_far tokens (Some after) = Ok (so_far, after)
 repeated_by turn goes_on so_far tokens None = turn so_far tokens >>= λ next. goes_on next.0 next.1
 
-unfoldable pub repeated : {S : Type 0} → (List TokenKind → Option (List TokenKind)) → (S → List TokenKind → Read S) → ℕ → S → List TokenKind → Read S
+unfoldable pub repeated : {S : Type 0} → (List TokenKind → Option (List TokenKind))
+    → (S → List TokenKind → Read S) → ℕ → S → List TokenKind → Read S
 repeated stop turn zero so_far tokens = unexpected tokens
-repeated stop turn (suc turns) so_far tokens = repeated_by turn (repeated stop turn turns) so_far tokens (stop tokens)
+repeated stop turn (suc turns) so_far tokens =
+    repeated_by turn (repeated stop turn turns) so_far tokens (stop tokens)
 
 -- a turn that reads one more item of a list
-unfoldable pub one_more : {A : Type 0} → (List TokenKind → Read A) → List A → List TokenKind → Read (List A)
+unfoldable pub one_more : {A : Type 0} → (List TokenKind → Read A) → List A → List TokenKind
+    → Read (List A)
 one_more reader front tokens = reader tokens >>= λ read. Ok (front ++ read.0 ∷ [], read.1)
 
 -- a turn that reads one more tree of a list: those so far, and the height of the highest of them
-unfoldable pub one_taller : {A : Type 0} → (List TokenKind → Tall A) → List A × ℕ → List TokenKind → Read (List A × ℕ)
-one_taller reader so_far tokens = reader tokens >>= λ read. Ok ((so_far.0 ++ read.0 ∷ [], max so_far.1 read.1), read.2)
+unfoldable pub one_taller : {A : Type 0} → (List TokenKind → Tall A) → List A × ℕ → List TokenKind
+    → Read (List A × ℕ)
+one_taller reader so_far tokens = reader tokens >>= λ read. Ok
+    ((so_far.0 ++ read.0 ∷ [], max so_far.1 read.1), read.2)
 
 -- a loop stops at the brace that closes, and goes on after it
 unfoldable pub brace : List TokenKind → Option (List TokenKind)
@@ -194,20 +204,25 @@ closed below closing tokens = do
 unfoldable pub index : ℕ → Below → List TokenKind → Tall (Option tree.Expr)
 index depth below tokens =
     if is_punctuation punctuation.OpenBracket tokens
-    then (closed below punctuation.CloseBracket (tail tokens) >>= λ value. raised depth value.1 >>= λ height. Ok (Some value.0, height, value.2))
+    then (closed below punctuation.CloseBracket (tail tokens) >>= λ value.
+    raised depth value.1 >>= λ height. Ok (Some value.0, height, value.2))
     else Ok (None, 1, tokens)
 
-abbrev pub after_place_by : ℕ → List ℕ → Option tree.Expr → ℕ → List TokenKind → Option StepOperator → Tall tree.Expr
+abbrev pub after_place_by : ℕ → List ℕ → Option tree.Expr → ℕ → List TokenKind → Option StepOperator
+    → Tall tree.Expr
 after_place_by depth name at height tokens None = Ok (read_of name at, height, tokens)
-after_place_by depth name at height tokens (Some operator) = raised depth height >>= λ high. Ok (step_of_place operator name at, high, tail tokens)
+after_place_by depth name at height tokens (Some operator) =
+    raised depth height >>= λ high. Ok (step_of_place operator name at, high, tail tokens)
 
 -- `x` or `x++`, `x[i]` or `x[i]++`: after the name and its index
 unfoldable pub after_place : ℕ → List ℕ → Option tree.Expr → ℕ → List TokenKind → Tall tree.Expr
-after_place depth name at height tokens = after_place_by depth name at height tokens (step_after tokens)
+after_place depth name at height tokens =
+    after_place_by depth name at height tokens (step_after tokens)
 
 -- the same after the name
 unfoldable pub after_name : ℕ → Below → List ℕ → List TokenKind → Tall tree.Expr
-after_name depth below name tokens = index depth below tokens >>= λ at. after_place depth name at.0 at.1 at.2
+after_name depth below name tokens = index depth below tokens >>= λ at.
+    after_place depth name at.0 at.1 at.2
 
 -- `++x` or `++x[i]`: after the punctuation
 unfoldable pub step_first : ℕ → Below → StepOperator → List TokenKind → Tall tree.Expr
@@ -249,11 +264,15 @@ sign depth below operator tokens = do
 -- an operand that begins with this punctuation mark
 unfoldable pub punctuation_operand : ℕ → Below → Punctuation → List TokenKind → Tall tree.Expr
 punctuation_operand depth below punctuation.OpenParen tokens = group depth below (tail tokens)
-punctuation_operand depth below punctuation.Minus tokens = sign depth below unary.Negate (tail tokens)
+punctuation_operand depth below punctuation.Minus tokens =
+    sign depth below unary.Negate (tail tokens)
 punctuation_operand depth below punctuation.Not tokens = sign depth below unary.Not (tail tokens)
-punctuation_operand depth below punctuation.Tilde tokens = sign depth below unary.Complement (tail tokens)
-punctuation_operand depth below punctuation.PlusPlus tokens = step_first depth below step.IncrementFirst (tail tokens)
-punctuation_operand depth below punctuation.MinusMinus tokens = step_first depth below step.DecrementFirst (tail tokens)
+punctuation_operand depth below punctuation.Tilde tokens =
+    sign depth below unary.Complement (tail tokens)
+punctuation_operand depth below punctuation.PlusPlus tokens =
+    step_first depth below step.IncrementFirst (tail tokens)
+punctuation_operand depth below punctuation.MinusMinus tokens =
+    step_first depth below step.DecrementFirst (tail tokens)
 punctuation_operand depth below _ tokens = unexpected tokens
 
 -- an operand that begins with this keyword
@@ -267,8 +286,10 @@ keyword_operand depth below _ tokens = unexpected tokens
 abbrev pub operand_by : ℕ → Below → List TokenKind → Option TokenKind → Tall tree.Expr
 operand_by depth below tokens (Some (token.Number value)) = Ok (tree.Number value, 1, tail tokens)
 operand_by depth below tokens (Some (token.Name name)) = after_name depth below name (tail tokens)
-operand_by depth below tokens (Some (token.Keyword found)) = keyword_operand depth below found tokens
-operand_by depth below tokens (Some (token.Punctuation found)) = punctuation_operand depth below found tokens
+operand_by depth below tokens (Some (token.Keyword found)) =
+    keyword_operand depth below found tokens
+operand_by depth below tokens (Some (token.Punctuation found)) =
+    punctuation_operand depth below found tokens
 operand_by depth below tokens (Some (token.StringLiteral found)) = unexpected tokens
 operand_by depth below tokens None = unexpected tokens
 
@@ -276,21 +297,27 @@ operand_by depth below tokens None = unexpected tokens
 unfoldable pub operand : ℕ → Below → List TokenKind → Tall tree.Expr
 operand depth below tokens = operand_by depth below tokens (first tokens)
 
--- A turn of the loop over operators of one rank, which group to the left: what comes first, and how to go on after it.
-abbrev pub chain_by : ℕ → Below → ℕ → (tree.Expr → ℕ → List TokenKind → Tall tree.Expr) → tree.Expr → ℕ → List TokenKind → Option BinaryOperator → Tall tree.Expr
+-- A turn of the loop over operators of one rank, which group to the left: what comes first, and how
+-- to go on after it.
+abbrev pub chain_by : ℕ → Below → ℕ → (tree.Expr → ℕ → List TokenKind → Tall tree.Expr) → tree.Expr
+    → ℕ → List TokenKind → Option BinaryOperator → Tall tree.Expr
 chain_by depth below rank goes_on left height tokens None = Ok (left, height, tokens)
 chain_by depth below rank goes_on left height tokens (Some operator) =
-    below (rank - 1) (tail tokens) >>= λ right. raised depth (max height right.1) >>= λ both. goes_on (tree.Binary operator left right.0) both right.2
+    below (rank - 1) (tail tokens) >>= λ right. raised depth (max height right.1) >>= λ both.
+    goes_on (tree.Binary operator left right.0) both right.2
 
 -- the loop, with at most so many turns
 unfoldable pub chain : ℕ → Below → ℕ → ℕ → tree.Expr → ℕ → List TokenKind → Tall tree.Expr
 chain depth below rank zero left height tokens = Ok (left, height, tokens)
-chain depth below rank (suc turns) left height tokens = chain_by depth below rank (chain depth below rank turns) left height tokens (operator rank tokens)
+chain depth below rank (suc turns) left height tokens =
+    chain_by depth below rank (chain depth below rank turns) left height tokens
+    (operator rank tokens)
 
 -- an expression of at most this rank, of operands and binary operators
 unfoldable pub climb : ℕ → Below → ℕ → List TokenKind → Tall tree.Expr
 climb depth below zero tokens = operand depth below tokens
-climb depth below (suc rank) tokens = climb depth below rank tokens >>= λ left. chain depth below (suc rank) (length left.2) left.0 left.1 left.2
+climb depth below (suc rank) tokens = climb depth below rank tokens >>= λ left. chain depth below
+    (suc rank) (length left.2) left.0 left.1 left.2
 
 -- `a : b`: after the question mark
 unfoldable pub choice : ℕ → Below → tree.Expr → ℕ → List TokenKind → Tall tree.Expr
@@ -308,11 +335,13 @@ lowest_binary_precedence = 10
 unfoldable pub conditional : ℕ → Below → List TokenKind → Tall tree.Expr
 conditional depth below tokens =
     climb depth below lowest_binary_precedence tokens
-    >>= λ read. if is_punctuation punctuation.Question read.2 then choice depth below read.0 read.1 (tail read.2) else Ok (read.0, read.1, read.2)
+    >>= λ read. if is_punctuation punctuation.Question read.2 then choice depth below read.0 read.1
+    (tail read.2) else Ok (read.0, read.1, read.2)
 
 -- an expression of at most this rank
 unfoldable pub ranked : ℕ → Below → ℕ → List TokenKind → Tall tree.Expr
-ranked depth below rank tokens = if rank == lowest_precedence then conditional depth below tokens else climb depth below rank tokens
+ranked depth below rank tokens = if rank == lowest_precedence then conditional depth below tokens
+    else climb depth below rank tokens
 
 -- an expression of at most this height and rank
 unfoldable pub expression : ℕ → ℕ → List TokenKind → Tall tree.Expr
@@ -324,7 +353,9 @@ expression (suc depth) rank tokens = ranked (suc depth) (expression depth) rank 
 -- `= e`, if it stands there: the initialiser, its height or 0
 unfoldable pub initial : ℕ → List TokenKind → Tall (Option tree.Expr)
 initial depth tokens =
-    if is_punctuation punctuation.Assign tokens then (expression depth lowest_precedence (tail tokens) >>= λ value. Ok (Some value.0, value.1, value.2)) else Ok (None, 0, tokens)
+    if is_punctuation punctuation.Assign tokens then
+    (expression depth lowest_precedence (tail tokens) >>= λ value. Ok
+    (Some value.0, value.1, value.2)) else Ok (None, 0, tokens)
 
 -- `x` or `x = e`
 unfoldable pub variable : ℕ → List TokenKind → Tall tree.Variable
@@ -342,22 +373,27 @@ unfoldable pub next_variable : ℕ → List TokenKind → Tall tree.Variable
 next_variable depth tokens = variable depth (tail tokens)
 
 -- the variables after these
-unfoldable pub more_variables : ℕ → List tree.Variable × ℕ → List TokenKind → Read (List tree.Variable × ℕ)
-more_variables depth so_far tokens = repeated no_comma (one_taller (next_variable depth)) (length tokens + 1) so_far tokens
+unfoldable pub more_variables : ℕ → List tree.Variable × ℕ → List TokenKind
+    → Read (List tree.Variable × ℕ)
+more_variables depth so_far tokens = repeated no_comma (one_taller (next_variable depth))
+    (length tokens + 1) so_far tokens
 
 -- variables with commas between them, and the height of the highest initialiser or 0
 unfoldable pub variables : ℕ → List TokenKind → Read (List tree.Variable × ℕ)
-variables depth tokens = variable depth tokens >>= λ read. more_variables depth (read.0 ∷ [], read.1) read.2
+variables depth tokens = variable depth tokens >>= λ read. more_variables depth
+    (read.0 ∷ [], read.1) read.2
 
 -- `int` or `int[n]`: after the keyword
 unfoldable pub int_type : ℕ → List TokenKind → Tall tree.VariableType
 int_type depth tokens =
     if is_punctuation punctuation.OpenBracket tokens
-    then (closed (expression depth) punctuation.CloseBracket (tail tokens) >>= λ count. Ok (tree.Array count.0, count.1, count.2))
+    then (closed (expression depth) punctuation.CloseBracket (tail tokens) >>= λ count. Ok
+    (tree.Array count.0, count.1, count.2))
     else Ok (tree.Int, 0, tokens)
 
 abbrev pub variable_type_by : ℕ → List TokenKind → Option TokenKind → Tall tree.VariableType
-variable_type_by depth tokens (Some (token.Keyword keyword.Boolean)) = Ok (tree.Boolean, 0, tail tokens)
+variable_type_by depth tokens (Some (token.Keyword keyword.Boolean)) =
+    Ok (tree.Boolean, 0, tail tokens)
 variable_type_by depth tokens (Some (token.Keyword keyword.Int)) = int_type depth (tail tokens)
 variable_type_by depth tokens _ = unexpected tokens
 
@@ -396,7 +432,8 @@ assign_at tokens = assign_of (punctuation_at tokens)
 
 -- an expression that was read, as a statement
 unfoldable pub evaluate : ℕ → tree.Expr → ℕ → List TokenKind → Tall tree.Stmt
-evaluate depth value height tokens = raised depth height >>= λ high. Ok (tree.Evaluate value, high, tokens)
+evaluate depth value height tokens = raised depth height >>= λ high. Ok
+    (tree.Evaluate value, high, tokens)
 
 -- `x = e`: after the operator
 unfoldable pub assign_to : ℕ → List ℕ → AssignOperator → List TokenKind → Tall tree.Stmt
@@ -406,35 +443,43 @@ assign_to depth name operator tokens = do
   Ok (tree.Assign name operator value.0, height, value.2)
 
 -- `x[i] = e`: after the operator, with the height of the element
-unfoldable pub assign_element : ℕ → List ℕ → tree.Expr → ℕ → AssignOperator → List TokenKind → Tall tree.Stmt
+unfoldable pub assign_element : ℕ → List ℕ → tree.Expr → ℕ → AssignOperator → List TokenKind
+    → Tall tree.Stmt
 assign_element depth name at height operator tokens = do
   value ← expression (depth - 1) lowest_precedence tokens
   high ← raised depth (max height value.1)
   Ok (tree.AssignElement name at operator value.0, high, value.2)
 
 abbrev pub assign_by : ℕ → tree.Expr → ℕ → AssignOperator → List TokenKind → Tall tree.Stmt
-assign_by depth (tree.Read name) height operator tokens = assign_to depth name operator (tail tokens)
-assign_by depth (tree.Element name at) height operator tokens = assign_element depth name at height operator (tail tokens)
+assign_by depth (tree.Read name) height operator tokens =
+    assign_to depth name operator (tail tokens)
+assign_by depth (tree.Element name at) height operator tokens =
+    assign_element depth name at height operator (tail tokens)
 assign_by depth value height operator tokens = evaluate depth value height tokens
 
--- what an operator that stands first makes of the expression before it: an assignment, where that is a variable or an element
+-- what an operator that stands first makes of the expression before it: an assignment, where that
+-- is a variable or an element
 unfoldable pub assignment : ℕ → tree.Expr → ℕ → AssignOperator → List TokenKind → Tall tree.Stmt
 assignment depth value height operator tokens = assign_by depth value height operator tokens
 
-abbrev pub after_value_by : ℕ → tree.Expr → ℕ → List TokenKind → Option AssignOperator → Tall tree.Stmt
+abbrev pub after_value_by : ℕ → tree.Expr → ℕ → List TokenKind → Option AssignOperator
+    → Tall tree.Stmt
 after_value_by depth value height tokens None = evaluate depth value height tokens
-after_value_by depth value height tokens (Some operator) = assignment depth value height operator tokens
+after_value_by depth value height tokens (Some operator) =
+    assignment depth value height operator tokens
 
 unfoldable pub after_value : ℕ → tree.Expr → ℕ → List TokenKind → Tall tree.Stmt
 after_value depth value height tokens = after_value_by depth value height tokens (assign_at tokens)
 
 -- an expression or an assignment
 unfoldable pub simple : ℕ → List TokenKind → Tall tree.Stmt
-simple depth tokens = expression (depth - 1) lowest_precedence tokens >>= λ value. after_value depth value.0 value.1 value.2
+simple depth tokens = expression (depth - 1) lowest_precedence tokens >>= λ value.
+    after_value depth value.0 value.1 value.2
 
 -- the same, or nothing before this punctuation mark
 unfoldable pub optional : ℕ → Punctuation → List TokenKind → Tall tree.Stmt
-optional depth end tokens = if is_punctuation end tokens then Ok (tree.Empty, 1, tokens) else simple depth tokens
+optional depth end tokens = if is_punctuation end tokens then Ok (tree.Empty, 1, tokens)
+    else simple depth tokens
 
 abbrev pub part_by : ℕ → List TokenKind → Option TokenKind → Tall tree.Stmt
 part_by depth tokens (Some (token.Keyword keyword.Boolean)) = declare depth tokens
@@ -454,7 +499,8 @@ ended depth tokens = do
 
 -- `(e)`, with the height of e
 unfoldable pub bracketed : ℕ → List TokenKind → Tall tree.Expr
-bracketed depth tokens = expect punctuation.OpenParen tokens >>= λ inside. closed (expression (depth - 1)) punctuation.CloseParen inside
+bracketed depth tokens = expect punctuation.OpenParen tokens >>= λ inside. closed
+    (expression (depth - 1)) punctuation.CloseParen inside
 
 -- `(e);`, with the height of a node above e
 unfoldable pub argument : ℕ → List TokenKind → Tall tree.Expr
@@ -469,7 +515,8 @@ unfoldable pub condition : ℕ → List TokenKind → Tall (Option tree.Expr)
 condition depth tokens =
     if is_punctuation punctuation.Semicolon tokens
     then Ok (None, 0, tail tokens)
-    else (closed (expression depth) punctuation.Semicolon tokens >>= λ value. Ok (Some value.0, value.1, value.2))
+    else (closed (expression depth) punctuation.Semicolon tokens >>= λ value. Ok
+    (Some value.0, value.1, value.2))
 
 -- the step of a `for`, and the bracket after it
 unfoldable pub last_part : ℕ → List TokenKind → Tall tree.Stmt
@@ -501,20 +548,24 @@ next_argument depth tokens = expression depth lowest_precedence (tail tokens)
 
 -- the arguments after these
 unfoldable pub more_arguments : ℕ → List tree.Expr × ℕ → List TokenKind → Read (List tree.Expr × ℕ)
-more_arguments depth so_far tokens = repeated no_comma (one_taller (next_argument depth)) (length tokens + 1) so_far tokens
+more_arguments depth so_far tokens = repeated no_comma (one_taller (next_argument depth))
+    (length tokens + 1) so_far tokens
 
--- expressions with commas between them, or none before the bracket that closes them, and the height of the highest or 0
+-- expressions with commas between them, or none before the bracket that closes them, and the height
+-- of the highest or 0
 unfoldable pub listed_arguments : ℕ → List TokenKind → Read (List tree.Expr × ℕ)
 listed_arguments depth tokens =
     if is_punctuation punctuation.CloseParen tokens
     then Ok (([], 0), tokens)
-    else (expression depth lowest_precedence tokens >>= λ read. more_arguments depth (read.0 ∷ [], read.1) read.2)
+    else (expression depth lowest_precedence tokens >>= λ read. more_arguments depth
+    (read.0 ∷ [], read.1) read.2)
 
 -- `(1, 2)`, if it stands there
 unfoldable pub arguments : ℕ → List TokenKind → Tall (Option (List tree.Expr))
 arguments depth tokens =
     if is_punctuation punctuation.OpenParen tokens
-    then (listed_arguments depth (tail tokens) >>= λ read. expect punctuation.CloseParen read.1 >>= λ rest. Ok (Some read.0.0, read.0.1, rest))
+    then (listed_arguments depth (tail tokens) >>= λ read.
+    expect punctuation.CloseParen read.1 >>= λ rest. Ok (Some read.0.0, read.0.1, rest))
     else Ok (None, 0, tokens)
 
 -- `()`, if it stands there
@@ -534,18 +585,21 @@ next_parameter tokens = parameter (tail tokens)
 
 -- the parameters after these
 unfoldable pub more_parameters : List (List ℕ) → List TokenKind → Read (List (List ℕ))
-more_parameters so_far tokens = repeated no_comma (one_more next_parameter) (length tokens + 1) so_far tokens
+more_parameters so_far tokens = repeated no_comma (one_more next_parameter)
+    (length tokens + 1) so_far tokens
 
 -- parameters with commas between them, or none before the bracket that closes them
 unfoldable pub listed_parameters : List TokenKind → Read (List (List ℕ))
 listed_parameters tokens =
-    if is_punctuation punctuation.CloseParen tokens then Ok ([], tokens) else (parameter tokens >>= λ read. more_parameters (read.0 ∷ []) read.1)
+    if is_punctuation punctuation.CloseParen tokens then Ok ([], tokens) else
+    (parameter tokens >>= λ read. more_parameters (read.0 ∷ []) read.1)
 
 -- `(int n, int m)`, if it stands there
 unfoldable pub parameters : List TokenKind → Read (Option (List (List ℕ)))
 parameters tokens =
     if is_punctuation punctuation.OpenParen tokens
-    then (listed_parameters (tail tokens) >>= λ read. expect punctuation.CloseParen read.1 >>= λ rest. Ok (Some read.0, rest))
+    then (listed_parameters (tail tokens) >>= λ read.
+    expect punctuation.CloseParen read.1 >>= λ rest. Ok (Some read.0, rest))
     else Ok (None, tokens)
 
 -- ---- types of streams

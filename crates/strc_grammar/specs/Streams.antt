@@ -1,6 +1,7 @@
--- Reading statements and streams from the front of a token list, rule by rule, as the code does. It serves the proofs:
--- no public clause cites it.
-use Rattle.std.specs.Prelude.{ℕ, zero, suc, ◌+◌, ◌-◌, max, Bool, if◌then◌else◌, List, [], ◌∷◌, ◌++◌, length, Option, Some, None, Result, Ok, Err}
+-- Reading statements and streams from the front of a token list, rule by rule, as the code does. It
+-- serves the proofs: no public clause cites it.
+use Rattle.std.specs.Prelude.{ℕ, zero, suc, ◌+◌, ◌-◌, max, Bool, if◌then◌else◌, List, [], ◌∷◌, ◌++◌}
+use Rattle.std.specs.Prelude.{length, Option, Some, None, Result, Ok, Err}
 use Rattle.std.specs.List.{list_any}
 use denote.Enum.Bare.{sameb}
 use Rattle.strc_lex.specs.declared.token.TokenKind.{TokenKind}
@@ -20,7 +21,11 @@ use Rattle.strc_grammar.specs.declared.error.Fault.TheVariants.{Nesting}
 use Rattle.strc_syntax.specs.Tree as tree
 use Rattle.strc_syntax.specs.Tree.{row, chain}
 use Rattle.strc_grammar.specs.Grammar.{lowest_precedence}
-use Rattle.strc_grammar.specs.Reading.{◌>>=◌, Read, Tall, first, tail, unexpected, is_keyword, expect, expect_keyword, name, raised, repeated, one_more, one_taller, brace, expression, declared, closed, ended, bracketed, argument, for_heading, arguments, empty_brackets, parameters, stream_type, composite_kind, int_items, file}
+use Rattle.strc_grammar.specs.Reading.{◌>>=◌, Read, Tall, first, tail, unexpected, is_keyword}
+use Rattle.strc_grammar.specs.Reading.{expect, expect_keyword, name, raised, repeated, one_more}
+use Rattle.strc_grammar.specs.Reading.{one_taller, brace, expression, declared, closed, ended}
+use Rattle.strc_grammar.specs.Reading.{bracketed, argument, for_heading, arguments, empty_brackets}
+use Rattle.strc_grammar.specs.Reading.{parameters, stream_type, composite_kind, int_items, file}
 
 -- ---- statements with others in them
 
@@ -40,14 +45,16 @@ block depth inner tokens = do
   Ok (tree.Block (row body.0.0), height, body.1)
 
 -- the branch after `else`, with the height of what stands before it
-unfoldable pub other_branch : ℕ → Inner → tree.Expr → tree.Stmt → ℕ → List TokenKind → Tall tree.Stmt
+unfoldable pub other_branch : ℕ → Inner → tree.Expr → tree.Stmt → ℕ → List TokenKind
+    → Tall tree.Stmt
 other_branch depth inner condition chosen height tokens = do
   other ← inner tokens
   high ← raised depth (max height other.1)
   Ok (tree.IfElse condition chosen other.0, high, other.2)
 
 -- what follows a branch, to which an `else` belongs that stands there
-unfoldable pub after_branch : ℕ → Inner → tree.Expr → tree.Stmt → ℕ → List TokenKind → Tall tree.Stmt
+unfoldable pub after_branch : ℕ → Inner → tree.Expr → tree.Stmt → ℕ → List TokenKind
+    → Tall tree.Stmt
 after_branch depth inner condition chosen height tokens =
     if is_keyword keyword.Else tokens
     then other_branch depth inner condition chosen height (tail tokens)
@@ -92,16 +99,20 @@ rate_kind tokens = rate_kind_of (first tokens)
 unfoldable pub has_rate : RateKind → List tree.Rate → Bool
 has_rate kind rates = list_any (λ r. sameb rate_type r.kind kind) rates
 
--- The limit is the greatest height of an expression in what is read; the reader of statements has its own.
+-- The limit is the greatest height of an expression in what is read; the reader of statements has
+-- its own.
 
 -- a rate of this kind, which the rates so far don't have: at its keyword
 unfoldable pub rate_of : ℕ → RateKind → List tree.Rate → List TokenKind → Tall tree.Expr
-rate_of limit kind so_far tokens = if has_rate kind so_far then unexpected tokens else expression limit lowest_precedence (tail tokens)
+rate_of limit kind so_far tokens = if has_rate kind so_far then unexpected tokens
+    else expression limit lowest_precedence (tail tokens)
 
-abbrev pub rate_by : ℕ → List tree.Rate × ℕ → List TokenKind → Option RateKind → Read (List tree.Rate × ℕ)
+abbrev pub rate_by : ℕ → List tree.Rate × ℕ → List TokenKind → Option RateKind
+    → Read (List tree.Rate × ℕ)
 rate_by limit so_far tokens None = unexpected tokens
 rate_by limit so_far tokens (Some kind) =
-    rate_of limit kind so_far.0 tokens >>= λ read. Ok ((so_far.0 ++ record { kind = kind; rate = read.0 } ∷ [], max so_far.1 read.1), read.2)
+    rate_of limit kind so_far.0 tokens >>= λ read. Ok
+    ((so_far.0 ++ record { kind = kind; rate = read.0 } ∷ [], max so_far.1 read.1), read.2)
 
 -- one more rate
 unfoldable pub rate_turn : ℕ → List tree.Rate × ℕ → List TokenKind → Read (List tree.Rate × ℕ)
@@ -148,8 +159,10 @@ abbrev pub member_by : ℕ → Inner → List TokenKind → Option TokenKind →
 member_by limit inner tokens (Some (token.Keyword keyword.Boolean)) = fields limit tokens
 member_by limit inner tokens (Some (token.Keyword keyword.Int)) = fields limit tokens
 member_by limit inner tokens (Some (token.Keyword keyword.Init)) = init inner (tail tokens)
-member_by limit inner tokens (Some (token.Keyword keyword.Prework)) = phase limit inner (tail tokens) >>= λ read. Ok (tree.Prework read.0.0 read.0.1, read.1, read.2)
-member_by limit inner tokens (Some (token.Keyword keyword.Work)) = phase limit inner (tail tokens) >>= λ read. Ok (tree.Work read.0.0 read.0.1, read.1, read.2)
+member_by limit inner tokens (Some (token.Keyword keyword.Prework)) =
+    phase limit inner (tail tokens) >>= λ read. Ok (tree.Prework read.0.0 read.0.1, read.1, read.2)
+member_by limit inner tokens (Some (token.Keyword keyword.Work)) =
+    phase limit inner (tail tokens) >>= λ read. Ok (tree.Work read.0.0 read.0.1, read.1, read.2)
 member_by limit inner tokens _ = unexpected tokens
 
 -- a member, and the height of its highest statement or expression or 0
@@ -158,7 +171,8 @@ member limit inner tokens = member_by limit inner tokens (first tokens)
 
 -- the members of a filter up to the brace that closes them, and the height of the highest or 0
 unfoldable pub members : ℕ → Inner → List TokenKind → Read (List tree.Member × ℕ)
-members limit inner tokens = repeated brace (one_taller (member limit inner)) (length tokens + 1) ([], 0) tokens
+members limit inner tokens = repeated brace (one_taller (member limit inner)) (length tokens + 1)
+    ([], 0) tokens
 
 -- ---- children of composite streams, each with the height of its highest part or 0
 
@@ -184,9 +198,12 @@ anonymous_filter limit inner types tokens = do
   body ← members limit inner opened
   Ok (tree.AnonymousFilter types (chain body.0.0), body.0.1, body.1)
 
-abbrev pub anonymous_by : Inner → Option StreamType → List TokenKind → Option CompositeKind → Tall tree.Child
+abbrev pub anonymous_by : Inner → Option StreamType → List TokenKind → Option CompositeKind
+    → Tall tree.Child
 anonymous_by inner types tokens None = unexpected tokens
-anonymous_by inner types tokens (Some kind) = braced inner (tail tokens) >>= λ block. Ok (tree.AnonymousComposite types kind block.0, block.1, block.2)
+anonymous_by inner types tokens (Some kind) =
+    braced inner (tail tokens) >>= λ block. Ok
+    (tree.AnonymousComposite types kind block.0, block.1, block.2)
 
 -- a composite stream without a name: at its kind
 unfoldable pub anonymous_composite : Inner → Option StreamType → List TokenKind → Tall tree.Child
@@ -195,16 +212,20 @@ anonymous_composite inner types tokens = anonymous_by inner types tokens (compos
 -- a stream without a name: after its type
 unfoldable pub after_type : ℕ → Inner → StreamType → List TokenKind → Tall tree.Child
 after_type limit inner types tokens =
-    if is_keyword keyword.Filter tokens then anonymous_filter limit inner types (tail tokens) else anonymous_composite inner (Some types) tokens
+    if is_keyword keyword.Filter tokens then anonymous_filter limit inner types (tail tokens)
+    else anonymous_composite inner (Some types) tokens
 
 -- the same with its type
 unfoldable pub typed_child : ℕ → Inner → List TokenKind → Tall tree.Child
-typed_child limit inner tokens = stream_type tokens >>= λ types. after_type limit inner types.0 types.1
+typed_child limit inner tokens = stream_type tokens >>= λ types.
+    after_type limit inner types.0 types.1
 
 abbrev pub keyword_child_by : ℕ → Inner → Keyword → List TokenKind → Tall tree.Child
 keyword_child_by limit inner keyword.Identity tokens = identity (tail tokens)
-keyword_child_by limit inner keyword.FileReader tokens = file (tail tokens) >>= λ read. Ok (tree.FileReader read.0, 0, read.1)
-keyword_child_by limit inner keyword.FileWriter tokens = file (tail tokens) >>= λ read. Ok (tree.FileWriter read.0, 0, read.1)
+keyword_child_by limit inner keyword.FileReader tokens =
+    file (tail tokens) >>= λ read. Ok (tree.FileReader read.0, 0, read.1)
+keyword_child_by limit inner keyword.FileWriter tokens =
+    file (tail tokens) >>= λ read. Ok (tree.FileWriter read.0, 0, read.1)
 keyword_child_by limit inner keyword.Int tokens = typed_child limit inner tokens
 keyword_child_by limit inner keyword.Void tokens = typed_child limit inner tokens
 keyword_child_by limit inner _ tokens = anonymous_composite inner None tokens
@@ -260,7 +281,8 @@ join depth tokens = do
 
 -- `enqueue`: after the keyword
 unfoldable pub enqueue : ℕ → List TokenKind → Tall tree.Composition
-enqueue depth tokens = closed (expression (depth - 1)) punctuation.Semicolon tokens >>= λ value. Ok (tree.Enqueue value.0, value.1, value.2)
+enqueue depth tokens = closed (expression (depth - 1)) punctuation.Semicolon tokens >>= λ value. Ok
+    (tree.Enqueue value.0, value.1, value.2)
 
 abbrev pub composition_by : ℕ → Inner → Keyword → List TokenKind → Tall tree.Composition
 composition_by depth inner keyword.Add tokens = child_for depth inner role.Add (tail tokens)
@@ -288,9 +310,12 @@ abbrev pub keyword_statement_by : ℕ → Inner → Keyword → List TokenKind �
 keyword_statement_by depth inner keyword.If tokens = branch depth inner (tail tokens)
 keyword_statement_by depth inner keyword.While tokens = while_loop depth inner (tail tokens)
 keyword_statement_by depth inner keyword.For tokens = for_loop depth inner (tail tokens)
-keyword_statement_by depth inner keyword.Push tokens = argument depth (tail tokens) >>= λ read. Ok (tree.Push read.0, read.1, read.2)
-keyword_statement_by depth inner keyword.Print tokens = argument depth (tail tokens) >>= λ read. Ok (tree.Print read.0, read.1, read.2)
-keyword_statement_by depth inner keyword.Println tokens = argument depth (tail tokens) >>= λ read. Ok (tree.Println read.0, read.1, read.2)
+keyword_statement_by depth inner keyword.Push tokens =
+    argument depth (tail tokens) >>= λ read. Ok (tree.Push read.0, read.1, read.2)
+keyword_statement_by depth inner keyword.Print tokens =
+    argument depth (tail tokens) >>= λ read. Ok (tree.Print read.0, read.1, read.2)
+keyword_statement_by depth inner keyword.Println tokens =
+    argument depth (tail tokens) >>= λ read. Ok (tree.Println read.0, read.1, read.2)
 keyword_statement_by depth inner keyword.Add tokens = compose depth inner keyword.Add tokens
 keyword_statement_by depth inner keyword.Body tokens = compose depth inner keyword.Body tokens
 keyword_statement_by depth inner keyword.Loop tokens = compose depth inner keyword.Loop tokens
@@ -304,8 +329,10 @@ unfoldable pub keyword_statement : ℕ → Inner → Keyword → List TokenKind 
 keyword_statement depth inner found tokens = keyword_statement_by depth inner found tokens
 
 abbrev pub statement_by : ℕ → Inner → List TokenKind → Option TokenKind → Tall tree.Stmt
-statement_by depth inner tokens (Some (token.Punctuation punctuation.OpenBrace)) = block depth inner (tail tokens)
-statement_by depth inner tokens (Some (token.Keyword found)) = keyword_statement depth inner found tokens
+statement_by depth inner tokens (Some (token.Punctuation punctuation.OpenBrace)) =
+    block depth inner (tail tokens)
+statement_by depth inner tokens (Some (token.Keyword found)) =
+    keyword_statement depth inner found tokens
 statement_by depth inner tokens _ = ended depth tokens
 
 -- a statement, after the test of its depth
@@ -332,22 +359,40 @@ unfoldable pub filter : ℕ → StreamType → List TokenKind → Read tree.Decl
 filter limit types tokens = do
   head ← heading tokens
   body ← members limit (statement limit) head.1
-  Ok (record { name = head.0.0; parameters = head.0.1; stream = tree.Filter types.input types.output body.0.0 }, body.1)
+  Ok (
+    record {
+      name = head.0.0;
+      parameters = head.0.1;
+      stream =
+          tree.Filter types.input types.output body.0.0;
+    },
+    body.1,
+  )
 
 -- a composite stream: after its kind
 unfoldable pub composite : ℕ → StreamType → CompositeKind → List TokenKind → Read tree.Declaration
 composite limit types kind tokens = do
   head ← heading tokens
   body ← statements (statement limit) head.1
-  Ok (record { name = head.0.0; parameters = head.0.1; stream = tree.Composite types kind (row body.0.0) }, body.1)
+  Ok (
+    record {
+      name = head.0.0;
+      parameters = head.0.1;
+      stream =
+          tree.Composite types kind (row body.0.0);
+    },
+    body.1,
+  )
 
-abbrev pub composite_by : ℕ → StreamType → List TokenKind → Option CompositeKind → Read tree.Declaration
+abbrev pub composite_by : ℕ → StreamType → List TokenKind → Option CompositeKind
+    → Read tree.Declaration
 composite_by limit types tokens None = unexpected tokens
 composite_by limit types tokens (Some kind) = composite limit types kind (tail tokens)
 
 -- a stream: after its type
 unfoldable pub stream : ℕ → StreamType → List TokenKind → Read tree.Declaration
-stream limit types tokens = if is_keyword keyword.Filter tokens then filter limit types (tail tokens) else composite_by limit types tokens (composite_kind tokens)
+stream limit types tokens = if is_keyword keyword.Filter tokens then filter limit types
+    (tail tokens) else composite_by limit types tokens (composite_kind tokens)
 
 unfoldable pub declaration : ℕ → List TokenKind → Read tree.Declaration
 declaration limit tokens = stream_type tokens >>= λ types. stream limit types.0 types.1
@@ -359,7 +404,8 @@ at_end (t ∷ rest) = None
 
 -- all declarations of a text
 unfoldable pub declarations : ℕ → List TokenKind → Read (List tree.Declaration)
-declarations limit tokens = repeated at_end (one_more (declaration limit)) (length tokens + 1) [] tokens
+declarations limit tokens = repeated at_end (one_more (declaration limit))
+    (length tokens + 1) [] tokens
 
 -- the program that the tokens spell
 abbrev pub program : ℕ → List TokenKind → Result (List tree.Declaration) Fault

@@ -49,7 +49,8 @@ rates_of_work filter none firing = work_rates_alone (body_at firing) filter.memb
 abbrev firing_of : Filter → List tree.Rate → tree.Stmts → (fields items : List ℤ)
     → Result Fired Cause
 firing_of filter rates block fields items =
-    result_and_then (stmts_done (port_at_rates rates items) block (store_at filter fields)) (λ store.
+    result_and_then (stmts_done (port_at_rates rates items) block (store_at filter fields))
+    (λ store.
     let left = block_left (store_at filter fields) store in
     Ok (record {
       fields = field_values left;

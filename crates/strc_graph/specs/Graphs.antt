@@ -1,6 +1,7 @@
--- Flat graphs by channels (Lee and Messerschmitt 1987): nodes by what they do, without where they lie in memory, and what each channel
--- joins.
-use Rattle.std.specs.Prelude.{◌≡◌, ℕ, ◌<◌, Bool, true, false, ◌&&◌, nat_eq, ℤ, List, [], ◌∷◌, length, All, slice_get, codes, Option, Some, None, if◌then◌else◌}
+-- Flat graphs by channels (Lee and Messerschmitt 1987): nodes by what they do, without where they
+-- lie in memory, and what each channel joins.
+use Rattle.std.specs.Prelude.{◌≡◌, ℕ, ◌<◌, Bool, true, false, ◌&&◌, nat_eq, ℤ, List, [], ◌∷◌}
+use Rattle.std.specs.Prelude.{length, All, slice_get, codes, Option, Some, None, if◌then◌else◌}
 use Rattle.std.specs.Option.{option_map_or}
 use Rattle.strc_dataflow.specs.Flat.{Source}
 use Rattle.strc_dataflow.specs.Flat as flat
@@ -12,7 +13,8 @@ use Rattle.strc_semantics.specs.Filters as filters
 use Rattle.strc_graph.specs.declared.graph.Fission.{Fission}
 use Rattle.strc_graph.specs.declared.graph.Port.{Port}
 
--- how a splitter deals its items: each item to each port that carries items, or so many to each port in turn
+-- how a splitter deals its items: each item to each port that carries items, or so many to each
+-- port in turn
 pub data SplitterCode : Type 0 where
   Duplicate : (carried : List Bool) → SplitterCode
   Roundrobin : (weights : List ℕ) → SplitterCode
@@ -110,7 +112,11 @@ pub record Channel : Type 0 where
 
 -- what comes through a channel
 abbrev pub source_of : Channel → Source
-source_of channel = record { enqueued = channel.enqueued; origin = flat.Port channel.source.node channel.source.port }
+source_of channel = record {
+  enqueued = channel.enqueued;
+  origin =
+      flat.Port channel.source.node channel.source.port;
+}
 
 -- whether a channel ends at this input port
 abbrev pub ends_at : ℕ → ℕ → Channel → Bool
@@ -119,11 +125,13 @@ ends_at node port channel = nat_eq channel.target.node node && nat_eq channel.ta
 -- the source that channels give an input port: the first that ends there, or nothing
 abbrev pub source_in : List Channel → ℕ → ℕ → Source
 source_in [] node port = nothing
-source_in (first ∷ rest) node port = if ends_at node port first then source_of first else source_in rest node port
+source_in (first ∷ rest) node port = if ends_at node port first then source_of first
+    else source_in rest node port
 
 -- graphs
 
--- nodes, channels between them, and the joiner of the outermost feedback loop that each node stands in
+-- nodes, channels between them, and the joiner of the outermost feedback loop that each node stands
+-- in
 pub record Graph : Type 0 where
   pub nodes : List NodeCode
   pub channels : List Channel

@@ -27,20 +27,32 @@ node_view (node.Gather fission) = graphs.Gather fission
 
 -- a channel
 abbrev pub channel_view : Channel → graphs.Channel
-channel_view channel = record { source = channel.source; target = channel.target; enqueued = channel.enqueued.items }
+channel_view channel = record {
+  source = channel.source;
+  target = channel.target;
+  enqueued =
+      channel.enqueued.items;
+}
 
--- a declared graph: its nodes and channels, and for each node the joiner of the outermost feedback loop that it stands in
+-- a declared graph: its nodes and channels, and for each node the joiner of the outermost feedback
+-- loop that it stands in
 pub record GraphParts : Type 0 where
   pub nodes : List Node
   pub channels : List Channel
   pub outer_loops : List (Option ℕ)
 
 abbrev pub parts_of : List Node → List Channel → List (Option ℕ) → GraphParts
-parts_of nodes channels outer_loops = record { nodes = nodes; channels = channels; outer_loops = outer_loops }
+parts_of nodes channels outer_loops = record
+    { nodes = nodes; channels = channels; outer_loops = outer_loops }
 
 abbrev pub graph_view : GraphParts → graphs.Graph
 graph_view graph =
-    record { nodes = map node_view graph.nodes; channels = map channel_view graph.channels; outer_loops = graph.outer_loops }
+    record {
+      nodes = map node_view graph.nodes;
+      channels =
+          map channel_view graph.channels;
+      outer_loops = graph.outer_loops;
+    }
 
 -- the names of a graph's nodes
 abbrev pub node_names : GraphParts → List (List ℕ)

@@ -1,5 +1,6 @@
 -- Variables that are added to others, with their intervals.
-use Rattle.std.proofs.Common.{◌≡◌, ℕ, ◌-◌, Bool, true, false, List, [], ◌∷◌, ◌++◌, length, drop, Option, Some, None, cond, refl, ap, ◌∙◌, arith, length-append}
+use Rattle.std.proofs.Common.{◌≡◌, ℕ, ◌-◌, Bool, true, false, List, [], ◌∷◌, ◌++◌, length, drop}
+use Rattle.std.proofs.Common.{Option, Some, None, cond, refl, ap, ◌∙◌, arith, length-append}
 use Rattle.std.specs.Prelude.{bytes_eq}
 use Rattle.std.proofs.Math.Seq.{drop-append_seam}
 use Rattle.strc_syntax.specs.Tree as tree
@@ -18,14 +19,22 @@ pub stands_on_itself : (base : Intervals) → StandsOn base base
 stands_on_itself base = record { inner = []; is = refl }
 
 -- a declaration adds names
-pub stands_on_declared : (base names : Intervals) (variables : List tree.Variable) → StandsOn base names → StandsOn base (with_unknown names variables)
+pub stands_on_declared : (base names : Intervals) (variables : List tree.Variable)
+    → StandsOn base names → StandsOn base (with_unknown names variables)
 stands_on_declared base names [] h = h
 stands_on_declared base names (first ∷ rest) h =
-    stands_on_declared base (record { 0 = first.name; 1 = None } ∷ names) rest (record { inner = record { 0 = first.name; 1 = None } ∷ h.inner; is = ap (λ l. record { 0 = first.name; 1 = None } ∷ l) h.is })
+    stands_on_declared base (record { 0 = first.name; 1 = None } ∷ names) rest
+    (record {
+      inner = record { 0 = first.name; 1 = None } ∷ h.inner;
+      is =
+          ap (λ l. record { 0 = first.name; 1 = None } ∷ l) h.is;
+    })
 
 -- no other statement adds a name
-pub stands_on_after : (base names : Intervals) (s : tree.Stmt) → StandsOn base names → StandsOn base (intervals_after names s)
-stands_on_after base names (tree.Declare kind variables) h = stands_on_declared base names variables h
+pub stands_on_after : (base names : Intervals) (s : tree.Stmt) → StandsOn base names
+    → StandsOn base (intervals_after names s)
+stands_on_after base names (tree.Declare kind variables) h =
+    stands_on_declared base names variables h
 stands_on_after base names tree.Empty h = h
 stands_on_after base names (tree.Compose statement) h = h
 stands_on_after base names (tree.Block body) h = h
@@ -41,26 +50,38 @@ stands_on_after base names (tree.Print value) h = h
 stands_on_after base names (tree.Println value) h = h
 
 -- without the inner ones the names are as before
-pub drop_inner : (base names : Intervals) → StandsOn base names → drop (length names - length base) names ≡ base
+pub drop_inner : (base names : Intervals) → StandsOn base names
+    → drop (length names - length base) names ≡ base
 drop_inner base names h =
-    let e : length (h.inner ++ base) - length base ≡ length h.inner = omega (arith, length-append h.inner base) in
-    ap (λ l. drop (length l - length base) l) h.is ∙ ap (λ n. drop n (h.inner ++ base)) e ∙ drop-append_seam h.inner base
+    let e : length (h.inner ++ base) - length base ≡ length h.inner =
+    omega (arith, length-append h.inner base) in
+    ap (λ l. drop (length l - length base) l) h.is ∙ ap (λ n. drop n (h.inner ++ base)) e
+    ∙ drop-append_seam h.inner base
 
 -- a statement's own variables are forgotten
-pub drop_own : (names : Intervals) (s : tree.Stmt) → drop (length (intervals_after names s) - length names) (intervals_after names s) ≡ names
-drop_own names s = drop_inner names (intervals_after names s) (stands_on_after names names s (stands_on_itself names))
+pub drop_own : (names : Intervals) (s : tree.Stmt)
+    → drop (length (intervals_after names s) - length names) (intervals_after names s) ≡ names
+drop_own names s = drop_inner names (intervals_after names s)
+    (stands_on_after names names s (stands_on_itself names))
 
 -- the variables of two statements are forgotten
-pub drop_both : (names : Intervals) (s s' : tree.Stmt) → drop (length (intervals_after (intervals_after names s) s') - length names) (intervals_after (intervals_after names s) s') ≡ names
+pub drop_both : (names : Intervals) (s s' : tree.Stmt)
+    → drop (length (intervals_after (intervals_after names s) s') - length names)
+    (intervals_after (intervals_after names s) s') ≡ names
 drop_both names s s' =
-    drop_inner names (intervals_after (intervals_after names s) s') (stands_on_after names (intervals_after names s) s' (stands_on_after names names s (stands_on_itself names)))
+    drop_inner names (intervals_after (intervals_after names s) s')
+    (stands_on_after names (intervals_after names s) s'
+    (stands_on_after names names s (stands_on_itself names)))
 
 -- the names alone behind a declaration, and behind a statement
-pub names_declared : (names : Intervals) (variables : List tree.Variable) → names_of (with_unknown names variables) ≡ with_locals (names_of names) variables
+pub names_declared : (names : Intervals) (variables : List tree.Variable)
+    → names_of (with_unknown names variables) ≡ with_locals (names_of names) variables
 names_declared names [] = refl
-names_declared names (first ∷ rest) = names_declared (record { 0 = first.name; 1 = None } ∷ names) rest
+names_declared names (first ∷ rest) = names_declared
+    (record { 0 = first.name; 1 = None } ∷ names) rest
 
-pub names_after : (names : Intervals) (s : tree.Stmt) → names_of (intervals_after names s) ≡ locals_after (names_of names) s
+pub names_after : (names : Intervals) (s : tree.Stmt)
+    → names_of (intervals_after names s) ≡ locals_after (names_of names) s
 names_after names (tree.Declare kind variables) = names_declared names variables
 names_after names tree.Empty = refl
 names_after names (tree.Compose statement) = refl
@@ -102,19 +123,31 @@ interval_named-none (first ∷ rest) name e =
     by_value false e inner = inner e
 
 -- a known interval is one in scope
-pub with_interval_is : (names : Intervals) (name : List ℕ) (interval : Interval) → with_interval names name interval ≡ with_value names name (Some interval)
+pub with_interval_is : (names : Intervals) (name : List ℕ) (interval : Interval)
+    → with_interval names name interval ≡ with_value names name (Some interval)
 with_interval_is [] name interval = refl
-with_interval_is (first ∷ rest) name interval = ap (cond (bytes_eq first.0 name) (record { 0 = first.0; 1 = Some interval } ∷ rest)) (ap (λ l. first ∷ l) (with_interval_is rest name interval))
+with_interval_is (first ∷ rest) name interval =
+    ap (cond (bytes_eq first.0 name) (record { 0 = first.0; 1 = Some interval } ∷ rest))
+    (ap (λ l. first ∷ l) (with_interval_is rest name interval))
 
 -- the interval that a variable had is given back
-pub with_value_back : (names : Intervals) (name : List ℕ) (interval : Option Interval) → with_value (with_value names name interval) name (interval_named names name) ≡ names
+pub with_value_back : (names : Intervals) (name : List ℕ) (interval : Option Interval)
+    → with_value (with_value names name interval) name (interval_named names name) ≡ names
 with_value_back [] name interval = refl
-with_value_back (first ∷ rest) name interval = by_value (bytes_eq first.0 name) refl (with_value_back rest name interval)
+with_value_back (first ∷ rest) name interval =
+    by_value (bytes_eq first.0 name) refl (with_value_back rest name interval)
   where
-    by_value : (t : Bool) → bytes_eq first.0 name ≡ t → with_value (with_value rest name interval) name (interval_named rest name) ≡ rest
-        → with_value (cond t (record { 0 = first.0; 1 = interval } ∷ rest) (first ∷ with_value rest name interval)) name (cond t first.1 (interval_named rest name)) ≡ first ∷ rest
-    by_value true e inner = ap (λ t. cond t (first ∷ rest) (record { 0 = first.0; 1 = interval } ∷ with_value rest name first.1)) e
-    by_value false e inner = ap (λ t. cond t (record { 0 = first.0; 1 = interval_named rest name } ∷ with_value rest name interval) (first ∷ with_value (with_value rest name interval) name (interval_named rest name))) e ∙ ap (λ l. first ∷ l) inner
+    by_value : (t : Bool) → bytes_eq first.0 name ≡ t
+        → with_value (with_value rest name interval) name (interval_named rest name) ≡ rest
+        → with_value (cond t (record { 0 = first.0; 1 = interval } ∷ rest)
+        (first ∷ with_value rest name interval)) name (cond t first.1 (interval_named rest name))
+        ≡ first ∷ rest
+    by_value true e inner = ap (λ t. cond t (first ∷ rest)
+        (record { 0 = first.0; 1 = interval } ∷ with_value rest name first.1)) e
+    by_value false e inner = ap (λ t. cond t
+        (record { 0 = first.0; 1 = interval_named rest name } ∷ with_value rest name interval)
+        (first ∷ with_value (with_value rest name interval) name (interval_named rest name))) e
+        ∙ ap (λ l. first ∷ l) inner
 
 -- names that are declared and left again
 pub ruleset growth = (drop_own, drop_both, names_after)

@@ -1,10 +1,12 @@
 -- Which expressions have the same value in each evaluation, told from the text alone.
-use Rattle.std.specs.Prelude.{ℤ, Bool, true, false, ◌&&◌, Option, Some, None, Result, Ok, Err, if◌then◌else◌}
+use Rattle.std.specs.Prelude.{ℤ, Bool, true, false, ◌&&◌, Option, Some, None, Result, Ok, Err}
+use Rattle.std.specs.Prelude.{if◌then◌else◌}
 use Rattle.strc_syntax.specs.Tree as tree
 use Rattle.strc_semantics.specs.declared.fault.Cause.{Cause}
 use Rattle.strc_semantics.specs.Constants.{constant_value}
 
--- whether an expression stands on numbers, truth values and operators alone: it names no variable, and takes, looks at and changes nothing
+-- whether an expression stands on numbers, truth values and operators alone: it names no variable,
+-- and takes, looks at and changes nothing
 abbrev pub is_constant : tree.Expr → Bool
 is_constant (tree.Number value) = true
 is_constant (tree.Truth value) = true
@@ -17,7 +19,8 @@ is_constant (tree.Unary operator operand) = is_constant operand
 is_constant (tree.Step operator name) = false
 is_constant (tree.StepElement operator name index) = false
 is_constant (tree.Binary operator left right) = is_constant left && is_constant right
-is_constant (tree.Conditional condition chosen other) = is_constant condition && (is_constant chosen && is_constant other)
+is_constant (tree.Conditional condition chosen other) =
+    is_constant condition && (is_constant chosen && is_constant other)
 
 -- the value of an evaluation without a fault
 abbrev pub faultless : Result ℤ Cause → Option ℤ

@@ -1,5 +1,6 @@
 -- Between which whole numbers the value of an expression lies, told from the text.
-use Rattle.std.specs.Prelude.{ℕ, ℤ, neg_ℤ, ◌+ℤ◌, ◌-ℤ◌, ◌*ℤ◌, ◌-◌, ◌&&◌, List, [], ◌∷◌, Option, Some, None, map, if◌then◌else◌, bytes_eq}
+use Rattle.std.specs.Prelude.{ℕ, ℤ, neg_ℤ, ◌+ℤ◌, ◌-ℤ◌, ◌*ℤ◌, ◌-◌, ◌&&◌, List, [], ◌∷◌, Option, Some}
+use Rattle.std.specs.Prelude.{None, map, if◌then◌else◌, bytes_eq}
 use Rattle.std.specs.Option.{option_and_then, option_map}
 use Rattle.std.specs.Int.{int_min, int_max}
 use Rattle.strc_syntax.specs.Tree as tree
@@ -12,7 +13,8 @@ use Rattle.strc_interval.specs.Loops.{Locals, Loop, value_after, within_32_bits}
 -- a least and a greatest number
 pub use Rattle.strc_interval.specs.declared.interval.Interval.{Interval}
 
--- the local variables that can be seen, the innermost first, each with its interval where that is known
+-- the local variables that can be seen, the innermost first, each with its interval where that is
+-- known
 abbrev pub Intervals : Type 0
 Intervals = List (List ℕ × Option Interval)
 
@@ -22,7 +24,8 @@ names_of intervals = map (λ variable. variable.0) intervals
 
 abbrev pub with_unknown : Intervals → List tree.Variable → Intervals
 with_unknown intervals [] = intervals
-with_unknown intervals (first ∷ rest) = with_unknown (record { 0 = first.name; 1 = None } ∷ intervals) rest
+with_unknown intervals (first ∷ rest) = with_unknown
+    (record { 0 = first.name; 1 = None } ∷ intervals) rest
 
 -- behind a statement; what it declares has no known interval
 abbrev pub intervals_after : Intervals → tree.Stmt → Intervals
@@ -32,13 +35,15 @@ intervals_after intervals _ = intervals
 -- the interval of the innermost variable of a name
 abbrev pub interval_named : Intervals → List ℕ → Option Interval
 interval_named [] name = None
-interval_named (first ∷ rest) name = if bytes_eq first.0 name then first.1 else interval_named rest name
+interval_named (first ∷ rest) name = if bytes_eq first.0 name then first.1
+    else interval_named rest name
 
 -- the innermost variable of a name gets an interval
 abbrev pub with_interval : Intervals → List ℕ → Interval → Intervals
 with_interval [] name interval = []
 with_interval (first ∷ rest) name interval =
-    if bytes_eq first.0 name then record { 0 = first.0; 1 = Some interval } ∷ rest else first ∷ with_interval rest name interval
+    if bytes_eq first.0 name then record { 0 = first.0; 1 = Some interval } ∷ rest else first
+    ∷ with_interval rest name interval
 
 -- the values of a counted loop's variable in its turns
 abbrev pub turns_interval : Loop → Interval
@@ -49,21 +54,26 @@ turns_interval loop = record {
 
 -- an interval is known only where 32 bits hold its bounds
 abbrev pub known : Interval → Option Interval
-known interval = if within_32_bits interval.low && within_32_bits interval.high then Some interval else None
+known interval = if within_32_bits interval.low
+    && within_32_bits interval.high then Some interval else None
 
 abbrev pub interval_negated : Interval → Option Interval
 interval_negated interval = known (record { low = neg_ℤ interval.high; high = neg_ℤ interval.low })
 
 abbrev pub intervals_added : Interval → Interval → Option Interval
-intervals_added first second = known (record { low = first.low +ℤ second.low; high = first.high +ℤ second.high })
+intervals_added first second = known (record
+    { low = first.low +ℤ second.low; high = first.high +ℤ second.high })
 
 abbrev pub intervals_subtracted : Interval → Interval → Option Interval
-intervals_subtracted first second = known (record { low = first.low -ℤ second.high; high = first.high -ℤ second.low })
+intervals_subtracted first second = known
+    (record { low = first.low -ℤ second.high; high = first.high -ℤ second.low })
 
 abbrev pub intervals_multiplied : Interval → Interval → Option Interval
 intervals_multiplied first second = known (record {
-  low = int_min (int_min (first.low *ℤ second.low) (first.low *ℤ second.high)) (int_min (first.high *ℤ second.low) (first.high *ℤ second.high));
-  high = int_max (int_max (first.low *ℤ second.low) (first.low *ℤ second.high)) (int_max (first.high *ℤ second.low) (first.high *ℤ second.high));
+  low = int_min (int_min (first.low *ℤ second.low) (first.low *ℤ second.high))
+      (int_min (first.high *ℤ second.low) (first.high *ℤ second.high));
+  high = int_max (int_max (first.low *ℤ second.low) (first.low *ℤ second.high))
+      (int_max (first.high *ℤ second.low) (first.high *ℤ second.high));
 })
 
 abbrev pub unary_interval : UnaryOperator → Interval → Option Interval
@@ -90,10 +100,12 @@ abbrev pub interval_of : Intervals → tree.Expr → Option Interval
 interval_of intervals (tree.Read name) = interval_named intervals name
 interval_of intervals (tree.Group inner) = interval_of intervals inner
 interval_of intervals (tree.Unary operator operand) =
-    or_else (constant (tree.Unary operator operand)) (option_and_then (unary_interval operator) (interval_of intervals operand))
+    or_else (constant (tree.Unary operator operand))
+    (option_and_then (unary_interval operator) (interval_of intervals operand))
 interval_of intervals (tree.Binary operator left right) =
     or_else (constant (tree.Binary operator left right))
-    (option_and_then (λ first. option_and_then (binary_interval operator first) (interval_of intervals right)) (interval_of intervals left))
+    (option_and_then (λ first. option_and_then (binary_interval operator first)
+    (interval_of intervals right)) (interval_of intervals left))
 interval_of intervals (tree.Number value) = Some (singleton value)
 interval_of intervals (tree.Truth value) = None
 interval_of intervals (tree.Element name index) = None
@@ -101,4 +113,5 @@ interval_of intervals tree.Pop = None
 interval_of intervals (tree.Peek index) = None
 interval_of intervals (tree.Step operator name) = None
 interval_of intervals (tree.StepElement operator name index) = None
-interval_of intervals (tree.Conditional condition chosen other) = option_map singleton (constant (tree.Conditional condition chosen other))
+interval_of intervals (tree.Conditional condition chosen other) =
+    option_map singleton (constant (tree.Conditional condition chosen other))

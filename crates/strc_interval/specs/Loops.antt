@@ -1,5 +1,7 @@
 -- Counted loops: `for` loops whose number of turns is told by their text.
-use Rattle.std.specs.Prelude.{ℕ, zero, suc, ℤ, pos, negsuc, neg_ℤ, ◌+ℤ◌, ◌-ℤ◌, ◌*ℤ◌, Bool, true, false, not, ◌&&◌, ◌||◌, List, [], ◌∷◌, Option, Some, None, if◌then◌else◌, bytes_eq}
+use Rattle.std.specs.Prelude.{ℕ, zero, suc, ℤ, pos, negsuc, neg_ℤ, ◌+ℤ◌, ◌-ℤ◌, ◌*ℤ◌, Bool, true}
+use Rattle.std.specs.Prelude.{false, not, ◌&&◌, ◌||◌, List, [], ◌∷◌, Option, Some, None}
+use Rattle.std.specs.Prelude.{if◌then◌else◌, bytes_eq}
 use Rattle.std.specs.Option.{option_and_then, option_map}
 use Rattle.std.specs.Int.{div_ceil}
 use Rattle.std.specs.Ordering.{int_eq}
@@ -50,7 +52,8 @@ expr_writes name (tree.Peek index) = expr_writes name index
 expr_writes name (tree.Group inner) = expr_writes name inner
 expr_writes name (tree.Unary operator operand) = expr_writes name operand
 expr_writes name (tree.Step operator stepped) = bytes_eq stepped name
-expr_writes name (tree.StepElement operator array index) = bytes_eq array name || expr_writes name index
+expr_writes name (tree.StepElement operator array index) =
+    bytes_eq array name || expr_writes name index
 expr_writes name (tree.Binary operator left right) = expr_writes name left || expr_writes name right
 expr_writes name (tree.Conditional condition chosen other) =
     expr_writes name condition || (expr_writes name chosen || expr_writes name other)
@@ -63,33 +66,39 @@ option_writes name (Some value) = expr_writes name value
 abbrev pub variables_write : List ℕ → List tree.Variable → Bool
 variables_write name [] = false
 variables_write name (first ∷ rest) =
-    option_writes name first.initial || (not (bytes_eq first.name name) && variables_write name rest)
+    option_writes name first.initial || (not (bytes_eq first.name name)
+    && variables_write name rest)
 
 abbrev mutual
-  -- whether a statement writes the variable that this name has where it stands, and not an inner one of the same name
+  -- whether a statement writes the variable that this name has where it stands, and not an inner
+  -- one of the same name
   pub stmt_writes : List ℕ → tree.Stmt → Bool
   stmt_writes name tree.Empty = false
   stmt_writes name (tree.Compose statement) = false
   stmt_writes name (tree.Block body) = stmts_write name body
   stmt_writes name (tree.Declare kind variables) = variables_write name variables
   stmt_writes name (tree.Evaluate value) = expr_writes name value
-  stmt_writes name (tree.Assign assigned operator value) = bytes_eq assigned name || expr_writes name value
+  stmt_writes name (tree.Assign assigned operator value) =
+      bytes_eq assigned name || expr_writes name value
   stmt_writes name (tree.AssignElement array index operator value) =
       bytes_eq array name || (expr_writes name index || expr_writes name value)
-  stmt_writes name (tree.If condition chosen) = expr_writes name condition || stmt_writes name chosen
+  stmt_writes name (tree.If condition chosen) =
+      expr_writes name condition || stmt_writes name chosen
   stmt_writes name (tree.IfElse condition chosen other) =
       expr_writes name condition || (stmt_writes name chosen || stmt_writes name other)
   stmt_writes name (tree.While condition body) = expr_writes name condition || stmt_writes name body
   stmt_writes name (tree.For first condition step body) =
       stmt_writes name first
-      || (not (shadows name first) && (option_writes name condition || (stmt_writes name step || stmt_writes name body)))
+      || (not (shadows name first) && (option_writes name condition
+      || (stmt_writes name step || stmt_writes name body)))
   stmt_writes name (tree.Push value) = expr_writes name value
   stmt_writes name (tree.Print value) = expr_writes name value
   stmt_writes name (tree.Println value) = expr_writes name value
 
   pub stmts_write : List ℕ → tree.Stmts → Bool
   stmts_write name tree.Done = false
-  stmts_write name (tree.Then first rest) = stmt_writes name first || (not (shadows name first) && stmts_write name rest)
+  stmts_write name (tree.Then first rest) =
+      stmt_writes name first || (not (shadows name first) && stmts_write name rest)
 
 abbrev pub is_order : BinaryOperator → Bool
 is_order binary.Less = true
@@ -126,7 +135,8 @@ moved_by _ value = None
 
 -- `V + c` or `V - c`
 abbrev pub sum_move : List ℕ → tree.Expr → Option ℤ
-sum_move name (tree.Binary operator left right) = if is_variable name left then moved_by operator right else None
+sum_move name (tree.Binary operator left right) =
+    if is_variable name left then moved_by operator right else None
 sum_move name _ = None
 
 -- `V += c`, `V -= c`, `V = V + c` or `V = V - c`
@@ -138,13 +148,15 @@ assign_move name _ value = None
 
 -- `V++`, `++V`, `V--` or `--V`
 abbrev pub value_move : List ℕ → tree.Expr → Option ℤ
-value_move name (tree.Step operator stepped) = if bytes_eq stepped name then Some (step_move operator) else None
+value_move name (tree.Step operator stepped) =
+    if bytes_eq stepped name then Some (step_move operator) else None
 value_move name _ = None
 
 -- by how much the step of a loop moves its variable
 abbrev pub move_of : List ℕ → tree.Stmt → Option ℤ
 move_of name (tree.Evaluate value) = value_move name value
-move_of name (tree.Assign assigned operator value) = if bytes_eq assigned name then assign_move name operator value else None
+move_of name (tree.Assign assigned operator value) =
+    if bytes_eq assigned name then assign_move name operator value else None
 move_of name _ = None
 
 -- a variable and its first value
@@ -155,13 +167,15 @@ pub record First : Type 0 where
 -- one variable that is declared with a constant
 abbrev pub first_declared : tree.VariableType → List tree.Variable → Option First
 first_declared tree.Int (only ∷ []) =
-    option_map (λ value. record { name = only.name; value = value }) (option_and_then constant only.initial)
+    option_map (λ value. record { name = only.name; value = value })
+    (option_and_then constant only.initial)
 first_declared _ _ = None
 
 -- a local variable that is given a constant
 abbrev pub first_assigned : Locals → List ℕ → AssignOperator → tree.Expr → Option First
 first_assigned locals name assign.Set value =
-    if has_name locals name then option_map (λ given. record { name = name; value = given }) (constant value) else None
+    if has_name locals name then option_map (λ given. record { name = name; value = given })
+    (constant value) else None
 first_assigned locals name _ value = None
 
 -- the first part of a loop: one local variable is given a constant, and nothing else
@@ -170,7 +184,8 @@ first_of locals (tree.Declare kind variables) = first_declared kind variables
 first_of locals (tree.Assign name operator value) = first_assigned locals name operator value
 first_of locals _ = None
 
--- how far it is from a value to the nearest one at which the condition is false; below 1 where it is false already
+-- how far it is from a value to the nearest one at which the condition is false; below 1 where it
+-- is false already
 abbrev pub distance : BinaryOperator → (value limit : ℤ) → ℤ
 distance binary.Less value limit = limit -ℤ value
 distance binary.LessOrEqual value limit = limit -ℤ value +ℤ pos 1
@@ -209,14 +224,18 @@ value_after loop turns = loop.start +ℤ pos turns *ℤ loop.move
 -- a loop that begins and ends within 32 bits
 abbrev pub loop_within_i32 : Loop → Option Loop
 loop_within_i32 loop =
-    if within_32_bits loop.start && within_32_bits (value_after loop loop.turns) then Some loop else None
+    if within_32_bits loop.start && within_32_bits (value_after loop loop.turns) then Some loop
+    else None
 
 abbrev pub loop_of : First → Bound → ℤ → Option Loop
 loop_of first bound move =
-    option_and_then (λ turns. loop_within_i32 (record { name = first.name; start = first.value; move = move; turns = turns }))
-    (trip_count (distance bound.operator first.value bound.limit) (step_toward_bound bound.operator move))
+    option_and_then (λ turns. loop_within_i32
+    (record { name = first.name; start = first.value; move = move; turns = turns }))
+    (trip_count (distance bound.operator first.value bound.limit)
+    (step_toward_bound bound.operator move))
 
--- the loop, where its first part, its condition and its step are of these forms, and its body doesn't write its variable
+-- the loop, where its first part, its condition and its step are of these forms, and its body
+-- doesn't write its variable
 abbrev pub counted_from : Option First → Option tree.Expr → (step body : tree.Stmt) → Option Loop
 counted_from None condition step body = None
 counted_from (Some first) condition step body =
@@ -224,5 +243,7 @@ counted_from (Some first) condition step body =
     option_and_then (λ bound. option_and_then (loop_of first bound) (move_of first.name step))
     (option_and_then (bound_of first.name) condition)
 
-abbrev pub counted_loop : Locals → tree.Stmt → Option tree.Expr → (step body : tree.Stmt) → Option Loop
-counted_loop locals first condition step body = counted_from (first_of locals first) condition step body
+abbrev pub counted_loop : Locals → tree.Stmt → Option tree.Expr → (step body : tree.Stmt)
+    → Option Loop
+counted_loop locals first condition step body =
+    counted_from (first_of locals first) condition step body

@@ -9,4 +9,10 @@ first_view first = record { name = first.name.now; value = first.value }
 
 -- a counted loop
 abbrev pub loop_view : CountedLoop → loops.Loop
-loop_view told = record { name = told.name.now; start = told.start; move = told.step; turns = told.turns }
+loop_view told = record {
+  name = told.name.now;
+  start = told.start;
+  move = told.step;
+  turns =
+      told.turns;
+}

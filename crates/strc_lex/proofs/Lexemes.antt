@@ -1,5 +1,6 @@
 -- What a lexeme begins with, and how far it can go.
-use Rattle.std.proofs.Common.{◌≡◌, ℕ, zero, suc, ◌<◌, ◌≤◌, Bool, true, false, cond, List, [], ◌∷◌, length, take, refl, arith, subst, ◌||◌}
+use Rattle.std.proofs.Common.{◌≡◌, ℕ, zero, suc, ◌<◌, ◌≤◌, Bool, true, false, cond, List, [], ◌∷◌}
+use Rattle.std.proofs.Common.{length, take, refl, arith, subst, ◌||◌}
 use Rattle.std.specs.List.{list_all, prefix_len}
 use Rattle.std.proofs.lemmas.Bool.Decides.{nat_tests}
 use Rattle.strc_lex.specs.Characters.{is_white, is_digit, is_letter, is_name_byte, is_quote}
@@ -7,7 +8,8 @@ use Rattle.strc_lex.specs.KeywordTexts.{keyword_text}
 use Rattle.strc_lex.specs.PunctuationTexts.{punctuation_text}
 use Rattle.strc_lex.specs.Text.{IsNameText, IsLexeme, IsToken}
 use Rattle.strc_lex.specs.declared.token.TokenKind.{TokenKind}
-use Rattle.strc_lex.specs.declared.token.TokenKind.TheVariants.{Name, Number, Keyword, Punctuation, StringLiteral}
+use Rattle.strc_lex.specs.declared.token.TokenKind.TheVariants.{Name, Number, Keyword, Punctuation}
+use Rattle.strc_lex.specs.declared.token.TokenKind.TheVariants.{StringLiteral}
 use Rattle.strc_lex.specs.declared.token.Keyword as keywords
 use Rattle.strc_lex.specs.declared.token.Keyword.TheVariants as keyword
 use Rattle.strc_lex.specs.declared.token.Punctuation as punctuation
@@ -19,7 +21,8 @@ abbrev pub Begins : TokenKind → ℕ → Type 0
 Begins (Name name) b = is_letter b ≡ true
 Begins (Keyword w) b = is_letter b ≡ true
 Begins (Number value) b = is_digit b ≡ true
-Begins (Punctuation m) b = (is_letter b ≡ false) × (is_digit b ≡ false) × (is_white b ≡ false) × (is_quote b ≡ false)
+Begins (Punctuation m) b = (is_letter b ≡ false) × (is_digit b ≡ false) × (is_white b ≡ false)
+    × (is_quote b ≡ false)
 Begins (StringLiteral inner) b = is_quote b ≡ true
 
 -- the scanner's answer, as a token that isn't empty
@@ -32,7 +35,8 @@ starts_letter (b ∷ bytes) = is_letter b
 
 abbrev starts_punctuation : List ℕ → Bool
 starts_punctuation [] = false
-starts_punctuation (b ∷ bytes) = cond (is_letter b) false (cond (is_digit b) false (cond (is_white b) false (cond (is_quote b) false true)))
+starts_punctuation (b ∷ bytes) = cond (is_letter b) false
+    (cond (is_digit b) false (cond (is_white b) false (cond (is_quote b) false true)))
 
 letter_black : (b : ℕ) → is_letter b ≡ true → is_white b ≡ false
 letter_black b letter = grind (arith, nat_tests)
@@ -68,7 +72,9 @@ pub keyword_runs : (w : keywords.Keyword) → list_all is_name_byte (keyword_tex
 keyword_runs keyword.Filter = refl
 keyword_runs w = refl
 
-split_punctuation : (l d w q : Bool) → cond l false (cond d false (cond w false (cond q false true))) ≡ true → (l ≡ false) × (d ≡ false) × (w ≡ false) × (q ≡ false)
+split_punctuation : (l d w q : Bool) → cond l false
+    (cond d false (cond w false (cond q false true))) ≡ true
+    → (l ≡ false) × (d ≡ false) × (w ≡ false) × (q ≡ false)
 split_punctuation true d w q e = absurd (cc)
 split_punctuation false true w q e = absurd (cc)
 split_punctuation false false true q e = absurd (cc)
@@ -78,8 +84,12 @@ split_punctuation false false false false e = (refl, refl, refl, refl)
 pub no_empty_lexeme : (kind : TokenKind) → IsLexeme kind [] → ⊥
 no_empty_lexeme (Name name) h = h.1
 no_empty_lexeme (Number value) h = h.0
-no_empty_lexeme (Keyword w) h = let bad : false ≡ true = subst (λ bytes. starts_letter bytes ≡ true) h (keyword_starts w) in absurd (cc)
-no_empty_lexeme (Punctuation m) h = let bad : false ≡ true = subst (λ bytes. starts_punctuation bytes ≡ true) h (punctuation_starts m) in absurd (cc)
+no_empty_lexeme (Keyword w) h = let bad : false ≡ true =
+    subst (λ bytes. starts_letter bytes ≡ true) h
+    (keyword_starts w) in absurd (cc)
+no_empty_lexeme (Punctuation m) h = let bad : false ≡ true =
+    subst (λ bytes. starts_punctuation bytes ≡ true) h
+    (punctuation_starts m) in absurd (cc)
 no_empty_lexeme (StringLiteral inner) h = absurd (cc (h.0))
 
 -- no token begins with white space
@@ -91,20 +101,32 @@ begins_black (Punctuation m) b mark = mark.2
 begins_black (StringLiteral inner) b quote = quote_black b quote
 
 -- a lexeme at the front isn't empty, and begins as its kind does
-pub lexeme_begins : (kind : TokenKind) (b : ℕ) (rest : List ℕ) (size : ℕ) → IsLexeme kind (take size (b ∷ rest)) → (0 < size) × Begins kind b
+pub lexeme_begins : (kind : TokenKind) (b : ℕ) (rest : List ℕ) (size : ℕ)
+    → IsLexeme kind (take size (b ∷ rest)) → (0 < size) × Begins kind b
 lexeme_begins (Name name) b rest zero h = absurd h.1
 lexeme_begins (Name name) b rest (suc n) h = (omega arith, h.1.0)
 lexeme_begins (Number value) b rest zero h = absurd h.0
 lexeme_begins (Number value) b rest (suc n) h = (omega arith, h.0.0)
-lexeme_begins (Keyword w) b rest zero h = let bad : false ≡ true = subst (λ bytes. starts_letter bytes ≡ true) h (keyword_starts w) in absurd (cc)
-lexeme_begins (Keyword w) b rest (suc n) h = (omega arith, subst (λ bytes. starts_letter bytes ≡ true) h (keyword_starts w))
-lexeme_begins (Punctuation m) b rest zero h = let bad : false ≡ true = subst (λ bytes. starts_punctuation bytes ≡ true) h (punctuation_starts m) in absurd (cc)
-lexeme_begins (Punctuation m) b rest (suc n) h = (omega arith, split_punctuation (is_letter b) (is_digit b) (is_white b) (is_quote b) (subst (λ bytes. starts_punctuation bytes ≡ true) h (punctuation_starts m)))
+lexeme_begins (Keyword w) b rest zero h = let bad : false ≡ true =
+    subst (λ bytes. starts_letter bytes ≡ true) h
+    (keyword_starts w) in absurd (cc)
+lexeme_begins (Keyword w) b rest (suc n) h =
+    (omega arith, subst (λ bytes. starts_letter bytes ≡ true) h (keyword_starts w))
+lexeme_begins (Punctuation m) b rest zero h = let bad : false ≡ true =
+    subst (λ bytes. starts_punctuation bytes ≡ true)
+    h (punctuation_starts m) in absurd (cc)
+lexeme_begins (Punctuation m) b rest (suc n) h = (
+  omega arith,
+  split_punctuation (is_letter b) (is_digit b) (is_white b) (is_quote b)
+      (subst (λ bytes. starts_punctuation bytes ≡ true) h (punctuation_starts m)),
+)
 lexeme_begins (StringLiteral inner) b rest zero h = absurd (cc (h.0))
-lexeme_begins (StringLiteral inner) b rest (suc n) h = let quote : b ≡ 34 = cc (h.0) in (omega arith, rw quote refl)
+lexeme_begins (StringLiteral inner) b rest (suc n) h = let quote : b ≡ 34 = cc (h.0) in
+    (omega arith, rw quote refl)
 
 -- as far as each element passes, the run goes
-pub run_bound : (p : ℕ → Bool) (xs : List ℕ) (size : ℕ) → size ≤ length xs → list_all p (take size xs) ≡ true → size ≤ prefix_len p xs
+pub run_bound : (p : ℕ → Bool) (xs : List ℕ) (size : ℕ) → size ≤ length xs
+    → list_all p (take size xs) ≡ true → size ≤ prefix_len p xs
 run_bound p [] zero within all = omega arith
 run_bound p [] (suc n) within all = absurd (omega arith)
 run_bound p (x ∷ xs) zero within all = omega arith

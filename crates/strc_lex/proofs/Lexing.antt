@@ -1,5 +1,7 @@
 -- A text has one token list, and where the lexer stops none goes on.
-use Rattle.std.proofs.Common.{◌≡◌, ℕ, ◌+◌, ◌-◌, ◌<◌, ◌≤◌, List, [], ◌∷◌, ◌++◌, length, take, drop, refl, ap, arith, ◌∙◌, sym, subst, Option, Some, None, inl, inr, IfSome, IfNone, length-drop}
+use Rattle.std.proofs.Common.{◌≡◌, ℕ, ◌+◌, ◌-◌, ◌<◌, ◌≤◌, List, [], ◌∷◌, ◌++◌, length, take, drop}
+use Rattle.std.proofs.Common.{refl, ap, arith, ◌∙◌, sym, subst, Option, Some, None, inl, inr}
+use Rattle.std.proofs.Common.{IfSome, IfNone, length-drop}
 use Rattle.std.proofs.lemmas.Bool.{both_ways}
 use Rattle.strc_lex.specs.Characters.{is_white}
 use Rattle.strc_lex.specs.Trivia.{IsComment, IsBlank, IsTrivia, IsTriviaRun}
@@ -14,14 +16,23 @@ use Rattle.strc_lex.proofs.Only.{token_only}
 use Rattle.strc_lex.proofs.Tokens.{token_meets}
 
 -- a token stands within the text
-pub stands_within : (text : List ℕ) (item : Token) → StandsAt text item → item.span.end ≤ length text
-stands_within text item stands = let within = stands.token.within in let rest = length-drop item.span.start text in let ordered = stands.ordered in omega arith
+pub stands_within : (text : List ℕ) (item : Token) → StandsAt text item
+    → item.span.end ≤ length text
+stands_within text item stands = let within = stands.token.within in let rest =
+    length-drop
+    item.span.start text in
+    let ordered =
+    stands.ordered in
+    omega arith
 
 -- where white space or a comment stands, no token begins
 
-token_not_blank : (text : List ℕ) (kind : TokenKind) (len size : ℕ) → IsToken text kind len → IsBlank text size → ⊥
+token_not_blank : (text : List ℕ) (kind : TokenKind) (len size : ℕ) → IsToken text kind len
+    → IsBlank text size → ⊥
 token_not_blank [] kind len size token blank = absurd blank
-token_not_blank (b ∷ rest) kind len size token blank = both_ways (is_white b) (begins_black kind b (lexeme_begins kind b rest len token.lexeme).1) blank.0
+token_not_blank (b ∷ rest) kind len size token blank =
+    both_ways (is_white b) (begins_black kind b (lexeme_begins kind b rest len token.lexeme).1)
+    blank.0
 
 opened : (a b : ℕ) (text : List ℕ) → take 2 text ≡ a ∷ b ∷ [] → text ≡ a ∷ b ∷ drop 2 text
 opened a b [] e = absurd (cc)
@@ -30,73 +41,105 @@ opened a b (x ∷ y ∷ rest) e = cc
 
 -- the scanner finds nothing where a comment begins
 token_at_comment : (text : List ℕ) (len : ℕ) → IsComment text len → token_at text ≡ None
-token_at_comment text len (inl line) = subst (λ bytes. token_at bytes ≡ None) (sym (opened 47 47 text line.opens)) refl
-token_at_comment text len (inr block) = subst (λ bytes. token_at bytes ≡ None) (sym (opened 47 42 text block.opens)) refl
+token_at_comment text len (inl line) = subst (λ bytes. token_at bytes ≡ None)
+    (sym (opened 47 47 text line.opens)) refl
+token_at_comment text len (inr block) = subst (λ bytes. token_at bytes ≡ None)
+    (sym (opened 47 42 text block.opens)) refl
 
-token_bare : (text : List ℕ) (kind : TokenKind) (len size : ℕ) → IsToken text kind len → IsTrivia text size → ⊥
+token_bare : (text : List ℕ) (kind : TokenKind) (len size : ℕ) → IsToken text kind len
+    → IsTrivia text size → ⊥
 token_bare text kind len size token (inl blank) = token_not_blank text kind len size token blank
-token_bare text kind len size token (inr comment) = none_is_not_some (kind, len) (sym (token_at_comment text size comment) ∙ token_only text kind len token)
+token_bare text kind len size token (inr comment) =
+    none_is_not_some (kind, len) (sym (token_at_comment text size comment)
+    ∙ token_only text kind len token)
 
-pub stands_bare : (text : List ℕ) (item : Token) → StandsAt text item → (size : ℕ) → IsTrivia (drop item.span.start text) size → ⊥
-stands_bare text item stands size trivia = token_bare (drop item.span.start text) item.kind (item.span.end - item.span.start) size stands.token trivia
+pub stands_bare : (text : List ℕ) (item : Token) → StandsAt text item → (size : ℕ)
+    → IsTrivia (drop item.span.start text) size → ⊥
+stands_bare text item stands size trivia =
+    token_bare (drop item.span.start text) item.kind
+    (item.span.end - item.span.start) size stands.token trivia
 
 -- one more token, and the trivia_run after it
-pub lexes_push : (text : List ℕ) (from : ℕ) (tokens : List Token) (item : Token) (to : ℕ) → LexesBetween text from tokens item.span.start → StandsAt text item → IsTriviaRun text item.span.end to → LexesBetween text from (tokens ++ item ∷ []) to
+pub lexes_push : (text : List ℕ) (from : ℕ) (tokens : List Token) (item : Token) (to : ℕ)
+    → LexesBetween text from tokens item.span.start → StandsAt text item
+    → IsTriviaRun text item.span.end to → LexesBetween text from (tokens ++ item ∷ []) to
 lexes_push text from [] item to front stands trivia_run = (front, stands, trivia_run)
-lexes_push text from (first ∷ tokens) item to front stands trivia_run = (front.0, front.1, lexes_push text first.span.end tokens item to front.2 stands trivia_run)
+lexes_push text from (first ∷ tokens) item to front stands trivia_run =
+    (front.0, front.1, lexes_push text first.span.end tokens item to front.2 stands trivia_run)
 
 abbrev made : TokenKind → ℕ → ℕ → Token
 made kind start end = record { kind = kind; span = record { start = start; end = end } }
 
-token_same : (t u : Token) → t.kind ≡ u.kind → t.span.start ≡ u.span.start → t.span.end ≡ u.span.end → t ≡ u
-token_same t u kind start end = ap (λ k. made k t.span.start t.span.end) kind ∙ ap (λ s. made u.kind s t.span.end) start ∙ ap (λ e. made u.kind u.span.start e) end
+token_same : (t u : Token) → t.kind ≡ u.kind → t.span.start ≡ u.span.start → t.span.end ≡ u.span.end
+    → t ≡ u
+token_same t u kind start end = ap (λ k. made k t.span.start t.span.end) kind
+    ∙ ap (λ s. made u.kind s t.span.end) start ∙ ap (λ e. made u.kind u.span.start e) end
 
 -- two tokens after one place are one
-same_token : (text : List ℕ) (from : ℕ) (t u : Token) → IsTriviaRun text from t.span.start → StandsAt text t → IsTriviaRun text from u.span.start → StandsAt text u → t ≡ u
+same_token : (text : List ℕ) (from : ℕ) (t u : Token) → IsTriviaRun text from t.span.start
+    → StandsAt text t → IsTriviaRun text from u.span.start → StandsAt text u → t ≡ u
 same_token text from t u trivia_run_t stands_t trivia_run_u stands_u =
-    let start = trivia_end text from t.span.start u.span.start trivia_run_t trivia_run_u (stands_bare text t stands_t) (stands_bare text u stands_u) in
-    let here = token_only (drop t.span.start text) t.kind (t.span.end - t.span.start) stands_t.token in
-    let there = token_only (drop u.span.start text) u.kind (u.span.end - u.span.start) stands_u.token in
-    let pair : ◌≡◌ {A = TokenKind × ℕ} (t.kind, t.span.end - t.span.start) (u.kind, u.span.end - u.span.start) = some_same (sym here ∙ ap (λ s. token_at (drop s text)) start ∙ there) in
-    let size : t.span.end - t.span.start ≡ u.span.end - u.span.start = ap (λ (p : TokenKind × ℕ). p.1) pair in
+    let start = trivia_end text from t.span.start u.span.start trivia_run_t trivia_run_u
+    (stands_bare text t stands_t) (stands_bare text u stands_u) in
+    let here = token_only (drop t.span.start text) t.kind
+    (t.span.end - t.span.start) stands_t.token in
+    let there = token_only (drop u.span.start text) u.kind
+    (u.span.end - u.span.start) stands_u.token in
+    let pair : ◌≡◌ {A = TokenKind × ℕ} (t.kind, t.span.end - t.span.start)
+    (u.kind, u.span.end - u.span.start) =
+    some_same (sym here ∙ ap (λ s. token_at (drop s text)) start ∙ there) in
+    let size : t.span.end - t.span.start ≡ u.span.end - u.span.start =
+    ap (λ (p : TokenKind × ℕ). p.1) pair in
     let order_t = stands_t.ordered in
     let order_u = stands_u.ordered in
     token_same t u (ap (λ (p : TokenKind × ℕ). p.0) pair) start (omega arith)
 
 -- a run of trivia to the end leaves no room for a token
-no_token_in_trivia_run : (text : List ℕ) (from : ℕ) (u : Token) → IsTriviaRun text from (length text) → IsTriviaRun text from u.span.start → StandsAt text u → ⊥
+no_token_in_trivia_run : (text : List ℕ) (from : ℕ) (u : Token)
+    → IsTriviaRun text from (length text) → IsTriviaRun text from u.span.start → StandsAt text u → ⊥
 no_token_in_trivia_run text from u trivia_run trivia_run_u stands =
     let ends = stands_within text u stands in
     let ordered = stands.ordered in
-    let start = trivia_end text from (length text) u.span.start trivia_run trivia_run_u (λ len trivia. bare_end text (length text) len (omega arith) trivia) (stands_bare text u stands) in
+    let start = trivia_end text from (length text) u.span.start trivia_run trivia_run_u
+    (λ len trivia. bare_end text (length text) len (omega arith) trivia)
+    (stands_bare text u stands) in
     omega arith
 
 -- one text has one token list
-pub lexes_only : (text : List ℕ) (from : ℕ) (ts us : List Token) → LexesBetween text from ts (length text) → LexesBetween text from us (length text) → ts ≡ us
+pub lexes_only : (text : List ℕ) (from : ℕ) (ts us : List Token)
+    → LexesBetween text from ts (length text) → LexesBetween text from us (length text) → ts ≡ us
 lexes_only text from [] [] h g = refl
 lexes_only text from [] (u ∷ us) h g = absurd (no_token_in_trivia_run text from u h g.0 g.1)
 lexes_only text from (t ∷ ts) [] h g = absurd (no_token_in_trivia_run text from t g h.0 h.1)
 lexes_only text from (t ∷ ts) (u ∷ us) h g =
     let same = same_token text from t u h.0 h.1 g.0 g.1 in
-    let rest = lexes_only text t.span.end ts us h.2 (subst (λ v. LexesBetween text v.span.end us (length text)) (sym same) g.2) in
+    let rest = lexes_only text t.span.end ts us h.2
+    (subst (λ v. LexesBetween text v.span.end us (length text)) (sym same) g.2) in
     ap (λ v. v ∷ ts) same ∙ ap (λ vs. u ∷ vs) rest
 
 -- a text where the lexer stops has no token list
-pub stuck_lexes : (text : List ℕ) (from at : ℕ) (ts us : List Token) → LexesBetween text from ts at → IsStuck text at → LexesBetween text from us (length text) → ⊥
+pub stuck_lexes : (text : List ℕ) (from at : ℕ) (ts us : List Token) → LexesBetween text from ts at
+    → IsStuck text at → LexesBetween text from us (length text) → ⊥
 stuck_lexes text from at [] [] h stuck g =
     let within = stuck.within in
-    let end = trivia_end text from at (length text) h g stuck.bare (λ len trivia. bare_end text (length text) len (omega arith) trivia) in
+    let end = trivia_end text from at (length text) h g stuck.bare
+    (λ len trivia. bare_end text (length text) len (omega arith) trivia) in
     absurd (omega arith)
 stuck_lexes text from at [] (u ∷ us) h stuck g =
     let start = trivia_end text from at u.span.start h g.0 stuck.bare (stands_bare text u g.1) in
-    stuck.none u.kind (u.span.end - u.span.start) (subst (λ s. IsToken (drop s text) u.kind (u.span.end - u.span.start)) (sym start) g.1.token)
+    stuck.none u.kind (u.span.end - u.span.start)
+    (subst (λ s. IsToken (drop s text) u.kind (u.span.end - u.span.start))
+    (sym start) g.1.token)
 stuck_lexes text from at (t ∷ ts) [] h stuck g = no_token_in_trivia_run text from t g h.0 h.1
 stuck_lexes text from at (t ∷ ts) (u ∷ us) h stuck g =
     let same = same_token text from t u h.0 h.1 g.0 g.1 in
-    stuck_lexes text t.span.end at ts us h.2 stuck (subst (λ v. LexesBetween text v.span.end us (length text)) (sym same) g.2)
+    stuck_lexes text t.span.end at ts us h.2 stuck
+    (subst (λ v. LexesBetween text v.span.end us (length text)) (sym same) g.2)
 
 -- what the scanner answers at a place, as the token there
-pub found_token : (text : List ℕ) (at : ℕ) (found : Option (TokenKind × ℕ)) → at ≤ length text → found ≡ token_at (drop at text) → IfSome found (λ t. IsToken (drop at text) t.0 t.1 × (0 < t.1) × (at + t.1 ≤ length text))
+pub found_token : (text : List ℕ) (at : ℕ) (found : Option (TokenKind × ℕ)) → at ≤ length text
+    → found ≡ token_at (drop at text) → IfSome found
+    (λ t. IsToken (drop at text) t.0 t.1 × (0 < t.1) × (at + t.1 ≤ length text))
 found_token text at None within e = tt
 found_token text at (Some t) within e =
     let here = token_meets (drop at text) t.0 t.1 (sym e) in
@@ -104,12 +147,14 @@ found_token text at (Some t) within e =
     let rest = length-drop at text in
     (here.0, here.1, omega arith)
 
-pub found_none : (text : List ℕ) (found : Option (TokenKind × ℕ)) → found ≡ token_at text → IfNone found ((kind : TokenKind) (len : ℕ) → IsToken text kind len → ⊥)
+pub found_none : (text : List ℕ) (found : Option (TokenKind × ℕ)) → found ≡ token_at text
+    → IfNone found ((kind : TokenKind) (len : ℕ) → IsToken text kind len → ⊥)
 found_none text None e = λ kind len t. none_is_not_some (kind, len) (e ∙ token_only text kind len t)
 found_none text (Some t) e = tt
 
 -- a token found at a place stands there
-pub stands_at : (text : List ℕ) (at len : ℕ) (kind : TokenKind) → IsToken (drop at text) kind len → 0 < len → StandsAt text (record { kind = kind; span = record { start = at; end = at + len } })
+pub stands_at : (text : List ℕ) (at len : ℕ) (kind : TokenKind) → IsToken (drop at text) kind len
+    → 0 < len → StandsAt text (record { kind = kind; span = record { start = at; end = at + len } })
 stands_at text at len kind t positive =
     let size : len ≡ at + len - at = omega arith in
     record { ordered = omega arith; token = subst (IsToken (drop at text) kind) size t }

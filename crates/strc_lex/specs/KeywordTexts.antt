@@ -48,4 +48,11 @@ keyword_text keyword.Portal = codes "portal"
 
 -- every keyword
 abbrev pub all_keywords : List Keyword
-all_keywords = keyword.Filter ∷ keyword.Pipeline ∷ keyword.Splitjoin ∷ keyword.Feedbackloop ∷ keyword.Init ∷ keyword.Prework ∷ keyword.Work ∷ keyword.Push ∷ keyword.Pop ∷ keyword.Peek ∷ keyword.Add ∷ keyword.Split ∷ keyword.Join ∷ keyword.Duplicate ∷ keyword.Roundrobin ∷ keyword.Body ∷ keyword.Loop ∷ keyword.Enqueue ∷ keyword.If ∷ keyword.Else ∷ keyword.While ∷ keyword.For ∷ keyword.Int ∷ keyword.Boolean ∷ keyword.Void ∷ keyword.True ∷ keyword.False ∷ keyword.Print ∷ keyword.Println ∷ keyword.Identity ∷ keyword.FileReader ∷ keyword.FileWriter ∷ keyword.Break ∷ keyword.Continue ∷ keyword.Do ∷ keyword.Return ∷ keyword.Float ∷ keyword.Complex ∷ keyword.Bit ∷ keyword.Struct ∷ keyword.Portal ∷ []
+all_keywords = keyword.Filter ∷ keyword.Pipeline ∷ keyword.Splitjoin ∷ keyword.Feedbackloop
+    ∷ keyword.Init ∷ keyword.Prework ∷ keyword.Work ∷ keyword.Push ∷ keyword.Pop ∷ keyword.Peek
+    ∷ keyword.Add ∷ keyword.Split ∷ keyword.Join ∷ keyword.Duplicate ∷ keyword.Roundrobin
+    ∷ keyword.Body ∷ keyword.Loop ∷ keyword.Enqueue ∷ keyword.If ∷ keyword.Else ∷ keyword.While
+    ∷ keyword.For ∷ keyword.Int ∷ keyword.Boolean ∷ keyword.Void ∷ keyword.True ∷ keyword.False
+    ∷ keyword.Print ∷ keyword.Println ∷ keyword.Identity ∷ keyword.FileReader ∷ keyword.FileWriter
+    ∷ keyword.Break ∷ keyword.Continue ∷ keyword.Do ∷ keyword.Return ∷ keyword.Float
+    ∷ keyword.Complex ∷ keyword.Bit ∷ keyword.Struct ∷ keyword.Portal ∷ []

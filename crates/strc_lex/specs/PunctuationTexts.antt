@@ -46,7 +46,16 @@ punctuation_text punctuation.CloseBracket = codes "]"
 
 -- the punctuation of two characters, and those of one
 abbrev pub paired_punctuation : List Punctuation
-paired_punctuation = punctuation.Arrow ∷ punctuation.PlusPlus ∷ punctuation.MinusMinus ∷ punctuation.PlusAssign ∷ punctuation.MinusAssign ∷ punctuation.StarAssign ∷ punctuation.SlashAssign ∷ punctuation.PercentAssign ∷ punctuation.ShiftLeft ∷ punctuation.ShiftRight ∷ punctuation.LessEqual ∷ punctuation.GreaterEqual ∷ punctuation.Equal ∷ punctuation.NotEqual ∷ punctuation.AndAnd ∷ punctuation.OrOr ∷ []
+paired_punctuation = punctuation.Arrow ∷ punctuation.PlusPlus ∷ punctuation.MinusMinus
+    ∷ punctuation.PlusAssign ∷ punctuation.MinusAssign ∷ punctuation.StarAssign
+    ∷ punctuation.SlashAssign ∷ punctuation.PercentAssign ∷ punctuation.ShiftLeft
+    ∷ punctuation.ShiftRight ∷ punctuation.LessEqual ∷ punctuation.GreaterEqual ∷ punctuation.Equal
+    ∷ punctuation.NotEqual ∷ punctuation.AndAnd ∷ punctuation.OrOr ∷ []
 
 abbrev pub single_punctuation : List Punctuation
-single_punctuation = punctuation.Plus ∷ punctuation.Minus ∷ punctuation.Star ∷ punctuation.Slash ∷ punctuation.Percent ∷ punctuation.Less ∷ punctuation.Greater ∷ punctuation.Assign ∷ punctuation.Not ∷ punctuation.And ∷ punctuation.Or ∷ punctuation.Caret ∷ punctuation.Tilde ∷ punctuation.Question ∷ punctuation.Colon ∷ punctuation.Semicolon ∷ punctuation.Comma ∷ punctuation.OpenParen ∷ punctuation.CloseParen ∷ punctuation.OpenBrace ∷ punctuation.CloseBrace ∷ punctuation.OpenBracket ∷ punctuation.CloseBracket ∷ []
+single_punctuation = punctuation.Plus ∷ punctuation.Minus ∷ punctuation.Star ∷ punctuation.Slash
+    ∷ punctuation.Percent ∷ punctuation.Less ∷ punctuation.Greater ∷ punctuation.Assign
+    ∷ punctuation.Not ∷ punctuation.And ∷ punctuation.Or ∷ punctuation.Caret ∷ punctuation.Tilde
+    ∷ punctuation.Question ∷ punctuation.Colon ∷ punctuation.Semicolon ∷ punctuation.Comma
+    ∷ punctuation.OpenParen ∷ punctuation.CloseParen ∷ punctuation.OpenBrace
+    ∷ punctuation.CloseBrace ∷ punctuation.OpenBracket ∷ punctuation.CloseBracket ∷ []

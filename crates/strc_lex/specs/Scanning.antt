@@ -1,14 +1,18 @@
 -- Reading the token at the front of a text: what the scanner computes. `Text` says what a token is.
-use Rattle.std.specs.Prelude.{ℕ, Bool, true, false, List, [], ◌∷◌, ◌+◌, length, drop, take_while, find, nat_le, nat_eq, codes, ◌||◌, Option, Some, None, if◌then◌else◌, ◌==◌, ◌&&◌}
+use Rattle.std.specs.Prelude.{ℕ, Bool, true, false, List, [], ◌∷◌, ◌+◌, length, drop, take_while}
+use Rattle.std.specs.Prelude.{find, nat_le, nat_eq, codes, ◌||◌, Option, Some, None, if◌then◌else◌}
+use Rattle.std.specs.Prelude.{◌==◌, ◌&&◌}
 use Rattle.std.specs.List.{starts_with}
 use Rattle.std.specs.Cmp.Lexicographic.{pointwise}
 use Rattle.std.specs.Int.{w32, cast_signed}
 use Rattle.strc_lex.specs.Characters.{is_digit, is_letter, is_name_byte, is_quote, is_string_byte}
 use Rattle.strc_lex.specs.KeywordTexts.{keyword_text, all_keywords}
-use Rattle.strc_lex.specs.PunctuationTexts.{punctuation_text, paired_punctuation, single_punctuation}
+use Rattle.strc_lex.specs.PunctuationTexts.{punctuation_text, paired_punctuation}
+use Rattle.strc_lex.specs.PunctuationTexts.{single_punctuation}
 use Rattle.strc_lex.specs.Text.{number_from}
 use Rattle.strc_lex.specs.declared.token.TokenKind.{TokenKind}
-use Rattle.strc_lex.specs.declared.token.TokenKind.TheVariants.{Name, Number, Keyword, Punctuation, StringLiteral}
+use Rattle.strc_lex.specs.declared.token.TokenKind.TheVariants.{Name, Number, Keyword, Punctuation}
+use Rattle.strc_lex.specs.declared.token.TokenKind.TheVariants.{StringLiteral}
 use Rattle.strc_lex.specs.declared.token.Keyword as keywords
 use Rattle.strc_lex.specs.declared.token.Punctuation as punctuation
 
@@ -22,7 +26,8 @@ keyword_or_name bytes (Some w) = Keyword w
 
 -- a name or a keyword, and its length
 abbrev pub name_at : List ℕ → TokenKind × ℕ
-name_at text = let bytes = take_while is_name_byte text in (keyword_or_name bytes (keyword_of bytes), length bytes)
+name_at text = let bytes = take_while is_name_byte text in
+    (keyword_or_name bytes (keyword_of bytes), length bytes)
 
 -- whether what stands after a number parts it from the next token
 abbrev pub ends_number : List ℕ → Bool
@@ -86,7 +91,8 @@ abbrev pub string_at : List ℕ → Option (TokenKind × ℕ)
 string_at [] = None
 string_at (b ∷ rest) =
     let inner = take_while is_string_byte rest in
-    if is_closed (drop (length inner) rest) then Some (StringLiteral inner, length inner + 2) else None
+    if is_closed (drop (length inner) rest) then Some (StringLiteral inner, length inner + 2)
+    else None
 
 -- the token at the front of the text, and its length
 abbrev pub token_at : List ℕ → Option (TokenKind × ℕ)

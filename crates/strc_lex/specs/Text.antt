@@ -1,5 +1,6 @@
 -- The tokens of a text: trivia and tokens in turn, each token the longest that can stand there.
-use Rattle.std.specs.Prelude.{◌≡◌, ◌≢◌, ℕ, ◌+◌, ◌-◌, ◌*◌, ◌<◌, ◌≤◌, true, false, List, [], ◌∷◌, ◌++◌, length, take, drop}
+use Rattle.std.specs.Prelude.{◌≡◌, ◌≢◌, ℕ, ◌+◌, ◌-◌, ◌*◌, ◌<◌, ◌≤◌, true, false, List, [], ◌∷◌}
+use Rattle.std.specs.Prelude.{◌++◌, length, take, drop}
 use Rattle.std.specs.List.{list_all}
 use Rattle.std.specs.Int.{w32, cast_signed}
 use Rattle.strc_lex.specs.Characters.{is_digit, is_letter, is_name_byte, is_string_byte}
@@ -9,7 +10,8 @@ use Rattle.strc_lex.specs.Trivia.{IsTrivia, IsTriviaRun}
 use Rattle.strc_lex.specs.declared.lexer.TheConstants.{TEXT_LIMIT}
 use Rattle.strc_lex.specs.declared.token.Token.{Token}
 use Rattle.strc_lex.specs.declared.token.TokenKind.{TokenKind}
-use Rattle.strc_lex.specs.declared.token.TokenKind.TheVariants.{Name, Number, Keyword, Punctuation, StringLiteral}
+use Rattle.strc_lex.specs.declared.token.TokenKind.TheVariants.{Name, Number, Keyword, Punctuation}
+use Rattle.strc_lex.specs.declared.token.TokenKind.TheVariants.{StringLiteral}
 use Rattle.strc_lex.specs.declared.token.Keyword as keywords
 use Rattle.strc_lex.specs.declared.token.Punctuation.TheVariants as punctuation
 
@@ -25,7 +27,8 @@ IsNameText (b ∷ bytes) = (is_letter b ≡ true) × (list_all is_name_byte byte
 -- `0`, or digits that begin with another one
 abbrev pub IsNumeral : List ℕ → Type 0
 IsNumeral [] = ⊥
-IsNumeral (b ∷ bytes) = (is_digit b ≡ true) × (list_all is_digit bytes ≡ true) × (b ≡ 48 → bytes ≡ [])
+IsNumeral (b ∷ bytes) = (is_digit b ≡ true) × (list_all is_digit bytes ≡ true)
+    × (b ≡ 48 → bytes ≡ [])
 
 -- the number that these digits write after a higher part
 abbrev pub number_from : ℕ → List ℕ → ℕ
@@ -34,13 +37,17 @@ number_from high (b ∷ bytes) = number_from (10 * high + (b - 48)) bytes
 
 -- the bytes are a token of this kind, wherever they stand
 abbrev pub IsLexeme : TokenKind → List ℕ → Type 0
-IsLexeme (Name name) bytes = (name ≡ bytes) × IsNameText bytes × ((w : keywords.Keyword) → keyword_text w ≢ bytes)
-IsLexeme (Number value) bytes = IsNumeral bytes × (number_from 0 bytes ≤ 2147483648) × (value ≡ cast_signed w32 (number_from 0 bytes))
+IsLexeme (Name name) bytes = (name ≡ bytes) × IsNameText bytes
+    × ((w : keywords.Keyword) → keyword_text w ≢ bytes)
+IsLexeme (Number value) bytes = IsNumeral bytes × (number_from 0 bytes ≤ 2147483648)
+    × (value ≡ cast_signed w32 (number_from 0 bytes))
 IsLexeme (Keyword w) bytes = keyword_text w ≡ bytes
 IsLexeme (Punctuation m) bytes = punctuation_text m ≡ bytes
-IsLexeme (StringLiteral inner) bytes = (bytes ≡ 34 ∷ inner ++ 34 ∷ []) × (list_all is_string_byte inner ≡ true)
+IsLexeme (StringLiteral inner) bytes = (bytes ≡ 34 ∷ inner ++ 34 ∷ [])
+    × (list_all is_string_byte inner ≡ true)
 
--- No digit, letter or `_` stands right after a number. No `/` or `*` stands right after `/`: a comment begins there.
+-- No digit, letter or `_` stands right after a number. No `/` or `*` stands right after `/`: a
+-- comment begins there.
 abbrev pub IsApart : TokenKind → List ℕ → Type 0
 IsApart (Number value) (b ∷ rest) = is_name_byte b ≡ false
 IsApart (Punctuation punctuation.Slash) (b ∷ rest) = (b ≢ 47) × (b ≢ 42)
@@ -51,7 +58,8 @@ pub record IsToken (text : List ℕ) (kind : TokenKind) (len : ℕ) : Type 0 whe
   pub within : len ≤ length text
   pub lexeme : IsLexeme kind (take len text)
   pub apart : IsApart kind (drop len text)
-  pub longest : (other : TokenKind) (size : ℕ) → size ≤ length text → IsLexeme other (take size text) → size ≤ len
+  pub longest : (other : TokenKind) (size : ℕ) → size ≤ length text
+      → IsLexeme other (take size text) → size ≤ len
 
 -- a token of the text stands at its span
 pub record StandsAt (text : List ℕ) (item : Token) : Type 0 where
@@ -62,7 +70,8 @@ pub record StandsAt (text : List ℕ) (item : Token) : Type 0 where
 abbrev pub LexesBetween : List ℕ → ℕ → List Token → ℕ → Type 0
 LexesBetween text from [] to = IsTriviaRun text from to
 LexesBetween text from (token ∷ tokens) to =
-    IsTriviaRun text from token.span.start × StandsAt text token × LexesBetween text token.span.end tokens to
+    IsTriviaRun text from token.span.start × StandsAt text token
+    × LexesBetween text token.span.end tokens to
 
 -- the text is trivia and these tokens in turn
 abbrev pub Lexes : List ℕ → List Token → Type 0

@@ -1,5 +1,6 @@
 -- What stands between tokens: white space and comments.
-use Rattle.std.specs.Prelude.{◌≡◌, ◌≢◌, ℕ, ◌+◌, ◌<◌, ◌≤◌, true, List, [], ◌∷◌, length, take, drop, slice_index, codes, ◌⊎◌}
+use Rattle.std.specs.Prelude.{◌≡◌, ◌≢◌, ℕ, ◌+◌, ◌<◌, ◌≤◌, true, List, [], ◌∷◌, length, take, drop}
+use Rattle.std.specs.Prelude.{slice_index, codes, ◌⊎◌}
 use Rattle.strc_lex.specs.Characters.{is_white}
 
 -- at this place the text goes on with these bytes
@@ -38,7 +39,8 @@ IsTrivia text len = IsBlank text len ⊎ IsComment text len
 -- from one place up to another stand trivia of these lengths
 abbrev pub AreTrivia : List ℕ → ℕ → List ℕ → ℕ → Type 0
 AreTrivia text from [] to = from ≡ to
-AreTrivia text from (len ∷ lens) to = IsTrivia (drop from text) len × AreTrivia text (from + len) lens to
+AreTrivia text from (len ∷ lens) to = IsTrivia (drop from text) len
+    × AreTrivia text (from + len) lens to
 
 -- from one place up to another the text is white space and comments
 pub record IsTriviaRun (text : List ℕ) (from to : ℕ) : Type 0 where

@@ -5,7 +5,8 @@ use Rattle.std.proofs.lemmas.List.{length-take-le}
 use Rattle.std.proofs.lemmas.Result.{IfOk-weaker}
 use Rattle.strc_syntax.specs.Tree as tree
 use Rattle.strc_semantics.specs.declared.body.Body.{Body}
-use Rattle.strc_semantics.specs.Filters.{body_block, body_rates, push_rate, pop_rate, peek_rate, window_size}
+use Rattle.strc_semantics.specs.Filters.{body_block, body_rates, push_rate, pop_rate, peek_rate}
+use Rattle.strc_semantics.specs.Filters.{window_size}
 use Rattle.strc_semantics.specs.Firing.{Port, Store, no_traffic, port_of, store_at}
 use Rattle.strc_rate.specs.Counts.{stmts_counts}
 use Rattle.strc_rate.specs.Rates.{within_limit, are_within_limit, body_sights, none_popped, checked}
@@ -18,7 +19,9 @@ use Rattle.strc_rate.proofs.KeptRates.{limited, accepted_by, OfBodies, of_filter
 -- each run of a block from no traffic is safe, before a window that is whole
 abbrev RunsSafe : List tree.Rate → tree.Stmts → Type 0
 RunsSafe rates block =
-    (port : Port) (store : Store) → window_size rates ≤ length port.ahead → store.traffic ≡ no_traffic → StmtsAreSafe (window_size rates) port [] none_popped block store
+    (port : Port) (store : Store) → window_size rates ≤ length port.ahead
+    → store.traffic ≡ no_traffic → StmtsAreSafe
+    (window_size rates) port [] none_popped block store
 
 small_window : (rates : List tree.Rate) → are_within_limit rates ≡ true → window_size rates ≤ 65536
 small_window rates limits =
@@ -34,13 +37,17 @@ none_ready store none =
 
 body_safe : OfBodies RunsSafe
 body_safe lacks rates block names closed =
-    accepted_by (are_within_limit rates) lacks rates (stmts_counts [] block) (body_sights rates block) (RunsSafe rates block)
+    accepted_by (are_within_limit rates) lacks rates (stmts_counts [] block)
+    (body_sights rates block) (RunsSafe rates block)
     (λ c limits counts pushes pops port store ahead none.
-    stmts_safe (window_size rates) port (record { small = small_window rates limits; ahead = ahead }) block names [] none_popped store closed (ap is_some counts) (λ name e. absurd (cc)) (none_ready store none))
+    stmts_safe (window_size rates) port (record
+    { small = small_window rates limits; ahead = ahead }) block names [] none_popped store
+    closed (ap is_some counts) (λ name e. absurd (cc)) (none_ready store none))
 
 pub closed_peeks : ClosedPeeksNeverFault
 closed_peeks filter closed =
-    IfOk-weaker (checked filter) (λ rates. (body : Body) → RunsSafe (body_rates body filter.members) (body_block body filter.members)) _
+    IfOk-weaker (checked filter) (λ rates. (body : Body)
+    → RunsSafe (body_rates body filter.members) (body_block body filter.members)) _
     (λ rates safe body fields window le.
     let size = window_size (body_rates body filter.members) in
     let ahead : length (take size window) ≡ size = length-take-le size window le in

@@ -1,5 +1,7 @@
 -- The rates that are checked of a filter are those of its firings.
-use Rattle.std.proofs.Common.{◌≡◌, refl, subst, ℕ, ◌≤◌, ℤ, pos, negsuc, Bool, true, false, not, ◌||◌, List, [], ◌∷◌, length, reverse, Option, Some, None, Result, Ok, Err, arith}
+use Rattle.std.proofs.Common.{◌≡◌, refl, subst, ℕ, ◌≤◌, ℤ, pos, negsuc, Bool, true, false, not}
+use Rattle.std.proofs.Common.{◌||◌, List, [], ◌∷◌, length, reverse, Option, Some, None, Result, Ok}
+use Rattle.std.proofs.Common.{Err, arith}
 use Rattle.std.specs.Prelude.{nat_eq, is_some, unwrap_or, if◌then◌else◌}
 use Rattle.std.specs.Result.{IfOk}
 use Rattle.std.specs.Int.RustNames.{int_lt}
@@ -10,7 +12,9 @@ use Rattle.strc_syntax.specs.Tree as tree
 use Rattle.strc_semantics.specs.declared.body.Body.{Body}
 use Rattle.strc_semantics.specs.declared.body.Body.TheVariants as body
 use Rattle.strc_semantics.specs.Scoping.{Scope}
-use Rattle.strc_semantics.specs.Filters.{Filter, sized_fields, work_block, work_rates, prework_block, prework_rates, body_block, body_rates, push_rate, pop_rate, item_count}
+use Rattle.strc_semantics.specs.Filters.{Filter, sized_fields, work_block, work_rates}
+use Rattle.strc_semantics.specs.Filters.{prework_block, prework_rates, body_block, body_rates}
+use Rattle.strc_semantics.specs.Filters.{push_rate, pop_rate, item_count}
 use Rattle.strc_semantics.specs.Closed.{AreClosed, IsClosedFilter}
 use Rattle.strc_semantics.specs.Firing.{Port, Store, stmts_done, no_traffic, port_of, store_at}
 use Rattle.strc_work.proofs.FilterRuns.{body_closed}
@@ -19,7 +23,9 @@ use Rattle.strc_rate.specs.declared.rates.RateError.TheVariants.{RateLimit, Rate
 use Rattle.strc_rate.specs.Counts.{Counts, stmts_counts}
 use Rattle.strc_rate.specs.Peeks.{PeekBounds}
 use Rattle.strc_base.specs.Results.{result_and_then}
-use Rattle.strc_rate.specs.Rates.{BodyRates, within_limit, are_within_limit, same_rate, with_closed_peeks, counted, body_sights, body_checked, work_lacks, work_checked, some_prework, prework_checked, then_work, checked}
+use Rattle.strc_rate.specs.Rates.{BodyRates, within_limit, are_within_limit, same_rate}
+use Rattle.strc_rate.specs.Rates.{with_closed_peeks, counted, body_sights, body_checked, work_lacks}
+use Rattle.strc_rate.specs.Rates.{work_checked, some_prework, prework_checked, then_work, checked}
 use Rattle.strc_rate.specs.Kept.{CheckedRatesAreKept}
 use Rattle.strc_rate.proofs.Results.{and_first, and_second}
 use Rattle.strc_rate.proofs.CountedMoves.{Moves, Counted}
@@ -28,14 +34,19 @@ use Rattle.strc_rate.proofs.StatementCounts.{stmts_counted}
 -- a declared rate is at most 65,536
 pub limited : (rate : ℤ) → within_limit rate ≡ true → item_count rate ≤ 65536
 limited (pos n) e =
-    let h : not (int_lt (pos 65536) (pos n)) ≡ true = and_second (not (int_lt (pos n) (pos 0))) _ e in
+    let h : not (int_lt (pos 65536) (pos n)) ≡ true =
+    and_second (not (int_lt (pos n) (pos 0))) _ e in
     grind (arith, ints)
 limited (negsuc n) e = omega arith
 
-same_count : (declared given : ℕ) (next : Result BodyRates RateError) (R : Type 0) → (declared ≡ given → IfOk next (λ rates. R)) → IfOk (result_and_then (same_rate declared given) (λ same. next)) (λ rates. R)
+same_count : (declared given : ℕ) (next : Result BodyRates RateError) (R : Type 0)
+    → (declared ≡ given → IfOk next (λ rates. R))
+    → IfOk (result_and_then (same_rate declared given) (λ same. next)) (λ rates. R)
 same_count declared given next R go = by_test (nat_eq declared given) refl
   where
-    by_test : (t : Bool) → nat_eq declared given ≡ t → IfOk (result_and_then {A = Unit {0}} (if t then Ok tt else Err (RateMismatch declared given)) (λ same. next)) (λ rates. R)
+    by_test : (t : Bool) → nat_eq declared given ≡ t
+        → IfOk (result_and_then {A = Unit {0}}
+        (if t then Ok tt else Err (RateMismatch declared given)) (λ same. next)) (λ rates. R)
     by_test true e = go (eqb-true declared given e)
     by_test false e = tt
 
@@ -44,27 +55,42 @@ any_rates (Ok rates) R h = h
 any_rates (Err broken) R h = tt
 
 -- what is known where a body's rates are accepted
-pub accepted_by : (limits lacks : Bool) (rates : List tree.Rate) (counts : Option Counts) (sights : List PeekBounds) (R : Type 0) → ((c : Counts) → limits ≡ true → counts ≡ Some c → item_count (push_rate rates) ≡ c.pushes → item_count (pop_rate rates) ≡ c.pops → R) → IfOk (if not limits || lacks then Err RateLimit else counted rates counts sights) (λ accepted. R)
+pub accepted_by : (limits lacks : Bool) (rates : List tree.Rate) (counts : Option Counts)
+    (sights : List PeekBounds) (R : Type 0)
+    → ((c : Counts) → limits ≡ true → counts ≡ Some c → item_count (push_rate rates) ≡ c.pushes
+    → item_count (pop_rate rates) ≡ c.pops → R)
+    → IfOk (if not limits || lacks then Err RateLimit else counted rates counts sights)
+    (λ accepted. R)
 accepted_by false lacks rates counts sights R go = tt
 accepted_by true true rates counts sights R go = tt
 accepted_by true false rates None sights R go = tt
 accepted_by true false rates (Some c) sights R go =
-    same_count (item_count (push_rate rates)) c.pushes (result_and_then (same_rate (item_count (pop_rate rates)) c.pops) (λ same. with_closed_peeks rates sights)) R
-    (λ pushes. same_count (item_count (pop_rate rates)) c.pops (with_closed_peeks rates sights) R (λ pops. any_rates (with_closed_peeks rates sights) R (go c refl refl pushes pops)))
+    same_count (item_count (push_rate rates)) c.pushes
+    (result_and_then (same_rate (item_count (pop_rate rates)) c.pops)
+    (λ same. with_closed_peeks rates sights)) R
+    (λ pushes. same_count (item_count (pop_rate rates)) c.pops (with_closed_peeks rates sights) R
+    (λ pops. any_rates (with_closed_peeks rates sights) R (go c refl refl pushes pops)))
 
 -- each run of a block from no traffic keeps the declared rates
 abbrev RunsKeep : List tree.Rate → tree.Stmts → Type 0
 RunsKeep rates block =
     (port : Port) (store : Store) → store.traffic ≡ no_traffic
     → IfOk (stmts_done port block store) (λ after.
-    (after.traffic.popped ≡ item_count (pop_rate rates)) × (length after.traffic.pushes ≡ item_count (push_rate rates)))
+    (after.traffic.popped ≡ item_count (pop_rate rates))
+    × (length after.traffic.pushes ≡ item_count (push_rate rates)))
 
-body_kept : (lacks : Bool) (rates : List tree.Rate) (block : tree.Stmts) (names : Scope) → AreClosed names block → IfOk (body_checked lacks rates block) (λ accepted. RunsKeep rates block)
+body_kept : (lacks : Bool) (rates : List tree.Rate) (block : tree.Stmts) (names : Scope)
+    → AreClosed names block → IfOk (body_checked lacks rates block)
+    (λ accepted. RunsKeep rates block)
 body_kept lacks rates block names closed =
-    accepted_by (are_within_limit rates) lacks rates (stmts_counts [] block) (body_sights rates block) (RunsKeep rates block)
+    accepted_by (are_within_limit rates) lacks rates (stmts_counts [] block)
+    (body_sights rates block) (RunsKeep rates block)
     (λ c limits counts pushes pops port store none.
-    let push_limit = limited (push_rate rates) (and_first (within_limit (push_rate rates)) _ limits) in
-    let pop_limit = limited (pop_rate rates) (and_first (within_limit (pop_rate rates)) _ (and_second (within_limit (push_rate rates)) _ limits)) in
+    let push_limit = limited (push_rate rates)
+    (and_first (within_limit (push_rate rates)) _ limits) in
+    let pop_limit = limited (pop_rate rates)
+    (and_first (within_limit (pop_rate rates)) _
+    (and_second (within_limit (push_rate rates)) _ limits)) in
     IfOk-weaker (stmts_done port block store) (λ after. Moves no_traffic after.traffic c) _
     (λ after h.
     let popped = h.popped in
@@ -72,22 +98,29 @@ body_kept lacks rates block names closed =
     let saturated_pops = h.saturated_pops in
     let saturated_pushes = h.saturated_pushes in
     (omega arith, omega arith))
-    (subst (λ traffic. IfOk (stmts_done port block store) (λ after. Moves traffic after.traffic c)) none
-    (subst (λ x. IfOk (stmts_done port block store) (λ after. Counted x store.traffic after.traffic)) counts (stmts_counted port block [] names store closed tt))))
+    (subst (λ traffic. IfOk (stmts_done port block store) (λ after. Moves traffic after.traffic c))
+    none
+    (subst (λ x. IfOk (stmts_done port block store)
+    (λ after. Counted x store.traffic after.traffic)) counts
+    (stmts_counted port block [] names store closed tt))))
 
 -- the rates and the block of a prework, or none
-rates_with_block : (members : List tree.Member) → is_some (prework_rates members) ≡ is_some (prework_block members)
+rates_with_block : (members : List tree.Member)
+    → is_some (prework_rates members) ≡ is_some (prework_block members)
 rates_with_block [] = refl
 rates_with_block (tree.Fields kind variables ∷ rest) = rates_with_block rest
 rates_with_block (tree.Init block ∷ rest) = rates_with_block rest
 rates_with_block (tree.Prework rates block ∷ rest) = refl
 rates_with_block (tree.Work rates block ∷ rest) = rates_with_block rest
 
-some_kept : (r : Result BodyRates RateError) (R : Type 0) → IfOk r (λ rates. R) → IfOk (some_prework r) (λ rates. R)
+some_kept : (r : Result BodyRates RateError) (R : Type 0) → IfOk r (λ rates. R)
+    → IfOk (some_prework r) (λ rates. R)
 some_kept (Ok rates) R h = h
 some_kept (Err broken) R h = tt
 
-both_kept : (prework : Result (Option BodyRates) RateError) (work : Result BodyRates RateError) (R S : Type 0) → IfOk work (λ rates. S) → (S → IfOk prework (λ rates. R)) → IfOk (then_work prework work) (λ rates. R × S)
+both_kept : (prework : Result (Option BodyRates) RateError) (work : Result BodyRates RateError)
+    (R S : Type 0) → IfOk work (λ rates. S) → (S → IfOk prework (λ rates. R))
+    → IfOk (then_work prework work) (λ rates. R × S)
 both_kept (Ok prework) (Ok work) R S h k = (k h, h)
 both_kept (Ok prework) (Err broken) R S h k = tt
 both_kept (Err broken) work R S h k = tt
@@ -95,30 +128,49 @@ both_kept (Err broken) work R S h k = tt
 -- what follows of each body whose rates are accepted
 abbrev pub OfBodies : (List tree.Rate → tree.Stmts → Type 0) → Type 0
 OfBodies R =
-    (lacks : Bool) (rates : List tree.Rate) (block : tree.Stmts) (names : Scope) → AreClosed names block → IfOk (body_checked lacks rates block) (λ accepted. R rates block)
+    (lacks : Bool) (rates : List tree.Rate) (block : tree.Stmts) (names : Scope)
+    → AreClosed names block → IfOk (body_checked lacks rates block) (λ accepted. R rates block)
 
-prework_kept : (R : List tree.Rate → tree.Stmts → Type 0) → OfBodies R → (rates : Option (List tree.Rate)) (block : Option tree.Stmts) (others : List tree.Rate) (other : tree.Stmts) (names : Scope) → is_some rates ≡ is_some block → AreClosed names (unwrap_or block other) → R others other → IfOk (prework_checked rates block) (λ accepted. R (unwrap_or rates others) (unwrap_or block other))
-prework_kept R each (Some rates) (Some block) others other names same closed work = some_kept (body_checked false rates block) (R rates block) (each false rates block names closed)
+prework_kept : (R : List tree.Rate → tree.Stmts → Type 0) → OfBodies R
+    → (rates : Option (List tree.Rate)) (block : Option tree.Stmts) (others : List tree.Rate)
+    (other : tree.Stmts) (names : Scope) → is_some rates ≡ is_some block
+    → AreClosed names (unwrap_or block other) → R others other
+    → IfOk (prework_checked rates block) (λ accepted. R (unwrap_or rates others)
+    (unwrap_or block other))
+prework_kept R each (Some rates) (Some block) others other names same closed work =
+    some_kept (body_checked false rates block) (R rates block) (each false rates block names closed)
 prework_kept R each (Some rates) None others other names same closed work = absurd (cc)
 prework_kept R each None (Some block) others other names same closed work = absurd (cc)
 prework_kept R each None None others other names same closed work = work
 
 -- and so of each body of a filter whose rates are accepted
-pub of_filters : (R : List tree.Rate → tree.Stmts → Type 0) → OfBodies R → (filter : Filter) → IsClosedFilter filter → IfOk (checked filter) (λ rates. (body : Body) → R (body_rates body filter.members) (body_block body filter.members))
+pub of_filters : (R : List tree.Rate → tree.Stmts → Type 0) → OfBodies R → (filter : Filter)
+    → IsClosedFilter filter → IfOk (checked filter)
+    (λ rates. (body : Body) → R (body_rates body filter.members) (body_block body filter.members))
 of_filters R each filter closed =
     let members = filter.members in
     let names = reverse (sized_fields members) in
-    IfOk-weaker (checked filter) (λ rates. R (body_rates body.Prework members) (body_block body.Prework members) × R (work_rates members) (work_block members)) _
+    IfOk-weaker (checked filter) (λ rates. R (body_rates body.Prework members)
+    (body_block body.Prework members) × R (work_rates members) (work_block members)) _
     (λ rates kept. by_body kept)
-    (both_kept (prework_checked (prework_rates members) (prework_block members)) (work_checked filter) (R (body_rates body.Prework members) (body_block body.Prework members)) (R (work_rates members) (work_block members))
-    (each (work_lacks filter) (work_rates members) (work_block members) names (body_closed body.Work names members closed))
-    (λ work. prework_kept R each (prework_rates members) (prework_block members) (work_rates members) (work_block members) names (rates_with_block members) (body_closed body.Prework names members closed) work))
+    (both_kept (prework_checked (prework_rates members) (prework_block members))
+    (work_checked filter) (R (body_rates body.Prework members) (body_block body.Prework members))
+    (R (work_rates members) (work_block members))
+    (each (work_lacks filter) (work_rates members) (work_block members) names
+    (body_closed body.Work names members closed))
+    (λ work. prework_kept R each (prework_rates members) (prework_block members)
+    (work_rates members) (work_block members) names (rates_with_block members)
+    (body_closed body.Prework names members closed) work))
   where
-    by_body : R (body_rates body.Prework filter.members) (body_block body.Prework filter.members) × R (work_rates filter.members) (work_block filter.members) → (body : Body) → R (body_rates body filter.members) (body_block body filter.members)
+    by_body : R (body_rates body.Prework filter.members) (body_block body.Prework filter.members)
+        × R (work_rates filter.members) (work_block filter.members) → (body : Body)
+        → R (body_rates body filter.members) (body_block body filter.members)
     by_body kept body.Prework = kept.0
     by_body kept body.Work = kept.1
 
 pub rates_kept : CheckedRatesAreKept
 rates_kept filter closed =
-    IfOk-weaker (checked filter) (λ rates. (body : Body) → RunsKeep (body_rates body filter.members) (body_block body filter.members)) _
-    (λ rates kept body fields window. kept body (port_of filter body window) (store_at filter fields) refl) (of_filters RunsKeep body_kept filter closed)
+    IfOk-weaker (checked filter) (λ rates. (body : Body)
+    → RunsKeep (body_rates body filter.members) (body_block body filter.members)) _
+    (λ rates kept body fields window. kept body (port_of filter body window)
+    (store_at filter fields) refl) (of_filters RunsKeep body_kept filter closed)

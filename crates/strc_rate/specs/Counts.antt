@@ -1,6 +1,8 @@
--- What a run of a text takes and gives, counted from the text (StreamIt specification 2.1, "Filters": the rates of `work` are static). Pushes
--- and pops are counted each by itself, and a text is counted only where both are.
-use Rattle.std.specs.Prelude.{ℕ, ◌+◌, ◌*◌, min, zero, suc, ℤ, Bool, ◌&&◌, nat_eq, List, [], ◌∷◌, Option, Some, None, if◌then◌else◌}
+-- What a run of a text takes and gives, counted from the text (StreamIt specification 2.1,
+-- "Filters": the rates of `work` are static). Pushes and pops are counted each by itself, and a
+-- text is counted only where both are.
+use Rattle.std.specs.Prelude.{ℕ, ◌+◌, ◌*◌, min, zero, suc, ℤ, Bool, ◌&&◌, nat_eq, List, [], ◌∷◌}
+use Rattle.std.specs.Prelude.{Option, Some, None, if◌then◌else◌}
 use Rattle.std.specs.Option.{option_and_then, option_map}
 use Rattle.strc_syntax.specs.Tree as tree
 use Rattle.strc_syntax.specs.declared.tree.BinaryOperator.{BinaryOperator}
@@ -34,7 +36,11 @@ same_counts first second = nat_eq first.pushes second.pushes && nat_eq first.pop
 
 -- one after the other
 abbrev pub added : Counts → Counts → Counts
-added first second = record { pushes = saturated (first.pushes + second.pushes); pops = saturated (first.pops + second.pops) }
+added first second = record {
+  pushes = saturated (first.pushes + second.pushes);
+  pops =
+      saturated (first.pops + second.pops);
+}
 
 abbrev pub sequence : Option Counts → Option Counts → Option Counts
 sequence first second = option_and_then (λ counts. option_map (added counts) second) first
@@ -52,7 +58,11 @@ require_zero counts = option_and_then (if_same no_items) counts
 
 -- so many times; nothing is looked at for none
 abbrev pub multiplied : ℕ → Counts → Counts
-multiplied times counts = record { pushes = saturated (times * counts.pushes); pops = saturated (times * counts.pops) }
+multiplied times counts = record {
+  pushes = saturated (times * counts.pushes);
+  pops =
+      saturated (times * counts.pops);
+}
 
 abbrev pub repeated : ℕ → Option Counts → Option Counts
 repeated zero counts = Some no_items
@@ -89,9 +99,11 @@ expr_counts (tree.Group inner) = expr_counts inner
 expr_counts (tree.Unary operator operand) = expr_counts operand
 expr_counts (tree.Step operator name) = Some no_items
 expr_counts (tree.StepElement operator name index) = expr_counts index
-expr_counts (tree.Binary operator left right) = sequence (expr_counts left) (needed (need_of operator left) (expr_counts right))
+expr_counts (tree.Binary operator left right) =
+    sequence (expr_counts left) (needed (need_of operator left) (expr_counts right))
 expr_counts (tree.Conditional condition chosen other) =
-    sequence (expr_counts condition) (branch_counts (constant condition) (expr_counts chosen) (expr_counts other))
+    sequence (expr_counts condition) (branch_counts (constant condition) (expr_counts chosen)
+    (expr_counts other))
 
 abbrev pub option_counts : Option tree.Expr → Option Counts
 option_counts None = Some no_items
@@ -101,10 +113,12 @@ abbrev pub variables_counts : List tree.Variable → Option Counts
 variables_counts [] = Some no_items
 variables_counts (first ∷ rest) = sequence (option_counts first.initial) (variables_counts rest)
 
--- the turns of a `for` behind its first part: those of a counted loop, and no other loop moves an item
+-- the turns of a `for` behind its first part: those of a counted loop, and no other loop moves an
+-- item
 abbrev pub turns_counts : Option Loop → (condition step body : Option Counts) → Option Counts
 turns_counts (Some loop) condition step body = repeated loop.turns body
-turns_counts None condition step body = sequence (require_zero condition) (sequence (require_zero step) (require_zero body))
+turns_counts None condition step body = sequence (require_zero condition)
+    (sequence (require_zero step) (require_zero body))
 
 abbrev mutual
   -- the counts of a statement behind these local variables
@@ -115,12 +129,16 @@ abbrev mutual
   stmt_counts locals (tree.Declare kind variables) = variables_counts variables
   stmt_counts locals (tree.Evaluate value) = expr_counts value
   stmt_counts locals (tree.Assign name operator value) = expr_counts value
-  stmt_counts locals (tree.AssignElement name index operator value) = sequence (expr_counts index) (expr_counts value)
+  stmt_counts locals (tree.AssignElement name index operator value) =
+      sequence (expr_counts index) (expr_counts value)
   stmt_counts locals (tree.If condition chosen) =
-      sequence (expr_counts condition) (branch_counts (constant condition) (stmt_counts locals chosen) (Some no_items))
+      sequence (expr_counts condition) (branch_counts (constant condition)
+      (stmt_counts locals chosen) (Some no_items))
   stmt_counts locals (tree.IfElse condition chosen other) =
-      sequence (expr_counts condition) (branch_counts (constant condition) (stmt_counts locals chosen) (stmt_counts locals other))
-  stmt_counts locals (tree.While condition body) = sequence (require_zero (expr_counts condition)) (require_zero (stmt_counts locals body))
+      sequence (expr_counts condition) (branch_counts (constant condition)
+      (stmt_counts locals chosen) (stmt_counts locals other))
+  stmt_counts locals (tree.While condition body) =
+      sequence (require_zero (expr_counts condition)) (require_zero (stmt_counts locals body))
   stmt_counts locals (tree.For first condition step body) =
       sequence (stmt_counts locals first)
       (turns_counts (counted_loop locals first condition step body) (option_counts condition)
@@ -131,4 +149,5 @@ abbrev mutual
 
   pub stmts_counts : Locals → tree.Stmts → Option Counts
   stmts_counts locals tree.Done = Some no_items
-  stmts_counts locals (tree.Then first rest) = sequence (stmt_counts locals first) (stmts_counts (locals_after locals first) rest)
+  stmts_counts locals (tree.Then first rest) =
+      sequence (stmt_counts locals first) (stmts_counts (locals_after locals first) rest)

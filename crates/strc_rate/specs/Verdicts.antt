@@ -1,4 +1,5 @@
--- How code answers a judgement of rates: with what it gives, or with its refusal, or where memory runs out.
+-- How code answers a judgement of rates: with what it gives, or with its refusal, or where memory
+-- runs out.
 use Rattle.std.specs.Prelude.{◌≡◌, Result, Ok, Err}
 use Rattle.std.specs.Option.{option_map}
 use Rattle.strc_rate.specs.declared.rates.BodyRates.{BodyRates}
@@ -19,8 +20,18 @@ IsVerdict view expected (Err refusal) = IsRefusal expected refusal
 
 -- the rates of a body as the judgement sees them
 abbrev pub body_view : BodyRates → judged.BodyRates
-body_view rates = record { push = rates.push; pop = rates.pop; window = rates.window; closed = rates.closed.items }
+body_view rates = record {
+  push = rates.push;
+  pop = rates.pop;
+  window = rates.window;
+  closed =
+      rates.closed.items;
+}
 
 -- the rates of a filter as the judgement sees them
 abbrev pub rates_view : Rates → judged.FilterRates
-rates_view rates = record { prework = option_map body_view rates.prework; work = body_view rates.work }
+rates_view rates = record {
+  prework = option_map body_view rates.prework;
+  work =
+      body_view rates.work;
+}

@@ -1,5 +1,6 @@
 -- A firing prints only where its text does.
-use Rattle.std.proofs.Common.{◌≡◌, refl, ◌∙◌, ℕ, zero, suc, ◌+◌, ℤ, Bool, true, false, ◌||◌, List, [], ◌∷◌, ◌++◌, length, Option, Some, None, Result, Ok, Err}
+use Rattle.std.proofs.Common.{◌≡◌, refl, ◌∙◌, ℕ, zero, suc, ◌+◌, ℤ, Bool, true, false, ◌||◌, List}
+use Rattle.std.proofs.Common.{[], ◌∷◌, ◌++◌, length, Option, Some, None, Result, Ok, Err}
 use Rattle.std.specs.Prelude.{nat_lt, slice_get, if◌then◌else◌}
 use Rattle.std.specs.Result.{IfOk}
 use Rattle.strc_base.specs.Results.{result_and_then}
@@ -13,9 +14,15 @@ use Rattle.strc_semantics.specs.declared.fault.Cause.TheVariants.{PeekRange, Tur
 use Rattle.strc_semantics.specs.declared.word.Word.{Word}
 use Rattle.strc_semantics.specs.Arithmetic.{is_true, binary_value}
 use Rattle.strc_semantics.specs.declared.body.Body.TheVariants as body
-use Rattle.strc_semantics.specs.Filters.{Filter, work_block, stmt_prints, stmts_print, filter_prints}
+use Rattle.strc_semantics.specs.Filters.{Filter, work_block, stmt_prints, stmts_print}
+use Rattle.strc_semantics.specs.Filters.{filter_prints}
 use Rattle.strc_semantics.specs.Scoping.{cells_of}
-use Rattle.strc_semantics.specs.Firing.{Port, Traffic, Store, item_popped, looked_at, item_ahead, pushed_to, joined, value_of, assigned_value, place_of, cell_in, cell_set, declared_in, element_joined, element_set, initial_cells, variables_declared, condition_value, turned, turn_limit, looped, inside, stmt_done, stmts_done, store_at, port_of, fired}
+use Rattle.strc_semantics.specs.Firing.{Port, Traffic, Store, item_popped, looked_at, item_ahead}
+use Rattle.strc_semantics.specs.Firing.{pushed_to, joined, value_of, assigned_value, place_of}
+use Rattle.strc_semantics.specs.Firing.{cell_in, cell_set, declared_in, element_joined, element_set}
+use Rattle.strc_semantics.specs.Firing.{initial_cells, variables_declared, condition_value, turned}
+use Rattle.strc_semantics.specs.Firing.{turn_limit, looped, inside, stmt_done, stmts_done, store_at}
+use Rattle.strc_semantics.specs.Firing.{port_of, fired}
 
 or_first : (a b : Bool) → (a || b) ≡ false → a ≡ false
 or_first true b e = e
@@ -26,7 +33,9 @@ or_second true b e = absurd (cc)
 or_second false b e = e
 
 -- what holds of the value of each step holds of both
-pub then_ok : {A B : Type 0} (result : Result A Cause) (go : A → Result B Cause) (P : A → Type 0) (Q : B → Type 0) → IfOk result P → ((a : A) → P a → IfOk (go a) Q) → IfOk (result_and_then result go) Q
+pub then_ok : {A B : Type 0} (result : Result A Cause) (go : A → Result B Cause) (P : A → Type 0)
+    (Q : B → Type 0) → IfOk result P → ((a : A) → P a → IfOk (go a) Q)
+    → IfOk (result_and_then result go) Q
 then_ok (Ok a) go P Q h next = next a h
 then_ok (Err cause) go P Q h next = tt
 
@@ -39,227 +48,347 @@ abbrev IsQuiet : List Word → Result Store Cause → Type 0
 IsQuiet words result = IfOk result (λ after. after.traffic.words ≡ words)
 
 -- what can fail, and then a store
-any_quiet : {A : Type 0} (result : Result A Cause) (go : A → Store) (words : List Word) → ((a : A) → (go a).traffic.words ≡ words) → IsQuiet words (result_and_then result (λ a. Ok (go a)))
+any_quiet : {A : Type 0} (result : Result A Cause) (go : A → Store) (words : List Word)
+    → ((a : A) → (go a).traffic.words ≡ words)
+    → IsQuiet words (result_and_then result (λ a. Ok (go a)))
 any_quiet (Ok a) go words h = h a
 any_quiet (Err cause) go words h = tt
 
-any_given : {A : Type 0} (result : Result A Cause) (go : A → ℤ × Store) (words : List Word) → ((a : A) → (go a).1.traffic.words ≡ words) → GivesQuietly words (result_and_then result (λ a. Ok (go a)))
+any_given : {A : Type 0} (result : Result A Cause) (go : A → ℤ × Store) (words : List Word)
+    → ((a : A) → (go a).1.traffic.words ≡ words)
+    → GivesQuietly words (result_and_then result (λ a. Ok (go a)))
 any_given (Ok a) go words h = h a
 any_given (Err cause) go words h = tt
 
 -- ---- expressions
 
-pop_quiet : (traffic : Traffic) (item : Option ℤ) → IfOk (item_popped item traffic) (λ taken. taken.1.words ≡ traffic.words)
+pop_quiet : (traffic : Traffic) (item : Option ℤ)
+    → IfOk (item_popped item traffic) (λ taken. taken.1.words ≡ traffic.words)
 pop_quiet traffic None = tt
 pop_quiet traffic (Some item) = refl
 
-strict_quiet : (operator : BinaryOperator) (words : List Word) (first : ℤ × Store) (right : Result (ℤ × Store) Cause) → GivesQuietly words right → GivesQuietly words (result_and_then right (λ second. result_and_then (binary_value operator first.0 second.0) (λ value. Ok (value, second.1))))
+strict_quiet : (operator : BinaryOperator) (words : List Word) (first : ℤ × Store)
+    (right : Result (ℤ × Store) Cause) → GivesQuietly words right
+    → GivesQuietly words (result_and_then right
+    (λ second. result_and_then (binary_value operator first.0 second.0)
+    (λ value. Ok (value, second.1))))
 strict_quiet operator words first right k =
-    then_ok right _ (λ given. given.1.traffic.words ≡ words) (λ given. given.1.traffic.words ≡ words) k
-    (λ second l. any_given (binary_value operator first.0 second.0) (λ value. (value, second.1)) words (λ value. l))
+    then_ok right _ (λ given. given.1.traffic.words ≡ words)
+    (λ given. given.1.traffic.words ≡ words) k
+    (λ second l. any_given (binary_value operator first.0 second.0)
+    (λ value. (value, second.1)) words (λ value. l))
 
 -- one of two
-side_quiet : (test : Bool) (words : List Word) (one other : Result (ℤ × Store) Cause) → GivesQuietly words one → GivesQuietly words other → GivesQuietly words (if test then one else other)
+side_quiet : (test : Bool) (words : List Word) (one other : Result (ℤ × Store) Cause)
+    → GivesQuietly words one → GivesQuietly words other
+    → GivesQuietly words (if test then one else other)
 side_quiet true words one other h k = h
 side_quiet false words one other h k = k
 
-joined_quiet : (operator : BinaryOperator) (words : List Word) (first : ℤ × Store) (right : Store → Result (ℤ × Store) Cause) → first.1.traffic.words ≡ words → GivesQuietly words (right first.1) → GivesQuietly words (joined operator first right)
-joined_quiet binary.LogicalOr words first right h k = side_quiet (is_true first.0) words (Ok first) (right first.1) h k
-joined_quiet binary.LogicalAnd words first right h k = side_quiet (is_true first.0) words (right first.1) (Ok first) k h
+joined_quiet : (operator : BinaryOperator) (words : List Word) (first : ℤ × Store)
+    (right : Store → Result (ℤ × Store) Cause) → first.1.traffic.words ≡ words
+    → GivesQuietly words (right first.1) → GivesQuietly words (joined operator first right)
+joined_quiet binary.LogicalOr words first right h k =
+    side_quiet (is_true first.0) words (Ok first) (right first.1) h k
+joined_quiet binary.LogicalAnd words first right h k =
+    side_quiet (is_true first.0) words (right first.1) (Ok first) k h
 joined_quiet binary.Or words first right h k = strict_quiet binary.Or words first (right first.1) k
-joined_quiet binary.ExclusiveOr words first right h k = strict_quiet binary.ExclusiveOr words first (right first.1) k
-joined_quiet binary.And words first right h k = strict_quiet binary.And words first (right first.1) k
-joined_quiet binary.Equal words first right h k = strict_quiet binary.Equal words first (right first.1) k
-joined_quiet binary.NotEqual words first right h k = strict_quiet binary.NotEqual words first (right first.1) k
-joined_quiet binary.Less words first right h k = strict_quiet binary.Less words first (right first.1) k
-joined_quiet binary.LessOrEqual words first right h k = strict_quiet binary.LessOrEqual words first (right first.1) k
-joined_quiet binary.Greater words first right h k = strict_quiet binary.Greater words first (right first.1) k
-joined_quiet binary.GreaterOrEqual words first right h k = strict_quiet binary.GreaterOrEqual words first (right first.1) k
-joined_quiet binary.ShiftLeft words first right h k = strict_quiet binary.ShiftLeft words first (right first.1) k
-joined_quiet binary.ShiftRight words first right h k = strict_quiet binary.ShiftRight words first (right first.1) k
-joined_quiet binary.Add words first right h k = strict_quiet binary.Add words first (right first.1) k
-joined_quiet binary.Subtract words first right h k = strict_quiet binary.Subtract words first (right first.1) k
-joined_quiet binary.Multiply words first right h k = strict_quiet binary.Multiply words first (right first.1) k
-joined_quiet binary.Divide words first right h k = strict_quiet binary.Divide words first (right first.1) k
-joined_quiet binary.Remainder words first right h k = strict_quiet binary.Remainder words first (right first.1) k
+joined_quiet binary.ExclusiveOr words first right h k =
+    strict_quiet binary.ExclusiveOr words first (right first.1) k
+joined_quiet binary.And words first right h k =
+    strict_quiet binary.And words first (right first.1) k
+joined_quiet binary.Equal words first right h k =
+    strict_quiet binary.Equal words first (right first.1) k
+joined_quiet binary.NotEqual words first right h k =
+    strict_quiet binary.NotEqual words first (right first.1) k
+joined_quiet binary.Less words first right h k =
+    strict_quiet binary.Less words first (right first.1) k
+joined_quiet binary.LessOrEqual words first right h k =
+    strict_quiet binary.LessOrEqual words first (right first.1) k
+joined_quiet binary.Greater words first right h k =
+    strict_quiet binary.Greater words first (right first.1) k
+joined_quiet binary.GreaterOrEqual words first right h k =
+    strict_quiet binary.GreaterOrEqual words first (right first.1) k
+joined_quiet binary.ShiftLeft words first right h k =
+    strict_quiet binary.ShiftLeft words first (right first.1) k
+joined_quiet binary.ShiftRight words first right h k =
+    strict_quiet binary.ShiftRight words first (right first.1) k
+joined_quiet binary.Add words first right h k =
+    strict_quiet binary.Add words first (right first.1) k
+joined_quiet binary.Subtract words first right h k =
+    strict_quiet binary.Subtract words first (right first.1) k
+joined_quiet binary.Multiply words first right h k =
+    strict_quiet binary.Multiply words first (right first.1) k
+joined_quiet binary.Divide words first right h k =
+    strict_quiet binary.Divide words first (right first.1) k
+joined_quiet binary.Remainder words first right h k =
+    strict_quiet binary.Remainder words first (right first.1) k
 
 -- an expression prints nothing
-value_quiet : (port : Port) (e : tree.Expr) (store : Store) (words : List Word) → store.traffic.words ≡ words → GivesQuietly words (value_of port e store)
+value_quiet : (port : Port) (e : tree.Expr) (store : Store) (words : List Word)
+    → store.traffic.words ≡ words → GivesQuietly words (value_of port e store)
 value_quiet port (tree.Number value) store words h = h
 value_quiet port (tree.Truth value) store words h = h
 value_quiet port (tree.Read name) store words h = h
 value_quiet port (tree.Element name index) store words h =
-    then_ok (value_of port index store) _ (λ given. given.1.traffic.words ≡ words) (λ given. given.1.traffic.words ≡ words)
+    then_ok (value_of port index store) _ (λ given. given.1.traffic.words ≡ words)
+    (λ given. given.1.traffic.words ≡ words)
     (value_quiet port index store words h)
-    (λ at k. any_given (place_of at.1 name at.0) (λ place. (cell_in at.1 name place, at.1)) words (λ place. k))
+    (λ at k. any_given (place_of at.1 name at.0) (λ place. (cell_in at.1 name place, at.1)) words
+    (λ place. k))
 value_quiet port tree.Pop store words h =
-    then_ok (item_popped (slice_get port.front store.traffic.popped) store.traffic) _ (λ taken. taken.1.words ≡ store.traffic.words) (λ given. given.1.traffic.words ≡ words)
+    then_ok (item_popped (slice_get port.front store.traffic.popped) store.traffic) _
+    (λ taken. taken.1.words ≡ store.traffic.words) (λ given. given.1.traffic.words ≡ words)
     (pop_quiet store.traffic (slice_get port.front store.traffic.popped)) (λ taken k. k ∙ h)
 value_quiet port (tree.Peek index) store words h =
-    then_ok (value_of port index store) _ (λ given. given.1.traffic.words ≡ words) (λ given. given.1.traffic.words ≡ words)
+    then_ok (value_of port index store) _ (λ given. given.1.traffic.words ≡ words)
+    (λ given. given.1.traffic.words ≡ words)
     (value_quiet port index store words h)
-    (λ place k. any_given (looked_at (item_ahead port place.1.traffic.popped place.0)) (λ item. (item, place.1)) words (λ item. k))
+    (λ place k. any_given (looked_at (item_ahead port place.1.traffic.popped place.0))
+    (λ item. (item, place.1)) words (λ item. k))
 value_quiet port (tree.Group inner) store words h = value_quiet port inner store words h
 value_quiet port (tree.Unary operator operand) store words h =
-    then_ok (value_of port operand store) _ (λ given. given.1.traffic.words ≡ words) (λ given. given.1.traffic.words ≡ words)
+    then_ok (value_of port operand store) _ (λ given. given.1.traffic.words ≡ words)
+    (λ given. given.1.traffic.words ≡ words)
     (value_quiet port operand store words h) (λ given k. k)
 value_quiet port (tree.Step operator name) store words h = h
 value_quiet port (tree.StepElement operator name index) store words h =
-    then_ok (value_of port index store) _ (λ given. given.1.traffic.words ≡ words) (λ given. given.1.traffic.words ≡ words)
+    then_ok (value_of port index store) _ (λ given. given.1.traffic.words ≡ words)
+    (λ given. given.1.traffic.words ≡ words)
     (value_quiet port index store words h)
     (λ at k. any_given (place_of at.1 name at.0) _ words (λ place. k))
 value_quiet port (tree.Binary operator left right) store words h =
-    then_ok (value_of port left store) _ (λ given. given.1.traffic.words ≡ words) (λ given. given.1.traffic.words ≡ words)
+    then_ok (value_of port left store) _ (λ given. given.1.traffic.words ≡ words)
+    (λ given. given.1.traffic.words ≡ words)
     (value_quiet port left store words h)
-    (λ first k. joined_quiet operator words first (value_of port right) k (value_quiet port right first.1 words k))
+    (λ first k. joined_quiet operator words first (value_of port right) k
+    (value_quiet port right first.1 words k))
 value_quiet port (tree.Conditional condition chosen other) store words h =
-    then_ok (value_of port condition store) _ (λ given. given.1.traffic.words ≡ words) (λ given. given.1.traffic.words ≡ words)
+    then_ok (value_of port condition store) _ (λ given. given.1.traffic.words ≡ words)
+    (λ given. given.1.traffic.words ≡ words)
     (value_quiet port condition store words h)
-    (λ test k. side_quiet (is_true test.0) words (value_of port chosen test.1) (value_of port other test.1)
+    (λ test k. side_quiet (is_true test.0) words (value_of port chosen test.1)
+    (value_of port other test.1)
     (value_quiet port chosen test.1 words k) (value_quiet port other test.1 words k))
 
-condition_quiet : (port : Port) (condition : Option tree.Expr) (store : Store) (words : List Word) → store.traffic.words ≡ words → GivesQuietly words (condition_value port condition store)
+condition_quiet : (port : Port) (condition : Option tree.Expr) (store : Store) (words : List Word)
+    → store.traffic.words ≡ words → GivesQuietly words (condition_value port condition store)
 condition_quiet port None store words h = h
 condition_quiet port (Some condition) store words h = value_quiet port condition store words h
 
 -- ---- statements
 
 -- a value, and then something that prints nothing
-then_quiet : (port : Port) (e : tree.Expr) (store : Store) (go : ℤ × Store → Store) (words : List Word) → store.traffic.words ≡ words → ((given : ℤ × Store) → (go given).traffic.words ≡ given.1.traffic.words) → IsQuiet words (result_and_then (value_of port e store) (λ given. Ok (go given)))
+then_quiet : (port : Port) (e : tree.Expr) (store : Store) (go : ℤ × Store → Store)
+    (words : List Word) → store.traffic.words ≡ words
+    → ((given : ℤ × Store) → (go given).traffic.words ≡ given.1.traffic.words)
+    → IsQuiet words (result_and_then (value_of port e store) (λ given. Ok (go given)))
 then_quiet port e store go words h still =
-    then_ok (value_of port e store) _ (λ given. given.1.traffic.words ≡ words) (λ after. after.traffic.words ≡ words)
+    then_ok (value_of port e store) _ (λ given. given.1.traffic.words ≡ words)
+    (λ after. after.traffic.words ≡ words)
     (value_quiet port e store words h) (λ given k. still given ∙ k)
 
-initial_quiet : (port : Port) (cells : ℕ) (initial : Option tree.Expr) (store : Store) (words : List Word) → store.traffic.words ≡ words → IfOk (initial_cells port cells initial store) (λ given. given.1.traffic.words ≡ words)
+initial_quiet : (port : Port) (cells : ℕ) (initial : Option tree.Expr) (store : Store)
+    (words : List Word) → store.traffic.words ≡ words
+    → IfOk (initial_cells port cells initial store) (λ given. given.1.traffic.words ≡ words)
 initial_quiet port cells None store words h = h
 initial_quiet port cells (Some initial) store words h =
-    then_ok (value_of port initial store) _ (λ given. given.1.traffic.words ≡ words) (λ given. given.1.traffic.words ≡ words)
+    then_ok (value_of port initial store) _ (λ given. given.1.traffic.words ≡ words)
+    (λ given. given.1.traffic.words ≡ words)
     (value_quiet port initial store words h) (λ given k. k)
 
-variables_quiet : (port : Port) (cells : ℕ) (variables : List tree.Variable) (store : Store) (words : List Word) → store.traffic.words ≡ words → IsQuiet words (variables_declared port cells variables store)
+variables_quiet : (port : Port) (cells : ℕ) (variables : List tree.Variable) (store : Store)
+    (words : List Word) → store.traffic.words ≡ words
+    → IsQuiet words (variables_declared port cells variables store)
 variables_quiet port cells [] store words h = h
 variables_quiet port cells (first ∷ rest) store words h =
-    then_ok (initial_cells port cells first.initial store) _ (λ given. given.1.traffic.words ≡ words) (λ after. after.traffic.words ≡ words)
+    then_ok (initial_cells port cells first.initial store) _
+    (λ given. given.1.traffic.words ≡ words) (λ after. after.traffic.words ≡ words)
     (initial_quiet port cells first.initial store words h)
     (λ given k. variables_quiet port cells rest (declared_in given.1 first.name given.0) words k)
 
-push_quiet : (port : Port) (item : ℤ) (traffic : Traffic) → IfOk (pushed_to port item traffic) (λ after. after.words ≡ traffic.words)
+push_quiet : (port : Port) (item : ℤ) (traffic : Traffic)
+    → IfOk (pushed_to port item traffic) (λ after. after.words ≡ traffic.words)
 push_quiet port item traffic = by_test (nat_lt (length traffic.pushes) port.room)
   where
-    by_test : (test : Bool) → IfOk (if test then Ok (record traffic { pushes = traffic.pushes ++ item ∷ [] }) else Err PeekRange) (λ after. after.words ≡ traffic.words)
+    by_test : (test : Bool) → IfOk (if test then Ok
+        (record traffic { pushes = traffic.pushes ++ item ∷ [] }) else Err PeekRange)
+        (λ after. after.words ≡ traffic.words)
     by_test true = refl
     by_test false = tt
 
 -- a statement in a scope of its own
-inside_quiet : (does : Store → Result Store Cause) (store : Store) (words : List Word) → IsQuiet words (does store) → IsQuiet words (inside does store)
-inside_quiet does store words h = then_ok (does store) _ (λ after. after.traffic.words ≡ words) (λ after. after.traffic.words ≡ words) h (λ inner k. k)
+inside_quiet : (does : Store → Result Store Cause) (store : Store) (words : List Word)
+    → IsQuiet words (does store) → IsQuiet words (inside does store)
+inside_quiet does store words h = then_ok (does store) _ (λ after. after.traffic.words ≡ words)
+    (λ after. after.traffic.words ≡ words) h (λ inner k. k)
 
-branch_quiet : (test : Bool) (words : List Word) (one other : Result Store Cause) → IsQuiet words one → IsQuiet words other → IsQuiet words (if test then one else other)
+branch_quiet : (test : Bool) (words : List Word) (one other : Result Store Cause)
+    → IsQuiet words one → IsQuiet words other → IsQuiet words (if test then one else other)
 branch_quiet true words one other h k = h
 branch_quiet false words one other h k = k
 
 turned_quiet : (store : Store) → IsQuiet store.traffic.words (turned store)
 turned_quiet store = by_test (nat_lt store.traffic.turns turn_limit)
   where
-    by_test : (test : Bool) → IsQuiet store.traffic.words (result_and_then (if test then Ok (record store.traffic { turns = store.traffic.turns + 1 }) else Err Turns) (λ traffic. Ok (record store { traffic = traffic })))
+    by_test : (test : Bool) → IsQuiet store.traffic.words
+        (result_and_then (if test then Ok (record store.traffic { turns = store.traffic.turns + 1 })
+        else Err Turns) (λ traffic. Ok (record store { traffic = traffic })))
     by_test true = refl
     by_test false = tt
 
 -- a loop whose condition and body print nothing
-loop_quiet : (fuel : ℕ) (test : Store → Result (ℤ × Store) Cause) (does : Store → Result Store Cause) (words : List Word)
+loop_quiet : (fuel : ℕ) (test : Store → Result (ℤ × Store) Cause)
+    (does : Store → Result Store Cause) (words : List Word)
     → ((store : Store) → store.traffic.words ≡ words → GivesQuietly words (test store))
     → ((store : Store) → store.traffic.words ≡ words → IsQuiet words (does store))
     → (store : Store) → store.traffic.words ≡ words → IsQuiet words (looped fuel test does store)
 loop_quiet zero test does words tests moves store h = tt
 loop_quiet (suc fuel) test does words tests moves store h =
-    then_ok (test store) _ (λ given. given.1.traffic.words ≡ words) (λ after. after.traffic.words ≡ words) (tests store h)
-    (λ tested k. branch_quiet (is_true tested.0) words (result_and_then (turned tested.1) (λ turning. result_and_then (does turning) (looped fuel test does))) (Ok tested.1)
-    (then_ok (turned tested.1) _ (λ after. after.traffic.words ≡ tested.1.traffic.words) (λ after. after.traffic.words ≡ words) (turned_quiet tested.1)
-    (λ turning l. then_ok (does turning) _ (λ after. after.traffic.words ≡ words) (λ after. after.traffic.words ≡ words) (moves turning (l ∙ k))
+    then_ok (test store) _ (λ given. given.1.traffic.words ≡ words)
+    (λ after. after.traffic.words ≡ words) (tests store h)
+    (λ tested k. branch_quiet (is_true tested.0) words
+    (result_and_then (turned tested.1) (λ turning. result_and_then (does turning)
+    (looped fuel test does))) (Ok tested.1)
+    (then_ok (turned tested.1) _ (λ after. after.traffic.words ≡ tested.1.traffic.words)
+    (λ after. after.traffic.words ≡ words) (turned_quiet tested.1)
+    (λ turning l. then_ok (does turning) _ (λ after. after.traffic.words ≡ words)
+    (λ after. after.traffic.words ≡ words) (moves turning (l ∙ k))
     (λ done m. loop_quiet fuel test does words tests moves done m))) k)
 
 -- an assignment to an element, after its index
-joined_element_quiet : (port : Port) (name : List ℕ) (operator : BinaryOperator) (value : tree.Expr) (at : ℤ × Store) (words : List Word) → at.1.traffic.words ≡ words → IsQuiet words (element_joined port name operator value at)
+joined_element_quiet : (port : Port) (name : List ℕ) (operator : BinaryOperator) (value : tree.Expr)
+    (at : ℤ × Store) (words : List Word) → at.1.traffic.words ≡ words
+    → IsQuiet words (element_joined port name operator value at)
 joined_element_quiet port name operator value at words h = by_place (place_of at.1 name at.0)
   where
-    by_place : (found : Result ℕ Cause) → IsQuiet words (result_and_then found (λ place. result_and_then (value_of port value at.1) (λ given. result_and_then (binary_value operator (cell_in at.1 name place) given.0) (λ new. Ok (cell_set given.1 name place new)))))
+    by_place : (found : Result ℕ Cause) → IsQuiet words
+        (result_and_then found (λ place. result_and_then (value_of port value at.1)
+        (λ given. result_and_then (binary_value operator (cell_in at.1 name place) given.0)
+        (λ new. Ok (cell_set given.1 name place new)))))
     by_place (Ok place) =
-        then_ok (value_of port value at.1) _ (λ given. given.1.traffic.words ≡ words) (λ after. after.traffic.words ≡ words)
+        then_ok (value_of port value at.1) _ (λ given. given.1.traffic.words ≡ words)
+        (λ after. after.traffic.words ≡ words)
         (value_quiet port value at.1 words h)
-        (λ given k. any_quiet (binary_value operator (cell_in at.1 name place) given.0) (λ new. cell_set given.1 name place new) words (λ new. k))
+        (λ given k. any_quiet (binary_value operator (cell_in at.1 name place) given.0)
+        (λ new. cell_set given.1 name place new) words (λ new. k))
     by_place (Err cause) = tt
 
-element_quiet : (port : Port) (name : List ℕ) (operator : AssignOperator) (value : tree.Expr) (at : ℤ × Store) (words : List Word) → at.1.traffic.words ≡ words → IsQuiet words (element_set port name operator value at)
+element_quiet : (port : Port) (name : List ℕ) (operator : AssignOperator) (value : tree.Expr)
+    (at : ℤ × Store) (words : List Word) → at.1.traffic.words ≡ words
+    → IsQuiet words (element_set port name operator value at)
 element_quiet port name assign.Set value at words h =
-    then_ok (value_of port value at.1) _ (λ given. given.1.traffic.words ≡ words) (λ after. after.traffic.words ≡ words)
+    then_ok (value_of port value at.1) _ (λ given. given.1.traffic.words ≡ words)
+    (λ after. after.traffic.words ≡ words)
     (value_quiet port value at.1 words h)
-    (λ given k. any_quiet (place_of given.1 name at.0) (λ place. cell_set given.1 name place given.0) words (λ place. k))
-element_quiet port name assign.Add value at words h = joined_element_quiet port name binary.Add value at words h
-element_quiet port name assign.Subtract value at words h = joined_element_quiet port name binary.Subtract value at words h
-element_quiet port name assign.Multiply value at words h = joined_element_quiet port name binary.Multiply value at words h
-element_quiet port name assign.Divide value at words h = joined_element_quiet port name binary.Divide value at words h
-element_quiet port name assign.Remainder value at words h = joined_element_quiet port name binary.Remainder value at words h
+    (λ given k. any_quiet (place_of given.1 name at.0)
+    (λ place. cell_set given.1 name place given.0) words (λ place. k))
+element_quiet port name assign.Add value at words h =
+    joined_element_quiet port name binary.Add value at words h
+element_quiet port name assign.Subtract value at words h =
+    joined_element_quiet port name binary.Subtract value at words h
+element_quiet port name assign.Multiply value at words h =
+    joined_element_quiet port name binary.Multiply value at words h
+element_quiet port name assign.Divide value at words h =
+    joined_element_quiet port name binary.Divide value at words h
+element_quiet port name assign.Remainder value at words h =
+    joined_element_quiet port name binary.Remainder value at words h
 
 mutual
-  stmt_quiet : (port : Port) (s : tree.Stmt) (store : Store) (words : List Word) → stmt_prints s ≡ false → store.traffic.words ≡ words → IsQuiet words (stmt_done port s store)
+  stmt_quiet : (port : Port) (s : tree.Stmt) (store : Store) (words : List Word)
+      → stmt_prints s ≡ false → store.traffic.words ≡ words → IsQuiet words (stmt_done port s store)
   stmt_quiet port tree.Empty store words none h = h
-  stmt_quiet port (tree.Block body) store words none h = inside_quiet (stmts_done port body) store words (stmts_quiet port body store words none h)
-  stmt_quiet port (tree.Declare kind variables) store words none h = variables_quiet port (cells_of kind) variables store words h
-  stmt_quiet port (tree.Evaluate value) store words none h = then_quiet port value store _ words h (λ given. refl)
+  stmt_quiet port (tree.Block body) store words none h =
+      inside_quiet (stmts_done port body) store words (stmts_quiet port body store words none h)
+  stmt_quiet port (tree.Declare kind variables) store words none h =
+      variables_quiet port (cells_of kind) variables store words h
+  stmt_quiet port (tree.Evaluate value) store words none h =
+      then_quiet port value store _ words h (λ given. refl)
   stmt_quiet port (tree.Assign name operator value) store words none h =
       then_quiet port (assigned_value name operator value) store _ words h (λ given. refl)
   stmt_quiet port (tree.AssignElement name index operator value) store words none h =
-      then_ok (value_of port index store) _ (λ given. given.1.traffic.words ≡ words) (λ after. after.traffic.words ≡ words)
+      then_ok (value_of port index store) _ (λ given. given.1.traffic.words ≡ words)
+      (λ after. after.traffic.words ≡ words)
       (value_quiet port index store words h)
       (λ at k. element_quiet port name operator value at words k)
   stmt_quiet port (tree.If condition chosen) store words none h =
-      then_ok (value_of port condition store) _ (λ given. given.1.traffic.words ≡ words) (λ after. after.traffic.words ≡ words)
+      then_ok (value_of port condition store) _ (λ given. given.1.traffic.words ≡ words)
+      (λ after. after.traffic.words ≡ words)
       (value_quiet port condition store words h)
-      (λ test k. branch_quiet (is_true test.0) words (inside (stmt_done port chosen) test.1) (Ok test.1)
-      (inside_quiet (stmt_done port chosen) test.1 words (stmt_quiet port chosen test.1 words none k)) k)
+      (λ test k. branch_quiet (is_true test.0) words (inside (stmt_done port chosen) test.1)
+      (Ok test.1)
+      (inside_quiet (stmt_done port chosen) test.1 words
+      (stmt_quiet port chosen test.1 words none k)) k)
   stmt_quiet port (tree.IfElse condition chosen other) store words none h =
-      then_ok (value_of port condition store) _ (λ given. given.1.traffic.words ≡ words) (λ after. after.traffic.words ≡ words)
+      then_ok (value_of port condition store) _ (λ given. given.1.traffic.words ≡ words)
+      (λ after. after.traffic.words ≡ words)
       (value_quiet port condition store words h)
-      (λ test k. branch_quiet (is_true test.0) words (inside (stmt_done port chosen) test.1) (inside (stmt_done port other) test.1)
-      (inside_quiet (stmt_done port chosen) test.1 words (stmt_quiet port chosen test.1 words (or_first (stmt_prints chosen) (stmt_prints other) none) k))
-      (inside_quiet (stmt_done port other) test.1 words (stmt_quiet port other test.1 words (or_second (stmt_prints chosen) (stmt_prints other) none) k)))
+      (λ test k. branch_quiet (is_true test.0) words (inside (stmt_done port chosen) test.1)
+      (inside (stmt_done port other) test.1)
+      (inside_quiet (stmt_done port chosen) test.1 words
+      (stmt_quiet port chosen test.1 words
+      (or_first (stmt_prints chosen) (stmt_prints other) none) k))
+      (inside_quiet (stmt_done port other) test.1 words
+      (stmt_quiet port other test.1 words
+      (or_second (stmt_prints chosen) (stmt_prints other) none) k)))
   stmt_quiet port (tree.While condition body) store words none h =
       loop_quiet (suc turn_limit) (value_of port condition) (inside (stmt_done port body)) words
       (λ s k. value_quiet port condition s words k)
-      (λ s k. inside_quiet (stmt_done port body) s words (stmt_quiet port body s words none k)) store h
+      (λ s k. inside_quiet (stmt_done port body) s words (stmt_quiet port body s words none k))
+      store h
   stmt_quiet port (tree.For first condition step body) store words none h =
       let rest = or_second (stmt_prints first) (stmt_prints step || stmt_prints body) none in
-      inside_quiet (λ outer. result_and_then (stmt_done port first outer) (λ begun. looped (suc turn_limit) (condition_value port condition) (λ turn. result_and_then (inside (stmt_done port body) turn) (inside (stmt_done port step))) begun)) store words
-      (then_ok (stmt_done port first store) _ (λ after. after.traffic.words ≡ words) (λ after. after.traffic.words ≡ words)
-      (stmt_quiet port first store words (or_first (stmt_prints first) (stmt_prints step || stmt_prints body) none) h)
+      inside_quiet (λ outer. result_and_then (stmt_done port first outer)
+      (λ begun. looped (suc turn_limit) (condition_value port condition)
+      (λ turn. result_and_then (inside (stmt_done port body) turn)
+      (inside (stmt_done port step))) begun)) store words
+      (then_ok (stmt_done port first store) _ (λ after. after.traffic.words ≡ words)
+      (λ after. after.traffic.words ≡ words)
+      (stmt_quiet port first store words (or_first (stmt_prints first)
+      (stmt_prints step || stmt_prints body) none) h)
       (λ begun k.
-      loop_quiet (suc turn_limit) (condition_value port condition) (λ turn. result_and_then (inside (stmt_done port body) turn) (inside (stmt_done port step))) words
+      loop_quiet (suc turn_limit) (condition_value port condition)
+      (λ turn. result_and_then (inside (stmt_done port body) turn)
+      (inside (stmt_done port step))) words
       (λ s l. condition_quiet port condition s words l)
       (λ s l.
-      then_ok (inside (stmt_done port body) s) _ (λ after. after.traffic.words ≡ words) (λ after. after.traffic.words ≡ words)
-      (inside_quiet (stmt_done port body) s words (stmt_quiet port body s words (or_second (stmt_prints step) (stmt_prints body) rest) l))
-      (λ done m. inside_quiet (stmt_done port step) done words (stmt_quiet port step done words (or_first (stmt_prints step) (stmt_prints body) rest) m)))
+      then_ok (inside (stmt_done port body) s) _ (λ after. after.traffic.words ≡ words)
+      (λ after. after.traffic.words ≡ words)
+      (inside_quiet (stmt_done port body) s words
+      (stmt_quiet port body s words (or_second (stmt_prints step) (stmt_prints body) rest) l))
+      (λ done m. inside_quiet (stmt_done port step) done words
+      (stmt_quiet port step done words (or_first (stmt_prints step) (stmt_prints body) rest) m)))
       begun k))
   stmt_quiet port (tree.Push value) store words none h =
-      then_ok (value_of port value store) _ (λ given. given.1.traffic.words ≡ words) (λ after. after.traffic.words ≡ words)
+      then_ok (value_of port value store) _ (λ given. given.1.traffic.words ≡ words)
+      (λ after. after.traffic.words ≡ words)
       (value_quiet port value store words h)
       (λ given k.
-      then_ok (pushed_to port given.0 given.1.traffic) _ (λ traffic. traffic.words ≡ given.1.traffic.words) (λ after. after.traffic.words ≡ words)
+      then_ok (pushed_to port given.0 given.1.traffic) _
+      (λ traffic. traffic.words ≡ given.1.traffic.words) (λ after. after.traffic.words ≡ words)
       (push_quiet port given.0 given.1.traffic) (λ traffic l. l ∙ k))
   stmt_quiet port (tree.Print value) store words none h = absurd (cc)
   stmt_quiet port (tree.Println value) store words none h = absurd (cc)
   stmt_quiet port (tree.Compose statement) store words none h = h
 
-  stmts_quiet : (port : Port) (s : tree.Stmts) (store : Store) (words : List Word) → stmts_print s ≡ false → store.traffic.words ≡ words → IsQuiet words (stmts_done port s store)
+  stmts_quiet : (port : Port) (s : tree.Stmts) (store : Store) (words : List Word)
+      → stmts_print s ≡ false → store.traffic.words ≡ words
+      → IsQuiet words (stmts_done port s store)
   stmts_quiet port tree.Done store words none h = h
   stmts_quiet port (tree.Then first rest) store words none h =
-      then_ok (stmt_done port first store) (stmts_done port rest) (λ after. after.traffic.words ≡ words) (λ after. after.traffic.words ≡ words)
+      then_ok (stmt_done port first store) (stmts_done port rest)
+      (λ after. after.traffic.words ≡ words) (λ after. after.traffic.words ≡ words)
       (stmt_quiet port first store words (or_first (stmt_prints first) (stmts_print rest) none) h)
-      (λ middle k. stmts_quiet port rest middle words (or_second (stmt_prints first) (stmts_print rest) none) k)
+      (λ middle k. stmts_quiet port rest middle words
+      (or_second (stmt_prints first) (stmts_print rest) none) k)
 
 -- a firing of a filter that doesn't print has no words
-pub firing_quiet : (filter : Filter) (fields window : List ℤ) → filter_prints filter ≡ false → IfOk (fired filter body.Work fields window) (λ done. done.words ≡ [])
+pub firing_quiet : (filter : Filter) (fields window : List ℤ) → filter_prints filter ≡ false
+    → IfOk (fired filter body.Work fields window) (λ done. done.words ≡ [])
 firing_quiet filter fields window silent =
-    then_ok (stmts_done (port_of filter body.Work window) (work_block filter.members) (store_at filter fields)) _ (λ after. after.traffic.words ≡ []) (λ done. done.words ≡ [])
-    (stmts_quiet (port_of filter body.Work window) (work_block filter.members) (store_at filter fields) [] (or_first (stmts_print (work_block filter.members)) _ silent) refl)
+    then_ok (stmts_done (port_of filter body.Work window) (work_block filter.members)
+    (store_at filter fields)) _ (λ after. after.traffic.words ≡ []) (λ done. done.words ≡ [])
+    (stmts_quiet (port_of filter body.Work window) (work_block filter.members)
+    (store_at filter fields) [] (or_first (stmts_print (work_block filter.members)) _ silent)
+    refl)
     (λ store h. h)

@@ -13,15 +13,25 @@ pub codes_loaded : (codes : List NodeCode) → map (λ (l : Loaded). l.code) (lo
 codes_loaded [] = refl
 codes_loaded (code ∷ codes) = ap (λ (l : List NodeCode). code ∷ l) (codes_loaded codes)
 
-codes_of_loaded : (nodes : List ReadyNode) → map (λ (l : Loaded). l.code) (all_loaded_in nodes) ≡ codes_in nodes
+codes_of_loaded : (nodes : List ReadyNode)
+    → map (λ (l : Loaded). l.code) (all_loaded_in nodes) ≡ codes_in nodes
 codes_of_loaded [] = refl
-codes_of_loaded (node ∷ nodes) = ap (λ (l : List NodeCode). code_in node ∷ l) (codes_of_loaded nodes)
+codes_of_loaded (node ∷ nodes) = ap (λ (l : List NodeCode). code_in node ∷ l)
+    (codes_of_loaded nodes)
 
-pub loaded_codes : (nodes : List ReadyNode) (codes : List NodeCode) → all_loaded_in nodes ≡ loaded codes → codes_in nodes ≡ codes
-loaded_codes nodes codes e = sym (codes_of_loaded nodes) ∙ ap (map (λ (l : Loaded). l.code)) e ∙ codes_loaded codes
+pub loaded_codes : (nodes : List ReadyNode) (codes : List NodeCode)
+    → all_loaded_in nodes ≡ loaded codes → codes_in nodes ≡ codes
+loaded_codes nodes codes e = sym (codes_of_loaded nodes) ∙ ap (map (λ (l : Loaded). l.code)) e
+    ∙ codes_loaded codes
 
 -- one more that is ready
-pub ready_push : (items : List ReadyNode) (next : ReadyNode) (first : Node) (rest : List Node) → loaded_in next ≡ node_loaded (node_view first) → all_loaded_in (items ++ next ∷ []) ++ loaded (map node_view rest) ≡ all_loaded_in items ++ loaded (map node_view (first ∷ rest))
+pub ready_push : (items : List ReadyNode) (next : ReadyNode) (first : Node) (rest : List Node)
+    → loaded_in next ≡ node_loaded (node_view first)
+    → all_loaded_in (items ++ next ∷ []) ++ loaded (map node_view rest) ≡ all_loaded_in items
+    ++ loaded (map node_view (first ∷ rest))
 ready_push items next first rest e =
-    ap (λ (l : List Loaded). l ++ loaded (map node_view rest)) (map-append loaded_in items (next ∷ []) ∙ ap (λ (l : Loaded). all_loaded_in items ++ l ∷ []) e)
-    ∙ append_assoc (all_loaded_in items) (node_loaded (node_view first) ∷ []) (loaded (map node_view rest))
+    ap (λ (l : List Loaded). l ++ loaded (map node_view rest))
+    (map-append loaded_in items (next ∷ [])
+    ∙ ap (λ (l : Loaded). all_loaded_in items ++ l ∷ []) e)
+    ∙ append_assoc (all_loaded_in items) (node_loaded (node_view first) ∷ [])
+    (loaded (map node_view rest))

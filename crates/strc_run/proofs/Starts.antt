@@ -11,5 +11,6 @@ use Rattle.strc_run.proofs.Instances.{all_start}
 pub plan_starts : (text : List ℕ) (main : Option (List ℕ)) (plan : Plan) → IsPlanOf text main plan
     → AllByRecursion CanStart (map node_view plan.graph.nodes)
 plan_starts text main plan is =
-    let sound = elaborated_is_sound is.accepted.program main is.stream is.accepted.compiles.elaborates in
+    let sound = elaborated_is_sound is.accepted.program main is.stream
+    is.accepted.compiles.elaborates in
     subst (AllByRecursion CanStart) (sym is.nodes) (all_start _ sound.instances)

@@ -1,17 +1,20 @@
 -- What a run of rounds means in the generic layer of streams: the answer of the stream.
-use Rattle.std.specs.Prelude.{◌≡◌, ℕ, Bool, true, false, not, ◌&&◌, nat_le, List, [], ◌∷◌, ◌++◌, length, Option, Ok, is_some}
+use Rattle.std.specs.Prelude.{◌≡◌, ℕ, Bool, true, false, not, ◌&&◌, nat_le, List, [], ◌∷◌, ◌++◌}
+use Rattle.std.specs.Prelude.{length, Option, Ok, is_some}
 use Rattle.std.specs.Int.RustNames.{int_lt}
 use Rattle.strc_semantics.specs.declared.fault.Cause.{Cause}
 use Rattle.strc_semantics.specs.declared.word.Word.{Word}
 use Rattle.strc_semantics.specs.Closed.{IsClosedFilter}
 use Rattle.strc_semantics.specs.Filters as filters
-use Rattle.strc_semantics.specs.Filters.{work_rates, prework_block, push_rate, pop_rate, peek_rate, item_count}
+use Rattle.strc_semantics.specs.Filters.{work_rates, prework_block, push_rate, pop_rate, peek_rate}
+use Rattle.strc_semantics.specs.Filters.{item_count}
 use Rattle.strc_dataflow.specs.Streams as trees
 use Rattle.strc_dataflow.specs.Streams.{flat}
 use Rattle.strc_dataflow.specs.Pipelines.{IsChain, nodes_from, once_each}
 use Rattle.strc_dataflow.specs.Answer.{Outcome, Outcome.Done, Outcome.RoundFault, IsAnswer}
 use Rattle.strc_elab.specs.Flattening.{tree_of, nodes_of}
-use Rattle.strc_graph.specs.Graphs.{NodeCode, Filter, Identity, ports_of, input_ports, output_ports, gives_words}
+use Rattle.strc_graph.specs.Graphs.{NodeCode, Filter, Identity, ports_of, input_ports, output_ports}
+use Rattle.strc_graph.specs.Graphs.{gives_words}
 use Rattle.strc_graph.specs.Meaning.{node_meaning}
 use Rattle.strc_elab.specs.Instances.{Stream}
 use Rattle.strc_run.specs.Rates.{rates_checked}
@@ -23,8 +26,8 @@ abbrev pub AreJoined : NodeCode → List NodeCode → Type 0
 AreJoined first [] = Unit {0}
 AreJoined first (next ∷ others) = (input_ports next ≡ output_ports first) × AreJoined next others
 
--- whether a filter is among those that are run so far: it has no prework, its work looks at no item beyond those that it takes, and no
--- declared rate is above one item, or none on a void side
+-- whether a filter is among those that are run so far: it has no prework, its work looks at no item
+-- beyond those that it takes, and no declared rate is above one item, or none on a void side
 abbrev pub is_runnable_filter : filters.Filter → Bool
 is_runnable_filter filter =
     let rates = work_rates filter.members in
@@ -52,19 +55,21 @@ PrintsNothing (code ∷ others) = (gives_words code ≡ false) × PrintsNothing 
 -- at most one node prints
 abbrev pub PrintsAtMostOnce : List NodeCode → Type 0
 PrintsAtMostOnce [] = Unit {0}
-PrintsAtMostOnce (code ∷ others) = (gives_words code ≡ true → PrintsNothing others) × PrintsAtMostOnce others
+PrintsAtMostOnce (code ∷ others) = (gives_words code ≡ true → PrintsNothing others)
+    × PrintsAtMostOnce others
 
 -- the words of these nodes, one node after another
 abbrev pub words_in_order : List ℕ → (ℕ → List Word) → List Word
 words_in_order [] words = []
 words_in_order (node ∷ nodes) words = words node ++ words_in_order nodes words
 
--- an outcome of n nodes is this ending: the same words; or a fault in the same round, of the same node, in the firing of that round's
--- number, with the same cause, and the same words before
+-- an outcome of n nodes is this ending: the same words; or a fault in the same round, of the same
+-- node, in the firing of that round's number, with the same cause, and the same words before
 abbrev pub Tells : ℕ → Outcome Cause Word → Ending → Type 0
 Tells n (Done words) (Ended printed) = printed ≡ words_in_order (nodes_from 0 n) words
 Tells n (RoundFault q stop words) (Faulted round blame printed) =
-    (q ≡ round) × (stop.node ≡ blame.node) × (stop.firing ≡ q) × (stop.cause ≡ blame.cause) × (printed ≡ words_in_order (nodes_from 0 n) words)
+    (q ≡ round) × (stop.node ≡ blame.node) × (stop.firing ≡ q) × (stop.cause ≡ blame.cause)
+    × (printed ≡ words_in_order (nodes_from 0 n) words)
 Tells n _ _ = ⊥
 
 -- the names in a filter are known
@@ -80,11 +85,12 @@ AreKnown (code ∷ others) = IsKnown code × AreKnown others
 abbrev pub EndsAsAnswered : trees.Stream NodeCode → List NodeCode → ℕ → Type 0
 EndsAsAnswered stream nodes k =
     (outcome : Outcome Cause Word)
-    × IsAnswer node_meaning stream [] (λ node. 0) (once_each (length nodes)) [] (nodes_from 0 (length nodes)) k outcome
+    × IsAnswer node_meaning stream [] (λ node. 0) (once_each (length nodes)) []
+    (nodes_from 0 (length nodes)) k outcome
     × Tells (length nodes) outcome (laps k 0 (loaded nodes) [])
 
--- the rounds of a stream whose flat graph is a chain of runnable nodes, a source first, whose rates are checked and of which at most one
--- prints, end as its answer says
+-- the rounds of a stream whose flat graph is a chain of runnable nodes, a source first, whose rates
+-- are checked and of which at most one prints, end as its answer says
 abbrev pub LapsAreAnswers : Type 0
 LapsAreAnswers =
     (stream : trees.Stream NodeCode) (first : NodeCode) (others : List NodeCode) (k : ℕ)
@@ -101,4 +107,5 @@ LapsAreAnswers =
 abbrev pub AcceptedRunsAreAnswers : Type 0
 AcceptedRunsAreAnswers =
     (text : List ℕ) (main : Option (List ℕ)) (stream : Stream) (k : ℕ)
-    → Accepts text main stream → are_runnable (nodes_of stream) ≡ true → EndsAsAnswered (tree_of stream) (nodes_of stream) k
+    → Accepts text main stream → are_runnable (nodes_of stream) ≡ true
+    → EndsAsAnswered (tree_of stream) (nodes_of stream) k

@@ -1,9 +1,10 @@
--- Which stream a program runs, or the first rule that it breaks: in its elaboration, in its flat graph, in its nodes' rates, in
--- their balance.
+-- Which stream a program runs, or the first rule that it breaks: in its elaboration, in its flat
+-- graph, in its nodes' rates, in their balance.
 use Rattle.std.specs.Prelude.{◌≡◌, ℕ, List, map, Option, Result, Ok, Err}
 use Rattle.strc_syntax.specs.Tree.{Declaration}
 use Rattle.strc_elab.specs.Elaboration.{elaborated}
-use Rattle.strc_elab.specs.Flattening.{nodes_of, codes_of, meaning_of, IsConnected, IsFlat, IsAccepted, IsRefused}
+use Rattle.strc_elab.specs.Flattening.{nodes_of, codes_of, meaning_of, IsConnected, IsFlat}
+use Rattle.strc_elab.specs.Flattening.{IsAccepted, IsRefused}
 use Rattle.strc_elab.specs.Instances.{Stream}
 use Rattle.strc_graph.specs.Graphs.{Graph}
 use Rattle.strc_graph.specs.NodeView.{node_view, graph_view}
@@ -40,10 +41,14 @@ CanRun stream = IsAccepted (codes_of stream) (IsConnected (meaning_of stream))
 
 -- or it can't, for this reason
 abbrev pub CannotRun : Stream → Refusal → Type 0
-CannotRun stream refusal.NodeLimit = IsRefused (codes_of stream) (IsConnected (meaning_of stream)) error.NodeLimit
-CannotRun stream refusal.TwoInputs = IsRefused (codes_of stream) (IsConnected (meaning_of stream)) error.TwoInputs
-CannotRun stream refusal.TwoOutputs = IsRefused (codes_of stream) (IsConnected (meaning_of stream)) error.TwoOutputs
-CannotRun stream refusal.Disconnected = IsRefused (codes_of stream) (IsConnected (meaning_of stream)) error.Disconnected
+CannotRun stream refusal.NodeLimit = IsRefused (codes_of stream)
+    (IsConnected (meaning_of stream)) error.NodeLimit
+CannotRun stream refusal.TwoInputs = IsRefused (codes_of stream)
+    (IsConnected (meaning_of stream)) error.TwoInputs
+CannotRun stream refusal.TwoOutputs = IsRefused (codes_of stream)
+    (IsConnected (meaning_of stream)) error.TwoOutputs
+CannotRun stream refusal.Disconnected = IsRefused (codes_of stream)
+    (IsConnected (meaning_of stream)) error.Disconnected
 CannotRun stream refused = ⊥
 
 -- the counts of a round of a graph, or why there are none
@@ -52,14 +57,15 @@ round_counts graph = judged (size_of graph) (equations_of graph)
 
 -- the program means this stream, whose flat graph can be run; the rates of its nodes hold, and its
 -- nodes fire so often in a round
-pub record Compiles (program : List Declaration) (main : Option (List ℕ)) (stream : Stream) : Type 0 where
-  pub elaborates : elaborated program main ≡ Ok stream
-  pub runs : CanRun stream
-  pub rates : rates_checked 0 (nodes_of stream) ≡ Ok tt
-  pub graph : Graph
-  pub flat : IsFlat stream graph
-  pub counts : List ℕ
-  pub balances : round_counts graph ≡ Ok counts
+pub record Compiles (program : List Declaration) (main : Option (List ℕ)) (stream : Stream) : Type 0
+  where
+    pub elaborates : elaborated program main ≡ Ok stream
+    pub runs : CanRun stream
+    pub rates : rates_checked 0 (nodes_of stream) ≡ Ok tt
+    pub graph : Graph
+    pub flat : IsFlat stream graph
+    pub counts : List ℕ
+    pub balances : round_counts graph ≡ Ok counts
 
 -- a graph has no counts of a round, for this reason
 abbrev pub CannotBalance : Graph → Refusal → Type 0
@@ -75,13 +81,19 @@ balance_refusal_of (unbalanced.Inconsistent channel) = refusal.Inconsistent chan
 balance_refusal_of unbalanced.NoMemory = refusal.NoMemory
 
 -- the first rule that a program breaks
-pub data Breaks (program : List Declaration) (main : Option (List ℕ)) (refused : Refusal) : Type 0 where
-  InElaboration : (broken : ElabError) → elaborated program main ≡ Err broken → refused ≡ refusal_of broken → Breaks program main refused
-  InGraph : (stream : Stream) → elaborated program main ≡ Ok stream → CannotRun stream refused → Breaks program main refused
-  InRates : (stream : Stream) → elaborated program main ≡ Ok stream → CanRun stream → rates_checked 0 (nodes_of stream) ≡ Err refused → Breaks program main refused
-  InBalance : (stream : Stream) (graph : Graph) → elaborated program main ≡ Ok stream → CanRun stream
-      → rates_checked 0 (nodes_of stream) ≡ Ok tt → IsFlat stream graph → CannotBalance graph refused
-      → Breaks program main refused
+pub data Breaks (program : List Declaration) (main : Option (List ℕ)) (refused : Refusal) : Type 0
+  where
+    InElaboration : (broken : ElabError) → elaborated program main ≡ Err broken
+        → refused ≡ refusal_of broken → Breaks program main refused
+    InGraph : (stream : Stream) → elaborated program main ≡ Ok stream → CannotRun stream refused
+        → Breaks program main refused
+    InRates : (stream : Stream) → elaborated program main ≡ Ok stream → CanRun stream
+        → rates_checked 0 (nodes_of stream) ≡ Err refused → Breaks program main refused
+    InBalance : (stream : Stream) (graph : Graph) → elaborated program main ≡ Ok stream
+        → CanRun stream
+        → rates_checked 0 (nodes_of stream) ≡ Ok tt → IsFlat stream graph
+        → CannotBalance graph refused
+        → Breaks program main refused
 
 -- a plan is that of the stream that a program means
 pub record Plans (program : List Declaration) (main : Option (List ℕ)) (plan : Plan) : Type 0 where
@@ -91,7 +103,8 @@ pub record Plans (program : List Declaration) (main : Option (List ℕ)) (plan :
   pub graph : compiles.graph ≡ graph_view plan.graph
   pub counts : compiles.counts ≡ plan.round_counts
 
--- the answer for a program: its plan, or the first rule that it breaks; out of memory says nothing of it
+-- the answer for a program: its plan, or the first rule that it breaks; out of memory says nothing
+-- of it
 abbrev pub IsCompiled : List Declaration → Option (List ℕ) → Result Plan Refusal → Type 0
 IsCompiled program main (Ok plan) = Plans program main plan
 IsCompiled program main (Err refusal.NoMemory) = Unit {0}

@@ -28,7 +28,8 @@ prepend first words (Ok lap) = Ok (record { nodes = first ∷ lap.nodes; words =
 prepend first words (Err blame) = Err blame
 
 -- what comes after a firing, where it doesn't fault
-abbrev pub after_firing : ℕ → Result firing.Fired Cause → (firing.Fired → Result Lap FaultSite) → Result Lap FaultSite
+abbrev pub after_firing : ℕ → Result firing.Fired Cause → (firing.Fired → Result Lap FaultSite)
+    → Result Lap FaultSite
 after_firing node (Ok done) go = go done
 after_firing node (Err cause) go = Err (record { node = node; cause = cause })
 
@@ -37,7 +38,8 @@ abbrev pub lap_from : ℕ → List Loaded → List ℤ → Result Lap FaultSite
 lap_from node [] items = Ok (record { nodes = []; words = [] })
 lap_from node (first ∷ others) items =
     after_firing node (node_fired first.code body.Work first.fields items) (λ done.
-    prepend (record first { fields = done.fields }) done.words (lap_from (node + 1) others done.pushes))
+    prepend (record first { fields = done.fields }) done.words
+    (lap_from (node + 1) others done.pushes))
 
 -- how a run ends: all words, or a fault in a round with the words of the rounds before it
 pub data Ending : Type 0 where
@@ -52,7 +54,8 @@ after_lap q words (Err blame) go = Faulted q blame words
 -- so many rounds, from round q on, after these words
 abbrev pub laps : ℕ → ℕ → List Loaded → List Word → Ending
 laps zero q nodes words = Ended words
-laps (suc more) q nodes words = after_lap q words (lap_from 0 nodes []) (λ lap. laps more (suc q) lap.nodes (words ++ lap.words))
+laps (suc more) q nodes words = after_lap q words (lap_from 0 nodes [])
+    (λ lap. laps more (suc q) lap.nodes (words ++ lap.words))
 
 -- a node with the fields that it starts from
 abbrev pub node_loaded : NodeCode → Loaded

@@ -30,11 +30,13 @@ pub record Accepts (text : List ℕ) (main : Option (List ℕ)) (stream : Stream
 
 -- the text's tokens are refused so by the grammar
 abbrev pub IsNoProgram : List ℕ → ParseError → Type 0
-IsNoProgram text broken = (tokens : List Token) × HasTokens text tokens × grammar.Refuses (grammar.kinds tokens) broken
+IsNoProgram text broken = (tokens : List Token) × HasTokens text tokens
+    × grammar.Refuses (grammar.kinds tokens) broken
 
 -- the text spells a program that breaks this rule
 abbrev pub BreaksRule : List ℕ → Option (List ℕ) → Refusal → Type 0
-BreaksRule text main refused = (program : List Declaration) × IsText text program × Breaks program main refused
+BreaksRule text main refused = (program : List Declaration) × IsText text program
+    × Breaks program main refused
 
 -- the text is refused so before there is a program: for its length, its tokens or its tree
 abbrev pub IsUnreadable : List ℕ → Refusal → Type 0
@@ -60,4 +62,5 @@ IsReadRefusal text refused = IsUnreadable text refused
 
 -- no text is both accepted and refused
 abbrev pub AcceptedOrRefused : Type 0
-AcceptedOrRefused = (text : List ℕ) (main : Option (List ℕ)) (stream : Stream) (refused : Refusal) → Accepts text main stream → Refuses text main refused → ⊥
+AcceptedOrRefused = (text : List ℕ) (main : Option (List ℕ)) (stream : Stream) (refused : Refusal)
+    → Accepts text main stream → Refuses text main refused → ⊥

@@ -26,11 +26,13 @@ node_checked node (Filter name filter) = filter_checked node (checked filter)
 node_checked node _ = Ok tt
 
 -- a test, and then those after it
-abbrev pub then_check : Result (Unit {0}) Refusal → Result (Unit {0}) Refusal → Result (Unit {0}) Refusal
+abbrev pub then_check : Result (Unit {0}) Refusal → Result (Unit {0}) Refusal
+    → Result (Unit {0}) Refusal
 then_check (Ok done) next = next
 then_check (Err refused) next = Err refused
 
 -- the rates of nodes, one by one
 abbrev pub rates_checked : ℕ → List NodeCode → Result (Unit {0}) Refusal
 rates_checked node [] = Ok tt
-rates_checked node (code ∷ codes) = then_check (node_checked node code) (rates_checked (node + 1) codes)
+rates_checked node (code ∷ codes) = then_check (node_checked node code)
+    (rates_checked (node + 1) codes)

@@ -1,4 +1,5 @@
--- How code answers a judgement of the definitions: with what it gives, or with its refusal, or where memory runs out.
+-- How code answers a judgement of the definitions: with what it gives, or with its refusal, or
+-- where memory runs out.
 use Rattle.std.specs.Prelude.{◌≡◌, Result, Ok, Err}
 use Rattle.strc_run.specs.declared.refusal.Refusal.{Refusal}
 use Rattle.strc_run.specs.declared.refusal.Refusal.TheVariants.{NoMemory}

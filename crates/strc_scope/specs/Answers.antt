@@ -21,16 +21,19 @@ Gives expected (Ok value) after = expected ≡ Ok (value, after)
 Gives expected (Err refusal) after = IsRefusal expected refusal
 
 -- an answer is the number of cells, with the store after it
-abbrev pub GivesCount : Result (ℕ × firing.Store) ElabError → Result ℕ ElabError → firing.Store → Type 0
+abbrev pub GivesCount : Result (ℕ × firing.Store) ElabError → Result ℕ ElabError → firing.Store
+    → Type 0
 GivesCount expected (Ok count) after = expected ≡ Ok (count, after)
 GivesCount expected (Err refusal) after = IsRefusal expected refusal
 
 -- an answer is the cells that are given, with the store after it
-abbrev pub GivesCells : Result (List ℤ × firing.Store) ElabError → Result (Vec ℤ Global) ElabError → firing.Store → Type 0
+abbrev pub GivesCells : Result (List ℤ × firing.Store) ElabError → Result (Vec ℤ Global) ElabError
+    → firing.Store → Type 0
 GivesCells expected (Ok cells) after = expected ≡ Ok (cells.items, after)
 GivesCells expected (Err refusal) after = IsRefusal expected refusal
 
 -- an answer is what is done, with the store after it
-abbrev pub Done : Result firing.Store ElabError → Result (Unit {0}) ElabError → firing.Store → Type 0
+abbrev pub Done : Result firing.Store ElabError → Result (Unit {0}) ElabError → firing.Store
+    → Type 0
 Done expected (Ok done) after = expected ≡ Ok after
 Done expected (Err refusal) after = IsRefusal expected refusal

@@ -7,7 +7,11 @@ use Rattle.strc_scope.specs.declared.store.Store.{Store}
 
 -- the variables' values, and how many turns there were
 abbrev pub store_of : Store → firing.Store
-store_of store = record { variables = store.variables.variables; traffic = record no_traffic { turns = store.turns } }
+store_of store = record {
+  variables = store.variables.variables;
+  traffic =
+      record no_traffic { turns = store.turns };
+}
 
 -- an answer is what an evaluation gives, with the store after it, or its fault
 abbrev pub Evaluates : Result (ℤ × firing.Store) Cause → Result ℤ Cause → firing.Store → Type 0

@@ -1,5 +1,6 @@
 -- Variables that are added to others.
-use Rattle.std.proofs.Common.{◌≡◌, ℕ, ◌-◌, List, [], ◌∷◌, ◌++◌, length, drop, reverse, refl, sym, ap, ◌∙◌, arith, length-append, append_assoc}
+use Rattle.std.proofs.Common.{◌≡◌, ℕ, ◌-◌, List, [], ◌∷◌, ◌++◌, length, drop, reverse, refl, sym}
+use Rattle.std.proofs.Common.{ap, ◌∙◌, arith, length-append, append_assoc}
 use Rattle.std.proofs.lemmas.List.{reverse-append}
 use Rattle.strc_syntax.specs.View.{member_view}
 use Rattle.strc_syntax.specs.declared.tree.Member.{Member}
@@ -18,14 +19,17 @@ pub stands_on_itself : (base : Scope) → StandsOn base base
 stands_on_itself base = record { inner = []; is = refl }
 
 -- a declaration adds variables
-pub stands_on_declared : (base names : Scope) (cells : ℕ) (variables : List tree.Variable) → StandsOn base names → StandsOn base (with_declared names cells variables)
+pub stands_on_declared : (base names : Scope) (cells : ℕ) (variables : List tree.Variable)
+    → StandsOn base names → StandsOn base (with_declared names cells variables)
 stands_on_declared base names cells [] h = h
 stands_on_declared base names cells (first ∷ rest) h =
     let variable : List ℕ × ℕ = record { 0 = first.name; 1 = cells } in
-    stands_on_declared base (variable ∷ names) cells rest (record { inner = variable ∷ h.inner; is = ap (λ l. variable ∷ l) h.is })
+    stands_on_declared base (variable ∷ names) cells rest
+    (record { inner = variable ∷ h.inner; is = ap (λ l. variable ∷ l) h.is })
 
 -- the variables of a declaration stand in front, the last one first
-pub with_declared-reverse : (names : Scope) (cells : ℕ) (variables : List tree.Variable) → with_declared names cells variables ≡ reverse (sized_all cells variables) ++ names
+pub with_declared-reverse : (names : Scope) (cells : ℕ) (variables : List tree.Variable)
+    → with_declared names cells variables ≡ reverse (sized_all cells variables) ++ names
 with_declared-reverse names cells [] = refl
 with_declared-reverse names cells (first ∷ rest) =
     let variable : List ℕ × ℕ = record { 0 = first.name; 1 = cells } in
@@ -34,8 +38,10 @@ with_declared-reverse names cells (first ∷ rest) =
     ∙ ap (λ l. l ++ names) (sym (reverse-append (variable ∷ []) (sized_all cells rest)))
 
 -- no other statement adds one
-pub stands_on_after : (base names : Scope) (s : tree.Stmt) → StandsOn base names → StandsOn base (names_after names s)
-stands_on_after base names (tree.Declare kind variables) h = stands_on_declared base names (cells_of kind) variables h
+pub stands_on_after : (base names : Scope) (s : tree.Stmt) → StandsOn base names
+    → StandsOn base (names_after names s)
+stands_on_after base names (tree.Declare kind variables) h =
+    stands_on_declared base names (cells_of kind) variables h
 stands_on_after base names tree.Empty h = h
 stands_on_after base names (tree.Compose statement) h = h
 stands_on_after base names (tree.Block body) h = h
@@ -51,23 +57,34 @@ stands_on_after base names (tree.Print value) h = h
 stands_on_after base names (tree.Println value) h = h
 
 -- without the inner ones they are as before
-pub drop_inner : (base names : Scope) → StandsOn base names → drop (length names - length base) names ≡ base
+pub drop_inner : (base names : Scope) → StandsOn base names
+    → drop (length names - length base) names ≡ base
 drop_inner base names h =
-    let e : length (h.inner ++ base) - length base ≡ length h.inner = omega (arith, length-append h.inner base) in
-    ap (λ l. drop (length l - length base) l) h.is ∙ ap (λ n. drop n (h.inner ++ base)) e ∙ drop-append_seam h.inner base
+    let e : length (h.inner ++ base) - length base ≡ length h.inner =
+    omega (arith, length-append h.inner base) in
+    ap (λ l. drop (length l - length base) l) h.is ∙ ap (λ n. drop n (h.inner ++ base)) e
+    ∙ drop-append_seam h.inner base
 
 -- a list of variables before others, turned round
-pub reverse_before : (front back names : Scope) → reverse (front ++ names) ++ back ≡ reverse names ++ (reverse front ++ back)
-reverse_before front back names = ap (λ l. l ++ back) (reverse-append front names) ∙ append_assoc (reverse names) (reverse front) back
+pub reverse_before : (front back names : Scope)
+    → reverse (front ++ names) ++ back ≡ reverse names ++ (reverse front ++ back)
+reverse_before front back names = ap (λ l. l ++ back) (reverse-append front names)
+    ∙ append_assoc (reverse names) (reverse front) back
 
 -- fields that are declared together, before those of other members
-pub fields_before : (kind : tree.VariableType) (variables : List tree.Variable) (rest : List tree.Member) (names : Scope) → reverse (sized_fields rest) ++ with_declared names (cells_of kind) variables ≡ reverse (sized_fields (tree.Fields kind variables ∷ rest)) ++ names
+pub fields_before : (kind : tree.VariableType) (variables : List tree.Variable)
+    (rest : List tree.Member) (names : Scope)
+    → reverse (sized_fields rest) ++ with_declared names (cells_of kind) variables
+    ≡ reverse (sized_fields (tree.Fields kind variables ∷ rest)) ++ names
 fields_before kind variables rest names =
-    ap (λ l. reverse (sized_fields rest) ++ l) (with_declared-reverse names (cells_of kind) variables)
+    ap (λ l. reverse (sized_fields rest) ++ l)
+    (with_declared-reverse names (cells_of kind) variables)
     ∙ sym (reverse_before (sized_all (cells_of kind) variables) names (sized_fields rest))
 
 -- no other member has fields
-pub no_fields : (m : Member) (rest : List tree.Member) → ((declared : _) → m ≡ member.Fields declared → ⊥) → sized_fields rest ≡ sized_fields (member_view m ∷ rest)
+pub no_fields : (m : Member) (rest : List tree.Member)
+    → ((declared : _) → m ≡ member.Fields declared → ⊥)
+    → sized_fields rest ≡ sized_fields (member_view m ∷ rest)
 no_fields (member.Fields declared) rest other = absurd (other declared refl)
 no_fields (member.Init' shape block) rest other = refl
 no_fields (member.Prework' rates shape block) rest other = refl

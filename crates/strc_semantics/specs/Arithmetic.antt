@@ -1,6 +1,8 @@
 -- Operations on numbers of 32 bits.
-use Rattle.std.specs.Prelude.{ℕ, ◌%◌, ℤ, pos, zero, neg_ℤ, ◌+ℤ◌, ◌-ℤ◌, ◌*ℤ◌, Bool, true, false, not, Result, Ok, Err}
-use Rattle.std.specs.Int.{int_wrap, int_bit_and, int_bit_or, int_bit_xor, int_bit_not, int_shl, int_shr, cast_unsigned}
+use Rattle.std.specs.Prelude.{ℕ, ◌%◌, ℤ, pos, zero, neg_ℤ, ◌+ℤ◌, ◌-ℤ◌, ◌*ℤ◌, Bool, true, false, not}
+use Rattle.std.specs.Prelude.{Result, Ok, Err}
+use Rattle.std.specs.Int.{int_wrap, int_bit_and, int_bit_or, int_bit_xor, int_bit_not, int_shl}
+use Rattle.std.specs.Int.{int_shr, cast_unsigned}
 use Rattle.std.specs.Int.RustNames.{int_div, int_rem, int_lt}
 use Rattle.std.specs.Ordering.{int_eq}
 use mir.Syntax.{w32}

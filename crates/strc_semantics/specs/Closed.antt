@@ -20,7 +20,8 @@ IsClosed names (tree.Unary operator operand) = IsClosed names operand
 IsClosed names (tree.Step operator name) = IsNamed names name
 IsClosed names (tree.StepElement operator name index) = IsNamed names name × IsClosed names index
 IsClosed names (tree.Binary operator left right) = IsClosed names left × IsClosed names right
-IsClosed names (tree.Conditional condition chosen other) = IsClosed names condition × IsClosed names chosen × IsClosed names other
+IsClosed names (tree.Conditional condition chosen other) =
+    IsClosed names condition × IsClosed names chosen × IsClosed names other
 
 -- an initialiser or a condition, where there is one
 abbrev pub IsClosedInitial : Scope → Option tree.Expr → Type 0
@@ -44,16 +45,21 @@ abbrev mutual
   IsClosedStmt names tree.Empty = Unit {0}
   IsClosedStmt names (tree.Compose statement) = Unit {0}
   IsClosedStmt names (tree.Block body) = AreClosed names body
-  IsClosedStmt names (tree.Declare kind variables) = AreClosedVariables names (cells_of kind) variables
+  IsClosedStmt names (tree.Declare kind variables) =
+      AreClosedVariables names (cells_of kind) variables
   IsClosedStmt names (tree.Evaluate value) = IsClosed names value
   IsClosedStmt names (tree.Assign name operator value) = IsNamed names name × IsClosed names value
-  IsClosedStmt names (tree.AssignElement name index operator value) = IsNamed names name × IsClosed names index × IsClosed names value
-  IsClosedStmt names (tree.If condition chosen) = IsClosed names condition × IsClosedStmt names chosen
+  IsClosedStmt names (tree.AssignElement name index operator value) =
+      IsNamed names name × IsClosed names index × IsClosed names value
+  IsClosedStmt names (tree.If condition chosen) =
+      IsClosed names condition × IsClosedStmt names chosen
   IsClosedStmt names (tree.IfElse condition chosen other) =
       IsClosed names condition × IsClosedStmt names chosen × IsClosedStmt names other
-  IsClosedStmt names (tree.While condition body) = IsClosed names condition × IsClosedStmt names body
+  IsClosedStmt names (tree.While condition body) =
+      IsClosed names condition × IsClosedStmt names body
   IsClosedStmt names (tree.For first condition step body) =
-      IsClosedStmt names first × IsClosedInitial (names_after names first) condition × IsClosedStmt (names_after names first) step
+      IsClosedStmt names first × IsClosedInitial (names_after names first) condition
+      × IsClosedStmt (names_after names first) step
       × IsClosedStmt (names_after names first) body
   IsClosedStmt names (tree.Push value) = IsClosed names value
   IsClosedStmt names (tree.Print value) = IsClosed names value
@@ -61,13 +67,15 @@ abbrev mutual
 
   pub AreClosed : Scope → tree.Stmts → Type 0
   AreClosed names tree.Done = Unit {0}
-  AreClosed names (tree.Then first rest) = IsClosedStmt names first × AreClosed (names_after names first) rest
+  AreClosed names (tree.Then first rest) =
+      IsClosedStmt names first × AreClosed (names_after names first) rest
 
 -- fields, among all fields
 abbrev pub AreClosedFields : Scope → (cells : ℕ) → List tree.Variable → Type 0
 AreClosedFields names cells [] = Unit {0}
 AreClosedFields names cells (first ∷ rest) =
-    (IsNamed names first.name × IsClosedInitial names first.initial × FitsInitial cells first.initial) × AreClosedFields names cells rest
+    (IsNamed names first.name × IsClosedInitial names first.initial
+    × FitsInitial cells first.initial) × AreClosedFields names cells rest
 
 -- a member, among the fields
 abbrev pub IsClosedMember : Scope → tree.Member → Type 0

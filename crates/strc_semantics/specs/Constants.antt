@@ -23,7 +23,8 @@ both_value operator left right = binary_value operator left right
 -- the value of an operator, whose right side counts only where it is needed
 abbrev pub sides_value : BinaryOperator → ℤ → Result ℤ Cause → Result ℤ Cause
 sides_value operator left right =
-    if decides operator left then Ok left else result_and_then right (λ value. both_value operator left value)
+    if decides operator left then Ok left else result_and_then right
+    (λ value. both_value operator left value)
 
 -- the value of a constant expression; what can't stand in one faults
 abbrev pub constant_value : tree.Expr → Result ℤ Cause
@@ -34,13 +35,16 @@ constant_value (tree.Element name index) = Err Index
 constant_value tree.Pop = Err Index
 constant_value (tree.Peek index) = Err Index
 constant_value (tree.Group inner) = constant_value inner
-constant_value (tree.Unary operator operand) = result_and_then (constant_value operand) (λ value. Ok (unary_value operator value))
+constant_value (tree.Unary operator operand) =
+    result_and_then (constant_value operand) (λ value. Ok (unary_value operator value))
 constant_value (tree.Step operator name) = Err Index
 constant_value (tree.StepElement operator name index) = Err Index
 constant_value (tree.Binary operator left right) =
-    result_and_then (constant_value left) (λ value. sides_value operator value (constant_value right))
+    result_and_then (constant_value left)
+    (λ value. sides_value operator value (constant_value right))
 constant_value (tree.Conditional condition chosen other) =
-    result_and_then (constant_value condition) (λ test. if is_true test then constant_value chosen else constant_value other)
+    result_and_then (constant_value condition)
+    (λ test. if is_true test then constant_value chosen else constant_value other)
 
 -- whether an expression names no variable, and takes no item
 abbrev pub IsConstant : tree.Expr → Type 0
@@ -55,4 +59,5 @@ IsConstant (tree.Unary operator operand) = IsConstant operand
 IsConstant (tree.Step operator name) = ⊥
 IsConstant (tree.StepElement operator name index) = ⊥
 IsConstant (tree.Binary operator left right) = IsConstant left × IsConstant right
-IsConstant (tree.Conditional condition chosen other) = IsConstant condition × IsConstant chosen × IsConstant other
+IsConstant (tree.Conditional condition chosen other) =
+    IsConstant condition × IsConstant chosen × IsConstant other

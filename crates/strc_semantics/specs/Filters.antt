@@ -1,5 +1,6 @@
 -- A filter's text, without where it lies in memory.
-use Rattle.std.specs.Prelude.{ℕ, ◌+◌, max, ℤ, pos, negsuc, Bool, true, false, ◌||◌, List, [], ◌∷◌, ◌++◌, map, Option, Some, None, unwrap_or, if◌then◌else◌}
+use Rattle.std.specs.Prelude.{ℕ, ◌+◌, max, ℤ, pos, negsuc, Bool, true, false, ◌||◌, List, [], ◌∷◌}
+use Rattle.std.specs.Prelude.{◌++◌, map, Option, Some, None, unwrap_or, if◌then◌else◌}
 use Rattle.strc_syntax.specs.Tree as tree
 use Rattle.strc_syntax.specs.View.{member_view}
 use Rattle.strc_syntax.specs.declared.tree.FilterTree.{FilterTree}
@@ -23,7 +24,8 @@ members_of members = map member_view members
 
 -- a filter of these types and members
 abbrev pub filter_parts : (input output : ItemType) → List Member → Filter
-filter_parts input output members = record { input = input; output = output; members = members_of members }
+filter_parts input output members = record
+    { input = input; output = output; members = members_of members }
 
 -- the filter of a syntax tree
 abbrev pub filter_of : FilterTree → Filter
@@ -39,7 +41,8 @@ sized_all cells variables = map (λ variable. record { 0 = variable.name; 1 = ce
 
 abbrev pub sized_fields : List tree.Member → Scope
 sized_fields [] = []
-sized_fields (tree.Fields kind variables ∷ rest) = sized_all (cells_of kind) variables ++ sized_fields rest
+sized_fields (tree.Fields kind variables ∷ rest) =
+    sized_all (cells_of kind) variables ++ sized_fields rest
 sized_fields (tree.Init block ∷ rest) = sized_fields rest
 sized_fields (tree.Prework rates block ∷ rest) = sized_fields rest
 sized_fields (tree.Work rates block ∷ rest) = sized_fields rest
@@ -116,7 +119,8 @@ same_kind _ _ = false
 -- the declared rate of a kind; a missing one is 0
 abbrev pub rate_of : RateKind → List tree.Rate → ℤ
 rate_of sought [] = pos 0
-rate_of sought (first ∷ rest) = if same_kind sought first.kind then rate_number first.rate else rate_of sought rest
+rate_of sought (first ∷ rest) = if same_kind sought first.kind then rate_number first.rate
+    else rate_of sought rest
 
 -- the declared push rate
 abbrev pub push_rate : List tree.Rate → ℤ
@@ -157,7 +161,8 @@ abbrev mutual
   stmt_prints (tree.If condition chosen) = stmt_prints chosen
   stmt_prints (tree.IfElse condition chosen other) = stmt_prints chosen || stmt_prints other
   stmt_prints (tree.While condition body) = stmt_prints body
-  stmt_prints (tree.For first condition step body) = stmt_prints first || (stmt_prints step || stmt_prints body)
+  stmt_prints (tree.For first condition step body) =
+      stmt_prints first || (stmt_prints step || stmt_prints body)
   stmt_prints (tree.Push value) = false
   stmt_prints (tree.Print value) = true
   stmt_prints (tree.Println value) = true
@@ -173,4 +178,5 @@ body_prints body filter = stmts_print (body_block body filter.members)
 
 -- whether a firing of the filter can print
 abbrev pub filter_prints : Filter → Bool
-filter_prints filter = stmts_print (work_block filter.members) || stmts_print (body_block body.Prework filter.members)
+filter_prints filter = stmts_print (work_block filter.members)
+    || stmts_print (body_block body.Prework filter.members)

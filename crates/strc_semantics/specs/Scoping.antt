@@ -1,6 +1,7 @@
--- Which variables can be seen after a statement, with how many cells each has: one for a number or a truth value, and one for each element
--- of an array.
-use Rattle.std.specs.Prelude.{ℕ, ◌+◌, pos, List, [], ◌∷◌, Bool, false, ◌||◌, Option, Some, None, unwrap_or, if◌then◌else◌, bytes_eq}
+-- Which variables can be seen after a statement, with how many cells each has: one for a number or
+-- a truth value, and one for each element of an array.
+use Rattle.std.specs.Prelude.{ℕ, ◌+◌, pos, List, [], ◌∷◌, Bool, false, ◌||◌, Option, Some, None}
+use Rattle.std.specs.Prelude.{unwrap_or, if◌then◌else◌, bytes_eq}
 use Rattle.strc_syntax.specs.Tree as tree
 
 -- names of variables with their cells, the innermost first
@@ -21,7 +22,8 @@ cells_of (tree.Array length) = number_in length
 -- the variables that can be seen after a declaration, the last one innermost
 abbrev pub with_declared : Scope → (cells : ℕ) → List tree.Variable → Scope
 with_declared scope cells [] = scope
-with_declared scope cells (first ∷ rest) = with_declared (record { 0 = first.name; 1 = cells } ∷ scope) cells rest
+with_declared scope cells (first ∷ rest) =
+    with_declared (record { 0 = first.name; 1 = cells } ∷ scope) cells rest
 
 -- the variables that can be seen after a statement
 abbrev pub names_after : Scope → tree.Stmt → Scope
@@ -38,10 +40,12 @@ abbrev pub is_declared : Scope → List ℕ → Bool
 is_declared [] name = false
 is_declared (first ∷ rest) name = bytes_eq first.0 name || is_declared rest name
 
--- the first slot of the innermost variable of a name: the cells of the variables outside it stand before its own
+-- the first slot of the innermost variable of a name: the cells of the variables outside it stand
+-- before its own
 abbrev pub slot_named : Scope → List ℕ → Option ℕ
 slot_named [] name = None
-slot_named (first ∷ rest) name = if bytes_eq first.0 name then Some (total rest) else slot_named rest name
+slot_named (first ∷ rest) name = if bytes_eq first.0 name then Some (total rest)
+    else slot_named rest name
 
 abbrev pub slot_of : Scope → List ℕ → ℕ
 slot_of scope name = unwrap_or (slot_named scope name) 0
@@ -49,7 +53,8 @@ slot_of scope name = unwrap_or (slot_named scope name) 0
 -- how many cells the innermost variable of a name has
 abbrev pub size_named : Scope → List ℕ → Option ℕ
 size_named [] name = None
-size_named (first ∷ rest) name = if bytes_eq first.0 name then Some first.1 else size_named rest name
+size_named (first ∷ rest) name = if bytes_eq first.0 name then Some first.1
+    else size_named rest name
 
 abbrev pub size_of : Scope → List ℕ → ℕ
 size_of scope name = unwrap_or (size_named scope name) 0

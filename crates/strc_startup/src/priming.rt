@@ -47,8 +47,9 @@ fn all_nodes(alloc: Global, size: usize) -> Result<Waiting, AllocError>
     ensures numbers { IfOk result (λ waiting. All (λ node. node < size) waiting) }
 {
     let mut waiting = Waiting::new(alloc);
-    for node in 0..size {
-        waiting.add(node)?;
+    // The highest first, so that none has to move up.
+    for higher in 0..size {
+        waiting.add(size - higher - 1)?;
     }
     Ok(waiting)
 }

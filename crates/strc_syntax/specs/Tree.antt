@@ -47,7 +47,8 @@ pub data Splitter : Type 0 where
   Duplicate : (brackets : Brackets) → Splitter
   Roundrobin : (weights : Option (List Expr)) → Splitter
 
--- a statement, and statements in a row; a child of a composite stream; a part of a filter, and parts in a row
+-- a statement, and statements in a row; a child of a composite stream; a part of a filter, and
+-- parts in a row
 mutual
   pub data Stmt : Type 0 where
     Empty : Stmt

@@ -14,7 +14,8 @@ use Rattle.strc_syntax.specs.declared.tree.Member.{Member}
 use Rattle.strc_syntax.specs.declared.tree.Member.TheVariants as member
 use Rattle.strc_syntax.specs.declared.tree.Composition.{Composition}
 use Rattle.strc_syntax.specs.declared.tree.Composition.TheVariants as composition
-use Rattle.strc_syntax.specs.declared.tree.Child.{Child, Row_of-Member, end_of-Member, more_of-Member}
+use Rattle.strc_syntax.specs.declared.tree.Child.{Child, Row_of-Member, end_of-Member}
+use Rattle.strc_syntax.specs.declared.tree.Child.{more_of-Member}
 use Rattle.strc_syntax.specs.declared.tree.Child.TheVariants as child
 use Rattle.strc_syntax.specs.declared.tree.Splitter.{Splitter}
 use Rattle.strc_syntax.specs.declared.tree.Splitter.TheVariants as splitter
@@ -35,8 +36,10 @@ expr_view (expr.Peek' at index) = tree.Peek (expr_view index)
 expr_view (expr.Group' at inner) = tree.Group (expr_view inner)
 expr_view (expr.Unary' operator at operand) = tree.Unary operator (expr_view operand)
 expr_view (expr.Step operator name) = tree.Step operator name
-expr_view (expr.StepElement' operator name at index) = tree.StepElement operator name (expr_view index)
-expr_view (expr.Binary' operator at left at' right) = tree.Binary operator (expr_view left) (expr_view right)
+expr_view (expr.StepElement' operator name at index) =
+    tree.StepElement operator name (expr_view index)
+expr_view (expr.Binary' operator at left at' right) =
+    tree.Binary operator (expr_view left) (expr_view right)
 expr_view (expr.Conditional' at condition at' chosen at'' other) =
     tree.Conditional (expr_view condition) (expr_view chosen) (expr_view other)
 
@@ -46,7 +49,11 @@ type_view kind.Int = tree.Int
 type_view (kind.Array length) = tree.Array (expr_view length)
 
 abbrev pub variable_view : Variable → tree.Variable
-variable_view variable = record { name = variable.name; initial = option_map expr_view variable.initial }
+variable_view variable = record {
+  name = variable.name;
+  initial =
+      option_map expr_view variable.initial;
+}
 
 abbrev pub weights_view : Option (Vec Expr) → Option (List tree.Expr)
 weights_view weights = option_map (λ w. map expr_view w.items) weights
@@ -62,12 +69,15 @@ abbrev mutual
   pub stmt_view : Stmt → tree.Stmt
   stmt_view stmt.Empty = tree.Empty
   stmt_view (stmt.Block' shape body) = tree.Block (row_view body)
-  stmt_view (stmt.Declare declared) = tree.Declare (type_view declared.kind) (map variable_view declared.variables.items)
+  stmt_view (stmt.Declare declared) = tree.Declare (type_view declared.kind)
+      (map variable_view declared.variables.items)
   stmt_view (stmt.Evaluate value) = tree.Evaluate (expr_view value)
   stmt_view (stmt.Assign name operator value) = tree.Assign name operator (expr_view value)
-  stmt_view (stmt.AssignElement name index operator value) = tree.AssignElement name (expr_view index) operator (expr_view value)
+  stmt_view (stmt.AssignElement name index operator value) =
+      tree.AssignElement name (expr_view index) operator (expr_view value)
   stmt_view (stmt.If' condition at chosen) = tree.If (expr_view condition) (stmt_view chosen)
-  stmt_view (stmt.IfElse' condition at chosen at' other) = tree.IfElse (expr_view condition) (stmt_view chosen) (stmt_view other)
+  stmt_view (stmt.IfElse' condition at chosen at' other) =
+      tree.IfElse (expr_view condition) (stmt_view chosen) (stmt_view other)
   stmt_view (stmt.While' condition at body) = tree.While (expr_view condition) (stmt_view body)
   stmt_view (stmt.For' at first condition at' step at'' body) =
       tree.For (stmt_view first) (option_map expr_view condition) (stmt_view step) (stmt_view body)
@@ -92,13 +102,17 @@ abbrev mutual
   child_view (child.FileReader text) = tree.FileReader text
   child_view (child.FileWriter text) = tree.FileWriter text
   child_view (child.Filter' types shape members) = tree.AnonymousFilter types (members_view members)
-  child_view (child.Composite' types kind shape block) = tree.AnonymousComposite types kind (row_view block)
+  child_view (child.Composite' types kind shape block) =
+      tree.AnonymousComposite types kind (row_view block)
 
   pub member_view : Member → tree.Member
-  member_view (member.Fields declared) = tree.Fields (type_view declared.kind) (map variable_view declared.variables.items)
+  member_view (member.Fields declared) = tree.Fields (type_view declared.kind)
+      (map variable_view declared.variables.items)
   member_view (member.Init' shape block) = tree.Init (row_view block)
-  member_view (member.Prework' rates shape block) = tree.Prework (map rate_view rates.items) (row_view block)
-  member_view (member.Work' rates shape block) = tree.Work (map rate_view rates.items) (row_view block)
+  member_view (member.Prework' rates shape block) =
+      tree.Prework (map rate_view rates.items) (row_view block)
+  member_view (member.Work' rates shape block) =
+      tree.Work (map rate_view rates.items) (row_view block)
 
   pub members_view : {m : _} → Row_of-Member m → tree.Members
   members_view end_of-Member = tree.NoMember
@@ -114,7 +128,8 @@ filter_view filter = tree.Filter filter.input filter.output (map member_view fil
 
 abbrev pub stream_view : StreamTree → tree.Stream
 stream_view (stream.Filter filter) = filter_view filter
-stream_view (stream.Composite composite) = tree.Composite composite.types composite.kind (block_view composite.block.items)
+stream_view (stream.Composite composite) =
+    tree.Composite composite.types composite.kind (block_view composite.block.items)
 
 abbrev pub declaration_view : Decl → tree.Declaration
 declaration_view declaration = record {

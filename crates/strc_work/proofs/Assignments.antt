@@ -1,5 +1,6 @@
 -- The code of assignments.
-use Rattle.std.proofs.Common.{◌≡◌, ◌≢◌, ℕ, ◌+◌, ◌<◌, ◌≤◌, true, ℤ, pos, ◌+ℤ◌, List, length, set, Option, Some, None, Result, Ok, Err, refl, sym, ap, ◌∙◌, subst, arith}
+use Rattle.std.proofs.Common.{◌≡◌, ◌≢◌, ℕ, ◌+◌, ◌<◌, ◌≤◌, true, ℤ, pos, ◌+ℤ◌, List, length, set}
+use Rattle.std.proofs.Common.{Option, Some, None, Result, Ok, Err, refl, sym, ap, ◌∙◌, subst, arith}
 use Rattle.std.proofs.lemmas.List.{get_or-set_same, get_or-set_other, length-set}
 use Rattle.strc_base.specs.Results.{result_and_then}
 use Rattle.strc_syntax.specs.Tree as tree
@@ -13,13 +14,19 @@ use Rattle.strc_inst.specs.declared.inst.Inst.TheVariants as act
 use Rattle.strc_semantics.specs.Arithmetic.{wrapped, binary_value}
 use Rattle.strc_semantics.specs.Scoping.{Scope, total, slot_of, size_of}
 use Rattle.strc_semantics.specs.Closed.{IsNamed, IsClosed}
-use Rattle.strc_semantics.specs.Firing.{Port, Store, cells_named, cell_in, value_in, with_cell, cell_set, assigned, assigned_value, place_in, tested_place, place_of, element_joined, element_set, value_of}
-use Rattle.strc_machine.specs.Machine.{Machine, Act, before, slot_value, slot_written, inst_done, nodes_done, nodes_room}
-use Rattle.strc_work.specs.Lowering.{writes_no_variable, one, binary_step, operand_slot, operand_nodes, compound_nodes, element_nodes}
-use Rattle.strc_work.proofs.Variables.{scope_of, at, Holds, Holds-set_above, Holds-assigned, scope_of-with_cell}
+use Rattle.strc_semantics.specs.Firing.{Port, Store, cells_named, cell_in, value_in, with_cell}
+use Rattle.strc_semantics.specs.Firing.{cell_set, assigned, assigned_value, place_in, tested_place}
+use Rattle.strc_semantics.specs.Firing.{place_of, element_joined, element_set, value_of}
+use Rattle.strc_machine.specs.Machine.{Machine, Act, before, slot_value, slot_written, inst_done}
+use Rattle.strc_machine.specs.Machine.{nodes_done, nodes_room}
+use Rattle.strc_work.specs.Lowering.{writes_no_variable, one, binary_step, operand_slot}
+use Rattle.strc_work.specs.Lowering.{operand_nodes, compound_nodes, element_nodes}
+use Rattle.strc_work.proofs.Variables.{scope_of, at, Holds, Holds-set_above, Holds-assigned}
+use Rattle.strc_work.proofs.Variables.{scope_of-with_cell}
 use Rattle.strc_work.proofs.Related.{Related, then_related, nodes_done-before, then_last}
 use Rattle.strc_machine.proofs.Spelled.{nodes_room-before}
-use Rattle.strc_work.proofs.Expressions.{Arrives, StandsAt, Ready, machine_at, named_size, named_cell, named_value, operand_runs}
+use Rattle.strc_work.proofs.Expressions.{Arrives, StandsAt, Ready, machine_at, named_size}
+use Rattle.strc_work.proofs.Expressions.{named_cell, named_value, operand_runs}
 use Rattle.strc_work.proofs.Elements.{place_within, same_place, operand_low, stored_holds}
 use Rattle.strc_work.proofs.ExpressionRuns.{expr_runs, left_stays, binary_step_done, machine_is}
 use Rattle.strc_work.proofs.Reaching.{Reaches, RunsStmt, few}
@@ -27,42 +34,60 @@ use Rattle.strc_work.proofs.Reaching.{Reaches, RunsStmt, few}
 -- ---- variables
 
 -- a value in its variable's slot
-pub assigned_reaches : (names : Scope) (name : List ℕ) (slots : List ℤ) (given : ℤ × Store) (after : Machine) → IsNamed names name → total names ≤ length slots → Arrives names (slot_of names name) (total names) slots given after → Reaches names (length slots) (assigned given.1 name given.0) after
+pub assigned_reaches : (names : Scope) (name : List ℕ) (slots : List ℤ) (given : ℤ × Store)
+    (after : Machine) → IsNamed names name → total names ≤ length slots
+    → Arrives names (slot_of names name) (total names) slots given after
+    → Reaches names (length slots) (assigned given.1 name given.0) after
 assigned_reaches names name slots given after named roomy arrives =
     let variables = given.1.variables in
     let top = few names variables arrives.names_are in
     let size = arrives.size in
     let le : total (scope_of variables) ≤ length arrives.slots = omega arith in
-    let named' : IsNamed (scope_of variables) name = subst (λ n. IsNamed n name) (sym arrives.names_are) named in
+    let named' : IsNamed (scope_of variables) name =
+    subst (λ n. IsNamed n name) (sym arrives.names_are) named in
     subst (Reaches names (length slots) (assigned given.1 name given.0)) (sym arrives.written)
     (record {
       traffic = refl;
       names_are = scope_of-with_cell variables name 0 given.0 ∙ arrives.names_are;
-      holds = subst (λ n. Holds (with_cell variables name 0 given.0) (set arrives.slots (slot_of n name) given.0)) arrives.names_are (Holds-assigned variables arrives.slots name given.0 le arrives.holds named');
+      holds = subst (λ n. Holds (with_cell variables name 0 given.0)
+          (set arrives.slots (slot_of n name) given.0)) arrives.names_are
+          (Holds-assigned variables arrives.slots name given.0 le arrives.holds named');
       same = length-set arrives.slots (slot_of names name) given.0 ∙ size;
       roomy = roomy;
     })
 
 -- a step of a variable whose value isn't used
-pub stepped_reaches : (names : Scope) (name : List ℕ) (amount : ℤ) (store : Store) (slots : List ℤ) → IsNamed names name → Ready names (total names) store slots → Reaches names (length slots) (assigned store name (wrapped (value_in store name +ℤ amount))) (slot_written (machine_at slots store) (slot_of names name) (wrapped (at slots (slot_of names name) +ℤ amount)))
+pub stepped_reaches : (names : Scope) (name : List ℕ) (amount : ℤ) (store : Store) (slots : List ℤ)
+    → IsNamed names name → Ready names (total names) store slots
+    → Reaches names (length slots) (assigned store name (wrapped (value_in store name +ℤ amount)))
+    (slot_written (machine_at slots store) (slot_of names name)
+    (wrapped (at slots (slot_of names name) +ℤ amount)))
 stepped_reaches names name amount store slots named ready =
     let slot = slot_of names name in
     let new = wrapped (value_in store name +ℤ amount) in
-    let new_is : wrapped (at slots slot +ℤ amount) ≡ new = ap (λ v. wrapped (v +ℤ amount)) (named_value names (total names) store slots name ready named) in
+    let new_is : wrapped (at slots slot +ℤ amount) ≡ new =
+    ap (λ v. wrapped (v +ℤ amount))
+    (named_value names (total names) store slots name ready named) in
     let top = few names store.variables ready.names_are in
     let roomy = ready.roomy in
     let le : total (scope_of store.variables) ≤ length slots = omega arith in
-    let named' : IsNamed (scope_of store.variables) name = subst (λ n. IsNamed n name) (sym ready.names_are) named in
-    subst (λ v. Reaches names (length slots) (assigned store name new) (slot_written (machine_at slots store) slot v)) (sym new_is)
+    let named' : IsNamed (scope_of store.variables) name =
+    subst (λ n. IsNamed n name) (sym ready.names_are) named in
+    subst (λ v. Reaches names (length slots) (assigned store name new)
+    (slot_written (machine_at slots store) slot v)) (sym new_is)
     (record {
       traffic = refl;
       names_are = scope_of-with_cell store.variables name 0 new ∙ ready.names_are;
-      holds = subst (λ n. Holds (with_cell store.variables name 0 new) (set slots (slot_of n name) new)) ready.names_are (Holds-assigned store.variables slots name new le ready.holds named');
+      holds = subst (λ n. Holds (with_cell store.variables name 0 new)
+          (set slots (slot_of n name) new)) ready.names_are
+          (Holds-assigned store.variables slots name new le ready.holds named');
       same = length-set slots slot new;
       roomy = roomy;
     })
 
-pub assigned_closed : (names : Scope) (name : List ℕ) (operator : AssignOperator) (value : tree.Expr) → IsNamed names name → IsClosed names value → IsClosed names (assigned_value name operator value)
+pub assigned_closed : (names : Scope) (name : List ℕ) (operator : AssignOperator)
+    (value : tree.Expr) → IsNamed names name → IsClosed names value
+    → IsClosed names (assigned_value name operator value)
 assigned_closed names name assign.Set value named closed = closed
 assigned_closed names name assign.Add value named closed = (named, closed)
 assigned_closed names name assign.Subtract value named closed = (named, closed)
@@ -73,24 +98,70 @@ assigned_closed names name assign.Remainder value named closed = (named, closed)
 -- ---- elements
 
 -- a value in a cell's slot
-stored_reaches : (names : Scope) (name : List ℕ) (size : ℕ) (store : Store) (m : Machine) (place : ℕ) (value : ℤ) → IsNamed names name → total names ≤ size → m.traffic ≡ store.traffic → scope_of store.variables ≡ names → Holds store.variables m.slots → length m.slots ≡ size → place < size_of names name → Reaches names size (cell_set store name place value) (slot_written m (slot_of names name + place) value)
-stored_reaches names name size store m place value named roomy traffic names_are holds same within = record {
-  traffic = traffic;
-  names_are = scope_of-with_cell store.variables name place value ∙ names_are;
-  holds = stored_holds names name store m.slots place value (omega arith) names_are holds named within;
-  same = length-set m.slots (slot_of names name + place) value ∙ same;
-  roomy = roomy;
-}
+stored_reaches : (names : Scope) (name : List ℕ) (size : ℕ) (store : Store) (m : Machine)
+    (place : ℕ) (value : ℤ) → IsNamed names name → total names ≤ size → m.traffic ≡ store.traffic
+    → scope_of store.variables ≡ names → Holds store.variables m.slots → length m.slots ≡ size
+    → place < size_of names name → Reaches names size (cell_set store name place value)
+    (slot_written m (slot_of names name + place) value)
+stored_reaches names name size store m place value named roomy traffic names_are holds same within =
+    record {
+      traffic = traffic;
+      names_are = scope_of-with_cell store.variables name place value ∙ names_are;
+      holds = stored_holds names name store m.slots place value
+          (omega arith) names_are holds named within;
+      same = length-set m.slots (slot_of names name + place) value ∙ same;
+      roomy = roomy;
+    }
 
-set_by_place : (names : Scope) (name : List ℕ) (size slot free : ℕ) (before : List ℤ) (given : ℤ × Store) (m : Machine) (o : Option ℕ) → IsNamed names name → total names ≤ size → length before ≡ size → ((place : ℕ) → o ≡ Some place → place < size_of names name) → StandsAt names slot free before given m → Related (Reaches names size) (result_and_then (tested_place o) (λ place. Ok (cell_set given.1 name place given.0))) (result_and_then (tested_place o) (λ place. Ok (slot_written m (slot_of names name + place) (slot_value m slot))))
+set_by_place : (names : Scope) (name : List ℕ) (size slot free : ℕ) (before : List ℤ)
+    (given : ℤ × Store) (m : Machine) (o : Option ℕ) → IsNamed names name → total names ≤ size
+    → length before ≡ size → ((place : ℕ) → o ≡ Some place → place < size_of names name)
+    → StandsAt names slot free before given m
+    → Related (Reaches names size) (result_and_then (tested_place o)
+    (λ place. Ok (cell_set given.1 name place given.0)))
+    (result_and_then (tested_place o) (λ place. Ok
+    (slot_written m (slot_of names name + place) (slot_value m slot))))
 set_by_place names name size slot free before given m None named roomy same below stands = refl
 set_by_place names name size slot free before given m (Some place) named roomy same below stands =
-    subst (λ v. Reaches names size (cell_set given.1 name place given.0) (slot_written m (slot_of names name + place) v)) (sym stands.value)
-    (stored_reaches names name size given.1 m place given.0 named roomy stands.traffic stands.names_are stands.holds (stands.size ∙ same) (below place refl))
+    subst (λ v. Reaches names size (cell_set given.1 name place given.0)
+    (slot_written m (slot_of names name + place) v)) (sym stands.value)
+    (stored_reaches names name size given.1 m place given.0 named roomy stands.traffic
+    stands.names_are stands.holds (stands.size ∙ same) (below place refl))
 
 -- an element that gets a value, from where the index's code has led
-set_goes_on : (port : Port) (name : List ℕ) (index value : tree.Expr) (names : Scope) (store : Store) (slots : List ℤ) (first : ℤ × Store) (m1 : Machine) → let from = operand_slot names (writes_no_variable value) index (total names) in IsNamed names name → IsClosed names index → IsClosed names value → Ready names (total names) store slots → nodes_room (element_nodes names name from assign.Set value (total names + 1)) ≤ length slots → StandsAt names from (total names) slots first m1 → Related (Reaches names (length slots)) (element_set port name assign.Set value first) (nodes_done port (element_nodes names name from assign.Set value (total names + 1)) m1)
-set_goes_on port name index value names store slots first m1 named closed closed' ready room stands1 =
+set_goes_on : (port : Port) (name : List ℕ) (index value : tree.Expr) (names : Scope)
+    (store : Store) (slots : List ℤ) (first : ℤ × Store) (m1 : Machine) → let from =
+    operand_slot names
+    (writes_no_variable
+    value) index
+    (total names) in
+    IsNamed names name
+    → IsClosed names
+    index → IsClosed
+    names value
+    → Ready names
+    (total names) store
+    slots → nodes_room
+    (element_nodes names
+    name from assign.Set
+    value (total names
+    + 1)) ≤ length slots
+    → StandsAt names
+    from (total names)
+    slots first m1
+    → Related
+    (Reaches names
+    (length slots))
+    (element_set port
+    name assign.Set
+    value first)
+    (nodes_done port
+    (element_nodes names
+    name from assign.Set
+    value (total names
+    + 1)) m1)
+set_goes_on port name index value names store slots first m1 named closed closed' ready room stands1
+    =
     let free = total names + 1 in
     let from = operand_slot names (writes_no_variable value) index (total names) in
     let base = slot_of names name in
@@ -100,40 +171,87 @@ set_goes_on port name index value names store slots first m1 named closed closed
     let room_c : nodes_room c ≤ length slots = omega (arith, nodes_room-before c (one last)) in
     let size1 = stands1.size in
     let roomy = ready.roomy in
-    let ready1 : Ready names free first.1 m1.slots = record { names_are = stands1.names_are; holds = stands1.holds; above = omega arith; roomy = omega arith } in
-    let goal_is : Result Store Cause → Result Machine Cause → Type 0 = Related (Reaches names (length slots)) in
-    let meant : ℤ × Store → Result Store Cause = λ given. result_and_then (place_of given.1 name first.0) (λ place. Ok (cell_set given.1 name place given.0)) in
-    let steps_are : nodes_done port (before c (one last)) m1 ≡ result_and_then (nodes_done port c (machine_at m1.slots first.1)) (inst_done port last) = then_last port c last m1 ∙ ap (λ m. result_and_then (nodes_done port c m) (inst_done port last)) (machine_is m1 first.1 stands1.traffic) in
+    let ready1 : Ready names free first.1 m1.slots =
+    record {
+      names_are = stands1.names_are;
+      holds = stands1.holds;
+      above =
+          omega arith;
+      roomy = omega arith;
+    } in
+    let goal_is : Result Store Cause → Result Machine Cause → Type 0 =
+    Related (Reaches names (length slots)) in
+    let meant : ℤ × Store → Result Store Cause =
+    λ given. result_and_then (place_of given.1 name first.0)
+    (λ place. Ok (cell_set given.1 name place given.0)) in
+    let steps_are : nodes_done port (before c (one last)) m1
+    ≡ result_and_then (nodes_done port c (machine_at m1.slots first.1)) (inst_done port last)
+    = then_last port c last m1 ∙ ap
+    (λ m. result_and_then (nodes_done port c m) (inst_done port last))
+    (machine_is m1 first.1 stands1.traffic) in
     subst (goal_is (result_and_then (value_of port value first.1) meant)) (sym steps_are)
-    (then_related (StandsAt names at_value free m1.slots) (Reaches names (length slots)) (value_of port value first.1) (nodes_done port c (machine_at m1.slots first.1)) meant (inst_done port last) (operand_runs port value (expr_runs port value) names true free first.1 m1.slots closed' ready1 (omega arith)) (λ second m2 is stands2.
-    let index_is = left_stays port names index value (total names) store slots first second m1 m2 closed ready is stands1 stands2.holds stands2.kept in
+    (then_related (StandsAt names at_value free m1.slots) (Reaches names (length slots))
+    (value_of port value first.1) (nodes_done port c (machine_at m1.slots first.1)) meant
+    (inst_done port last) (operand_runs port value
+    (expr_runs port value) names true free first.1 m1.slots closed' ready1 (omega arith))
+    (λ second m2 is stands2.
+    let index_is = left_stays port names index value
+    (total names) store slots first second m1 m2 closed ready is stands1 stands2.holds
+    stands2.kept in
     let o = place_in (length (cells_named second.1.variables name)) first.0 in
-    let place_is = same_place names name second.1 m2.slots first.0 m2 from stands2.names_are stands2.holds named index_is in
-    let stores : Option ℕ → Result Machine Cause = λ p. result_and_then (tested_place p) (λ place. Ok (slot_written m2 (base + place) (slot_value m2 at_value))) in
+    let place_is = same_place names name second.1 m2.slots first.0 m2 from stands2.names_are
+    stands2.holds named index_is in
+    let stores : Option ℕ → Result Machine Cause =
+    λ p. result_and_then (tested_place p)
+    (λ place. Ok (slot_written m2 (base + place) (slot_value m2 at_value))) in
     subst (goal_is (meant second)) (sym (ap stores place_is))
-    (set_by_place names name (length slots) at_value free m1.slots second m2 o named roomy size1 (λ place e. place_within names name second.1 m2.slots first.0 place stands2.names_are stands2.holds named e) stands2)))
+    (set_by_place names name (length slots) at_value free m1.slots second m2 o named roomy size1
+    (λ place e. place_within names name second.1 m2.slots first.0 place stands2.names_are
+    stands2.holds named e) stands2)))
 
 -- the value of a compound assignment, and its store
-joined_by_result : (port : Port) (names : Scope) (name : List ℕ) (size from free place : ℕ) (index : ℤ) (store : Store) (m : Machine) (r : Result ℤ Cause) → IsNamed names name → total names ≤ size → m.traffic ≡ store.traffic → scope_of store.variables ≡ names → Holds store.variables m.slots → length m.slots ≡ size → total names ≤ free → from < free → free < size → place < size_of names name → slot_value m from ≡ index → place_in (size_of names name) index ≡ Some place → Related (Reaches names size) (result_and_then r (λ new. Ok (cell_set store name place new))) (result_and_then (result_and_then r (λ value. Ok (slot_written m free value))) (nodes_done port (one (act.Store (slot_of names name) (size_of names name) from free))))
-joined_by_result port names name size from free place index store m (Err cause) named roomy traffic names_are holds same above low within lt index_is place_is = refl
-joined_by_result port names name size from free place index store m (Ok new) named roomy traffic names_are holds same above low within lt index_is place_is =
+joined_by_result : (port : Port) (names : Scope) (name : List ℕ) (size from free place : ℕ)
+    (index : ℤ) (store : Store) (m : Machine) (r : Result ℤ Cause) → IsNamed names name
+    → total names ≤ size → m.traffic ≡ store.traffic → scope_of store.variables ≡ names
+    → Holds store.variables m.slots → length m.slots ≡ size → total names ≤ free → from < free
+    → free < size → place < size_of names name → slot_value m from ≡ index
+    → place_in (size_of names name) index ≡ Some place
+    → Related (Reaches names size) (result_and_then r (λ new. Ok (cell_set store name place new)))
+    (result_and_then (result_and_then r (λ value. Ok (slot_written m free value)))
+    (nodes_done port (one (act.Store (slot_of names name) (size_of names name) from free))))
+joined_by_result port names name size from free place index store m
+    (Err cause) named roomy traffic names_are holds same above low within lt index_is place_is =
+    refl
+joined_by_result port names name size from free place index store m
+    (Ok new) named roomy traffic names_are holds same above low within lt index_is place_is =
     let base = slot_of names name in
     let m3 = slot_written m free new in
     let top = few names store.variables names_are in
     let size3 = length-set m.slots free new in
     let apart : from ≢ free = omega arith in
     let fits : free < length m.slots = omega arith in
-    let index3 : slot_value m3 from ≡ index = get_or-set_other m.slots free from new (pos 0) apart ∙ index_is in
+    let index3 : slot_value m3 from ≡ index =
+    get_or-set_other m.slots free from new (pos 0) apart ∙ index_is in
     let new3 : slot_value m3 free ≡ new = get_or-set_same m.slots free new (pos 0) fits in
-    let stores : Option ℕ → Result Machine Cause = λ o. result_and_then (result_and_then (tested_place o) (λ p. Ok (slot_written m3 (base + p) (slot_value m3 free)))) (λ m. Ok m) in
-    let place3 : place_in (size_of names name) (slot_value m3 from) ≡ Some place = ap (place_in (size_of names name)) index3 ∙ place_is in
-    let holds3 : Holds store.variables m3.slots = Holds-set_above store.variables m.slots free new (omega arith) holds in
-    subst (Related (Reaches names size) (Ok (cell_set store name place new))) (sym (ap stores place3))
-    (subst (λ v. Reaches names size (cell_set store name place new) (slot_written m3 (base + place) v)) (sym new3)
-    (stored_reaches names name size store m3 place new named roomy traffic names_are holds3 (size3 ∙ same) lt))
+    let stores : Option ℕ → Result Machine Cause =
+    λ o. result_and_then (result_and_then (tested_place o)
+    (λ p. Ok (slot_written m3 (base + p) (slot_value m3 free)))) (λ m. Ok m) in
+    let place3 : place_in (size_of names name) (slot_value m3 from) ≡ Some place =
+    ap (place_in (size_of names name)) index3 ∙ place_is in
+    let holds3 : Holds store.variables m3.slots =
+    Holds-set_above store.variables m.slots free new (omega arith) holds in
+    subst (Related (Reaches names size) (Ok (cell_set store name place new)))
+    (sym (ap stores place3))
+    (subst (λ v. Reaches names size (cell_set store name place new)
+    (slot_written m3 (base + place) v)) (sym new3)
+    (stored_reaches names name size store m3 place new named roomy traffic names_are holds3
+    (size3 ∙ same) lt))
 
 -- the same value stands where it did after a write of another slot above the variables
-stands_beside : (names : Scope) (slot free other : ℕ) (before : List ℤ) (given : ℤ × Store) (m : Machine) (value : ℤ) → total names ≤ free → free < other → slot ≤ free → StandsAt names slot free before given m → StandsAt names slot free before given (slot_written m other value)
+stands_beside : (names : Scope) (slot free other : ℕ) (before : List ℤ) (given : ℤ × Store)
+    (m : Machine) (value : ℤ) → total names ≤ free → free < other → slot ≤ free
+    → StandsAt names slot free before given m
+    → StandsAt names slot free before given (slot_written m other value)
 stands_beside names slot free other before given m value above more low stands =
     let top = few names given.1.variables stands.names_are in
     let apart : slot ≢ other = omega arith in
@@ -149,8 +267,23 @@ stands_beside names slot free other before given m value above more low stands =
     }
 
 -- a compound assignment, from where the old value stands in a free slot
-joined_goes_on : (port : Port) (name : List ℕ) (operator : BinaryOperator) (index value : tree.Expr) (names : Scope) (store : Store) (slots : List ℤ) (first : ℤ × Store) (m1 : Machine) (place : ℕ) (old : ℤ) → let from = operand_slot names (writes_no_variable value) index (total names) in let free = total names + 1 in let c = operand_nodes names true value (free + 1) in let at_value = operand_slot names true value (free + 1) in let base = slot_of names name in let size = size_of names name in IsNamed names name → IsClosed names index → IsClosed names value → Ready names (total names) store slots → nodes_room c ≤ length slots → free < length slots → place < size → place_in size first.0 ≡ Some place → slot_value m1 free ≡ old → StandsAt names from (total names) slots first m1 → Related (Reaches names (length slots)) (result_and_then (value_of port value first.1) (λ given. result_and_then (binary_value operator old given.0) (λ new. Ok (cell_set given.1 name place new)))) (nodes_done port (before c (Act (binary_step operator free free at_value) (one (act.Store base size from free)))) m1)
-joined_goes_on port name operator index value names store slots first m1 place old named closed closed' ready room_c within lt place_is old_is stands1 =
+joined_goes_on : (port : Port) (name : List ℕ) (operator : BinaryOperator) (index value : tree.Expr)
+    (names : Scope) (store : Store) (slots : List ℤ) (first : ℤ × Store) (m1 : Machine) (place : ℕ)
+    (old : ℤ) → let from = operand_slot names (writes_no_variable value) index (total names) in
+    let free = total names + 1 in let c = operand_nodes names true value (free + 1) in
+    let at_value = operand_slot names true value (free + 1) in let base = slot_of names name in
+    let size = size_of names name in IsNamed names name → IsClosed names index
+    → IsClosed names value → Ready names (total names) store slots → nodes_room c ≤ length slots
+    → free < length slots → place < size → place_in size first.0 ≡ Some place
+    → slot_value m1 free ≡ old → StandsAt names from (total names) slots first m1
+    → Related (Reaches names (length slots))
+    (result_and_then (value_of port value first.1)
+    (λ given. result_and_then (binary_value operator old given.0)
+    (λ new. Ok (cell_set given.1 name place new))))
+    (nodes_done port (before c (Act (binary_step operator free free at_value)
+    (one (act.Store base size from free)))) m1)
+joined_goes_on port name operator index value names store slots first m1 place old named closed
+    closed' ready room_c within lt place_is old_is stands1 =
     let free = total names + 1 in
     let from = operand_slot names (writes_no_variable value) index (total names) in
     let c = operand_nodes names true value (free + 1) in
@@ -159,41 +292,101 @@ joined_goes_on port name operator index value names store slots first m1 place o
     let rest = Act (binary_step operator free free at_value) store_code in
     let size1 = stands1.size in
     let roomy = ready.roomy in
-    let low = operand_low port index names (writes_no_variable value) (total names) store slots closed ready in
-    let ready1 : Ready names (free + 1) first.1 m1.slots = record { names_are = stands1.names_are; holds = stands1.holds; above = omega arith; roomy = omega arith } in
-    let goal_is : Result Store Cause → Result Machine Cause → Type 0 = Related (Reaches names (length slots)) in
-    let meant : ℤ × Store → Result Store Cause = λ given. result_and_then (binary_value operator old given.0) (λ new. Ok (cell_set given.1 name place new)) in
-    let steps_are : nodes_done port (before c rest) m1 ≡ result_and_then (nodes_done port c (machine_at m1.slots first.1)) (nodes_done port rest) = nodes_done-before port c rest m1 ∙ ap (λ m. result_and_then (nodes_done port c m) (nodes_done port rest)) (machine_is m1 first.1 stands1.traffic) in
+    let low = operand_low port index names (writes_no_variable value)
+    (total names) store slots closed ready in
+    let ready1 : Ready names (free + 1) first.1 m1.slots =
+    record {
+      names_are = stands1.names_are;
+      holds = stands1.holds;
+      above =
+          omega arith;
+      roomy = omega arith;
+    } in
+    let goal_is : Result Store Cause → Result Machine Cause → Type 0 =
+    Related (Reaches names (length slots)) in
+    let meant : ℤ × Store → Result Store Cause =
+    λ given. result_and_then (binary_value operator old given.0)
+    (λ new. Ok (cell_set given.1 name place new)) in
+    let steps_are : nodes_done port (before c rest) m1
+    ≡ result_and_then (nodes_done port c (machine_at m1.slots first.1)) (nodes_done port rest)
+    = nodes_done-before port c rest m1
+    ∙ ap (λ m. result_and_then (nodes_done port c m) (nodes_done port rest))
+    (machine_is m1 first.1 stands1.traffic) in
     subst (goal_is (result_and_then (value_of port value first.1) meant)) (sym steps_are)
-    (then_related (StandsAt names at_value (free + 1) m1.slots) (Reaches names (length slots)) (value_of port value first.1) (nodes_done port c (machine_at m1.slots first.1)) meant (nodes_done port rest) (operand_runs port value (expr_runs port value) names true (free + 1) first.1 m1.slots closed' ready1 (omega arith)) (λ second m2 is stands2.
-    let index_is = left_stays port names index value (total names) store slots first second m1 m2 closed ready is stands1 stands2.holds (λ k bottom high. stands2.kept k bottom (omega arith)) in
+    (then_related (StandsAt names at_value (free + 1) m1.slots) (Reaches names (length slots))
+    (value_of port value first.1) (nodes_done port c (machine_at m1.slots first.1)) meant
+    (nodes_done port rest) (operand_runs port value (expr_runs port value) names true
+    (free + 1) first.1 m1.slots closed' ready1 (omega arith)) (λ second m2 is stands2.
+    let index_is = left_stays port names index value
+    (total names) store slots first second m1 m2 closed ready is stands1 stands2.holds
+    (λ k bottom high. stands2.kept k bottom (omega arith)) in
     let old2 : slot_value m2 free ≡ old = stands2.kept free (omega arith) (omega arith) ∙ old_is in
-    let done_is : inst_done port (binary_step operator free free at_value) m2 ≡ result_and_then (binary_value operator old second.0) (λ v. Ok (slot_written m2 free v)) =
+    let done_is : inst_done port (binary_step operator free free at_value) m2
+    ≡ result_and_then (binary_value operator old second.0) (λ v. Ok (slot_written m2 free v))
+    =
     binary_step_done port operator free free at_value m2
-    ∙ ap (λ v. result_and_then (binary_value operator v (slot_value m2 at_value)) (λ w. Ok (slot_written m2 free w))) old2
-    ∙ ap (λ v. result_and_then (binary_value operator old v) (λ w. Ok (slot_written m2 free w))) stands2.value in
-    subst (goal_is (meant second)) (sym (ap (λ r. result_and_then r (nodes_done port store_code)) done_is))
-    (joined_by_result port names name (length slots) from free place first.0 second.1 m2 (binary_value operator old second.0) named roomy stands2.traffic stands2.names_are stands2.holds (stands2.size ∙ size1) (omega arith) (omega arith) within lt index_is place_is)))
+    ∙ ap (λ v. result_and_then (binary_value operator v (slot_value m2 at_value))
+    (λ w. Ok (slot_written m2 free w))) old2
+    ∙ ap (λ v. result_and_then (binary_value operator old v) (λ w. Ok (slot_written m2 free w)))
+    stands2.value in
+    subst (goal_is (meant second)) (sym (ap
+    (λ r. result_and_then r (nodes_done port store_code)) done_is))
+    (joined_by_result port names name (length slots) from free place first.0 second.1 m2
+    (binary_value operator old second.0) named roomy stands2.traffic stands2.names_are
+    stands2.holds (stands2.size ∙ size1) (omega arith)
+    (omega arith) within lt index_is place_is)))
 
 -- a compound assignment, from where the index's code has led
-compound_by_place : (port : Port) (name : List ℕ) (operator : BinaryOperator) (index value : tree.Expr) (names : Scope) (store : Store) (slots : List ℤ) (first : ℤ × Store) (m1 : Machine) (o : Option ℕ) → let from = operand_slot names (writes_no_variable value) index (total names) in IsNamed names name → IsClosed names index → IsClosed names value → Ready names (total names) store slots → nodes_room (compound_nodes names name from operator value (total names + 1)) ≤ length slots → ((place : ℕ) → o ≡ Some place → place < size_of names name) → place_in (size_of names name) first.0 ≡ o → StandsAt names from (total names) slots first m1 → Related (Reaches names (length slots)) (result_and_then (tested_place o) (λ place. let old = cell_in first.1 name place in result_and_then (value_of port value first.1) (λ given. result_and_then (binary_value operator old given.0) (λ new. Ok (cell_set given.1 name place new))))) (nodes_done port (compound_nodes names name from operator value (total names + 1)) m1)
-compound_by_place port name operator index value names store slots first m1 None named closed closed' ready room below place_is stands1 =
+compound_by_place : (port : Port) (name : List ℕ) (operator : BinaryOperator)
+    (index value : tree.Expr) (names : Scope) (store : Store) (slots : List ℤ) (first : ℤ × Store)
+    (m1 : Machine) (o : Option ℕ) → let from =
+    operand_slot names (writes_no_variable value) index
+    (total names) in
+    IsNamed names name → IsClosed names index
+    → IsClosed names value
+    → Ready names (total names) store slots
+    → nodes_room
+    (compound_nodes names name from operator value
+    (total names + 1)) ≤ length slots
+    → ((place : ℕ) → o ≡ Some place
+    → place < size_of names name)
+    → place_in (size_of names name) first.0 ≡ o
+    → StandsAt names from (total names) slots first m1
+    → Related (Reaches names (length slots))
+    (result_and_then (tested_place o)
+    (λ place. let old = cell_in first.1 name place in
+    result_and_then (value_of port value first.1)
+    (λ given. result_and_then
+    (binary_value operator old given.0)
+    (λ new. Ok (cell_set given.1 name place new)))))
+    (nodes_done port
+    (compound_nodes names name from operator value
+    (total names + 1)) m1)
+compound_by_place port name operator index value names store slots first m1 None named closed
+    closed' ready room below place_is stands1 =
     let free = total names + 1 in
     let from = operand_slot names (writes_no_variable value) index (total names) in
     let base = slot_of names name in
     let c = operand_nodes names true value (free + 1) in
     let at_value = operand_slot names true value (free + 1) in
-    let rest = before c (Act (binary_step operator free free at_value) (one (act.Store base (size_of names name) from free))) in
-    let loads : Option ℕ → Result Machine Cause = λ p. result_and_then (result_and_then (tested_place p) (λ place. Ok (slot_written m1 free (slot_value m1 (base + place))))) (nodes_done port rest) in
-    let found : place_in (size_of names name) (slot_value m1 from) ≡ None = ap (place_in (size_of names name)) stands1.value ∙ place_is in
+    let rest = before c (Act (binary_step operator free free at_value)
+    (one (act.Store base (size_of names name) from free))) in
+    let loads : Option ℕ → Result Machine Cause =
+    λ p. result_and_then (result_and_then (tested_place p)
+    (λ place. Ok (slot_written m1 free (slot_value m1 (base + place)))))
+    (nodes_done port rest) in
+    let found : place_in (size_of names name) (slot_value m1 from) ≡ None =
+    ap (place_in (size_of names name)) stands1.value ∙ place_is in
     subst (Related (Reaches names (length slots)) (Err Index)) (sym (ap loads found)) refl
-compound_by_place port name operator index value names store slots first m1 (Some place) named closed closed' ready room below place_is stands1 =
+compound_by_place port name operator index value names store slots first m1
+    (Some place) named closed closed' ready room below place_is stands1 =
     let free = total names + 1 in
     let from = operand_slot names (writes_no_variable value) index (total names) in
     let base = slot_of names name in
     let c = operand_nodes names true value (free + 1) in
     let at_value = operand_slot names true value (free + 1) in
-    let last = Act (binary_step operator free free at_value) (one (act.Store base (size_of names name) from free)) in
+    let last = Act (binary_step operator free free at_value)
+    (one (act.Store base (size_of names name) from free)) in
     let rest = before c last in
     let size1 = stands1.size in
     let room_c : nodes_room c ≤ length slots = omega (arith, nodes_room-before c last) in
@@ -201,39 +394,86 @@ compound_by_place port name operator index value names store slots first m1 (Som
     let within1 : free < length m1.slots = omega arith in
     let lt = below place refl in
     let old = cell_in first.1 name place in
-    let old_is = named_cell names first.1 m1.slots name place stands1.names_are stands1.holds named lt in
-    let low = operand_low port index names (writes_no_variable value) (total names) store slots closed ready in
-    let loads : Option ℕ → Result Machine Cause = λ p. result_and_then (result_and_then (tested_place p) (λ place. Ok (slot_written m1 free (slot_value m1 (base + place))))) (nodes_done port rest) in
-    let found : place_in (size_of names name) (slot_value m1 from) ≡ Some place = ap (place_in (size_of names name)) stands1.value ∙ place_is in
-    let loaded : loads (Some place) ≡ nodes_done port rest (slot_written m1 free old) = ap (λ v. nodes_done port rest (slot_written m1 free v)) old_is in
-    let meant : Result Store Cause = result_and_then (value_of port value first.1) (λ given. result_and_then (binary_value operator old given.0) (λ new. Ok (cell_set given.1 name place new))) in
-    let stands2 : StandsAt names from (total names) slots first (slot_written m1 free old) = stands_beside names from (total names) free slots first m1 old (omega arith) (omega arith) low stands1 in
+    let old_is = named_cell names first.1 m1.slots name place stands1.names_are stands1.holds named
+    lt in
+    let low = operand_low port index names (writes_no_variable value)
+    (total names) store slots closed ready in
+    let loads : Option ℕ → Result Machine Cause =
+    λ p. result_and_then (result_and_then (tested_place p)
+    (λ place. Ok (slot_written m1 free (slot_value m1 (base + place)))))
+    (nodes_done port rest) in
+    let found : place_in (size_of names name) (slot_value m1 from) ≡ Some place =
+    ap (place_in (size_of names name)) stands1.value ∙ place_is in
+    let loaded : loads (Some place) ≡ nodes_done port rest (slot_written m1 free old) =
+    ap (λ v. nodes_done port rest (slot_written m1 free v)) old_is in
+    let meant : Result Store Cause = result_and_then (value_of port value first.1)
+    (λ given. result_and_then (binary_value operator old given.0)
+    (λ new. Ok (cell_set given.1 name place new))) in
+    let stands2 : StandsAt names from (total names) slots first (slot_written m1 free old) =
+    stands_beside names from (total names) free slots first m1 old (omega arith)
+    (omega arith) low stands1 in
     subst (Related (Reaches names (length slots)) meant) (sym (ap loads found ∙ loaded))
-    (joined_goes_on port name operator index value names store slots first (slot_written m1 free old) place old named closed closed' ready room_c within lt place_is (get_or-set_same m1.slots free old (pos 0) within1) stands2)
+    (joined_goes_on port name operator index value names store slots first
+    (slot_written m1 free old) place old named closed closed' ready room_c within lt place_is
+    (get_or-set_same m1.slots free old (pos 0) within1) stands2)
 
-compound_goes_on : (port : Port) (name : List ℕ) (operator : BinaryOperator) (index value : tree.Expr) (names : Scope) (store : Store) (slots : List ℤ) (first : ℤ × Store) (m1 : Machine) → let from = operand_slot names (writes_no_variable value) index (total names) in IsNamed names name → IsClosed names index → IsClosed names value → Ready names (total names) store slots → nodes_room (compound_nodes names name from operator value (total names + 1)) ≤ length slots → StandsAt names from (total names) slots first m1 → Related (Reaches names (length slots)) (element_joined port name operator value first) (nodes_done port (compound_nodes names name from operator value (total names + 1)) m1)
-compound_goes_on port name operator index value names store slots first m1 named closed closed' ready room stands1 =
+compound_goes_on : (port : Port) (name : List ℕ) (operator : BinaryOperator)
+    (index value : tree.Expr) (names : Scope) (store : Store) (slots : List ℤ) (first : ℤ × Store)
+    (m1 : Machine) → let from = operand_slot names (writes_no_variable value) index (total names) in
+    IsNamed names name → IsClosed names index → IsClosed names value
+    → Ready names (total names) store slots
+    → nodes_room (compound_nodes names name from operator value (total names + 1)) ≤ length slots
+    → StandsAt names from (total names) slots first m1
+    → Related (Reaches names (length slots)) (element_joined port name operator value first)
+    (nodes_done port (compound_nodes names name from operator value (total names + 1)) m1)
+compound_goes_on port name operator index value names store slots first m1 named closed closed'
+    ready room stands1 =
     let variables = first.1.variables in
     let o = place_in (length (cells_named variables name)) first.0 in
-    let place_is : place_in (size_of names name) first.0 ≡ o = ap (λ n. place_in n first.0) (sym (named_size names variables m1.slots name stands1.names_are stands1.holds named)) in
-    compound_by_place port name operator index value names store slots first m1 o named closed closed' ready room (λ place e. place_within names name first.1 m1.slots first.0 place stands1.names_are stands1.holds named e) place_is stands1
+    let place_is : place_in (size_of names name) first.0 ≡ o =
+    ap (λ n. place_in n first.0) (sym
+    (named_size names variables m1.slots name stands1.names_are stands1.holds named)) in
+    compound_by_place port name operator index value names store slots first m1 o named closed
+    closed' ready room (λ place e. place_within names name first.1 m1.slots first.0 place
+    stands1.names_are stands1.holds named e) place_is stands1
 
-element_goes_on : (port : Port) (name : List ℕ) (operator : AssignOperator) (index value : tree.Expr) (names : Scope) (store : Store) (slots : List ℤ) (first : ℤ × Store) (m1 : Machine) → let from = operand_slot names (writes_no_variable value) index (total names) in IsNamed names name → IsClosed names index → IsClosed names value → Ready names (total names) store slots → nodes_room (element_nodes names name from operator value (total names + 1)) ≤ length slots → StandsAt names from (total names) slots first m1 → Related (Reaches names (length slots)) (element_set port name operator value first) (nodes_done port (element_nodes names name from operator value (total names + 1)) m1)
-element_goes_on port name assign.Set index value names store slots first m1 named closed closed' ready room stands =
-    set_goes_on port name index value names store slots first m1 named closed closed' ready room stands
-element_goes_on port name assign.Add index value names store slots first m1 named closed closed' ready room stands =
-    compound_goes_on port name binary.Add index value names store slots first m1 named closed closed' ready room stands
-element_goes_on port name assign.Subtract index value names store slots first m1 named closed closed' ready room stands =
-    compound_goes_on port name binary.Subtract index value names store slots first m1 named closed closed' ready room stands
-element_goes_on port name assign.Multiply index value names store slots first m1 named closed closed' ready room stands =
-    compound_goes_on port name binary.Multiply index value names store slots first m1 named closed closed' ready room stands
-element_goes_on port name assign.Divide index value names store slots first m1 named closed closed' ready room stands =
-    compound_goes_on port name binary.Divide index value names store slots first m1 named closed closed' ready room stands
-element_goes_on port name assign.Remainder index value names store slots first m1 named closed closed' ready room stands =
-    compound_goes_on port name binary.Remainder index value names store slots first m1 named closed closed' ready room stands
+element_goes_on : (port : Port) (name : List ℕ) (operator : AssignOperator)
+    (index value : tree.Expr) (names : Scope) (store : Store) (slots : List ℤ) (first : ℤ × Store)
+    (m1 : Machine) → let from = operand_slot names (writes_no_variable value) index (total names) in
+    IsNamed names name → IsClosed names index → IsClosed names value
+    → Ready names (total names) store slots
+    → nodes_room (element_nodes names name from operator value (total names + 1)) ≤ length slots
+    → StandsAt names from (total names) slots first m1
+    → Related (Reaches names (length slots)) (element_set port name operator value first)
+    (nodes_done port (element_nodes names name from operator value (total names + 1)) m1)
+element_goes_on port name assign.Set index value names store slots first m1 named closed closed'
+    ready room stands =
+    set_goes_on port name index value names store slots first m1 named closed closed' ready room
+    stands
+element_goes_on port name assign.Add index value names store slots first m1 named closed closed'
+    ready room stands =
+    compound_goes_on port name binary.Add index value names store slots first m1 named closed
+    closed' ready room stands
+element_goes_on port name assign.Subtract index value names store slots first m1 named closed
+    closed' ready room stands =
+    compound_goes_on port name binary.Subtract index value names store slots first m1 named closed
+    closed' ready room stands
+element_goes_on port name assign.Multiply index value names store slots first m1 named closed
+    closed' ready room stands =
+    compound_goes_on port name binary.Multiply index value names store slots first m1 named closed
+    closed' ready room stands
+element_goes_on port name assign.Divide index value names store slots first m1 named closed closed'
+    ready room stands =
+    compound_goes_on port name binary.Divide index value names store slots first m1 named closed
+    closed' ready room stands
+element_goes_on port name assign.Remainder index value names store slots first m1 named closed
+    closed' ready room stands =
+    compound_goes_on port name binary.Remainder index value names store slots first m1 named closed
+    closed' ready room stands
 
 -- an assignment to an element
-pub element_assigned : (port : Port) (name : List ℕ) (index : tree.Expr) (operator : AssignOperator) (value : tree.Expr) → RunsStmt port (tree.AssignElement name index operator value)
+pub element_assigned : (port : Port) (name : List ℕ) (index : tree.Expr) (operator : AssignOperator)
+    (value : tree.Expr) → RunsStmt port (tree.AssignElement name index operator value)
 element_assigned port name index operator value names store slots closed ready room =
     let may_alias = writes_no_variable value in
     let a = operand_nodes names may_alias index (total names) in
@@ -241,6 +481,13 @@ element_assigned port name index operator value names store slots closed ready r
     let b = element_nodes names name from operator value (total names + 1) in
     let room_a : nodes_room a ≤ length slots = omega (arith, nodes_room-before a b) in
     let room_b : nodes_room b ≤ length slots = omega (arith, nodes_room-before a b) in
-    subst (Related (Reaches names (length slots)) (result_and_then (value_of port index store) (element_set port name operator value))) (sym (nodes_done-before port a b (machine_at slots store)))
-    (then_related (StandsAt names from (total names) slots) (Reaches names (length slots)) (value_of port index store) (nodes_done port a (machine_at slots store)) (element_set port name operator value) (nodes_done port b) (operand_runs port index (expr_runs port index) names may_alias (total names) store slots closed.1 ready room_a) (λ first m1 is stands.
-    element_goes_on port name operator index value names store slots first m1 closed.0 closed.1 closed.2 ready room_b stands))
+    subst (Related (Reaches names (length slots))
+    (result_and_then (value_of port index store) (element_set port name operator value)))
+    (sym (nodes_done-before port a b (machine_at slots store)))
+    (then_related (StandsAt names from (total names) slots) (Reaches names (length slots))
+    (value_of port index store) (nodes_done port a (machine_at slots store))
+    (element_set port name operator value) (nodes_done port b)
+    (operand_runs port index (expr_runs port index) names may_alias
+    (total names) store slots closed.1 ready room_a) (λ first m1 is stands.
+    element_goes_on port name operator index value names store slots first m1 closed.0 closed.1
+    closed.2 ready room_b stands))

@@ -1,5 +1,7 @@
 -- Each expression's code does what it means.
-use Rattle.std.proofs.Common.{◌≡◌, ◌≢◌, ℕ, ◌+◌, ◌<◌, ◌≤◌, true, cond, ℤ, pos, neg_ℤ, ◌+ℤ◌, List, length, set, Option, Some, None, Result, Ok, Err, refl, sym, ap, ◌∙◌, subst, arith}
+use Rattle.std.proofs.Common.{◌≡◌, ◌≢◌, ℕ, ◌+◌, ◌<◌, ◌≤◌, true, cond, ℤ, pos, neg_ℤ, ◌+ℤ◌, List}
+use Rattle.std.proofs.Common.{length, set, Option, Some, None, Result, Ok, Err, refl, sym, ap, ◌∙◌}
+use Rattle.std.proofs.Common.{subst, arith}
 use Rattle.std.specs.Prelude.{unwrap_or}
 use Rattle.std.proofs.lemmas.List.{get_or-set_same, get_or-set_other, length-set}
 use Rattle.strc_base.specs.Results.{result_and_then}
@@ -15,17 +17,28 @@ use Rattle.strc_inst.specs.declared.inst.Inst.TheVariants as act
 use Rattle.strc_semantics.specs.Arithmetic.{wrapped, truth, is_true, unary_value, binary_value}
 use Rattle.strc_semantics.specs.Scoping.{Scope, total, slot_of}
 use Rattle.strc_semantics.specs.Closed.{IsNamed, IsClosed}
-use Rattle.strc_semantics.specs.Firing.{Port, Store, Traffic, value_in, joined, value_of, popped_from, peeked_from, assigned, with_cell}
-use Rattle.strc_machine.specs.Machine.{Machine, Nodes, End, Choice, before, slot_value, slot_written, inst_done, chosen_by, nodes_done, nodes_room, unary_done, binary_done}
-use Rattle.strc_work.specs.Lowering.{variable_slot, writes_no_variable, stands_at, one, unary_step, binary_step, expr_nodes, operand_slot, operand_nodes}
-use Rattle.strc_work.proofs.Variables.{scope_of, at, Holds, Holds-set_above, Holds-assigned, scope_of-with_cell, same_slots}
-use Rattle.strc_work.proofs.Related.{Related, then_related, weaker_related, chosen_related, nodes_done-before, then_end, then_last}
+use Rattle.strc_semantics.specs.Firing.{Port, Store, Traffic, value_in, joined, value_of}
+use Rattle.strc_semantics.specs.Firing.{popped_from, peeked_from, assigned, with_cell}
+use Rattle.strc_machine.specs.Machine.{Machine, Nodes, End, Choice, before, slot_value}
+use Rattle.strc_machine.specs.Machine.{slot_written, inst_done, chosen_by, nodes_done, nodes_room}
+use Rattle.strc_machine.specs.Machine.{unary_done, binary_done}
+use Rattle.strc_work.specs.Lowering.{variable_slot, writes_no_variable, stands_at, one, unary_step}
+use Rattle.strc_work.specs.Lowering.{binary_step, expr_nodes, operand_slot, operand_nodes}
+use Rattle.strc_work.proofs.Variables.{scope_of, at, Holds, Holds-set_above, Holds-assigned}
+use Rattle.strc_work.proofs.Variables.{scope_of-with_cell, same_slots}
+use Rattle.strc_work.proofs.Related.{Related, then_related, weaker_related, chosen_related}
+use Rattle.strc_work.proofs.Related.{nodes_done-before, then_end, then_last}
 use Rattle.strc_machine.proofs.Spelled.{nodes_room-before}
-use Rattle.strc_work.proofs.Expressions.{Arrives, StandsAt, Ready, machine_at, Runs, Strict, by_operator, named_below, named_value, total-variables, variable_runs, Keeps, keeps, aliased_slot, operand_runs, arrived_stands, expr_room}
+use Rattle.strc_work.proofs.Expressions.{Arrives, StandsAt, Ready, machine_at, Runs, Strict}
+use Rattle.strc_work.proofs.Expressions.{by_operator, named_below, named_value, total-variables}
+use Rattle.strc_work.proofs.Expressions.{variable_runs, Keeps, keeps, aliased_slot, operand_runs}
+use Rattle.strc_work.proofs.Expressions.{arrived_stands, expr_room}
 use Rattle.strc_work.proofs.Elements.{element_runs, step_element_runs}
 
 -- a value that needs no other step
-pub arrives_at_once : (names : Scope) (into free : ℕ) (store : Store) (slots : List ℤ) (value : ℤ) → Ready names free store slots → Arrives names into free slots (value, store) (record { slots = set slots into value; traffic = store.traffic })
+pub arrives_at_once : (names : Scope) (into free : ℕ) (store : Store) (slots : List ℤ) (value : ℤ)
+    → Ready names free store slots → Arrives names into free slots (value, store)
+    (record { slots = set slots into value; traffic = store.traffic })
 arrives_at_once names into free store slots value ready = record {
   slots = slots;
   written = refl;
@@ -35,7 +48,12 @@ arrives_at_once names into free store slots value ready = record {
   size = refl;
 }
 
-pop_runs : (port : Port) (names : Scope) (into free : ℕ) (store : Store) (slots : List ℤ) (r : Result (ℤ × Traffic) Cause) → Ready names free store slots → Related (Arrives names into free slots) (result_and_then r (λ taken. Ok (taken.0, record store { traffic = taken.1 }))) (result_and_then (result_and_then r (λ taken. Ok (record { slots = set slots into taken.0; traffic = taken.1 }))) (nodes_done port End))
+pop_runs : (port : Port) (names : Scope) (into free : ℕ) (store : Store) (slots : List ℤ)
+    (r : Result (ℤ × Traffic) Cause) → Ready names free store slots
+    → Related (Arrives names into free slots)
+    (result_and_then r (λ taken. Ok (taken.0, record store { traffic = taken.1 })))
+    (result_and_then (result_and_then r (λ taken. Ok
+    (record { slots = set slots into taken.0; traffic = taken.1 }))) (nodes_done port End))
 pop_runs port names into free store slots (Ok taken) ready = record {
   slots = slots;
   written = refl;
@@ -46,12 +64,15 @@ pop_runs port names into free store slots (Ok taken) ready = record {
 }
 pop_runs port names into free store slots (Err cause) ready = refl
 
-unary_step_done : (port : Port) (operator : UnaryOperator) (into from : ℕ) (m : Machine) → inst_done port (unary_step operator into from) m ≡ unary_done operator into from m
+unary_step_done : (port : Port) (operator : UnaryOperator) (into from : ℕ) (m : Machine)
+    → inst_done port (unary_step operator into from) m ≡ unary_done operator into from m
 unary_step_done port unary.Negate into from m = refl
 unary_step_done port unary.Not into from m = refl
 unary_step_done port unary.Complement into from m = refl
 
-pub binary_step_done : (port : Port) (operator : BinaryOperator) (into left right : ℕ) (m : Machine) → inst_done port (binary_step operator into left right) m ≡ binary_done operator into left right m
+pub binary_step_done : (port : Port) (operator : BinaryOperator) (into left right : ℕ) (m : Machine)
+    → inst_done port (binary_step operator into left right) m
+    ≡ binary_done operator into left right m
 binary_step_done port binary.LogicalOr into left right m = refl
 binary_step_done port binary.LogicalAnd into left right m = refl
 binary_step_done port binary.Equal into left right m = refl
@@ -72,12 +93,19 @@ binary_step_done port binary.Divide into left right m = refl
 binary_step_done port binary.Remainder into left right m = refl
 
 -- the last step of an operator before its operand
-unary_arrives : (names : Scope) (operator : UnaryOperator) (into from free : ℕ) (before : List ℤ) (given : ℤ × Store) (after : Machine) → StandsAt names from free before given after → Arrives names into free before (unary_value operator given.0, given.1) (slot_written after into (unary_value operator (slot_value after from)))
+unary_arrives : (names : Scope) (operator : UnaryOperator) (into from free : ℕ) (before : List ℤ)
+    (given : ℤ × Store) (after : Machine) → StandsAt names from free before given after
+    → Arrives names into free before (unary_value operator given.0, given.1)
+    (slot_written after into (unary_value operator (slot_value after from)))
 unary_arrives names operator into from free before given after stands = record {
   slots = after.slots;
   written =
       ap (λ v. slot_written after into (unary_value operator v)) stands.value
-      ∙ ap (λ t. record { slots = set after.slots into (unary_value operator given.0); traffic = t }) stands.traffic;
+      ∙ ap (λ t. record {
+        slots = set after.slots into (unary_value operator given.0);
+        traffic =
+            t;
+      }) stands.traffic;
   names_are = stands.names_are;
   holds = stands.holds;
   kept = stands.kept;
@@ -85,85 +113,159 @@ unary_arrives names operator into from free before given after stands = record {
 }
 
 -- the last step of code whose result may be a fault
-binary_arrives : (names : Scope) (into free : ℕ) (before : List ℤ) (store : Store) (after : Machine) (r : Result ℤ Cause) → after.traffic ≡ store.traffic → scope_of store.variables ≡ names → Holds store.variables after.slots → ((k : ℕ) → total names ≤ k → k < free → at after.slots k ≡ at before k) → length after.slots ≡ length before → Related (Arrives names into free before) (result_and_then r (λ value. Ok (value, store))) (result_and_then r (λ value. Ok (slot_written after into value)))
-binary_arrives names into free before store after (Ok value) traffic names_are holds kept size = record {
-  slots = after.slots;
-  written = ap (λ t. record { slots = set after.slots into value; traffic = t }) traffic;
-  names_are = names_are;
-  holds = holds;
-  kept = kept;
-  size = size;
-}
-binary_arrives names into free before store after (Err cause) traffic names_are holds kept size = refl
+binary_arrives : (names : Scope) (into free : ℕ) (before : List ℤ) (store : Store) (after : Machine)
+    (r : Result ℤ Cause) → after.traffic ≡ store.traffic → scope_of store.variables ≡ names
+    → Holds store.variables after.slots → ((k : ℕ) → total names ≤ k → k < free
+    → at after.slots k ≡ at before k) → length after.slots ≡ length before
+    → Related (Arrives names into free before) (result_and_then r (λ value. Ok (value, store)))
+    (result_and_then r (λ value. Ok (slot_written after into value)))
+binary_arrives names into free before store after (Ok value) traffic names_are holds kept size =
+    record {
+      slots = after.slots;
+      written = ap (λ t. record { slots = set after.slots into value; traffic = t }) traffic;
+      names_are = names_are;
+      holds = holds;
+      kept = kept;
+      size = size;
+    }
+binary_arrives names into free before store after (Err cause) traffic names_are holds kept size =
+    refl
 
 -- a machine whose traffic is a store's
-pub machine_is : (m : Machine) (store : Store) → m.traffic ≡ store.traffic → m ≡ machine_at m.slots store
+pub machine_is : (m : Machine) (store : Store) → m.traffic ≡ store.traffic
+    → m ≡ machine_at m.slots store
 machine_is m store e = ap (λ t. record { slots = m.slots; traffic = t }) e
 
 -- the left operand's value is still there after the right operand's code
-pub left_stays : (port : Port) (names : Scope) (left right : tree.Expr) (free : ℕ) (store : Store) (slots : List ℤ) (first second : ℤ × Store) (m1 m2 : Machine) → IsClosed names left → Ready names free store slots → value_of port right first.1 ≡ Ok second → StandsAt names (operand_slot names (writes_no_variable right) left free) free slots first m1 → Holds second.1.variables m2.slots → ((k : ℕ) → total names ≤ k → k < free + 1 → at m2.slots k ≡ at m1.slots k) → at m2.slots (operand_slot names (writes_no_variable right) left free) ≡ first.0
-left_stays port names left right free store slots first second m1 m2 closed ready is stands holds kept =
-    by_place (stands_at names (writes_no_variable right) left) (λ slot at_slot. aliased_slot names (writes_no_variable right) left slot at_slot) stands.value
+pub left_stays : (port : Port) (names : Scope) (left right : tree.Expr) (free : ℕ) (store : Store)
+    (slots : List ℤ) (first second : ℤ × Store) (m1 m2 : Machine) → IsClosed names left
+    → Ready names free store slots → value_of port right first.1 ≡ Ok second
+    → StandsAt names (operand_slot names (writes_no_variable right) left free) free slots first m1
+    → Holds second.1.variables m2.slots → ((k : ℕ) → total names ≤ k → k < free + 1
+    → at m2.slots k ≡ at m1.slots k) → at m2.slots
+    (operand_slot names (writes_no_variable right) left free) ≡ first.0
+left_stays port names left right free store slots first second m1 m2 closed ready is stands holds
+    kept =
+    by_place (stands_at names (writes_no_variable right) left)
+    (λ slot at_slot. aliased_slot names (writes_no_variable right) left slot at_slot)
+    stands.value
   where
-    by_place : (o : Option ℕ) → ((slot : ℕ) → o ≡ Some slot → (writes_no_variable right ≡ true) × (variable_slot names left ≡ Some slot)) → at m1.slots (unwrap_or o free) ≡ first.0 → at m2.slots (unwrap_or o free) ≡ first.0
+    by_place : (o : Option ℕ) → ((slot : ℕ) → o ≡ Some slot
+        → (writes_no_variable right ≡ true) × (variable_slot names left ≡ Some slot))
+        → at m1.slots (unwrap_or o free) ≡ first.0 → at m2.slots (unwrap_or o free) ≡ first.0
     by_place None place value =
         let above = ready.above in
         kept free above (omega arith) ∙ value
     by_place (Some slot) place value =
         let p = place slot refl in
         let below = (variable_runs port left names free slot store slots p.1 closed ready).1 in
-        let same : second.1.variables ≡ first.1.variables = subst (Keeps first.1.variables) is (keeps port right p.0 first.1) in
+        let same : second.1.variables ≡ first.1.variables =
+        subst (Keeps first.1.variables) is (keeps port right p.0 first.1) in
         let few : total (scope_of first.1.variables) ≡ total names = ap total stands.names_are in
         let lt : slot < total (scope_of first.1.variables) = omega arith in
-        same_slots first.1.variables m2.slots m1.slots slot (subst (λ v. Holds v m2.slots) same holds) stands.holds lt ∙ value
+        same_slots first.1.variables m2.slots m1.slots slot
+        (subst (λ v. Holds v m2.slots) same holds) stands.holds lt ∙ value
 
 -- an operator between operands that are both evaluated
-strict_runs : (port : Port) (operator : BinaryOperator) → Strict operator → (left right : tree.Expr) → Runs port left → Runs port right → Runs port (tree.Binary operator left right)
-strict_runs port operator strict left right run_left run_right names into free store slots closed ready room =
+strict_runs : (port : Port) (operator : BinaryOperator) → Strict operator → (left right : tree.Expr)
+    → Runs port left → Runs port right → Runs port (tree.Binary operator left right)
+strict_runs port operator strict left right run_left run_right names into free store slots closed
+    ready room =
     let may_alias = writes_no_variable right in
     let a = operand_nodes names may_alias left free in
     let b = operand_nodes names true right (free + 1) in
     let at_left = operand_slot names may_alias left free in
     let at_right = operand_slot names true right (free + 1) in
     let last = binary_step operator into at_left at_right in
-    let code_is : expr_nodes names (tree.Binary operator left right) into free ≡ before a (before b (one last)) = strict.code (expr_nodes names left free (free + 1)) (expr_nodes names right free (free + 1)) (before a (before b (one last))) into free in
-    let room' : nodes_room (before a (before b (one last))) ≤ length slots = subst (λ n. nodes_room n ≤ length slots) code_is room in
-    let room_a : nodes_room a ≤ length slots = omega (arith, nodes_room-before a (before b (one last))) in
-    let room_b : nodes_room b ≤ length slots = omega (arith, nodes_room-before a (before b (one last)), nodes_room-before b (one last)) in
+    let code_is : expr_nodes names (tree.Binary operator left right) into free
+    ≡ before a (before b (one last)) =
+    strict.code (expr_nodes names left free (free + 1))
+    (expr_nodes names right free (free + 1)) (before a (before b (one last))) into free in
+    let room' : nodes_room (before a (before b (one last))) ≤ length slots =
+    subst (λ n. nodes_room n ≤ length slots) code_is room in
+    let room_a : nodes_room a ≤ length slots =
+    omega (arith, nodes_room-before a (before b (one last))) in
+    let room_b : nodes_room b ≤ length slots =
+    omega (
+      arith,
+      nodes_room-before a (before b (one last)),
+      nodes_room-before b (one last),
+    ) in
     let above = ready.above in
-    let meant_last : ℤ → ℤ × Store → Result (ℤ × Store) Cause = λ value second. result_and_then (binary_value operator value second.0) (λ v. Ok (v, second.1)) in
-    let meant_right : ℤ × Store → Result (ℤ × Store) Cause = λ first. joined operator first (value_of port right) in
-    let goal_is : Result (ℤ × Store) Cause → Result Machine Cause → Type 0 = Related (Arrives names into free slots) in
-    subst (λ n. goal_is (result_and_then (value_of port left store) meant_right) (nodes_done port n (machine_at slots store))) (sym code_is)
-    (subst (goal_is (result_and_then (value_of port left store) meant_right)) (sym (nodes_done-before port a (before b (one last)) (machine_at slots store)))
-    (then_related (StandsAt names at_left free slots) (Arrives names into free slots) (value_of port left store) (nodes_done port a (machine_at slots store)) meant_right (nodes_done port (before b (one last))) (operand_runs port left run_left names may_alias free store slots closed.0 ready room_a) (λ first m1 is_first stands1.
+    let meant_last : ℤ → ℤ × Store → Result (ℤ × Store) Cause =
+    λ value second. result_and_then (binary_value operator value second.0)
+    (λ v. Ok (v, second.1)) in
+    let meant_right : ℤ × Store → Result (ℤ × Store) Cause =
+    λ first. joined operator first (value_of port right) in
+    let goal_is : Result (ℤ × Store) Cause → Result Machine Cause → Type 0 =
+    Related (Arrives names into free slots) in
+    subst (λ n. goal_is (result_and_then (value_of port left store) meant_right)
+    (nodes_done port n (machine_at slots store))) (sym code_is)
+    (subst (goal_is (result_and_then (value_of port left store) meant_right))
+    (sym (nodes_done-before port a (before b (one last)) (machine_at slots store)))
+    (then_related (StandsAt names at_left free slots) (Arrives names into free slots)
+    (value_of port left store) (nodes_done port a (machine_at slots store)) meant_right
+    (nodes_done port (before b (one last)))
+    (operand_runs port left run_left names may_alias free store slots closed.0 ready room_a)
+    (λ first m1 is_first stands1.
     let size1 = stands1.size in
     let roomy = ready.roomy in
-    let ready1 : Ready names (free + 1) first.1 m1.slots = record { names_are = stands1.names_are; holds = stands1.holds; above = omega arith; roomy = omega arith } in
+    let ready1 : Ready names (free + 1) first.1 m1.slots =
+    record {
+      names_are = stands1.names_are;
+      holds = stands1.holds;
+      above =
+          omega arith;
+      roomy = omega arith;
+    } in
     let room_b1 : nodes_room b ≤ length m1.slots = omega arith in
-    let steps_are : nodes_done port (before b (one last)) m1 ≡ result_and_then (nodes_done port b (machine_at m1.slots first.1)) (inst_done port last) = then_last port b last m1 ∙ ap (λ m. result_and_then (nodes_done port b m) (inst_done port last)) (machine_is m1 first.1 stands1.traffic) in
-    subst (λ r. goal_is r (nodes_done port (before b (one last)) m1)) (sym (strict.value first (value_of port right)))
-    (subst (goal_is (result_and_then (value_of port right first.1) (meant_last first.0))) (sym steps_are)
-    (then_related (StandsAt names at_right (free + 1) m1.slots) (Arrives names into free slots) (value_of port right first.1) (nodes_done port b (machine_at m1.slots first.1)) (meant_last first.0) (inst_done port last) (operand_runs port right run_right names true (free + 1) first.1 m1.slots closed.1 ready1 room_b1) (λ second m2 is_second stands2.
-    let value1 = left_stays port names left right free store slots first second m1 m2 closed.0 ready is_second stands1 stands2.holds stands2.kept in
-    let done_is : inst_done port last m2 ≡ result_and_then (binary_value operator first.0 second.0) (λ value. Ok (slot_written m2 into value)) =
+    let steps_are : nodes_done port (before b (one last)) m1
+    ≡ result_and_then (nodes_done port b (machine_at m1.slots first.1)) (inst_done port last)
+    = then_last port b last m1 ∙ ap
+    (λ m. result_and_then (nodes_done port b m) (inst_done port last))
+    (machine_is m1 first.1 stands1.traffic) in
+    subst (λ r. goal_is r (nodes_done port (before b (one last)) m1))
+    (sym (strict.value first (value_of port right)))
+    (subst (goal_is (result_and_then (value_of port right first.1) (meant_last first.0)))
+    (sym steps_are)
+    (then_related (StandsAt names at_right (free + 1) m1.slots) (Arrives names into free slots)
+    (value_of port right first.1) (nodes_done port b (machine_at m1.slots first.1))
+    (meant_last first.0) (inst_done port last)
+    (operand_runs port right run_right names true
+    (free + 1) first.1 m1.slots closed.1 ready1 room_b1) (λ second m2 is_second stands2.
+    let value1 = left_stays port names left right free store slots first second m1 m2 closed.0 ready
+    is_second stands1 stands2.holds stands2.kept in
+    let done_is : inst_done port last m2 ≡ result_and_then (binary_value operator first.0 second.0)
+    (λ value. Ok (slot_written m2 into value)) =
     binary_step_done port operator into at_left at_right m2
-    ∙ ap (λ v. result_and_then (binary_value operator v (slot_value m2 at_right)) (λ value. Ok (slot_written m2 into value))) value1
-    ∙ ap (λ v. result_and_then (binary_value operator first.0 v) (λ value. Ok (slot_written m2 into value))) stands2.value in
+    ∙ ap (λ v. result_and_then (binary_value operator v (slot_value m2 at_right))
+    (λ value. Ok (slot_written m2 into value))) value1
+    ∙ ap (λ v. result_and_then (binary_value operator first.0 v)
+    (λ value. Ok (slot_written m2 into value))) stands2.value in
     subst (goal_is (meant_last first.0 second)) (sym done_is)
-    (binary_arrives names into free slots second.1 m2 (binary_value operator first.0 second.0) stands2.traffic stands2.names_are stands2.holds (λ k low high. stands2.kept k low (omega arith) ∙ stands1.kept k low high) (stands2.size ∙ stands1.size))))))))
+    (binary_arrives names into free slots second.1 m2
+    (binary_value operator first.0 second.0) stands2.traffic stands2.names_are stands2.holds
+    (λ k low high. stands2.kept k low (omega arith) ∙ stands1.kept k low high)
+    (stands2.size ∙ stands1.size))))))))
 
 -- an operator before its operand
-unary_runs : (port : Port) (operator : UnaryOperator) (operand : tree.Expr) → Runs port operand → Runs port (tree.Unary operator operand)
+unary_runs : (port : Port) (operator : UnaryOperator) (operand : tree.Expr) → Runs port operand
+    → Runs port (tree.Unary operator operand)
 unary_runs port operator operand run names into free store slots closed ready room =
     let a = operand_nodes names true operand free in
     let from = operand_slot names true operand free in
     let last = unary_step operator into from in
     let room_a : nodes_room a ≤ length slots = omega (arith, nodes_room-before a (one last)) in
-    let meant_last : ℤ × Store → Result (ℤ × Store) Cause = λ right. Ok (unary_value operator right.0, right.1) in
-    let goal_is : Result (ℤ × Store) Cause → Result Machine Cause → Type 0 = Related (Arrives names into free slots) in
-    subst (goal_is (result_and_then (value_of port operand store) meant_last)) (sym (then_last port a last (machine_at slots store)))
-    (then_related (StandsAt names from free slots) (Arrives names into free slots) (value_of port operand store) (nodes_done port a (machine_at slots store)) meant_last (inst_done port last) (operand_runs port operand run names true free store slots closed ready room_a) (λ given m is stands.
+    let meant_last : ℤ × Store → Result (ℤ × Store) Cause =
+    λ right. Ok (unary_value operator right.0, right.1) in
+    let goal_is : Result (ℤ × Store) Cause → Result Machine Cause → Type 0 =
+    Related (Arrives names into free slots) in
+    subst (goal_is (result_and_then (value_of port operand store) meant_last))
+    (sym (then_last port a last (machine_at slots store)))
+    (then_related (StandsAt names from free slots) (Arrives names into free slots)
+    (value_of port operand store) (nodes_done port a (machine_at slots store)) meant_last
+    (inst_done port last) (operand_runs port operand run names true free store slots closed ready
+    room_a) (λ given m is stands.
     subst (goal_is (meant_last given)) (sym (unary_step_done port operator into from m))
     (unary_arrives names operator into from free slots given m stands)))
 
@@ -174,18 +276,37 @@ peek_runs port index run names into free store slots closed ready room =
     let from = operand_slot names true index free in
     let last = act.Peek into from in
     let room_a : nodes_room a ≤ length slots = omega (arith, nodes_room-before a (one last)) in
-    let meant_last : ℤ × Store → Result (ℤ × Store) Cause = λ place. result_and_then (peeked_from port place.0 place.1.traffic) (λ item. Ok (item, place.1)) in
-    let goal_is : Result (ℤ × Store) Cause → Result Machine Cause → Type 0 = Related (Arrives names into free slots) in
-    subst (goal_is (result_and_then (value_of port index store) meant_last)) (sym (then_last port a last (machine_at slots store)))
-    (then_related (StandsAt names from free slots) (Arrives names into free slots) (value_of port index store) (nodes_done port a (machine_at slots store)) meant_last (inst_done port last) (operand_runs port index run names true free store slots closed ready room_a) (λ given m is stands.
-    let done_is : inst_done port last m ≡ result_and_then (peeked_from port given.0 given.1.traffic) (λ item. Ok (slot_written m into item)) =
-    ap (λ v. result_and_then (peeked_from port v m.traffic) (λ item. Ok (slot_written m into item))) stands.value
-    ∙ ap (λ t. result_and_then (peeked_from port given.0 t) (λ item. Ok (slot_written m into item))) stands.traffic in
+    let meant_last : ℤ × Store → Result (ℤ × Store) Cause =
+    λ place. result_and_then (peeked_from port place.0 place.1.traffic)
+    (λ item. Ok (item, place.1)) in
+    let goal_is : Result (ℤ × Store) Cause → Result Machine Cause → Type 0 =
+    Related (Arrives names into free slots) in
+    subst (goal_is (result_and_then (value_of port index store) meant_last))
+    (sym (then_last port a last (machine_at slots store)))
+    (then_related (StandsAt names from free slots) (Arrives names into free slots)
+    (value_of port index store) (nodes_done port a (machine_at slots store)) meant_last
+    (inst_done port last) (operand_runs port index run names true free store slots closed ready
+    room_a) (λ given m is stands.
+    let done_is : inst_done port last m ≡ result_and_then (peeked_from port given.0 given.1.traffic)
+    (λ item. Ok (slot_written m into item)) =
+    ap (λ v. result_and_then (peeked_from port v m.traffic) (λ item. Ok (slot_written m into item)))
+    stands.value
+    ∙ ap (λ t. result_and_then (peeked_from port given.0 t) (λ item. Ok (slot_written m into item)))
+    stands.traffic in
     subst (goal_is (meant_last given)) (sym done_is)
-    (binary_arrives names into free slots given.1 m (peeked_from port given.0 given.1.traffic) stands.traffic stands.names_are stands.holds stands.kept stands.size)))
+    (binary_arrives names into free slots given.1 m
+    (peeked_from port given.0 given.1.traffic) stands.traffic stands.names_are stands.holds
+    stands.kept stands.size)))
 
 -- a step of a variable, whose new value is the step's own
-first_runs : (port : Port) (names : Scope) (name : List ℕ) (amount : ℤ) (into free : ℕ) (store : Store) (slots : List ℤ) → IsNamed names name → Ready names free store slots → total names ≤ length slots → let new = wrapped (value_in store name +ℤ amount) in Arrives names into free slots (new, assigned store name new) (slot_written (slot_written (machine_at slots store) (slot_of names name) (wrapped (at slots (slot_of names name) +ℤ amount))) into (slot_value (slot_written (machine_at slots store) (slot_of names name) (wrapped (at slots (slot_of names name) +ℤ amount))) (slot_of names name)))
+first_runs : (port : Port) (names : Scope) (name : List ℕ) (amount : ℤ) (into free : ℕ)
+    (store : Store) (slots : List ℤ) → IsNamed names name → Ready names free store slots
+    → total names ≤ length slots → let new = wrapped (value_in store name +ℤ amount) in
+    Arrives names into free slots (new, assigned store name new)
+    (slot_written (slot_written (machine_at slots store) (slot_of names name)
+    (wrapped (at slots (slot_of names name) +ℤ amount))) into
+    (slot_value (slot_written (machine_at slots store) (slot_of names name)
+    (wrapped (at slots (slot_of names name) +ℤ amount))) (slot_of names name)))
 first_runs port names name amount into free store slots named ready room =
     let slot = slot_of names name in
     let old = named_value names free store slots name ready named in
@@ -193,21 +314,34 @@ first_runs port names name amount into free store slots named ready room =
     let below = named_below names free store slots name ready named in
     let within : slot < length slots = omega arith in
     let few = total-variables names free store slots ready in
-    let named' : IsNamed (scope_of store.variables) name = subst (λ n. IsNamed n name) (sym ready.names_are) named in
+    let named' : IsNamed (scope_of store.variables) name =
+    subst (λ n. IsNamed n name) (sym ready.names_are) named in
     let new_is : wrapped (at slots slot +ℤ amount) ≡ new = ap (λ v. wrapped (v +ℤ amount)) old in
     record {
       slots = set slots slot new;
       written =
-          ap (λ v. slot_written (slot_written (machine_at slots store) slot v) into (slot_value (slot_written (machine_at slots store) slot v) slot)) new_is
-          ∙ ap (λ v. record { slots = set (set slots slot new) into v; traffic = store.traffic }) (get_or-set_same slots slot new (pos 0) within);
+          ap (λ v. slot_written (slot_written (machine_at slots store) slot v) into
+          (slot_value (slot_written (machine_at slots store) slot v) slot)) new_is
+          ∙ ap (λ v. record { slots = set (set slots slot new) into v; traffic = store.traffic })
+          (get_or-set_same slots slot new (pos 0) within);
       names_are = scope_of-with_cell store.variables name 0 new ∙ ready.names_are;
-      holds = subst (λ n. Holds (with_cell store.variables name 0 new) (set slots (slot_of n name) new)) ready.names_are (Holds-assigned store.variables slots name new (omega arith) ready.holds named');
-      kept = λ k low high. let other : k ≢ slot = omega arith in get_or-set_other slots slot k new (pos 0) other;
+      holds = subst (λ n. Holds (with_cell store.variables name 0 new)
+          (set slots (slot_of n name) new)) ready.names_are
+          (Holds-assigned store.variables slots name new (omega arith) ready.holds named');
+      kept = λ k low high. let other : k ≢ slot = omega arith in
+          get_or-set_other slots slot k new (pos 0) other;
       size = length-set slots slot new;
     }
 
 -- a step of a variable, whose old value is the step's own and waits in the free slot
-after_runs : (port : Port) (names : Scope) (name : List ℕ) (amount : ℤ) (into free : ℕ) (store : Store) (slots : List ℤ) → IsNamed names name → Ready names free store slots → free < length slots → let new = wrapped (value_in store name +ℤ amount) in let m1 = slot_written (machine_at slots store) free (at slots (slot_of names name)) in let m2 = slot_written m1 (slot_of names name) (wrapped (slot_value m1 (slot_of names name) +ℤ amount)) in Arrives names into free slots (value_in store name, assigned store name new) (slot_written m2 into (slot_value m2 free))
+after_runs : (port : Port) (names : Scope) (name : List ℕ) (amount : ℤ) (into free : ℕ)
+    (store : Store) (slots : List ℤ) → IsNamed names name → Ready names free store slots
+    → free < length slots → let new = wrapped (value_in store name +ℤ amount) in let m1 =
+    slot_written
+    (machine_at
+    slots store)
+    free (at
+    slots (slot_of names name)) in let m2 = slot_written m1 (slot_of names name) (wrapped (slot_value m1 (slot_of names name) +ℤ amount)) in Arrives names into free slots (value_in store name, assigned store name new) (slot_written m2 into (slot_value m2 free))
 after_runs port names name amount into free store slots named ready room =
     let slot = slot_of names name in
     let old = value_in store name in
@@ -217,32 +351,41 @@ after_runs port names name amount into free store slots named ready room =
     let roomy = ready.roomy in
     let below = named_below names free store slots name ready named in
     let few = total-variables names free store slots ready in
-    let named' : IsNamed (scope_of store.variables) name = subst (λ n. IsNamed n name) (sym ready.names_are) named in
+    let named' : IsNamed (scope_of store.variables) name =
+    subst (λ n. IsNamed n name) (sym ready.names_are) named in
     let waiting = set slots free old in
     let apart : slot ≢ free = omega arith in
     let apart' : free ≢ slot = omega arith in
-    let still : at waiting slot ≡ old = get_or-set_other slots free slot old (pos 0) apart ∙ old_is in
+    let still : at waiting slot ≡ old = get_or-set_other slots free slot old (pos 0) apart
+    ∙ old_is in
     let stepped = set waiting slot new in
-    let waits : at stepped free ≡ old = get_or-set_other waiting slot free new (pos 0) apart' ∙ get_or-set_same slots free old (pos 0) room in
+    let waits : at stepped free ≡ old = get_or-set_other waiting slot free new (pos 0) apart'
+    ∙ get_or-set_same slots free old (pos 0) room in
     let size1 = length-set slots free old in
     let m1 : ℤ → Machine = λ v. slot_written (machine_at slots store) free v in
     let m2 : Machine → ℤ → Machine = λ m v. slot_written m slot (wrapped (v +ℤ amount)) in
     record {
       slots = stepped;
       written =
-          ap (λ v. slot_written (m2 (m1 v) (slot_value (m1 v) slot)) into (slot_value (m2 (m1 v) (slot_value (m1 v) slot)) free)) old_is
+          ap (λ v. slot_written (m2 (m1 v) (slot_value (m1 v) slot)) into
+          (slot_value (m2 (m1 v) (slot_value (m1 v) slot)) free)) old_is
           ∙ ap (λ v. slot_written (m2 (m1 old) v) into (slot_value (m2 (m1 old) v) free)) still
           ∙ ap (λ v. record { slots = set stepped into v; traffic = store.traffic }) waits;
       names_are = scope_of-with_cell store.variables name 0 new ∙ ready.names_are;
-      holds = subst (λ n. Holds (with_cell store.variables name 0 new) (set waiting (slot_of n name) new)) ready.names_are (Holds-assigned store.variables waiting name new (omega arith) (Holds-set_above store.variables slots free old (omega arith) ready.holds) named');
+      holds = subst (λ n. Holds (with_cell store.variables name 0 new)
+          (set waiting (slot_of n name) new)) ready.names_are
+          (Holds-assigned store.variables waiting name new (omega arith)
+          (Holds-set_above store.variables slots free old (omega arith) ready.holds) named');
       kept = λ k low high.
           let other : k ≢ slot = omega arith in
           let other' : k ≢ free = omega arith in
-          get_or-set_other waiting slot k new (pos 0) other ∙ get_or-set_other slots free k old (pos 0) other';
+          get_or-set_other waiting slot k new (pos 0) other
+          ∙ get_or-set_other slots free k old (pos 0) other';
       size = length-set waiting slot new ∙ size1;
     }
 
-step_runs : (port : Port) (operator : StepOperator) (name : List ℕ) → Runs port (tree.Step operator name)
+step_runs : (port : Port) (operator : StepOperator) (name : List ℕ)
+    → Runs port (tree.Step operator name)
 step_runs port step.IncrementFirst name names into free store slots closed ready room =
     first_runs port names name (pos 1) into free store slots closed ready ready.roomy
 step_runs port step.DecrementFirst name names into free store slots closed ready room =
@@ -257,10 +400,13 @@ step_runs port step.DecrementAfter name names into free store slots closed ready
 -- ---- choices
 
 -- a value that stands in a free slot, and is copied from there
-copied_arrives : (names : Scope) (into slot free : ℕ) (before : List ℤ) (given : ℤ × Store) (m : Machine) → StandsAt names slot free before given m → Arrives names into free before given (slot_written m into (slot_value m slot))
+copied_arrives : (names : Scope) (into slot free : ℕ) (before : List ℤ) (given : ℤ × Store)
+    (m : Machine) → StandsAt names slot free before given m
+    → Arrives names into free before given (slot_written m into (slot_value m slot))
 copied_arrives names into slot free before given m stands = record {
   slots = m.slots;
-  written = ap (slot_written m into) stands.value ∙ ap (λ t. record { slots = set m.slots into given.0; traffic = t }) stands.traffic;
+  written = ap (slot_written m into) stands.value
+      ∙ ap (λ t. record { slots = set m.slots into given.0; traffic = t }) stands.traffic;
   names_are = stands.names_are;
   holds = stands.holds;
   kept = stands.kept;
@@ -268,7 +414,10 @@ copied_arrives names into slot free before given m stands = record {
 }
 
 -- a value stands where another did, if what is kept stays kept
-stands_further : (names : Scope) (slot free : ℕ) (before between : List ℤ) (given : ℤ × Store) (m : Machine) → ((k : ℕ) → total names ≤ k → k < free → at between k ≡ at before k) → length between ≡ length before → StandsAt names slot free between given m → StandsAt names slot free before given m
+stands_further : (names : Scope) (slot free : ℕ) (before between : List ℤ) (given : ℤ × Store)
+    (m : Machine) → ((k : ℕ) → total names ≤ k → k < free → at between k ≡ at before k)
+    → length between ≡ length before → StandsAt names slot free between given m
+    → StandsAt names slot free before given m
 stands_further names slot free before between given m kept size stands = record {
   traffic = stands.traffic;
   names_are = stands.names_are;
@@ -278,7 +427,10 @@ stands_further names slot free before between given m kept size stands = record 
   size = stands.size ∙ size;
 }
 
-arrives_further : (names : Scope) (into free : ℕ) (before between : List ℤ) (given : ℤ × Store) (m : Machine) → ((k : ℕ) → total names ≤ k → k < free → at between k ≡ at before k) → length between ≡ length before → Arrives names into free between given m → Arrives names into free before given m
+arrives_further : (names : Scope) (into free : ℕ) (before between : List ℤ) (given : ℤ × Store)
+    (m : Machine) → ((k : ℕ) → total names ≤ k → k < free → at between k ≡ at before k)
+    → length between ≡ length before → Arrives names into free between given m
+    → Arrives names into free before given m
 arrives_further names into free before between given m kept size arrives = record {
   slots = arrives.slots;
   written = arrives.written;
@@ -289,78 +441,163 @@ arrives_further names into free before between given m kept size arrives = recor
 }
 
 -- the slots are ready for more after a value has come to its slot
-stands_ready : (names : Scope) (slot free : ℕ) (before : List ℤ) (given : ℤ × Store) (m : Machine) → total names ≤ free → total names ≤ length before → StandsAt names slot free before given m → Ready names free given.1 m.slots
+stands_ready : (names : Scope) (slot free : ℕ) (before : List ℤ) (given : ℤ × Store) (m : Machine)
+    → total names ≤ free → total names ≤ length before → StandsAt names slot free before given m
+    → Ready names free given.1 m.slots
 stands_ready names slot free before given m above roomy stands =
     let size = stands.size in
-    record { names_are = stands.names_are; holds = stands.holds; above = above; roomy = omega arith }
+    record {
+      names_are = stands.names_are;
+      holds = stands.holds;
+      above = above;
+      roomy =
+          omega arith;
+    }
 
 -- an expression's code, from where other code has led
-runs_from : (port : Port) (e : tree.Expr) → Runs port e → (names : Scope) (slot into free : ℕ) (before : List ℤ) (given : ℤ × Store) (m : Machine) → IsClosed names e → total names ≤ free → total names ≤ length before → nodes_room (expr_nodes names e into free) ≤ length before → StandsAt names slot free before given m → Related (Arrives names into free before) (value_of port e given.1) (nodes_done port (expr_nodes names e into free) m)
+runs_from : (port : Port) (e : tree.Expr) → Runs port e
+    → (names : Scope) (slot into free : ℕ) (before : List ℤ) (given : ℤ × Store) (m : Machine)
+    → IsClosed names e → total names ≤ free → total names ≤ length before
+    → nodes_room (expr_nodes names e into free) ≤ length before
+    → StandsAt names slot free before given m
+    → Related (Arrives names into free before) (value_of port e given.1)
+    (nodes_done port (expr_nodes names e into free) m)
 runs_from port e run names slot into free before given m closed above roomy room stands =
     let size = stands.size in
     let fits : nodes_room (expr_nodes names e into free) ≤ length m.slots = omega arith in
-    subst (λ n. Related (Arrives names into free before) (value_of port e given.1) (nodes_done port (expr_nodes names e into free) n)) (sym (machine_is m given.1 stands.traffic))
-    (weaker_related (Arrives names into free m.slots) (Arrives names into free before) (value_of port e given.1) (nodes_done port (expr_nodes names e into free) (machine_at m.slots given.1))
-    (run names into free given.1 m.slots closed (stands_ready names slot free before given m above roomy stands) fits) (λ result after arrives. arrives_further names into free before m.slots result after stands.kept stands.size arrives))
+    subst (λ n. Related (Arrives names into free before) (value_of port e given.1)
+    (nodes_done port (expr_nodes names e into free) n))
+    (sym (machine_is m given.1 stands.traffic))
+    (weaker_related (Arrives names into free m.slots) (Arrives names into free before)
+    (value_of port e given.1) (nodes_done port (expr_nodes names e into free)
+    (machine_at m.slots given.1))
+    (run names into free given.1 m.slots closed
+    (stands_ready names slot free before given m above roomy stands) fits)
+    (λ result after arrives. arrives_further names into free before m.slots result after
+    stands.kept stands.size arrives))
 
 -- an expression's code puts its value into a free slot
-comes_to_free : (port : Port) (e : tree.Expr) → Runs port e → (names : Scope) (free : ℕ) (store : Store) (slots : List ℤ) → IsClosed names e → Ready names free store slots → nodes_room (expr_nodes names e free (free + 1)) ≤ length slots → Related (StandsAt names free free slots) (value_of port e store) (nodes_done port (expr_nodes names e free (free + 1)) (machine_at slots store))
+comes_to_free : (port : Port) (e : tree.Expr) → Runs port e
+    → (names : Scope) (free : ℕ) (store : Store) (slots : List ℤ) → IsClosed names e
+    → Ready names free store slots → nodes_room (expr_nodes names e free (free + 1)) ≤ length slots
+    → Related (StandsAt names free free slots) (value_of port e store)
+    (nodes_done port (expr_nodes names e free (free + 1)) (machine_at slots store))
 comes_to_free port e run names free store slots closed ready room =
     let above = ready.above in
     let within : free < length slots = omega (arith, expr_room names e free (free + 1) closed) in
-    let ready' : Ready names (free + 1) store slots = record { names_are = ready.names_are; holds = ready.holds; above = omega arith; roomy = ready.roomy } in
-    weaker_related (Arrives names free (free + 1) slots) (StandsAt names free free slots) (value_of port e store) (nodes_done port (expr_nodes names e free (free + 1)) (machine_at slots store)) (run names free (free + 1) store slots closed ready' room) (λ given after arrives. arrived_stands names free slots given after above within arrives)
+    let ready' : Ready names (free + 1) store slots =
+    record {
+      names_are = ready.names_are;
+      holds = ready.holds;
+      above = omega arith;
+      roomy =
+          ready.roomy;
+    } in
+    weaker_related (Arrives names free (free + 1) slots) (StandsAt names free free slots)
+    (value_of port e store) (nodes_done port (expr_nodes names e free (free + 1))
+    (machine_at slots store)) (run names free (free + 1) store slots closed ready' room)
+    (λ given after arrives. arrived_stands names free slots given after above within arrives)
 
 -- the same, from where the left side's code has led
-right_comes : (port : Port) (e : tree.Expr) → Runs port e → (names : Scope) (free : ℕ) (before : List ℤ) (given : ℤ × Store) (m : Machine) → IsClosed names e → total names ≤ free → total names ≤ length before → nodes_room (expr_nodes names e free (free + 1)) ≤ length before → StandsAt names free free before given m → Related (StandsAt names free free before) (value_of port e given.1) (nodes_done port (expr_nodes names e free (free + 1)) m)
+right_comes : (port : Port) (e : tree.Expr) → Runs port e
+    → (names : Scope) (free : ℕ) (before : List ℤ) (given : ℤ × Store) (m : Machine)
+    → IsClosed names e → total names ≤ free → total names ≤ length before
+    → nodes_room (expr_nodes names e free (free + 1)) ≤ length before
+    → StandsAt names free free before given m
+    → Related (StandsAt names free free before) (value_of port e given.1)
+    (nodes_done port (expr_nodes names e free (free + 1)) m)
 right_comes port e run names free before given m closed above roomy room stands =
     let size = stands.size in
     let fits : nodes_room (expr_nodes names e free (free + 1)) ≤ length m.slots = omega arith in
-    subst (λ n. Related (StandsAt names free free before) (value_of port e given.1) (nodes_done port (expr_nodes names e free (free + 1)) n)) (sym (machine_is m given.1 stands.traffic))
-    (weaker_related (StandsAt names free free m.slots) (StandsAt names free free before) (value_of port e given.1) (nodes_done port (expr_nodes names e free (free + 1)) (machine_at m.slots given.1))
-    (comes_to_free port e run names free given.1 m.slots closed (stands_ready names free free before given m above roomy stands) fits) (λ result after there. stands_further names free free before m.slots result after stands.kept stands.size there))
+    subst (λ n. Related (StandsAt names free free before) (value_of port e given.1)
+    (nodes_done port (expr_nodes names e free (free + 1)) n))
+    (sym (machine_is m given.1 stands.traffic))
+    (weaker_related (StandsAt names free free m.slots) (StandsAt names free free before)
+    (value_of port e given.1) (nodes_done port (expr_nodes names e free (free + 1))
+    (machine_at m.slots given.1))
+    (comes_to_free port e run names free given.1 m.slots closed
+    (stands_ready names free free before given m above roomy stands) fits)
+    (λ result after there. stands_further names free free before m.slots result after stands.kept
+    stands.size there))
 
 -- the last step of a logical operator
-logical_last : (port : Port) (names : Scope) (into free : ℕ) (slots : List ℤ) (x : Result (ℤ × Store) Cause) (y : Result Machine Cause) → Related (StandsAt names free free slots) x y → Related (Arrives names into free slots) x (result_and_then y (nodes_done port (one (act.Copy into free))))
-logical_last port names into free slots (Ok given) (Ok m) h = copied_arrives names into free free slots given m h
+logical_last : (port : Port) (names : Scope) (into free : ℕ) (slots : List ℤ)
+    (x : Result (ℤ × Store) Cause) (y : Result Machine Cause)
+    → Related (StandsAt names free free slots) x y
+    → Related (Arrives names into free slots) x
+    (result_and_then y (nodes_done port (one (act.Copy into free))))
+logical_last port names into free slots (Ok given) (Ok m) h =
+    copied_arrives names into free free slots given m h
 logical_last port names into free slots (Ok given) (Err d) h = h
 logical_last port names into free slots (Err c) (Ok m) h = h
 logical_last port names into free slots (Err c) (Err d) h = h
 
 -- a logical operator: the left side comes to a free slot, and where it is needed the right side
-logical_runs : (port : Port) (left : tree.Expr) → Runs port left → (meant : ℤ × Store → Result (ℤ × Store) Cause) (chosen other : Nodes) (names : Scope) (into free : ℕ) (store : Store) (slots : List ℤ) → IsClosed names left → Ready names free store slots → nodes_room (before (expr_nodes names left free (free + 1)) (Choice free chosen other (one (act.Copy into free)))) ≤ length slots → ((first : ℤ × Store) (m : Machine) → StandsAt names free free slots first m → Related (StandsAt names free free slots) (meant first) (chosen_by (is_true (slot_value m free)) (nodes_done port chosen) (nodes_done port other) m)) → Related (Arrives names into free slots) (result_and_then (value_of port left store) meant) (nodes_done port (before (expr_nodes names left free (free + 1)) (Choice free chosen other (one (act.Copy into free)))) (machine_at slots store))
-logical_runs port left run_left meant chosen other names into free store slots closed ready room go =
+logical_runs : (port : Port) (left : tree.Expr) → Runs port left
+    → (meant : ℤ × Store → Result (ℤ × Store) Cause) (chosen other : Nodes) (names : Scope)
+    (into free : ℕ) (store : Store) (slots : List ℤ) → IsClosed names left
+    → Ready names free store slots → nodes_room
+    (before (expr_nodes names left free (free + 1))
+    (Choice free chosen other (one (act.Copy into free)))) ≤ length slots
+    → ((first : ℤ × Store) (m : Machine) → StandsAt names free free slots first m
+    → Related (StandsAt names free free slots) (meant first)
+    (chosen_by (is_true (slot_value m free)) (nodes_done port chosen) (nodes_done port other) m))
+    → Related (Arrives names into free slots) (result_and_then (value_of port left store) meant)
+    (nodes_done port (before (expr_nodes names left free (free + 1))
+    (Choice free chosen other (one (act.Copy into free)))) (machine_at slots store))
+logical_runs port left run_left meant chosen other names into free store slots closed ready room go
+    =
     let a = expr_nodes names left free (free + 1) in
     let b = Choice free chosen other (one (act.Copy into free)) in
     let room_a : nodes_room a ≤ length slots = omega (arith, nodes_room-before a b) in
-    subst (Related (Arrives names into free slots) (result_and_then (value_of port left store) meant)) (sym (nodes_done-before port a b (machine_at slots store)))
-    (then_related (StandsAt names free free slots) (Arrives names into free slots) (value_of port left store) (nodes_done port a (machine_at slots store)) meant (nodes_done port b) (comes_to_free port left run_left names free store slots closed ready room_a) (λ first m is stands.
-    logical_last port names into free slots (meant first) (chosen_by (is_true (slot_value m free)) (nodes_done port chosen) (nodes_done port other) m) (go first m stands)))
+    subst (Related (Arrives names into free slots)
+    (result_and_then (value_of port left store) meant))
+    (sym (nodes_done-before port a b (machine_at slots store)))
+    (then_related (StandsAt names free free slots) (Arrives names into free slots)
+    (value_of port left store) (nodes_done port a (machine_at slots store)) meant
+    (nodes_done port b) (comes_to_free port left run_left names free store slots closed ready
+    room_a) (λ first m is stands.
+    logical_last port names into free slots (meant first)
+    (chosen_by (is_true (slot_value m free)) (nodes_done port chosen) (nodes_done port other) m)
+    (go first m stands)))
 
 -- an operator between its operands
-binary_runs : (port : Port) (operator : BinaryOperator) (left right : tree.Expr) → Runs port left → Runs port right → Runs port (tree.Binary operator left right)
+binary_runs : (port : Port) (operator : BinaryOperator) (left right : tree.Expr) → Runs port left
+    → Runs port right → Runs port (tree.Binary operator left right)
 binary_runs port operator left right run_left run_right =
     by_operator (λ o. Runs port (tree.Binary o left right))
     (λ names into free store slots closed ready room.
     let a = expr_nodes names left free (free + 1) in
     let b = expr_nodes names right free (free + 1) in
-    let room_b : nodes_room b ≤ length slots = omega (arith, nodes_room-before a (Choice free End b (one (act.Copy into free)))) in
-    logical_runs port left run_left (λ first. joined binary.LogicalOr first (value_of port right)) End b names into free store slots closed.0 ready room (λ first m stands.
-    chosen_related (StandsAt names free free slots) (is_true first.0) (is_true (slot_value m free)) (Ok first) (value_of port right first.1) (nodes_done port End) (nodes_done port b) m (ap is_true stands.value) stands
-    (right_comes port right run_right names free slots first m closed.1 ready.above ready.roomy room_b stands)))
+    let room_b : nodes_room b ≤ length slots =
+    omega (arith, nodes_room-before a (Choice free End b (one (act.Copy into free)))) in
+    logical_runs port left run_left (λ first. joined binary.LogicalOr first (value_of port right))
+    End b names into free store slots closed.0 ready room (λ first m stands.
+    chosen_related (StandsAt names free free slots) (is_true first.0) (is_true (slot_value m free))
+    (Ok first) (value_of port right first.1) (nodes_done port End) (nodes_done port b) m
+    (ap is_true stands.value) stands
+    (right_comes port right run_right names free slots first m closed.1 ready.above ready.roomy
+    room_b stands)))
     (λ names into free store slots closed ready room.
     let a = expr_nodes names left free (free + 1) in
     let b = expr_nodes names right free (free + 1) in
-    let room_b : nodes_room b ≤ length slots = omega (arith, nodes_room-before a (Choice free b End (one (act.Copy into free)))) in
-    logical_runs port left run_left (λ first. joined binary.LogicalAnd first (value_of port right)) b End names into free store slots closed.0 ready room (λ first m stands.
-    chosen_related (StandsAt names free free slots) (is_true first.0) (is_true (slot_value m free)) (value_of port right first.1) (Ok first) (nodes_done port b) (nodes_done port End) m (ap is_true stands.value)
-    (right_comes port right run_right names free slots first m closed.1 ready.above ready.roomy room_b stands) stands))
+    let room_b : nodes_room b ≤ length slots =
+    omega (arith, nodes_room-before a (Choice free b End (one (act.Copy into free)))) in
+    logical_runs port left run_left (λ first. joined binary.LogicalAnd first (value_of port right))
+    b End names into free store slots closed.0 ready room (λ first m stands.
+    chosen_related (StandsAt names free free slots) (is_true first.0) (is_true (slot_value m free))
+    (value_of port right first.1) (Ok first) (nodes_done port b) (nodes_done port End) m
+    (ap is_true stands.value)
+    (right_comes port right run_right names free slots first m closed.1 ready.above ready.roomy
+    room_b stands) stands))
     (λ o strict. strict_runs port o strict left right run_left run_right)
     operator
 
 -- one of two expressions
-conditional_runs : (port : Port) (condition chosen other : tree.Expr) → Runs port condition → Runs port chosen → Runs port other → Runs port (tree.Conditional condition chosen other)
-conditional_runs port condition chosen other run run_chosen run_other names into free store slots closed ready room =
+conditional_runs : (port : Port) (condition chosen other : tree.Expr) → Runs port condition
+    → Runs port chosen → Runs port other → Runs port (tree.Conditional condition chosen other)
+conditional_runs port condition chosen other run run_chosen run_other names into free store slots
+    closed ready room =
     let a = operand_nodes names true condition free in
     let slot = operand_slot names true condition free in
     let b = expr_nodes names chosen into free in
@@ -369,13 +606,26 @@ conditional_runs port condition chosen other run run_chosen run_other names into
     let room_a : nodes_room a ≤ length slots = omega (arith, nodes_room-before a choice) in
     let room_b : nodes_room b ≤ length slots = omega (arith, nodes_room-before a choice) in
     let room_c : nodes_room c ≤ length slots = omega (arith, nodes_room-before a choice) in
-    let meant : ℤ × Store → Result (ℤ × Store) Cause = λ test. cond (is_true test.0) (value_of port chosen test.1) (value_of port other test.1) in
-    subst (Related (Arrives names into free slots) (result_and_then (value_of port condition store) meant)) (sym (nodes_done-before port a choice (machine_at slots store)))
-    (then_related (StandsAt names slot free slots) (Arrives names into free slots) (value_of port condition store) (nodes_done port a (machine_at slots store)) meant (nodes_done port choice) (operand_runs port condition run names true free store slots closed.0 ready room_a) (λ test m is stands.
-    subst (Related (Arrives names into free slots) (meant test)) (sym (then_end port (chosen_by (is_true (slot_value m slot)) (nodes_done port b) (nodes_done port c) m)))
-    (chosen_related (Arrives names into free slots) (is_true test.0) (is_true (slot_value m slot)) (value_of port chosen test.1) (value_of port other test.1) (nodes_done port b) (nodes_done port c) m (ap is_true stands.value)
-    (runs_from port chosen run_chosen names slot into free slots test m closed.1 ready.above ready.roomy room_b stands)
-    (runs_from port other run_other names slot into free slots test m closed.2 ready.above ready.roomy room_c stands))))
+    let meant : ℤ × Store → Result (ℤ × Store) Cause =
+    λ test. cond (is_true test.0) (value_of port chosen test.1)
+    (value_of port other test.1) in
+    subst (Related (Arrives names into free slots)
+    (result_and_then (value_of port condition store) meant))
+    (sym (nodes_done-before port a choice (machine_at slots store)))
+    (then_related (StandsAt names slot free slots) (Arrives names into free slots)
+    (value_of port condition store) (nodes_done port a (machine_at slots store)) meant
+    (nodes_done port choice) (operand_runs port condition run names true free store slots closed.0
+    ready room_a) (λ test m is stands.
+    subst (Related (Arrives names into free slots) (meant test))
+    (sym (then_end port (chosen_by (is_true (slot_value m slot)) (nodes_done port b)
+    (nodes_done port c) m)))
+    (chosen_related (Arrives names into free slots) (is_true test.0) (is_true (slot_value m slot))
+    (value_of port chosen test.1) (value_of port other test.1) (nodes_done port b)
+    (nodes_done port c) m (ap is_true stands.value)
+    (runs_from port chosen run_chosen names slot into free slots test m closed.1 ready.above
+    ready.roomy room_b stands)
+    (runs_from port other run_other names slot into free slots test m closed.2 ready.above
+    ready.roomy room_c stands))))
 
 -- every expression's code does what it means
 pub expr_runs : (port : Port) (e : tree.Expr) → Runs port e
@@ -384,23 +634,32 @@ expr_runs port (tree.Number value) names into free store slots closed ready room
 expr_runs port (tree.Truth value) names into free store slots closed ready room =
     arrives_at_once names into free store slots (truth value) ready
 expr_runs port (tree.Element name index) names into free store slots closed ready room =
-    element_runs port name index (expr_runs port index) names into free store slots closed ready room
+    element_runs port name index (expr_runs port index) names into free store slots closed ready
+    room
 expr_runs port (tree.Peek index) names into free store slots closed ready room =
     peek_runs port index (expr_runs port index) names into free store slots closed ready room
-expr_runs port (tree.StepElement operator name index) names into free store slots closed ready room =
-    step_element_runs port operator name index (expr_runs port index) names into free store slots closed ready room
-expr_runs port (tree.Conditional condition chosen other) names into free store slots closed ready room =
-    conditional_runs port condition chosen other (expr_runs port condition) (expr_runs port chosen) (expr_runs port other) names into free store slots closed ready room
+expr_runs port (tree.StepElement operator name index) names into free store slots closed ready room
+    =
+    step_element_runs port operator name index
+    (expr_runs port index) names into free store slots closed ready room
+expr_runs port (tree.Conditional condition chosen other) names into free store slots closed ready
+    room =
+    conditional_runs port condition chosen other (expr_runs port condition) (expr_runs port chosen)
+    (expr_runs port other) names into free store slots closed ready room
 expr_runs port (tree.Read name) names into free store slots closed ready room =
-    subst (λ v. Related (Arrives names into free slots) (Ok (v, store)) (Ok (slot_written (machine_at slots store) into (at slots (slot_of names name))))) (named_value names free store slots name ready closed)
+    subst (λ v. Related (Arrives names into free slots) (Ok (v, store))
+    (Ok (slot_written (machine_at slots store) into (at slots (slot_of names name)))))
+    (named_value names free store slots name ready closed)
     (arrives_at_once names into free store slots (at slots (slot_of names name)) ready)
 expr_runs port tree.Pop names into free store slots closed ready room =
     pop_runs port names into free store slots (popped_from port store.traffic) ready
 expr_runs port (tree.Group inner) names into free store slots closed ready room =
     expr_runs port inner names into free store slots closed ready room
 expr_runs port (tree.Unary operator operand) names into free store slots closed ready room =
-    unary_runs port operator operand (expr_runs port operand) names into free store slots closed ready room
+    unary_runs port operator operand (expr_runs port operand) names into free store slots closed
+    ready room
 expr_runs port (tree.Step operator name) names into free store slots closed ready room =
     step_runs port operator name names into free store slots closed ready room
 expr_runs port (tree.Binary operator left right) names into free store slots closed ready room =
-    binary_runs port operator left right (expr_runs port left) (expr_runs port right) names into free store slots closed ready room
+    binary_runs port operator left right (expr_runs port left)
+    (expr_runs port right) names into free store slots closed ready room

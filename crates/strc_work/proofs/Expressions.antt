@@ -1,5 +1,7 @@
 -- The code of an expression puts its value into its slot.
-use Rattle.std.proofs.Common.{◌≡◌, ◌≢◌, ℕ, ◌+◌, ◌<◌, ◌≤◌, Bool, true, false, ◌&&◌, cond, ℤ, pos, List, length, set, Option, Some, None, Result, Ok, Err, refl, sym, ap, ◌∙◌, subst, arith}
+use Rattle.std.proofs.Common.{◌≡◌, ◌≢◌, ℕ, ◌+◌, ◌<◌, ◌≤◌, Bool, true, false, ◌&&◌, cond, ℤ, pos}
+use Rattle.std.proofs.Common.{List, length, set, Option, Some, None, Result, Ok, Err, refl, sym, ap}
+use Rattle.std.proofs.Common.{◌∙◌, subst, arith}
 use Rattle.std.specs.Prelude.{unwrap_or, if◌then◌else◌}
 use Rattle.std.proofs.lemmas.List.{get_or-set_same, get_or-set_other, length-set}
 use Rattle.std.proofs.lemmas.Bool.{false≢true}
@@ -16,15 +18,23 @@ use Rattle.strc_inst.specs.declared.inst.Inst.TheVariants as act
 use Rattle.strc_semantics.specs.Arithmetic.{unary_value, binary_value, is_true}
 use Rattle.strc_semantics.specs.Scoping.{Scope, total, slot_of, size_of}
 use Rattle.strc_semantics.specs.Closed.{IsNamed, IsClosed}
-use Rattle.strc_semantics.specs.Firing.{Port, Variables, Store, Traffic, cells_named, cell_in, value_in, place_in, tested_place, place_of, joined, value_of, popped_from, peeked_from}
-use Rattle.strc_machine.specs.Machine.{Machine, Nodes, End, Choice, before, nodes_done, inst_room, nodes_room}
-use Rattle.strc_work.specs.Lowering.{variable_slot, writes_no_variable, stands_at, unless_there, one, unary_step, binary_step, step_nodes, element_step_nodes, binary_nodes, expr_nodes, operand_slot, operand_nodes}
-use Rattle.strc_work.proofs.Variables.{scope_of, at, Holds, Holds-set_above, slot_of-below, slot_of-value, size_of-some, size_of-is}
+use Rattle.strc_semantics.specs.Firing.{Port, Variables, Store, Traffic, cells_named, cell_in}
+use Rattle.strc_semantics.specs.Firing.{value_in, place_in, tested_place, place_of, joined}
+use Rattle.strc_semantics.specs.Firing.{value_of, popped_from, peeked_from}
+use Rattle.strc_machine.specs.Machine.{Machine, Nodes, End, Choice, before, nodes_done, inst_room}
+use Rattle.strc_machine.specs.Machine.{nodes_room}
+use Rattle.strc_work.specs.Lowering.{variable_slot, writes_no_variable, stands_at, unless_there}
+use Rattle.strc_work.specs.Lowering.{one, unary_step, binary_step, step_nodes, element_step_nodes}
+use Rattle.strc_work.specs.Lowering.{binary_nodes, expr_nodes, operand_slot, operand_nodes}
+use Rattle.strc_work.proofs.Variables.{scope_of, at, Holds, Holds-set_above, slot_of-below}
+use Rattle.strc_work.proofs.Variables.{slot_of-value, size_of-some, size_of-is}
 use Rattle.strc_work.proofs.Related.{Related, weaker_related}
 use Rattle.strc_machine.proofs.Spelled.{nodes_room-before}
 
--- the machine stands where the store is, with the value about to be written into a slot; the slots from `total names` up to `free` are kept
-pub record Arrives (names : Scope) (into free : ℕ) (before : List ℤ) (given : ℤ × Store) (after : Machine) : Type 0 where
+-- the machine stands where the store is, with the value about to be written into a slot; the slots
+-- from `total names` up to `free` are kept
+pub record Arrives (names : Scope) (into free : ℕ) (before : List ℤ) (given : ℤ × Store)
+    (after : Machine) : Type 0 where
   pub slots : List ℤ
   pub written : after ≡ record { slots = set slots into given.0; traffic = given.1.traffic }
   pub names_are : scope_of given.1.variables ≡ names
@@ -33,7 +43,8 @@ pub record Arrives (names : Scope) (into free : ℕ) (before : List ℤ) (given 
   pub size : length slots ≡ length before
 
 -- the machine stands where the store is, with the value in a slot
-pub record StandsAt (names : Scope) (slot free : ℕ) (before : List ℤ) (given : ℤ × Store) (after : Machine) : Type 0 where
+pub record StandsAt (names : Scope) (slot free : ℕ) (before : List ℤ) (given : ℤ × Store)
+    (after : Machine) : Type 0 where
   pub traffic : after.traffic ≡ given.1.traffic
   pub names_are : scope_of given.1.variables ≡ names
   pub holds : Holds given.1.variables after.slots
@@ -53,111 +64,214 @@ machine_at slots store = record { slots = slots; traffic = store.traffic }
 
 -- an expression's code does what it means
 abbrev pub Runs : Port → tree.Expr → Type 0
-Runs port e = (names : Scope) (into free : ℕ) (store : Store) (slots : List ℤ) → IsClosed names e → Ready names free store slots → nodes_room (expr_nodes names e into free) ≤ length slots → Related (Arrives names into free slots) (value_of port e store) (nodes_done port (expr_nodes names e into free) (machine_at slots store))
+Runs port e = (names : Scope) (into free : ℕ) (store : Store) (slots : List ℤ) → IsClosed names e
+    → Ready names free store slots → nodes_room (expr_nodes names e into free) ≤ length slots
+    → Related (Arrives names into free slots) (value_of port e store)
+    (nodes_done port (expr_nodes names e into free) (machine_at slots store))
 
 -- a named variable has a cell, and its slots stand below the free ones
-pub named_slots : (names : Scope) (variables : Variables) (slots : List ℤ) (name : List ℕ) → scope_of variables ≡ names → Holds variables slots → IsNamed names name → slot_of names name + size_of names name ≤ total names
+pub named_slots : (names : Scope) (variables : Variables) (slots : List ℤ) (name : List ℕ)
+    → scope_of variables ≡ names → Holds variables slots → IsNamed names name
+    → slot_of names name + size_of names name ≤ total names
 named_slots names variables slots name names_are holds named =
-    let named' : IsNamed (scope_of variables) name = subst (λ n. IsNamed n name) (sym names_are) named in
-    subst (λ n. slot_of n name + size_of n name ≤ total n) names_are (slot_of-below variables slots name holds named')
+    let named' : IsNamed (scope_of variables) name =
+    subst (λ n. IsNamed n name) (sym names_are) named in
+    subst (λ n. slot_of n name + size_of n name ≤ total n) names_are
+    (slot_of-below variables slots name holds named')
 
-pub named_some : (names : Scope) (variables : Variables) (slots : List ℤ) (name : List ℕ) → scope_of variables ≡ names → Holds variables slots → IsNamed names name → 1 ≤ size_of names name
+pub named_some : (names : Scope) (variables : Variables) (slots : List ℤ) (name : List ℕ)
+    → scope_of variables ≡ names → Holds variables slots → IsNamed names name
+    → 1 ≤ size_of names name
 named_some names variables slots name names_are holds named =
-    let named' : IsNamed (scope_of variables) name = subst (λ n. IsNamed n name) (sym names_are) named in
+    let named' : IsNamed (scope_of variables) name =
+    subst (λ n. IsNamed n name) (sym names_are) named in
     subst (λ n. 1 ≤ size_of n name) names_are (size_of-some variables slots name holds named')
 
 -- as many slots as it has cells
-pub named_size : (names : Scope) (variables : Variables) (slots : List ℤ) (name : List ℕ) → scope_of variables ≡ names → Holds variables slots → IsNamed names name → length (cells_named variables name) ≡ size_of names name
+pub named_size : (names : Scope) (variables : Variables) (slots : List ℤ) (name : List ℕ)
+    → scope_of variables ≡ names → Holds variables slots → IsNamed names name
+    → length (cells_named variables name) ≡ size_of names name
 named_size names variables slots name names_are holds named =
-    let named' : IsNamed (scope_of variables) name = subst (λ n. IsNamed n name) (sym names_are) named in
-    subst (λ n. length (cells_named variables name) ≡ size_of n name) names_are (size_of-is variables slots name holds named')
+    let named' : IsNamed (scope_of variables) name =
+    subst (λ n. IsNamed n name) (sym names_are) named in
+    subst (λ n. length (cells_named variables name) ≡ size_of n name) names_are
+    (size_of-is variables slots name holds named')
 
 -- the value of a cell
-pub named_cell : (names : Scope) (store : Store) (slots : List ℤ) (name : List ℕ) (place : ℕ) → scope_of store.variables ≡ names → Holds store.variables slots → IsNamed names name → place < size_of names name → at slots (slot_of names name + place) ≡ cell_in store name place
+pub named_cell : (names : Scope) (store : Store) (slots : List ℤ) (name : List ℕ) (place : ℕ)
+    → scope_of store.variables ≡ names → Holds store.variables slots → IsNamed names name
+    → place < size_of names name → at slots (slot_of names name + place) ≡ cell_in store name place
 named_cell names store slots name place names_are holds named within =
     let variables = store.variables in
-    let named' : IsNamed (scope_of variables) name = subst (λ n. IsNamed n name) (sym names_are) named in
-    let within' : place < size_of (scope_of variables) name = subst (λ n. place < size_of n name) (sym names_are) within in
-    subst (λ n. at slots (slot_of n name + place) ≡ cell_in store name place) names_are (slot_of-value variables slots name place holds named' within')
+    let named' : IsNamed (scope_of variables) name =
+    subst (λ n. IsNamed n name) (sym names_are) named in
+    let within' : place < size_of (scope_of variables) name =
+    subst (λ n. place < size_of n name) (sym names_are) within in
+    subst (λ n. at slots (slot_of n name + place) ≡ cell_in store name place) names_are
+    (slot_of-value variables slots name place holds named' within')
 
 -- a named variable's first slot
-pub named_below : (names : Scope) (free : ℕ) (store : Store) (slots : List ℤ) (name : List ℕ) → Ready names free store slots → IsNamed names name → slot_of names name < total names
+pub named_below : (names : Scope) (free : ℕ) (store : Store) (slots : List ℤ) (name : List ℕ)
+    → Ready names free store slots → IsNamed names name → slot_of names name < total names
 named_below names free store slots name ready named =
     let some = named_some names store.variables slots name ready.names_are ready.holds named in
     let below = named_slots names store.variables slots name ready.names_are ready.holds named in
     omega arith
 
-pub named_value : (names : Scope) (free : ℕ) (store : Store) (slots : List ℤ) (name : List ℕ) → Ready names free store slots → IsNamed names name → at slots (slot_of names name) ≡ value_in store name
+pub named_value : (names : Scope) (free : ℕ) (store : Store) (slots : List ℤ) (name : List ℕ)
+    → Ready names free store slots → IsNamed names name
+    → at slots (slot_of names name) ≡ value_in store name
 named_value names free store slots name ready named =
     let some = named_some names store.variables slots name ready.names_are ready.holds named in
     let e : slot_of names name ≡ slot_of names name + 0 = omega arith in
-    ap (at slots) e ∙ named_cell names store slots name 0 ready.names_are ready.holds named (omega arith)
+    ap (at slots) e ∙ named_cell names store slots name 0 ready.names_are ready.holds named
+    (omega arith)
 
 -- the variables have as many cells as their names say
-pub total-variables : (names : Scope) (free : ℕ) (store : Store) (slots : List ℤ) → Ready names free store slots → total (scope_of store.variables) ≡ total names
+pub total-variables : (names : Scope) (free : ℕ) (store : Store) (slots : List ℤ)
+    → Ready names free store slots → total (scope_of store.variables) ≡ total names
 total-variables names free store slots ready = ap total ready.names_are
 
 -- an operator that evaluates both its sides
 pub record Strict (operator : BinaryOperator) : Type 0 where
-  pub code : (left right other : Nodes) (into free : ℕ) → binary_nodes operator left right other into free ≡ other
-  pub value : (first : ℤ × Store) (right : Store → Result (ℤ × Store) Cause) → joined operator first right ≡ result_and_then (right first.1) (λ second. result_and_then (binary_value operator first.0 second.0) (λ v. Ok (v, second.1)))
+  pub code : (left right other : Nodes) (into free : ℕ)
+      → binary_nodes operator left right other into free ≡ other
+  pub value : (first : ℤ × Store) (right : Store → Result (ℤ × Store) Cause)
+      → joined operator first right ≡ result_and_then (right first.1)
+      (λ second. result_and_then (binary_value operator first.0 second.0) (λ v. Ok (v, second.1)))
 
 -- an operator is a logical one, or evaluates both its sides
-pub by_operator : (P : BinaryOperator → Type 0) → P binary.LogicalOr → P binary.LogicalAnd → ((operator : BinaryOperator) → Strict operator → P operator) → (operator : BinaryOperator) → P operator
+pub by_operator : (P : BinaryOperator → Type 0) → P binary.LogicalOr → P binary.LogicalAnd
+    → ((operator : BinaryOperator) → Strict operator → P operator) → (operator : BinaryOperator)
+    → P operator
 by_operator P either both strict binary.LogicalOr = either
 by_operator P either both strict binary.LogicalAnd = both
 by_operator P either both strict binary.Or =
-    strict binary.Or (record { code = λ left right other into free. refl; value = λ first right. refl })
+    strict binary.Or (record {
+      code = λ left right other into free. refl;
+      value =
+          λ first right. refl;
+    })
 by_operator P either both strict binary.ExclusiveOr =
-    strict binary.ExclusiveOr (record { code = λ left right other into free. refl; value = λ first right. refl })
+    strict binary.ExclusiveOr (record {
+      code = λ left right other into free. refl;
+      value =
+          λ first right. refl;
+    })
 by_operator P either both strict binary.And =
-    strict binary.And (record { code = λ left right other into free. refl; value = λ first right. refl })
+    strict binary.And (record {
+      code = λ left right other into free. refl;
+      value =
+          λ first right. refl;
+    })
 by_operator P either both strict binary.Equal =
-    strict binary.Equal (record { code = λ left right other into free. refl; value = λ first right. refl })
+    strict binary.Equal (record {
+      code = λ left right other into free. refl;
+      value =
+          λ first right. refl;
+    })
 by_operator P either both strict binary.NotEqual =
-    strict binary.NotEqual (record { code = λ left right other into free. refl; value = λ first right. refl })
+    strict binary.NotEqual (record {
+      code = λ left right other into free. refl;
+      value =
+          λ first right. refl;
+    })
 by_operator P either both strict binary.Less =
-    strict binary.Less (record { code = λ left right other into free. refl; value = λ first right. refl })
+    strict binary.Less (record {
+      code = λ left right other into free. refl;
+      value =
+          λ first right. refl;
+    })
 by_operator P either both strict binary.LessOrEqual =
-    strict binary.LessOrEqual (record { code = λ left right other into free. refl; value = λ first right. refl })
+    strict binary.LessOrEqual (record {
+      code = λ left right other into free. refl;
+      value =
+          λ first right. refl;
+    })
 by_operator P either both strict binary.Greater =
-    strict binary.Greater (record { code = λ left right other into free. refl; value = λ first right. refl })
+    strict binary.Greater (record {
+      code = λ left right other into free. refl;
+      value =
+          λ first right. refl;
+    })
 by_operator P either both strict binary.GreaterOrEqual =
-    strict binary.GreaterOrEqual (record { code = λ left right other into free. refl; value = λ first right. refl })
+    strict binary.GreaterOrEqual (record {
+      code = λ left right other into free. refl;
+      value =
+          λ first right. refl;
+    })
 by_operator P either both strict binary.ShiftLeft =
-    strict binary.ShiftLeft (record { code = λ left right other into free. refl; value = λ first right. refl })
+    strict binary.ShiftLeft (record {
+      code = λ left right other into free. refl;
+      value =
+          λ first right. refl;
+    })
 by_operator P either both strict binary.ShiftRight =
-    strict binary.ShiftRight (record { code = λ left right other into free. refl; value = λ first right. refl })
+    strict binary.ShiftRight (record {
+      code = λ left right other into free. refl;
+      value =
+          λ first right. refl;
+    })
 by_operator P either both strict binary.Add =
-    strict binary.Add (record { code = λ left right other into free. refl; value = λ first right. refl })
+    strict binary.Add (record {
+      code = λ left right other into free. refl;
+      value =
+          λ first right. refl;
+    })
 by_operator P either both strict binary.Subtract =
-    strict binary.Subtract (record { code = λ left right other into free. refl; value = λ first right. refl })
+    strict binary.Subtract (record {
+      code = λ left right other into free. refl;
+      value =
+          λ first right. refl;
+    })
 by_operator P either both strict binary.Multiply =
-    strict binary.Multiply (record { code = λ left right other into free. refl; value = λ first right. refl })
+    strict binary.Multiply (record {
+      code = λ left right other into free. refl;
+      value =
+          λ first right. refl;
+    })
 by_operator P either both strict binary.Divide =
-    strict binary.Divide (record { code = λ left right other into free. refl; value = λ first right. refl })
+    strict binary.Divide (record {
+      code = λ left right other into free. refl;
+      value =
+          λ first right. refl;
+    })
 by_operator P either both strict binary.Remainder =
-    strict binary.Remainder (record { code = λ left right other into free. refl; value = λ first right. refl })
+    strict binary.Remainder (record {
+      code = λ left right other into free. refl;
+      value =
+          λ first right. refl;
+    })
 
 -- a variable, in brackets or not
-pub variable_runs : (port : Port) (e : tree.Expr) (names : Scope) (free slot : ℕ) (store : Store) (slots : List ℤ) → variable_slot names e ≡ Some slot → IsClosed names e → Ready names free store slots → (value_of port e store ≡ Ok (at slots slot, store)) × (slot < total names)
+pub variable_runs : (port : Port) (e : tree.Expr) (names : Scope) (free slot : ℕ) (store : Store)
+    (slots : List ℤ) → variable_slot names e ≡ Some slot → IsClosed names e
+    → Ready names free store slots → (value_of port e store ≡ Ok (at slots slot, store))
+    × (slot < total names)
 variable_runs port (tree.Number value) names free slot store slots is closed ready = absurd (cc)
 variable_runs port (tree.Read name) names free slot store slots is closed ready =
     let same : slot_of names name ≡ slot = cc in (
-      ap (λ v. Ok (v, store)) (sym (named_value names free store slots name ready closed) ∙ ap (at slots) same),
+      ap (λ v. Ok (v, store)) (sym (named_value names free store slots name ready closed)
+          ∙ ap (at slots) same),
       subst (λ n. n < total names) same (named_below names free store slots name ready closed),
     )
 variable_runs port tree.Pop names free slot store slots is closed ready = absurd (cc)
 variable_runs port (tree.Truth value) names free slot store slots is closed ready = absurd (cc)
-variable_runs port (tree.Element name index) names free slot store slots is closed ready = absurd (cc)
+variable_runs port (tree.Element name index) names free slot store slots is closed ready =
+    absurd (cc)
 variable_runs port (tree.Peek index) names free slot store slots is closed ready = absurd (cc)
-variable_runs port (tree.StepElement operator name index) names free slot store slots is closed ready = absurd (cc)
-variable_runs port (tree.Conditional condition chosen other) names free slot store slots is closed ready = absurd (cc)
+variable_runs port (tree.StepElement operator name index) names free slot store slots is closed
+    ready = absurd (cc)
+variable_runs port (tree.Conditional condition chosen other) names free slot store slots is closed
+    ready = absurd (cc)
 variable_runs port (tree.Group inner) names free slot store slots is closed ready =
     variable_runs port inner names free slot store slots is closed ready
-variable_runs port (tree.Unary operator operand) names free slot store slots is closed ready = absurd (cc)
-variable_runs port (tree.Step operator name) names free slot store slots is closed ready = absurd (cc)
-variable_runs port (tree.Binary operator left right) names free slot store slots is closed ready = absurd (cc)
+variable_runs port (tree.Unary operator operand) names free slot store slots is closed ready =
+    absurd (cc)
+variable_runs port (tree.Step operator name) names free slot store slots is closed ready =
+    absurd (cc)
+variable_runs port (tree.Binary operator left right) names free slot store slots is closed ready =
+    absurd (cc)
 
 -- a result that keeps the variables
 abbrev pub Keeps : Variables → Result (ℤ × Store) Cause → Type 0
@@ -168,59 +282,97 @@ both_true : (a b : Bool) → a && b ≡ true → (a ≡ true) × (b ≡ true)
 both_true true b e = (refl, e)
 both_true false b e = absurd (false≢true e)
 
-popped_keeps : (store : Store) (r : Result (ℤ × Traffic) Cause) → Keeps store.variables (result_and_then r (λ taken. Ok (taken.0, record store { traffic = taken.1 })))
+popped_keeps : (store : Store) (r : Result (ℤ × Traffic) Cause)
+    → Keeps store.variables (result_and_then r
+    (λ taken. Ok (taken.0, record store { traffic = taken.1 })))
 popped_keeps store (Ok taken) = refl
 popped_keeps store (Err cause) = tt
 
-unary_keeps : (variables : Variables) (operator : UnaryOperator) (r : Result (ℤ × Store) Cause) → Keeps variables r → Keeps variables (result_and_then r (λ right. Ok (unary_value operator right.0, right.1)))
+unary_keeps : (variables : Variables) (operator : UnaryOperator) (r : Result (ℤ × Store) Cause)
+    → Keeps variables r → Keeps variables
+    (result_and_then r (λ right. Ok (unary_value operator right.0, right.1)))
 unary_keeps variables operator (Ok given) h = h
 unary_keeps variables operator (Err cause) h = tt
 
-last_keeps : (variables : Variables) (store : Store) (r : Result ℤ Cause) → store.variables ≡ variables → Keeps variables (result_and_then r (λ value. Ok (value, store)))
+last_keeps : (variables : Variables) (store : Store) (r : Result ℤ Cause)
+    → store.variables ≡ variables → Keeps variables (result_and_then r (λ value. Ok (value, store)))
 last_keeps variables store (Ok value) h = h
 last_keeps variables store (Err cause) h = tt
 
-right_keeps : (variables : Variables) (operator : BinaryOperator) (value : ℤ) (r : Result (ℤ × Store) Cause) → Keeps variables r → Keeps variables (result_and_then r (λ second. result_and_then (binary_value operator value second.0) (λ v. Ok (v, second.1))))
-right_keeps variables operator value (Ok second) h = last_keeps variables second.1 (binary_value operator value second.0) h
+right_keeps : (variables : Variables) (operator : BinaryOperator) (value : ℤ)
+    (r : Result (ℤ × Store) Cause) → Keeps variables r
+    → Keeps variables (result_and_then r (λ second. result_and_then
+    (binary_value operator value second.0) (λ v. Ok (v, second.1))))
+right_keeps variables operator value (Ok second) h =
+    last_keeps variables second.1 (binary_value operator value second.0) h
 right_keeps variables operator value (Err cause) h = tt
 
-chosen_keeps : (variables : Variables) (t : Bool) (first second : Result (ℤ × Store) Cause) → Keeps variables first → Keeps variables second → Keeps variables (cond t first second)
+chosen_keeps : (variables : Variables) (t : Bool) (first second : Result (ℤ × Store) Cause)
+    → Keeps variables first → Keeps variables second → Keeps variables (cond t first second)
 chosen_keeps variables true first second h h' = h
 chosen_keeps variables false first second h h' = h'
 
-joined_keeps : (variables : Variables) (operator : BinaryOperator) (first : ℤ × Store) (right : Store → Result (ℤ × Store) Cause) → first.1.variables ≡ variables → Keeps variables (right first.1) → Keeps variables (joined operator first right)
+joined_keeps : (variables : Variables) (operator : BinaryOperator) (first : ℤ × Store)
+    (right : Store → Result (ℤ × Store) Cause) → first.1.variables ≡ variables
+    → Keeps variables (right first.1) → Keeps variables (joined operator first right)
 joined_keeps variables operator first right h h' =
-    by_operator (λ o. Keeps variables (joined o first right)) (chosen_keeps variables (is_true first.0) (Ok first) (right first.1) h h') (chosen_keeps variables (is_true first.0) (right first.1) (Ok first) h' h) (λ o strict.
-    subst (Keeps variables) (sym (strict.value first right)) (right_keeps variables o first.0 (right first.1) h')) operator
+    by_operator (λ o. Keeps variables (joined o first right))
+    (chosen_keeps variables (is_true first.0) (Ok first) (right first.1) h h')
+    (chosen_keeps variables (is_true first.0) (right first.1) (Ok first) h' h) (λ o strict.
+    subst (Keeps variables) (sym (strict.value first right))
+    (right_keeps variables o first.0 (right first.1) h')) operator
 
-left_keeps : (port : Port) (variables : Variables) (operator : BinaryOperator) (right : tree.Expr) (r : Result (ℤ × Store) Cause) → ((store : Store) → Keeps store.variables (value_of port right store)) → Keeps variables r → Keeps variables (result_and_then r (λ first. joined operator first (value_of port right)))
+left_keeps : (port : Port) (variables : Variables) (operator : BinaryOperator) (right : tree.Expr)
+    (r : Result (ℤ × Store) Cause) → ((store : Store)
+    → Keeps store.variables (value_of port right store)) → Keeps variables r
+    → Keeps variables (result_and_then r (λ first. joined operator first (value_of port right)))
 left_keeps port variables operator right (Ok first) inside h =
-    joined_keeps variables operator first (value_of port right) h (subst (λ v. Keeps v (value_of port right first.1)) h (inside first.1))
+    joined_keeps variables operator first (value_of port right) h
+    (subst (λ v. Keeps v (value_of port right first.1)) h (inside first.1))
 left_keeps port variables operator right (Err cause) inside h = tt
 
-test_keeps : (variables : Variables) (chosen other : Store → Result (ℤ × Store) Cause) (r : Result (ℤ × Store) Cause) → Keeps variables r → ((store : Store) → Keeps store.variables (chosen store)) → ((store : Store) → Keeps store.variables (other store)) → Keeps variables (result_and_then r (λ test. if is_true test.0 then chosen test.1 else other test.1))
+test_keeps : (variables : Variables) (chosen other : Store → Result (ℤ × Store) Cause)
+    (r : Result (ℤ × Store) Cause) → Keeps variables r
+    → ((store : Store) → Keeps store.variables (chosen store))
+    → ((store : Store) → Keeps store.variables (other store))
+    → Keeps variables (result_and_then r (λ test. if is_true test.0 then chosen test.1
+    else other test.1))
 test_keeps variables chosen other (Ok test) h h' h'' =
-    chosen_keeps variables (is_true test.0) (chosen test.1) (other test.1) (subst (λ v. Keeps v (chosen test.1)) h (h' test.1)) (subst (λ v. Keeps v (other test.1)) h (h'' test.1))
+    chosen_keeps variables (is_true test.0) (chosen test.1) (other test.1)
+    (subst (λ v. Keeps v (chosen test.1)) h (h' test.1))
+    (subst (λ v. Keeps v (other test.1)) h (h'' test.1))
 test_keeps variables chosen other (Err cause) h h' h'' = tt
 
-item_keeps : (variables : Variables) (store : Store) (r : Result ℤ Cause) → store.variables ≡ variables → Keeps variables (result_and_then r (λ item. Ok (item, store)))
+item_keeps : (variables : Variables) (store : Store) (r : Result ℤ Cause)
+    → store.variables ≡ variables → Keeps variables (result_and_then r (λ item. Ok (item, store)))
 item_keeps variables store (Ok item) h = h
 item_keeps variables store (Err cause) h = tt
 
-peek_keeps : (port : Port) (variables : Variables) (r : Result (ℤ × Store) Cause) → Keeps variables r → Keeps variables (result_and_then r (λ place. result_and_then (peeked_from port place.0 place.1.traffic) (λ item. Ok (item, place.1))))
-peek_keeps port variables (Ok place) h = item_keeps variables place.1 (peeked_from port place.0 place.1.traffic) h
+peek_keeps : (port : Port) (variables : Variables) (r : Result (ℤ × Store) Cause)
+    → Keeps variables r → Keeps variables
+    (result_and_then r (λ place. result_and_then (peeked_from port place.0 place.1.traffic)
+    (λ item. Ok (item, place.1))))
+peek_keeps port variables (Ok place) h = item_keeps variables place.1
+    (peeked_from port place.0 place.1.traffic) h
 peek_keeps port variables (Err cause) h = tt
 
-element_by_place : (variables : Variables) (name : List ℕ) (given : ℤ × Store) (o : Option ℕ) → given.1.variables ≡ variables → Keeps variables (result_and_then (tested_place o) (λ place. Ok (cell_in given.1 name place, given.1)))
+element_by_place : (variables : Variables) (name : List ℕ) (given : ℤ × Store) (o : Option ℕ)
+    → given.1.variables ≡ variables → Keeps variables
+    (result_and_then (tested_place o) (λ place. Ok (cell_in given.1 name place, given.1)))
 element_by_place variables name given None h = tt
 element_by_place variables name given (Some place) h = h
 
-element_keeps : (variables : Variables) (name : List ℕ) (r : Result (ℤ × Store) Cause) → Keeps variables r → Keeps variables (result_and_then r (λ given. result_and_then (place_of given.1 name given.0) (λ place. Ok (cell_in given.1 name place, given.1))))
+element_keeps : (variables : Variables) (name : List ℕ) (r : Result (ℤ × Store) Cause)
+    → Keeps variables r → Keeps variables
+    (result_and_then r (λ given. result_and_then (place_of given.1 name given.0)
+    (λ place. Ok (cell_in given.1 name place, given.1))))
 element_keeps variables name (Ok given) h =
-    element_by_place variables name given (place_in (length (cells_named given.1.variables name)) given.0) h
+    element_by_place variables name given
+    (place_in (length (cells_named given.1.variables name)) given.0) h
 element_keeps variables name (Err cause) h = tt
 
-pub keeps : (port : Port) (e : tree.Expr) → writes_no_variable e ≡ true → (store : Store) → Keeps store.variables (value_of port e store)
+pub keeps : (port : Port) (e : tree.Expr) → writes_no_variable e ≡ true → (store : Store)
+    → Keeps store.variables (value_of port e store)
 keeps port (tree.Number value) none store = refl
 keeps port (tree.Truth value) none store = refl
 keeps port (tree.Read name) none store = refl
@@ -230,25 +382,32 @@ keeps port (tree.Peek index) none store =
     peek_keeps port store.variables (value_of port index store) (keeps port index none store)
 keeps port (tree.StepElement operator name index) none store = absurd (false≢true none)
 keeps port (tree.Conditional condition chosen other) none store =
-    let both = both_true (writes_no_variable condition) (writes_no_variable chosen && writes_no_variable other) none in
+    let both = both_true (writes_no_variable condition)
+    (writes_no_variable chosen && writes_no_variable other) none in
     let sides = both_true (writes_no_variable chosen) (writes_no_variable other) both.1 in
-    test_keeps store.variables (value_of port chosen) (value_of port other) (value_of port condition store) (keeps port condition both.0 store) (keeps port chosen sides.0) (keeps port other sides.1)
+    test_keeps store.variables (value_of port chosen) (value_of port other)
+    (value_of port condition store) (keeps port condition both.0 store)
+    (keeps port chosen sides.0) (keeps port other sides.1)
 keeps port tree.Pop none store = popped_keeps store (popped_from port store.traffic)
 keeps port (tree.Group inner) none store = keeps port inner none store
 keeps port (tree.Unary operator operand) none store =
-    unary_keeps store.variables operator (value_of port operand store) (keeps port operand none store)
+    unary_keeps store.variables operator (value_of port operand store)
+    (keeps port operand none store)
 keeps port (tree.Step operator name) none store = absurd (false≢true none)
 keeps port (tree.Binary operator left right) none store =
     let both = both_true (writes_no_variable left) (writes_no_variable right) none in
-    left_keeps port store.variables operator right (value_of port left store) (keeps port right both.1) (keeps port left both.0 store)
+    left_keeps port store.variables operator right (value_of port left store)
+    (keeps port right both.1) (keeps port left both.0 store)
 
 -- the slot that an expression's code writes is one of those that it needs
-pub unary_room : (operator : UnaryOperator) (into from : ℕ) → into + 1 ≤ inst_room (unary_step operator into from)
+pub unary_room : (operator : UnaryOperator) (into from : ℕ)
+    → into + 1 ≤ inst_room (unary_step operator into from)
 unary_room unary.Negate into from = omega arith
 unary_room unary.Not into from = omega arith
 unary_room unary.Complement into from = omega arith
 
-pub binary_room : (operator : BinaryOperator) (into left right : ℕ) → into + 1 ≤ inst_room (binary_step operator into left right)
+pub binary_room : (operator : BinaryOperator) (into left right : ℕ)
+    → into + 1 ≤ inst_room (binary_step operator into left right)
 binary_room binary.LogicalOr into left right = omega arith
 binary_room binary.LogicalAnd into left right = omega arith
 binary_room binary.Equal into left right = omega arith
@@ -268,60 +427,107 @@ binary_room binary.Multiply into left right = omega arith
 binary_room binary.Divide into left right = omega arith
 binary_room binary.Remainder into left right = omega arith
 
-step_room_into : (operator : StepOperator) (slot into free : ℕ) → into + 1 ≤ nodes_room (step_nodes operator slot into free)
+step_room_into : (operator : StepOperator) (slot into free : ℕ)
+    → into + 1 ≤ nodes_room (step_nodes operator slot into free)
 step_room_into step.IncrementFirst slot into free = omega arith
 step_room_into step.DecrementFirst slot into free = omega arith
 step_room_into step.IncrementAfter slot into free = omega arith
 step_room_into step.DecrementAfter slot into free = omega arith
 
-binary_nodes_room : (operator : BinaryOperator) (left right first second : Nodes) (into free at_left at_right : ℕ) → into + 1 ≤ nodes_room (binary_nodes operator left right (before first (before second (one (binary_step operator into at_left at_right)))) into free)
+binary_nodes_room : (operator : BinaryOperator) (left right first second : Nodes)
+    (into free at_left at_right : ℕ) → into + 1
+    ≤ nodes_room (binary_nodes operator left right
+    (before first (before second (one (binary_step operator into at_left at_right)))) into free)
 binary_nodes_room operator left right first second into free at_left at_right =
-    by_operator (λ o. into + 1 ≤ nodes_room (binary_nodes o left right (before first (before second (one (binary_step o into at_left at_right)))) into free))
+    by_operator (λ o. into + 1 ≤ nodes_room
+    (binary_nodes o left right (before first
+    (before second (one (binary_step o into at_left at_right)))) into free))
     (omega (arith, nodes_room-before left (Choice free End right (one (act.Copy into free)))))
     (omega (arith, nodes_room-before left (Choice free right End (one (act.Copy into free)))))
     (λ o strict.
-    subst (λ n. into + 1 ≤ nodes_room n) (sym (strict.code left right (before first (before second (one (binary_step o into at_left at_right)))) into free))
-    (omega (arith, nodes_room-before first (before second (one (binary_step o into at_left at_right))), nodes_room-before second (one (binary_step o into at_left at_right)), binary_room o into at_left at_right)))
+    subst (λ n. into + 1 ≤ nodes_room n) (sym
+    (strict.code left right (before first
+    (before second (one (binary_step o into at_left at_right)))) into free))
+    (omega (
+      arith,
+      nodes_room-before first
+          (before second (one (binary_step o into at_left at_right))),
+      nodes_room-before second (one (binary_step o into at_left at_right)),
+      binary_room o into at_left at_right,
+    )))
     operator
 
-pub expr_room : (names : Scope) (e : tree.Expr) (into free : ℕ) → IsClosed names e → into + 1 ≤ nodes_room (expr_nodes names e into free)
+pub expr_room : (names : Scope) (e : tree.Expr) (into free : ℕ) → IsClosed names e
+    → into + 1 ≤ nodes_room (expr_nodes names e into free)
 expr_room names (tree.Number value) into free closed = omega arith
 expr_room names (tree.Truth value) into free closed = omega arith
 expr_room names (tree.Read name) into free closed = omega arith
 expr_room names (tree.Element name index) into free closed =
     let slot = unwrap_or (variable_slot names index) free in
     let last = one (act.Load into (slot_of names name) (size_of names name) slot) in
-    omega (arith, nodes_room-before (unless_there (variable_slot names index) (expr_nodes names index free (free + 1))) last)
+    omega (
+      arith,
+      nodes_room-before (unless_there (variable_slot names index)
+          (expr_nodes names index free (free + 1))) last,
+    )
 expr_room names tree.Pop into free closed = omega arith
 expr_room names (tree.Peek index) into free closed =
     let slot = unwrap_or (variable_slot names index) free in
-    omega (arith, nodes_room-before (unless_there (variable_slot names index) (expr_nodes names index free (free + 1))) (one (act.Peek into slot)))
+    omega (
+      arith,
+      nodes_room-before (unless_there (variable_slot names index)
+          (expr_nodes names index free (free + 1))) (one (act.Peek into slot)),
+    )
 expr_room names (tree.Group inner) into free closed = expr_room names inner into free closed
 expr_room names (tree.Unary operator operand) into free closed =
     let slot = unwrap_or (variable_slot names operand) free in
-    omega (arith, nodes_room-before (unless_there (variable_slot names operand) (expr_nodes names operand free (free + 1))) (one (unary_step operator into slot)), unary_room operator into slot)
-expr_room names (tree.Step operator name) into free closed = step_room_into operator (slot_of names name) into free
+    omega (
+      arith,
+      nodes_room-before (unless_there (variable_slot names operand)
+          (expr_nodes names operand free (free + 1))) (one (unary_step operator into slot)),
+      unary_room operator into slot,
+    )
+expr_room names (tree.Step operator name) into free closed =
+    step_room_into operator (slot_of names name) into free
 expr_room names (tree.StepElement operator name index) into free closed =
     let slot = unwrap_or (variable_slot names index) free in
-    let last = element_step_nodes operator (slot_of names name) (size_of names name) slot into (free + 1) in
-    omega (arith, nodes_room-before (unless_there (variable_slot names index) (expr_nodes names index free (free + 1))) last)
+    let last = element_step_nodes operator (slot_of names name) (size_of names name) slot into
+    (free + 1) in
+    omega (
+      arith,
+      nodes_room-before (unless_there (variable_slot names index)
+          (expr_nodes names index free (free + 1))) last,
+    )
 expr_room names (tree.Binary operator left right) into free closed =
-    binary_nodes_room operator (expr_nodes names left free (free + 1)) (expr_nodes names right free (free + 1))
-    (unless_there (stands_at names (writes_no_variable right) left) (expr_nodes names left free (free + 1)))
+    binary_nodes_room operator (expr_nodes names left free (free + 1))
+    (expr_nodes names right free (free + 1))
+    (unless_there (stands_at names (writes_no_variable right) left)
+    (expr_nodes names left free (free + 1)))
     (unless_there (variable_slot names right) (expr_nodes names right (free + 1) (free + 1 + 1)))
-    into free (unwrap_or (stands_at names (writes_no_variable right) left) free) (unwrap_or (variable_slot names right) (free + 1))
+    into free (unwrap_or (stands_at names (writes_no_variable right) left) free)
+    (unwrap_or (variable_slot names right) (free + 1))
 expr_room names (tree.Conditional condition chosen other) into free closed =
-    let a = unless_there (variable_slot names condition) (expr_nodes names condition free (free + 1)) in
+    let a = unless_there (variable_slot names condition)
+    (expr_nodes names condition free (free + 1)) in
     let slot = unwrap_or (variable_slot names condition) free in
-    omega (arith, nodes_room-before a (Choice slot (expr_nodes names chosen into free) (expr_nodes names other into free) End), expr_room names chosen into free closed.1)
+    omega (
+      arith,
+      nodes_room-before a (Choice slot (expr_nodes names chosen into free)
+          (expr_nodes names other into free) End),
+      expr_room names chosen into free closed.1,
+    )
 
 -- an operand that stands in its variable's slot
-pub aliased_slot : (names : Scope) (may_alias : Bool) (e : tree.Expr) (slot : ℕ) → stands_at names may_alias e ≡ Some slot → (may_alias ≡ true) × (variable_slot names e ≡ Some slot)
+pub aliased_slot : (names : Scope) (may_alias : Bool) (e : tree.Expr) (slot : ℕ)
+    → stands_at names may_alias e ≡ Some slot
+    → (may_alias ≡ true) × (variable_slot names e ≡ Some slot)
 aliased_slot names true e slot is = (refl, is)
 aliased_slot names false e slot is = absurd (cc)
 
 -- a value that was written into a free slot stands there
-pub arrived_stands : (names : Scope) (slot : ℕ) (before : List ℤ) (given : ℤ × Store) (after : Machine) → total names ≤ slot → slot < length before → Arrives names slot (slot + 1) before given after → StandsAt names slot slot before given after
+pub arrived_stands : (names : Scope) (slot : ℕ) (before : List ℤ) (given : ℤ × Store)
+    (after : Machine) → total names ≤ slot → slot < length before
+    → Arrives names slot (slot + 1) before given after → StandsAt names slot slot before given after
 arrived_stands names slot before given after above room arrives =
     let slots = arrives.slots in
     let value = given.0 in
@@ -332,25 +538,61 @@ arrived_stands names slot before given after above room arrives =
     record {
       traffic = ap (λ (m : Machine). m.traffic) arrives.written;
       names_are = arrives.names_are;
-      holds = subst (Holds given.1.variables) (sym is) (Holds-set_above given.1.variables slots slot value (omega arith) arrives.holds);
+      holds = subst (Holds given.1.variables) (sym is)
+          (Holds-set_above given.1.variables slots slot value (omega arith) arrives.holds);
       value = ap (λ l. at l slot) is ∙ get_or-set_same slots slot value (pos 0) within;
       kept = λ k low high.
           let other : k ≢ slot = omega arith in
-          ap (λ l. at l k) is ∙ get_or-set_other slots slot k value (pos 0) other ∙ arrives.kept k low (omega arith);
+          ap (λ l. at l k) is ∙ get_or-set_other slots slot k value (pos 0) other
+          ∙ arrives.kept k low (omega arith);
       size = ap length is ∙ length-set slots slot value ∙ size;
     }
 
 -- an operand's code brings its value to its slot
-pub operand_runs : (port : Port) (e : tree.Expr) → Runs port e → (names : Scope) (may_alias : Bool) (free : ℕ) (store : Store) (slots : List ℤ) → IsClosed names e → Ready names free store slots → nodes_room (operand_nodes names may_alias e free) ≤ length slots → Related (StandsAt names (operand_slot names may_alias e free) free slots) (value_of port e store) (nodes_done port (operand_nodes names may_alias e free) (machine_at slots store))
+pub operand_runs : (port : Port) (e : tree.Expr) → Runs port e
+    → (names : Scope) (may_alias : Bool) (free : ℕ) (store : Store) (slots : List ℤ)
+    → IsClosed names e → Ready names free store slots
+    → nodes_room (operand_nodes names may_alias e free) ≤ length slots
+    → Related (StandsAt names (operand_slot names may_alias e free) free slots)
+    (value_of port e store) (nodes_done port (operand_nodes names may_alias e free)
+    (machine_at slots store))
 operand_runs port e run names may_alias free store slots closed ready room =
-    by_place (stands_at names may_alias e) (λ slot is. variable_runs port e names free slot store slots (aliased_slot names may_alias e slot is).1 closed ready) room
+    by_place (stands_at names may_alias e)
+    (λ slot is. variable_runs port e names free slot store slots
+    (aliased_slot names may_alias e slot is).1 closed ready) room
   where
-    by_place : (o : Option ℕ) → ((slot : ℕ) → o ≡ Some slot → (value_of port e store ≡ Ok (at slots slot, store)) × (slot < total names)) → nodes_room (unless_there o (expr_nodes names e free (free + 1))) ≤ length slots → Related (StandsAt names (unwrap_or o free) free slots) (value_of port e store) (nodes_done port (unless_there o (expr_nodes names e free (free + 1))) (machine_at slots store))
+    by_place : (o : Option ℕ) → ((slot : ℕ) → o ≡ Some slot
+        → (value_of port e store ≡ Ok (at slots slot, store)) × (slot < total names))
+        → nodes_room (unless_there o (expr_nodes names e free (free + 1))) ≤ length slots
+        → Related (StandsAt names (unwrap_or o free) free slots) (value_of port e store)
+        (nodes_done port (unless_there o (expr_nodes names e free (free + 1)))
+        (machine_at slots store))
     by_place (Some slot) stands fits =
-        subst (λ r. Related (StandsAt names slot free slots) r (Ok (machine_at slots store))) (sym (stands slot refl).0)
-        (record { traffic = refl; names_are = ready.names_are; holds = ready.holds; value = refl; kept = λ k low high. refl; size = refl })
+        subst (λ r. Related (StandsAt names slot free slots) r (Ok (machine_at slots store)))
+        (sym (stands slot refl).0)
+        (record {
+          traffic = refl;
+          names_are = ready.names_are;
+          holds = ready.holds;
+          value =
+              refl;
+          kept = λ k low high. refl;
+          size = refl;
+        })
     by_place None stands fits =
         let above = ready.above in
-        let within : free < length slots = omega (arith, expr_room names e free (free + 1) closed) in
-        let ready' : Ready names (free + 1) store slots = record { names_are = ready.names_are; holds = ready.holds; above = omega arith; roomy = ready.roomy } in
-        weaker_related (Arrives names free (free + 1) slots) (StandsAt names free free slots) (value_of port e store) (nodes_done port (expr_nodes names e free (free + 1)) (machine_at slots store)) (run names free (free + 1) store slots closed ready' fits) (λ given after arrives. arrived_stands names free slots given after above within arrives)
+        let within : free < length slots =
+        omega (arith, expr_room names e free (free + 1) closed) in
+        let ready' : Ready names (free + 1) store slots =
+        record {
+          names_are = ready.names_are;
+          holds = ready.holds;
+          above =
+              omega arith;
+          roomy = ready.roomy;
+        } in
+        weaker_related (Arrives names free (free + 1) slots) (StandsAt names free free slots)
+        (value_of port e store) (nodes_done port (expr_nodes names e free (free + 1))
+        (machine_at slots store)) (run names free (free + 1) store slots closed ready' fits)
+        (λ given after arrives. arrived_stands names free slots given after above within
+        arrives)

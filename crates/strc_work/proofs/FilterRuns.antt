@@ -1,18 +1,28 @@
 -- A filter's code starts it and fires it as its text says.
-use Rattle.std.proofs.Common.{◌≡◌, ℕ, ◌+◌, ◌-◌, ◌<◌, ◌≤◌, ℤ, pos, List, [], ◌∷◌, ◌++◌, length, take, drop, reverse, replicate, Option, Some, None, Result, Ok, refl, sym, ap, ◌∙◌, subst, arith, append_assoc}
+use Rattle.std.proofs.Common.{◌≡◌, ℕ, ◌+◌, ◌-◌, ◌<◌, ◌≤◌, ℤ, pos, List, [], ◌∷◌, ◌++◌, length, take}
+use Rattle.std.proofs.Common.{drop, reverse, replicate, Option, Some, None, Result, Ok, refl, sym}
+use Rattle.std.proofs.Common.{ap, ◌∙◌, subst, arith, append_assoc}
 use Rattle.std.specs.Prelude.{unwrap_or}
-use Rattle.std.proofs.lemmas.List.{reverse-append, append-nil, length-take-le, length-drop, get_or-take, get_or-drop, get_or-replicate, length-replicate}
+use Rattle.std.proofs.lemmas.List.{reverse-append, append-nil, length-take-le, length-drop}
+use Rattle.std.proofs.lemmas.List.{get_or-take, get_or-drop, get_or-replicate, length-replicate}
 use Rattle.strc_base.specs.Results.{result_and_then}
 use Rattle.strc_syntax.specs.Tree as tree
 use Rattle.strc_semantics.specs.declared.fault.Cause.{Cause}
 use Rattle.strc_semantics.specs.declared.body.Body.{Body}
 use Rattle.strc_semantics.specs.declared.body.Body.TheVariants as body
-use Rattle.strc_semantics.specs.Filters.{Filter, sized_all, sized_fields, work_block, prework_block, body_block}
+use Rattle.strc_semantics.specs.Filters.{Filter, sized_all, sized_fields, work_block, prework_block}
+use Rattle.strc_semantics.specs.Filters.{body_block}
 use Rattle.strc_semantics.specs.Scoping.{Scope, cells_of, total, slot_of}
-use Rattle.strc_semantics.specs.Closed.{IsNamed, IsClosedInitial, AreClosedFields, AreClosed, AreClosedMembers, IsClosedFilter}
-use Rattle.strc_semantics.specs.Firing.{Variables, Store, Traffic, value_of, assigned, block_left, inside, stmts_done, bound_onto, no_traffic, store_at, field_values, no_io, initial_given, fields_started, members_started, inits_done, started, Fired, port_of, fired}
+use Rattle.strc_semantics.specs.Closed.{IsNamed, IsClosedInitial, AreClosedFields, AreClosed}
+use Rattle.strc_semantics.specs.Closed.{AreClosedMembers, IsClosedFilter}
+use Rattle.strc_semantics.specs.Firing.{Variables, Store, Traffic, value_of, assigned, block_left}
+use Rattle.strc_semantics.specs.Firing.{inside, stmts_done, bound_onto, no_traffic, store_at}
+use Rattle.strc_semantics.specs.Firing.{field_values, no_io, initial_given, fields_started}
+use Rattle.strc_semantics.specs.Firing.{members_started, inits_done, started, Fired, port_of, fired}
 use Rattle.strc_machine.specs.Machine.{Machine, nodes_done, nodes_room}
-use Rattle.strc_work.specs.Lowering.{stmts_nodes, field_scope, field_nodes, fields_nodes, initials_nodes, inits_nodes, start_nodes, body_nodes, slot_count}
+use Rattle.strc_work.specs.Lowering.{stmts_nodes, field_scope, field_nodes, fields_nodes}
+use Rattle.strc_work.specs.Lowering.{initials_nodes, inits_nodes, start_nodes, body_nodes}
+use Rattle.strc_work.specs.Lowering.{slot_count}
 use Rattle.strc_work.proofs.Variables.{scope_of, at, Holds, values-Holds}
 use Rattle.strc_work.proofs.Related.{Related, then_related, map_related, nodes_done-before}
 use Rattle.strc_machine.proofs.Spelled.{nodes_room-before}
@@ -26,23 +36,48 @@ use Rattle.strc_work.proofs.StatementRuns.{stmt_runs, stmts_runs}
 -- ---- initialisers
 
 abbrev RunsMembers : List tree.Member → Type 0
-RunsMembers ms = (names : Scope) (store : Store) (slots : List ℤ) → AreClosedMembers names ms → Ready names (total names) store slots → nodes_room (initials_nodes names ms) ≤ length slots → Related (Reaches names (length slots)) (members_started ms store) (nodes_done no_io (initials_nodes names ms) (machine_at slots store))
+RunsMembers ms = (names : Scope) (store : Store) (slots : List ℤ) → AreClosedMembers names ms
+    → Ready names (total names) store slots → nodes_room (initials_nodes names ms) ≤ length slots
+    → Related (Reaches names (length slots)) (members_started ms store)
+    (nodes_done no_io (initials_nodes names ms) (machine_at slots store))
 
-field_runs : (name : List ℕ) (initial : Option tree.Expr) (names : Scope) (store : Store) (slots : List ℤ) → IsNamed names name × IsClosedInitial names initial → Ready names (total names) store slots → nodes_room (field_nodes names name initial) ≤ length slots → Related (Reaches names (length slots)) (initial_given name initial store) (nodes_done no_io (field_nodes names name initial) (machine_at slots store))
+field_runs : (name : List ℕ) (initial : Option tree.Expr) (names : Scope) (store : Store)
+    (slots : List ℤ) → IsNamed names name × IsClosedInitial names initial
+    → Ready names (total names) store slots
+    → nodes_room (field_nodes names name initial) ≤ length slots
+    → Related (Reaches names (length slots)) (initial_given name initial store)
+    (nodes_done no_io (field_nodes names name initial) (machine_at slots store))
 field_runs name None names store slots closed ready room = empty_reaches names store slots ready
 field_runs name (Some initial) names store slots closed ready room =
-    map_related (Arrives names (slot_of names name) (total names) slots) (Reaches names (length slots)) (λ given. assigned given.1 name given.0) (value_of no_io initial store) (nodes_done no_io (field_nodes names name (Some initial)) (machine_at slots store)) (expr_runs no_io initial names (slot_of names name) (total names) store slots closed.1 ready room) (λ given m arrives. assigned_reaches names name slots given m closed.0 ready.roomy arrives)
+    map_related (Arrives names (slot_of names name) (total names) slots)
+    (Reaches names (length slots)) (λ given. assigned given.1 name given.0)
+    (value_of no_io initial store) (nodes_done no_io (field_nodes names name (Some initial))
+    (machine_at slots store)) (expr_runs no_io initial names (slot_of names name)
+    (total names) store slots closed.1 ready room)
+    (λ given m arrives. assigned_reaches names name slots given m closed.0 ready.roomy arrives)
 
-fields_run : (cells : ℕ) (vs : List tree.Variable) (names : Scope) (store : Store) (slots : List ℤ) → AreClosedFields names cells vs → Ready names (total names) store slots → nodes_room (fields_nodes names vs) ≤ length slots → Related (Reaches names (length slots)) (fields_started vs store) (nodes_done no_io (fields_nodes names vs) (machine_at slots store))
+fields_run : (cells : ℕ) (vs : List tree.Variable) (names : Scope) (store : Store) (slots : List ℤ)
+    → AreClosedFields names cells vs → Ready names (total names) store slots
+    → nodes_room (fields_nodes names vs) ≤ length slots
+    → Related (Reaches names (length slots)) (fields_started vs store)
+    (nodes_done no_io (fields_nodes names vs) (machine_at slots store))
 fields_run cells [] names store slots closed ready room = empty_reaches names store slots ready
 fields_run cells (first ∷ rest) names store slots closed ready room =
     let a = field_nodes names first.name first.initial in
     let b = fields_nodes names rest in
     let room_a : nodes_room a ≤ length slots = omega (arith, nodes_room-before a b) in
     let room_b : nodes_room b ≤ length slots = omega (arith, nodes_room-before a b) in
-    subst (Related (Reaches names (length slots)) (result_and_then (initial_given first.name first.initial store) (fields_started rest))) (sym (nodes_done-before no_io a b (machine_at slots store)))
-    (then_related (Reaches names (length slots)) (Reaches names (length slots)) (initial_given first.name first.initial store) (nodes_done no_io a (machine_at slots store)) (fields_started rest) (nodes_done no_io b) (field_runs first.name first.initial names store slots (closed.0.0, closed.0.1) ready room_a) (λ given m is reaches.
-    go_on no_io b names names (length slots) (fields_started rest) (λ store' slots' same ready'. fields_run cells rest names store' slots' closed.1 ready' (omega arith)) given m reaches))
+    subst (Related (Reaches names (length slots))
+    (result_and_then (initial_given first.name first.initial store) (fields_started rest)))
+    (sym (nodes_done-before no_io a b (machine_at slots store)))
+    (then_related (Reaches names (length slots)) (Reaches names (length slots))
+    (initial_given first.name first.initial store) (nodes_done no_io a (machine_at slots store))
+    (fields_started rest) (nodes_done no_io b)
+    (field_runs first.name first.initial names store slots (closed.0.0, closed.0.1) ready room_a)
+    (λ given m is reaches.
+    go_on no_io b names names (length slots) (fields_started rest)
+    (λ store' slots' same ready'. fields_run cells rest names store' slots' closed.1 ready'
+    (omega arith)) given m reaches))
 
 members_run : (ms : List tree.Member) → RunsMembers ms
 members_run [] names store slots closed ready room = empty_reaches names store slots ready
@@ -51,9 +86,17 @@ members_run (tree.Fields kind variables ∷ rest) names store slots closed ready
     let b = initials_nodes names rest in
     let room_a : nodes_room a ≤ length slots = omega (arith, nodes_room-before a b) in
     let room_b : nodes_room b ≤ length slots = omega (arith, nodes_room-before a b) in
-    subst (Related (Reaches names (length slots)) (result_and_then (fields_started variables store) (members_started rest))) (sym (nodes_done-before no_io a b (machine_at slots store)))
-    (then_related (Reaches names (length slots)) (Reaches names (length slots)) (fields_started variables store) (nodes_done no_io a (machine_at slots store)) (members_started rest) (nodes_done no_io b) (fields_run (cells_of kind) variables names store slots closed.0 ready room_a) (λ given m is reaches.
-    go_on no_io b names names (length slots) (members_started rest) (λ store' slots' same ready'. members_run rest names store' slots' closed.1 ready' (omega arith)) given m reaches))
+    subst (Related (Reaches names (length slots))
+    (result_and_then (fields_started variables store) (members_started rest)))
+    (sym (nodes_done-before no_io a b (machine_at slots store)))
+    (then_related (Reaches names (length slots)) (Reaches names (length slots))
+    (fields_started variables store) (nodes_done no_io a (machine_at slots store))
+    (members_started rest) (nodes_done no_io b)
+    (fields_run (cells_of kind) variables names store slots closed.0 ready room_a)
+    (λ given m is reaches.
+    go_on no_io b names names (length slots) (members_started rest)
+    (λ store' slots' same ready'. members_run rest names store' slots' closed.1 ready'
+    (omega arith)) given m reaches))
 members_run (tree.Init block ∷ rest) names store slots closed ready room =
     members_run rest names store slots closed.1 ready room
 members_run (tree.Prework rates block ∷ rest) names store slots closed ready room =
@@ -64,7 +107,10 @@ members_run (tree.Work rates block ∷ rest) names store slots closed ready room
 -- ---- blocks of `init`
 
 abbrev RunsInits : List tree.Member → Type 0
-RunsInits ms = (names : Scope) (store : Store) (slots : List ℤ) → AreClosedMembers names ms → Ready names (total names) store slots → nodes_room (inits_nodes names ms) ≤ length slots → Related (Reaches names (length slots)) (inits_done ms store) (nodes_done no_io (inits_nodes names ms) (machine_at slots store))
+RunsInits ms = (names : Scope) (store : Store) (slots : List ℤ) → AreClosedMembers names ms
+    → Ready names (total names) store slots → nodes_room (inits_nodes names ms) ≤ length slots
+    → Related (Reaches names (length slots)) (inits_done ms store)
+    (nodes_done no_io (inits_nodes names ms) (machine_at slots store))
 
 inits_run : (ms : List tree.Member) → RunsInits ms
 inits_run [] names store slots closed ready room = empty_reaches names store slots ready
@@ -75,9 +121,17 @@ inits_run (tree.Init block ∷ rest) names store slots closed ready room =
     let b = inits_nodes names rest in
     let room_a : nodes_room a ≤ length slots = omega (arith, nodes_room-before a b) in
     let room_b : nodes_room b ≤ length slots = omega (arith, nodes_room-before a b) in
-    subst (Related (Reaches names (length slots)) (result_and_then (inside (stmts_done no_io block) store) (inits_done rest))) (sym (nodes_done-before no_io a b (machine_at slots store)))
-    (then_related (Reaches names (length slots)) (Reaches names (length slots)) (inside (stmts_done no_io block) store) (nodes_done no_io a (machine_at slots store)) (inits_done rest) (nodes_done no_io b) (stmt_runs no_io (tree.Block block) names store slots closed.0 ready room_a) (λ given m is reaches.
-    go_on no_io b names names (length slots) (inits_done rest) (λ store' slots' same ready'. inits_run rest names store' slots' closed.1 ready' (omega arith)) given m reaches))
+    subst (Related (Reaches names (length slots))
+    (result_and_then (inside (stmts_done no_io block) store) (inits_done rest)))
+    (sym (nodes_done-before no_io a b (machine_at slots store)))
+    (then_related (Reaches names (length slots)) (Reaches names (length slots))
+    (inside (stmts_done no_io block) store) (nodes_done no_io a (machine_at slots store))
+    (inits_done rest) (nodes_done no_io b)
+    (stmt_runs no_io (tree.Block block) names store slots closed.0 ready room_a)
+    (λ given m is reaches.
+    go_on no_io b names names (length slots) (inits_done rest)
+    (λ store' slots' same ready'. inits_run rest names store' slots' closed.1 ready'
+    (omega arith)) given m reaches))
 inits_run (tree.Prework rates block ∷ rest) names store slots closed ready room =
     inits_run rest names store slots closed.1 ready room
 inits_run (tree.Work rates block ∷ rest) names store slots closed ready room =
@@ -104,31 +158,40 @@ HasCells-append : (first rest : Scope) → HasCells first → HasCells rest → 
 HasCells-append [] rest h h' = h'
 HasCells-append (field ∷ fields) rest h h' = (h.0, HasCells-append fields rest h.1 h')
 
-fields_cells : (names : Scope) (cells : ℕ) (vs : List tree.Variable) → AreClosedFields names cells vs → HasCells (sized_all cells vs)
+fields_cells : (names : Scope) (cells : ℕ) (vs : List tree.Variable)
+    → AreClosedFields names cells vs → HasCells (sized_all cells vs)
 fields_cells names cells [] closed = tt
 fields_cells names cells (first ∷ rest) closed =
     (some_cell cells first.initial closed.0.2, fields_cells names cells rest closed.1)
 
-members_cells : (names : Scope) (ms : List tree.Member) → AreClosedMembers names ms → HasCells (sized_fields ms)
+members_cells : (names : Scope) (ms : List tree.Member) → AreClosedMembers names ms
+    → HasCells (sized_fields ms)
 members_cells names [] closed = tt
 members_cells names (tree.Fields kind variables ∷ rest) closed =
-    HasCells-append (sized_all (cells_of kind) variables) (sized_fields rest) (fields_cells names (cells_of kind) variables closed.0) (members_cells names rest closed.1)
+    HasCells-append (sized_all (cells_of kind) variables) (sized_fields rest)
+    (fields_cells names (cells_of kind) variables closed.0) (members_cells names rest closed.1)
 members_cells names (tree.Init block ∷ rest) closed = members_cells names rest closed.1
 members_cells names (tree.Prework rates block ∷ rest) closed = members_cells names rest closed.1
 members_cells names (tree.Work rates block ∷ rest) closed = members_cells names rest closed.1
 
-scope_of-bound_onto : (variables : Variables) (fields : Scope) (values : List ℤ) → total fields ≤ length values → scope_of (bound_onto variables fields values) ≡ reverse fields ++ scope_of variables
+scope_of-bound_onto : (variables : Variables) (fields : Scope) (values : List ℤ)
+    → total fields ≤ length values → scope_of (bound_onto variables fields values) ≡ reverse fields
+    ++ scope_of variables
 scope_of-bound_onto variables [] values fits = refl
 scope_of-bound_onto variables (field ∷ fields) values fits =
     let n = field.1 in
     let mine : length (take n values) ≡ n = length-take-le n values (omega arith) in
     let others : length (drop n values) ≡ length values - n = length-drop n values in
-    scope_of-bound_onto (record { 0 = field.0; 1 = take n values } ∷ variables) fields (drop n values) (omega arith)
+    scope_of-bound_onto (record { 0 = field.0; 1 = take n values } ∷ variables) fields
+    (drop n values) (omega arith)
     ∙ ap (λ k. reverse fields ++ record { 0 = field.0; 1 = k } ∷ scope_of variables) mine
     ∙ sym (append_assoc (reverse fields) (field ∷ []) (scope_of variables))
     ∙ ap (λ l. l ++ scope_of variables) (sym (reverse-append (field ∷ []) fields))
 
-Holds-bound_onto : (variables : Variables) (fields : Scope) (values slots : List ℤ) → HasCells fields → total fields ≤ length values → Holds variables slots → ((k : ℕ) → k < total fields → at slots (total (scope_of variables) + k) ≡ at values k) → Holds (bound_onto variables fields values) slots
+Holds-bound_onto : (variables : Variables) (fields : Scope) (values slots : List ℤ)
+    → HasCells fields → total fields ≤ length values → Holds variables slots
+    → ((k : ℕ) → k < total fields → at slots (total (scope_of variables) + k) ≡ at values k)
+    → Holds (bound_onto variables fields values) slots
 Holds-bound_onto variables [] values slots some fits h stands = h
 Holds-bound_onto variables (field ∷ fields) values slots some fits h stands =
     let n = field.1 in
@@ -136,28 +199,43 @@ Holds-bound_onto variables (field ∷ fields) values slots some fits h stands =
     let mine : length (take n values) ≡ n = length-take-le n values (omega arith) in
     let others : length (drop n values) ≡ length values - n = length-drop n values in
     let cell : 1 ≤ n = some.0 in
-    Holds-bound_onto (record { 0 = field.0; 1 = take n values } ∷ variables) fields (drop n values) slots some.1 (omega arith)
-    (omega arith, λ k lt. stands k (omega arith) ∙ sym (get_or-take n values k (pos 0) (omega arith)), h)
+    Holds-bound_onto (record { 0 = field.0; 1 = take n values } ∷ variables) fields
+    (drop n values) slots some.1 (omega arith) (
+      omega arith,
+      λ k lt. stands k (omega arith)
+          ∙ sym (get_or-take n values k (pos 0) (omega arith)),
+      h,
+    )
     (λ k lt.
     let next : length (take n values) + base + k ≡ base + (n + k) = omega arith in
     ap (at slots) next ∙ stands (n + k) (omega arith) ∙ sym (get_or-drop n values k (pos 0)))
 
 -- the store of a filter stands in slots that begin with its fields' values
-store_ready : (filter : Filter) (values slots : List ℤ) → IsClosedFilter filter → length values ≡ total (sized_fields filter.members) → ((k : ℕ) → k < length values → at slots k ≡ at values k) → total (sized_fields filter.members) ≤ length slots → Ready (field_scope filter) (total (field_scope filter)) (store_at filter values) slots
+store_ready : (filter : Filter) (values slots : List ℤ) → IsClosedFilter filter
+    → length values ≡ total (sized_fields filter.members)
+    → ((k : ℕ) → k < length values → at slots k ≡ at values k)
+    → total (sized_fields filter.members) ≤ length slots
+    → Ready (field_scope filter) (total (field_scope filter)) (store_at filter values) slots
 store_ready filter values slots closed e stands room =
     let fields = sized_fields filter.members in
     let size = total-reverse fields in
     record {
       names_are = scope_of-bound_onto [] fields values (omega arith) ∙ append-nil (reverse fields);
-      holds = Holds-bound_onto [] fields values slots (members_cells (field_scope filter) filter.members closed) (omega arith) tt (λ k lt. let z : 0 + k ≡ k = omega arith in ap (at slots) z ∙ stands k (omega arith));
+      holds = Holds-bound_onto [] fields values slots
+          (members_cells (field_scope filter) filter.members closed) (omega arith) tt
+          (λ k lt. let z : 0 + k ≡ k = omega arith in ap (at slots) z ∙ stands k (omega arith));
       above = omega arith;
       roomy = omega arith;
     }
 
 -- the values of the fields are the first slots
-field_values-Holds : (filter : Filter) (store : Store) (slots : List ℤ) → scope_of store.variables ≡ field_scope filter → Holds store.variables slots → total (sized_fields filter.members) ≤ length slots → field_values store ≡ take (total (sized_fields filter.members)) slots
+field_values-Holds : (filter : Filter) (store : Store) (slots : List ℤ)
+    → scope_of store.variables ≡ field_scope filter → Holds store.variables slots
+    → total (sized_fields filter.members) ≤ length slots
+    → field_values store ≡ take (total (sized_fields filter.members)) slots
 field_values-Holds filter store slots names_are holds room =
-    let size : total (scope_of store.variables) ≡ total (sized_fields filter.members) = ap total names_are ∙ total-reverse (sized_fields filter.members) in
+    let size : total (scope_of store.variables) ≡ total (sized_fields filter.members) =
+    ap total names_are ∙ total-reverse (sized_fields filter.members) in
     values-Holds store.variables slots (omega arith) holds ∙ ap (λ n. take n slots) size
 
 -- ---- a start
@@ -167,7 +245,10 @@ pub record IsStarted (filter : Filter) (size : ℕ) (values : List ℤ) (after :
   pub fields : values ≡ take (total (sized_fields filter.members)) after.slots
   pub same : length after.slots ≡ size
 
-pub start_runs : (filter : Filter) (size : ℕ) → IsClosedFilter filter → slot_count filter ≤ size → Related (IsStarted filter size) (started filter) (nodes_done no_io (start_nodes filter) (record { slots = replicate size (pos 0); traffic = no_traffic }))
+pub start_runs : (filter : Filter) (size : ℕ) → IsClosedFilter filter → slot_count filter ≤ size
+    → Related (IsStarted filter size) (started filter)
+    (nodes_done no_io (start_nodes filter)
+    (record { slots = replicate size (pos 0); traffic = no_traffic }))
 start_runs filter size closed room =
     let count = total (sized_fields filter.members) in
     let scope = field_scope filter in
@@ -182,21 +263,35 @@ start_runs filter size closed room =
     let room_a : nodes_room a ≤ length slots = omega (arith, nodes_room-before a b) in
     let room_b : nodes_room b ≤ length slots = omega (arith, nodes_room-before a b) in
     let zeros_are : length zeros ≡ count = length-replicate count (pos 0) in
-    let ready = store_ready filter zeros slots closed zeros_are (λ k lt. get_or-replicate size k (pos 0) (pos 0) (omega arith) ∙ sym (get_or-replicate count k (pos 0) (pos 0) (omega arith))) fields in
-    let rest : Store → Result (List ℤ) Cause = λ initialised. result_and_then (inits_done filter.members initialised) (λ done. Ok (field_values done)) in
-    subst (Related (IsStarted filter size) (result_and_then (members_started filter.members store) rest)) (sym (nodes_done-before no_io a b (machine_at slots store)))
-    (then_related (Reaches scope (length slots)) (IsStarted filter size) (members_started filter.members store) (nodes_done no_io a (machine_at slots store)) rest (nodes_done no_io b) (members_run filter.members scope store slots closed ready room_a) (λ initialised m is reaches.
-    map_related (Reaches scope (length slots)) (IsStarted filter size) field_values (inits_done filter.members initialised) (nodes_done no_io b m)
-    (go_on no_io b scope scope (length slots) (inits_done filter.members) (λ store' slots' same ready'. inits_run filter.members scope store' slots' closed ready' (omega arith)) initialised m reaches) (λ given after reaches'.
+    let ready = store_ready filter zeros slots closed zeros_are
+    (λ k lt. get_or-replicate size k (pos 0) (pos 0) (omega arith)
+    ∙ sym (get_or-replicate count k (pos 0) (pos 0) (omega arith))) fields in
+    let rest : Store → Result (List ℤ) Cause =
+    λ initialised. result_and_then (inits_done filter.members initialised)
+    (λ done. Ok (field_values done)) in
+    subst (Related (IsStarted filter size)
+    (result_and_then (members_started filter.members store) rest))
+    (sym (nodes_done-before no_io a b (machine_at slots store)))
+    (then_related (Reaches scope (length slots)) (IsStarted filter size)
+    (members_started filter.members store) (nodes_done no_io a (machine_at slots store)) rest
+    (nodes_done no_io b) (members_run filter.members scope store slots closed ready room_a)
+    (λ initialised m is reaches.
+    map_related (Reaches scope (length slots)) (IsStarted filter size) field_values
+    (inits_done filter.members initialised) (nodes_done no_io b m)
+    (go_on no_io b scope scope (length slots) (inits_done filter.members)
+    (λ store' slots' same ready'. inits_run filter.members scope store' slots' closed ready'
+    (omega arith)) initialised m reaches) (λ given after reaches'.
     let same = reaches'.same in
     record {
-      fields = field_values-Holds filter given after.slots reaches'.names_are reaches'.holds (omega arith);
+      fields = field_values-Holds filter given after.slots reaches'.names_are reaches'.holds
+          (omega arith);
       same = same ∙ size_is;
     })))
 
 -- ---- a firing
 
-pub work_closed : (names : Scope) (ms : List tree.Member) → AreClosedMembers names ms → AreClosed names (work_block ms)
+pub work_closed : (names : Scope) (ms : List tree.Member) → AreClosedMembers names ms
+    → AreClosed names (work_block ms)
 work_closed names [] h = tt
 work_closed names (tree.Fields kind variables ∷ rest) h = work_closed names rest h.1
 work_closed names (tree.Init block ∷ rest) h = work_closed names rest h.1
@@ -208,24 +303,29 @@ abbrev IsClosedBlock : Scope → Option tree.Stmts → Type 0
 IsClosedBlock names None = Unit {0}
 IsClosedBlock names (Some block) = AreClosed names block
 
-prework_closed : (names : Scope) (ms : List tree.Member) → AreClosedMembers names ms → IsClosedBlock names (prework_block ms)
+prework_closed : (names : Scope) (ms : List tree.Member) → AreClosedMembers names ms
+    → IsClosedBlock names (prework_block ms)
 prework_closed names [] h = tt
 prework_closed names (tree.Fields kind variables ∷ rest) h = prework_closed names rest h.1
 prework_closed names (tree.Init block ∷ rest) h = prework_closed names rest h.1
 prework_closed names (tree.Prework rates block ∷ rest) h = h.0
 prework_closed names (tree.Work rates block ∷ rest) h = prework_closed names rest h.1
 
-either_closed : (names : Scope) (first : Option tree.Stmts) (other : tree.Stmts) → IsClosedBlock names first → AreClosed names other → AreClosed names (unwrap_or first other)
+either_closed : (names : Scope) (first : Option tree.Stmts) (other : tree.Stmts)
+    → IsClosedBlock names first → AreClosed names other → AreClosed names (unwrap_or first other)
 either_closed names None other h h' = h'
 either_closed names (Some block) other h h' = h
 
-pub body_closed : (body : Body) (names : Scope) (ms : List tree.Member) → AreClosedMembers names ms → AreClosed names (body_block body ms)
+pub body_closed : (body : Body) (names : Scope) (ms : List tree.Member) → AreClosedMembers names ms
+    → AreClosed names (body_block body ms)
 body_closed body.Prework names ms h =
-    either_closed names (prework_block ms) (work_block ms) (prework_closed names ms h) (work_closed names ms h)
+    either_closed names (prework_block ms) (work_block ms) (prework_closed names ms h)
+    (work_closed names ms h)
 body_closed body.Work names ms h = work_closed names ms h
 
 -- the code of each body fits into the slots
-body_fits : (filter : Filter) (body : Body) (size : ℕ) → slot_count filter ≤ size → nodes_room (body_nodes body filter) ≤ size
+body_fits : (filter : Filter) (body : Body) (size : ℕ) → slot_count filter ≤ size
+    → nodes_room (body_nodes body filter) ≤ size
 body_fits filter body.Prework size room = omega arith
 body_fits filter body.Work size room = omega arith
 
@@ -236,20 +336,37 @@ pub record HasFired (filter : Filter) (size : ℕ) (given : Fired) (after : Mach
   pub words : given.words ≡ after.traffic.words
   pub same : length after.slots ≡ size
 
-pub body_runs : (filter : Filter) (body : Body) (fields slots window : List ℤ) → IsClosedFilter filter → length fields ≡ total (sized_fields filter.members) → ((k : ℕ) → k < length fields → at slots k ≡ at fields k) → slot_count filter ≤ length slots → Related (HasFired filter (length slots)) (fired filter body fields window) (nodes_done (port_of filter body window) (body_nodes body filter) (record { slots = slots; traffic = no_traffic }))
+pub body_runs : (filter : Filter) (body : Body) (fields slots window : List ℤ)
+    → IsClosedFilter filter → length fields ≡ total (sized_fields filter.members)
+    → ((k : ℕ) → k < length fields → at slots k ≡ at fields k) → slot_count filter ≤ length slots
+    → Related (HasFired filter (length slots)) (fired filter body fields window)
+    (nodes_done (port_of filter body window) (body_nodes body filter)
+    (record { slots = slots; traffic = no_traffic }))
 body_runs filter body fields slots window closed e stands room =
     let names = field_scope filter in
     let store = store_at filter fields in
     let port = port_of filter body window in
     let block = body_block body filter.members in
     let enough : total (sized_fields filter.members) ≤ length slots = omega arith in
-    let fits : nodes_room (body_nodes body filter) ≤ length slots = body_fits filter body (length slots) room in
+    let fits : nodes_room (body_nodes body filter) ≤ length slots =
+    body_fits filter body (length slots) room in
     let ready = store_ready filter fields slots closed e stands enough in
-    map_related (ReachesOn names (length slots)) (HasFired filter (length slots)) (λ inner. let left = block_left store inner in record { fields = field_values left; pushes = left.traffic.pushes; words = left.traffic.words }) (stmts_done port block store) (nodes_done port (body_nodes body filter) (machine_at slots store)) (stmts_runs port block names store slots (body_closed body names filter.members closed) ready fits) (λ inner after reaches.
+    map_related (ReachesOn names (length slots)) (HasFired filter (length slots))
+    (λ inner. let left = block_left store inner in
+    record {
+      fields = field_values left;
+      pushes = left.traffic.pushes;
+      words =
+          left.traffic.words;
+    }) (stmts_done port block store)
+    (nodes_done port (body_nodes body filter) (machine_at slots store))
+    (stmts_runs port block names store slots
+    (body_closed body names filter.members closed) ready fits) (λ inner after reaches.
     let left = left_reaches names slots store inner after ready reaches in
     let same = left.same in
     record {
-      fields = field_values-Holds filter (block_left store inner) after.slots left.names_are left.holds (omega arith);
+      fields = field_values-Holds filter (block_left store inner) after.slots left.names_are
+          left.holds (omega arith);
       pushes = ap (λ (t : Traffic). t.pushes) (sym left.traffic);
       words = ap (λ (t : Traffic). t.words) (sym left.traffic);
       same = same;

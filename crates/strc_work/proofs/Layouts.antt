@@ -1,5 +1,6 @@
 -- Variables beside the places of their cells.
-use Rattle.std.proofs.Common.{◌≡◌, ℕ, zero, suc, ◌+◌, ◌-◌, ◌<◌, ◌^◌, Bool, true, false, List, [], ◌∷◌}
+use Rattle.std.proofs.Common.{◌≡◌, ℕ, zero, suc, ◌+◌, ◌-◌, ◌<◌, ◌^◌, Bool, true, false, List, []}
+use Rattle.std.proofs.Common.{◌∷◌}
 use Rattle.std.proofs.Common.{length, drop, Some, None, cond, refl, sym, ap, ◌∙◌, arith}
 use Rattle.std.specs.Prelude.{bytes_eq, slice_get}
 use Rattle.strc_work.specs.declared.layout.Place.{Place}
@@ -35,7 +36,8 @@ pub last_ends : (variables : List (List ℕ × Place)) (name : List ℕ) (place 
 last_ends [] name place laid e = cc
 last_ends (first ∷ rest) name place laid e =
     let same : first.1 ≡ place = cc in
-    let slot : place.slot ≡ total (with_cells rest) = ap (λ (p : Place). p.slot) (sym same) ∙ laid.0 in
+    let slot : place.slot ≡ total (with_cells rest) =
+    ap (λ (p : Place). p.slot) (sym same) ∙ laid.0 in
     let few : first.1.slot + first.1.cells < 2 ^ 32 = laid.1 in
     rw (← same) (record { ends = omega (arith, laid.0); few = few })
 
@@ -63,7 +65,8 @@ place_found (first ∷ rest) name place laid at =
         let same : first.1 ≡ place = cc in
         record {
           slot =
-              ap (λ t. cond t (Some (total (with_cells rest))) (slot_named (with_cells rest) name)) test
+              ap (λ t. cond t (Some (total (with_cells rest))) (slot_named (with_cells rest) name))
+              test
               ∙ ap Some (sym laid.0) ∙ ap (λ (p : Place). Some p.slot) same;
           cells =
               ap (λ t. cond t (Some first.1.cells) (size_named (with_cells rest) name)) test
@@ -78,8 +81,10 @@ place_found (first ∷ rest) name place laid at =
           ∙ (inner at).cells;
     }
 
-pub no_place : (variables : List (List ℕ × Place)) (name : List ℕ) → value_named variables name ≡ None
-    → (slot_named (with_cells variables) name ≡ None) × (size_named (with_cells variables) name ≡ None)
+pub no_place : (variables : List (List ℕ × Place)) (name : List ℕ)
+    → value_named variables name ≡ None
+    → (slot_named (with_cells variables) name ≡ None)
+    × (size_named (with_cells variables) name ≡ None)
 no_place [] name at = (refl, refl)
 no_place (first ∷ rest) name at = by_value (bytes_eq first.0 name) at (no_place rest name)
   where

@@ -1,5 +1,6 @@
 -- The code of a text prints just where it does.
-use Rattle.std.proofs.Common.{◌≡◌, ℕ, zero, suc, ◌+◌, Bool, true, false, ◌||◌, List, [], ◌∷◌, Option, Some, None, Result, Ok, Err, refl, sym, ap, ◌∙◌}
+use Rattle.std.proofs.Common.{◌≡◌, ℕ, zero, suc, ◌+◌, Bool, true, false, ◌||◌, List, [], ◌∷◌}
+use Rattle.std.proofs.Common.{Option, Some, None, Result, Ok, Err, refl, sym, ap, ◌∙◌}
 use Rattle.std.specs.Prelude.{unwrap_or}
 use Rattle.strc_syntax.specs.Tree as tree
 use Rattle.strc_syntax.specs.declared.tree.UnaryOperator.{UnaryOperator}
@@ -17,11 +18,19 @@ use Rattle.strc_semantics.specs.declared.body.Body.TheVariants as body
 use Rattle.strc_semantics.specs.declared.fault.Halt.{Halt}
 use Rattle.strc_semantics.specs.declared.fault.Halt.TheVariants as halt
 use Rattle.strc_machine.specs.Running.{WantsOnlyWords}
-use Rattle.strc_semantics.specs.Filters.{Filter, stmt_prints, stmts_print, work_block, body_block, body_prints}
+use Rattle.strc_semantics.specs.Filters.{Filter, stmt_prints, stmts_print, work_block, body_block}
+use Rattle.strc_semantics.specs.Filters.{body_prints}
 use Rattle.strc_semantics.specs.Firing.{assigned_value}
 use Rattle.strc_semantics.specs.Scoping.{Scope, cells_of, total, slot_of, size_of, names_after}
-use Rattle.strc_machine.specs.Machine.{Nodes, End, Act, Choice, Loop, before, inst_prints, nodes_print}
-use Rattle.strc_work.specs.Lowering.{unless_there, variable_slot, stands_at, writes_no_variable, one, unary_step, binary_step, step_nodes, element_step_nodes, binary_nodes, expr_nodes, operand_slot, operand_nodes, evaluation_nodes, used_nodes, compound_nodes, element_nodes, initial_nodes, variables_nodes, condition_nodes, condition_slot, stmt_nodes, stmts_nodes, body_nodes, field_scope}
+use Rattle.strc_machine.specs.Machine.{Nodes, End, Act, Choice, Loop, before, inst_prints}
+use Rattle.strc_machine.specs.Machine.{nodes_print}
+use Rattle.strc_work.specs.Lowering.{unless_there, variable_slot, stands_at, writes_no_variable}
+use Rattle.strc_work.specs.Lowering.{one, unary_step, binary_step, step_nodes, element_step_nodes}
+use Rattle.strc_work.specs.Lowering.{binary_nodes, expr_nodes, operand_slot, operand_nodes}
+use Rattle.strc_work.specs.Lowering.{evaluation_nodes, used_nodes, compound_nodes, element_nodes}
+use Rattle.strc_work.specs.Lowering.{initial_nodes, variables_nodes, condition_nodes}
+use Rattle.strc_work.specs.Lowering.{condition_slot, stmt_nodes, stmts_nodes, body_nodes}
+use Rattle.strc_work.specs.Lowering.{field_scope}
 use Rattle.strc_semantics.specs.Closed.{IsClosedStmt, AreClosed, IsClosedFilter}
 use Rattle.strc_work.proofs.Expressions.{by_operator}
 use Rattle.strc_work.proofs.FilterRuns.{body_closed}
@@ -70,11 +79,14 @@ or_turned false false = refl
 nodes_print-before : (a b : Nodes) → nodes_print (before a b) ≡ nodes_print a || nodes_print b
 nodes_print-before End b = refl
 nodes_print-before (Act first rest) b =
-    or_by_result (inst_prints first) (nodes_print rest) (nodes_print b) (nodes_print (before rest b)) (nodes_print-before rest b)
+    or_by_result (inst_prints first) (nodes_print rest) (nodes_print b)
+    (nodes_print (before rest b)) (nodes_print-before rest b)
 nodes_print-before (Choice slot chosen other rest) b =
-    three_or (nodes_print chosen) (nodes_print other) (nodes_print rest) (nodes_print b) (nodes_print (before rest b)) (nodes_print-before rest b)
+    three_or (nodes_print chosen) (nodes_print other) (nodes_print rest) (nodes_print b)
+    (nodes_print (before rest b)) (nodes_print-before rest b)
 nodes_print-before (Loop condition slot body rest) b =
-    three_or (nodes_print condition) (nodes_print body) (nodes_print rest) (nodes_print b) (nodes_print (before rest b)) (nodes_print-before rest b)
+    three_or (nodes_print condition) (nodes_print body) (nodes_print rest) (nodes_print b)
+    (nodes_print (before rest b)) (nodes_print-before rest b)
 
 -- silent code before other code
 silent-before : (a b : Nodes) → nodes_print a ≡ false → nodes_print (before a b) ≡ nodes_print b
@@ -82,16 +94,19 @@ silent-before a b e = nodes_print-before a b ∙ ap (λ t. t || nodes_print b) e
 
 -- ---- expressions
 
-unless_there_silent : (o : Option ℕ) (code : Nodes) → nodes_print code ≡ false → nodes_print (unless_there o code) ≡ false
+unless_there_silent : (o : Option ℕ) (code : Nodes) → nodes_print code ≡ false
+    → nodes_print (unless_there o code) ≡ false
 unless_there_silent None code e = e
 unless_there_silent (Some slot) code e = refl
 
-unary_silent : (operator : UnaryOperator) (into from : ℕ) → nodes_print (one (unary_step operator into from)) ≡ false
+unary_silent : (operator : UnaryOperator) (into from : ℕ)
+    → nodes_print (one (unary_step operator into from)) ≡ false
 unary_silent unary.Negate into from = refl
 unary_silent unary.Not into from = refl
 unary_silent unary.Complement into from = refl
 
-binary_silent : (operator : BinaryOperator) (into left right : ℕ) → nodes_print (one (binary_step operator into left right)) ≡ false
+binary_silent : (operator : BinaryOperator) (into left right : ℕ)
+    → nodes_print (one (binary_step operator into left right)) ≡ false
 binary_silent binary.LogicalOr into left right = refl
 binary_silent binary.LogicalAnd into left right = refl
 binary_silent binary.Equal into left right = refl
@@ -111,45 +126,59 @@ binary_silent binary.Multiply into left right = refl
 binary_silent binary.Divide into left right = refl
 binary_silent binary.Remainder into left right = refl
 
-step_silent : (operator : StepOperator) (slot into free : ℕ) → nodes_print (step_nodes operator slot into free) ≡ false
+step_silent : (operator : StepOperator) (slot into free : ℕ)
+    → nodes_print (step_nodes operator slot into free) ≡ false
 step_silent step.IncrementFirst slot into free = refl
 step_silent step.DecrementFirst slot into free = refl
 step_silent step.IncrementAfter slot into free = refl
 step_silent step.DecrementAfter slot into free = refl
 
 -- an operator between its operands is silent where these are
-between_silent : (operator : BinaryOperator) (left right other : Nodes) (into free : ℕ) → nodes_print left ≡ false → nodes_print right ≡ false → nodes_print other ≡ false → nodes_print (binary_nodes operator left right other into free) ≡ false
+between_silent : (operator : BinaryOperator) (left right other : Nodes) (into free : ℕ)
+    → nodes_print left ≡ false → nodes_print right ≡ false → nodes_print other ≡ false
+    → nodes_print (binary_nodes operator left right other into free) ≡ false
 between_silent operator left right other into free silent silent' silent'' =
     by_operator (λ o. nodes_print (binary_nodes o left right other into free) ≡ false)
-    (silent-before left (Choice free End right (one (act.Copy into free))) silent ∙ two_silent false (nodes_print right) false refl silent')
-    (silent-before left (Choice free right End (one (act.Copy into free))) silent ∙ two_silent (nodes_print right) false false silent' refl)
+    (silent-before left (Choice free End right (one (act.Copy into free))) silent
+    ∙ two_silent false (nodes_print right) false refl silent')
+    (silent-before left (Choice free right End (one (act.Copy into free))) silent
+    ∙ two_silent (nodes_print right) false false silent' refl)
     (λ o strict. ap nodes_print (strict.code left right other into free) ∙ silent'')
     operator
 
-expr_silent : (names : Scope) (e : tree.Expr) (into free : ℕ) → nodes_print (expr_nodes names e into free) ≡ false
+expr_silent : (names : Scope) (e : tree.Expr) (into free : ℕ)
+    → nodes_print (expr_nodes names e into free) ≡ false
 expr_silent names (tree.Number value) into free = refl
 expr_silent names (tree.Truth value) into free = refl
 expr_silent names (tree.Read name) into free = refl
 expr_silent names (tree.Element name index) into free =
     let o = variable_slot names index in
     let a = expr_nodes names index free (free + 1) in
-    silent-before (unless_there o a) (one (act.Load into (slot_of names name) (size_of names name) (unwrap_or o free))) (unless_there_silent o a (expr_silent names index free (free + 1)))
+    silent-before (unless_there o a) (one
+    (act.Load into (slot_of names name) (size_of names name) (unwrap_or o free)))
+    (unless_there_silent o a (expr_silent names index free (free + 1)))
 expr_silent names tree.Pop into free = refl
 expr_silent names (tree.Peek index) into free =
     let o = variable_slot names index in
     let a = expr_nodes names index free (free + 1) in
-    silent-before (unless_there o a) (one (act.Peek into (unwrap_or o free))) (unless_there_silent o a (expr_silent names index free (free + 1)))
+    silent-before (unless_there o a) (one (act.Peek into (unwrap_or o free)))
+    (unless_there_silent o a (expr_silent names index free (free + 1)))
 expr_silent names (tree.Group inner) into free = expr_silent names inner into free
 expr_silent names (tree.Unary operator operand) into free =
     let o = variable_slot names operand in
     let a = expr_nodes names operand free (free + 1) in
     let last = unary_step operator into (unwrap_or o free) in
-    silent-before (unless_there o a) (one last) (unless_there_silent o a (expr_silent names operand free (free + 1))) ∙ unary_silent operator into (unwrap_or o free)
-expr_silent names (tree.Step operator name) into free = step_silent operator (slot_of names name) into free
+    silent-before (unless_there o a) (one last)
+    (unless_there_silent o a (expr_silent names operand free (free + 1)))
+    ∙ unary_silent operator into (unwrap_or o free)
+expr_silent names (tree.Step operator name) into free =
+    step_silent operator (slot_of names name) into free
 expr_silent names (tree.StepElement operator name index) into free =
     let o = variable_slot names index in
     let a = expr_nodes names index free (free + 1) in
-    silent-before (unless_there o a) (element_step_nodes operator (slot_of names name) (size_of names name) (unwrap_or o free) into (free + 1)) (unless_there_silent o a (expr_silent names index free (free + 1)))
+    silent-before (unless_there o a) (element_step_nodes operator (slot_of names name)
+    (size_of names name) (unwrap_or o free) into (free + 1))
+    (unless_there_silent o a (expr_silent names index free (free + 1)))
 expr_silent names (tree.Binary operator left right) into free =
     let o = stands_at names (writes_no_variable right) left in
     let p = variable_slot names right in
@@ -158,104 +187,152 @@ expr_silent names (tree.Binary operator left right) into free =
     let last = one (binary_step operator into (unwrap_or o free) (unwrap_or p (free + 1))) in
     let other = before (unless_there o a) (before (unless_there p b) last) in
     let other_silent : nodes_print other ≡ false =
-    silent-before (unless_there o a) (before (unless_there p b) last) (unless_there_silent o a (expr_silent names left free (free + 1)))
-    ∙ silent-before (unless_there p b) last (unless_there_silent p b (expr_silent names right (free + 1) (free + 1 + 1)))
+    silent-before (unless_there o a) (before (unless_there p b) last)
+    (unless_there_silent o a (expr_silent names left free (free + 1)))
+    ∙ silent-before (unless_there p b) last
+    (unless_there_silent p b (expr_silent names right (free + 1) (free + 1 + 1)))
     ∙ binary_silent operator into (unwrap_or o free) (unwrap_or p (free + 1)) in
-    between_silent operator a (expr_nodes names right free (free + 1)) other into free (expr_silent names left free (free + 1)) (expr_silent names right free (free + 1)) other_silent
+    between_silent operator a (expr_nodes names right free (free + 1)) other into free
+    (expr_silent names left free (free + 1))
+    (expr_silent names right free (free + 1)) other_silent
 expr_silent names (tree.Conditional condition chosen other) into free =
     let o = variable_slot names condition in
     let a = expr_nodes names condition free (free + 1) in
     let b = expr_nodes names chosen into free in
     let c = expr_nodes names other into free in
-    silent-before (unless_there o a) (Choice (unwrap_or o free) b c End) (unless_there_silent o a (expr_silent names condition free (free + 1)))
-    ∙ two_silent (nodes_print b) (nodes_print c) false (expr_silent names chosen into free) (expr_silent names other into free)
+    silent-before (unless_there o a) (Choice (unwrap_or o free) b c End)
+    (unless_there_silent o a (expr_silent names condition free (free + 1)))
+    ∙ two_silent (nodes_print b) (nodes_print c) false (expr_silent names chosen into free)
+    (expr_silent names other into free)
 
 -- ---- statements
 
-operand_silent : (names : Scope) (may_alias : Bool) (e : tree.Expr) (free : ℕ) → nodes_print (operand_nodes names may_alias e free) ≡ false
+operand_silent : (names : Scope) (may_alias : Bool) (e : tree.Expr) (free : ℕ)
+    → nodes_print (operand_nodes names may_alias e free) ≡ false
 operand_silent names may_alias e free =
-    unless_there_silent (stands_at names may_alias e) (expr_nodes names e free (free + 1)) (expr_silent names e free (free + 1))
+    unless_there_silent (stands_at names may_alias e) (expr_nodes names e free (free + 1))
+    (expr_silent names e free (free + 1))
 
-condition_silent : (names : Scope) (condition : Option tree.Expr) → nodes_print (condition_nodes names condition) ≡ false
+condition_silent : (names : Scope) (condition : Option tree.Expr)
+    → nodes_print (condition_nodes names condition) ≡ false
 condition_silent names None = refl
 condition_silent names (Some condition) = operand_silent names true condition (total names)
 
-used_print : (names : Scope) (e : tree.Expr) (last : ℕ → Inst) → nodes_print (used_nodes names e last) ≡ nodes_print (one (last (operand_slot names true e (total names))))
+used_print : (names : Scope) (e : tree.Expr) (last : ℕ → Inst)
+    → nodes_print (used_nodes names e last)
+    ≡ nodes_print (one (last (operand_slot names true e (total names))))
 used_print names e last =
-    silent-before (operand_nodes names true e (total names)) (one (last (operand_slot names true e (total names)))) (operand_silent names true e (total names))
+    silent-before (operand_nodes names true e (total names))
+    (one (last (operand_slot names true e (total names))))
+    (operand_silent names true e (total names))
 
-evaluation_silent : (names : Scope) (e : tree.Expr) → nodes_print (evaluation_nodes names e (total names)) ≡ false
+evaluation_silent : (names : Scope) (e : tree.Expr)
+    → nodes_print (evaluation_nodes names e (total names)) ≡ false
 evaluation_silent names (tree.Step operator name) = refl
 evaluation_silent names (tree.Number value) = refl
-evaluation_silent names (tree.Truth value) = expr_silent names (tree.Truth value) (total names) (total names + 1)
+evaluation_silent names (tree.Truth value) =
+    expr_silent names (tree.Truth value) (total names) (total names + 1)
 evaluation_silent names (tree.Read name) = refl
-evaluation_silent names (tree.Element name index) = expr_silent names (tree.Element name index) (total names) (total names + 1)
-evaluation_silent names (tree.Peek index) = expr_silent names (tree.Peek index) (total names) (total names + 1)
-evaluation_silent names (tree.StepElement operator name index) = expr_silent names (tree.StepElement operator name index) (total names) (total names + 1)
-evaluation_silent names (tree.Conditional condition chosen other) = expr_silent names (tree.Conditional condition chosen other) (total names) (total names + 1)
+evaluation_silent names (tree.Element name index) =
+    expr_silent names (tree.Element name index) (total names) (total names + 1)
+evaluation_silent names (tree.Peek index) =
+    expr_silent names (tree.Peek index) (total names) (total names + 1)
+evaluation_silent names (tree.StepElement operator name index) =
+    expr_silent names (tree.StepElement operator name index) (total names) (total names + 1)
+evaluation_silent names (tree.Conditional condition chosen other) =
+    expr_silent names (tree.Conditional condition chosen other) (total names) (total names + 1)
 evaluation_silent names tree.Pop = refl
-evaluation_silent names (tree.Group inner) = expr_silent names (tree.Group inner) (total names) (total names + 1)
-evaluation_silent names (tree.Unary operator operand) = expr_silent names (tree.Unary operator operand) (total names) (total names + 1)
-evaluation_silent names (tree.Binary operator left right) = expr_silent names (tree.Binary operator left right) (total names) (total names + 1)
+evaluation_silent names (tree.Group inner) =
+    expr_silent names (tree.Group inner) (total names) (total names + 1)
+evaluation_silent names (tree.Unary operator operand) =
+    expr_silent names (tree.Unary operator operand) (total names) (total names + 1)
+evaluation_silent names (tree.Binary operator left right) =
+    expr_silent names (tree.Binary operator left right) (total names) (total names + 1)
 
-initial_silent : (names : Scope) (cells : ℕ) (initial : Option tree.Expr) (into free : ℕ) → nodes_print (initial_nodes names cells initial into free) ≡ false
+initial_silent : (names : Scope) (cells : ℕ) (initial : Option tree.Expr) (into free : ℕ)
+    → nodes_print (initial_nodes names cells initial into free) ≡ false
 initial_silent names zero None into free = refl
 initial_silent names (suc zero) None into free = refl
 initial_silent names (suc (suc more)) None into free = refl
 initial_silent names cells (Some initial) into free = expr_silent names initial into free
 
-variables_silent : (names : Scope) (cells : ℕ) (variables : List tree.Variable) → nodes_print (variables_nodes names cells variables) ≡ false
+variables_silent : (names : Scope) (cells : ℕ) (variables : List tree.Variable)
+    → nodes_print (variables_nodes names cells variables) ≡ false
 variables_silent names cells [] = refl
 variables_silent names cells (first ∷ rest) =
     let names' : Scope = record { 0 = first.name; 1 = cells } ∷ names in
-    silent-before (initial_nodes names cells first.initial (total names) (total names + cells)) (variables_nodes names' cells rest) (initial_silent names cells first.initial (total names) (total names + cells))
+    silent-before (initial_nodes names cells first.initial (total names) (total names + cells))
+    (variables_nodes names' cells rest)
+    (initial_silent names cells first.initial (total names) (total names + cells))
     ∙ variables_silent names' cells rest
 
-compound_silent : (names : Scope) (name : List ℕ) (index : ℕ) (operator : BinaryOperator) (value : tree.Expr) (free : ℕ) → nodes_print (compound_nodes names name index operator value free) ≡ false
+compound_silent : (names : Scope) (name : List ℕ) (index : ℕ) (operator : BinaryOperator)
+    (value : tree.Expr) (free : ℕ) → nodes_print
+    (compound_nodes names name index operator value free) ≡ false
 compound_silent names name index operator value free =
     let c = operand_nodes names true value (free + 1) in
     let last = binary_step operator free free (operand_slot names true value (free + 1)) in
     let store = one (act.Store (slot_of names name) (size_of names name) index free) in
-    silent-before c (Act last store) (operand_silent names true value (free + 1)) ∙ binary_silent operator free free (operand_slot names true value (free + 1))
+    silent-before c (Act last store) (operand_silent names true value (free + 1))
+    ∙ binary_silent operator free free (operand_slot names true value (free + 1))
 
-element_silent : (names : Scope) (name : List ℕ) (index : ℕ) (operator : AssignOperator) (value : tree.Expr) (free : ℕ) → nodes_print (element_nodes names name index operator value free) ≡ false
+element_silent : (names : Scope) (name : List ℕ) (index : ℕ) (operator : AssignOperator)
+    (value : tree.Expr) (free : ℕ) → nodes_print
+    (element_nodes names name index operator value free) ≡ false
 element_silent names name index assign.Set value free =
-    silent-before (operand_nodes names true value free) (one (act.Store (slot_of names name) (size_of names name) index (operand_slot names true value free))) (operand_silent names true value free)
-element_silent names name index assign.Add value free = compound_silent names name index binary.Add value free
-element_silent names name index assign.Subtract value free = compound_silent names name index binary.Subtract value free
-element_silent names name index assign.Multiply value free = compound_silent names name index binary.Multiply value free
-element_silent names name index assign.Divide value free = compound_silent names name index binary.Divide value free
-element_silent names name index assign.Remainder value free = compound_silent names name index binary.Remainder value free
+    silent-before (operand_nodes names true value free)
+    (one (act.Store (slot_of names name) (size_of names name) index
+    (operand_slot names true value free))) (operand_silent names true value free)
+element_silent names name index assign.Add value free =
+    compound_silent names name index binary.Add value free
+element_silent names name index assign.Subtract value free =
+    compound_silent names name index binary.Subtract value free
+element_silent names name index assign.Multiply value free =
+    compound_silent names name index binary.Multiply value free
+element_silent names name index assign.Divide value free =
+    compound_silent names name index binary.Divide value free
+element_silent names name index assign.Remainder value free =
+    compound_silent names name index binary.Remainder value free
 
 mutual
-  stmt_print : (names : Scope) (s : tree.Stmt) → IsClosedStmt names s → nodes_print (stmt_nodes names s) ≡ stmt_prints s
+  stmt_print : (names : Scope) (s : tree.Stmt) → IsClosedStmt names s
+      → nodes_print (stmt_nodes names s) ≡ stmt_prints s
   stmt_print names tree.Empty closed = refl
   stmt_print names (tree.Compose statement) closed = refl
   stmt_print names (tree.Block body) closed = stmts_print_is names body closed
-  stmt_print names (tree.Declare kind variables) closed = variables_silent names (cells_of kind) variables
+  stmt_print names (tree.Declare kind variables) closed =
+      variables_silent names (cells_of kind) variables
   stmt_print names (tree.Evaluate value) closed = evaluation_silent names value
-  stmt_print names (tree.Assign name operator value) closed = expr_silent names (assigned_value name operator value) (slot_of names name) (total names)
+  stmt_print names (tree.Assign name operator value) closed =
+      expr_silent names (assigned_value name operator value) (slot_of names name) (total names)
   stmt_print names (tree.AssignElement name index operator value) closed =
       let may_alias = writes_no_variable value in
       let from = operand_slot names may_alias index (total names) in
-      silent-before (operand_nodes names may_alias index (total names)) (element_nodes names name from operator value (total names + 1)) (operand_silent names may_alias index (total names))
+      silent-before (operand_nodes names may_alias index (total names))
+      (element_nodes names name from operator value (total names + 1))
+      (operand_silent names may_alias index (total names))
       ∙ element_silent names name from operator value (total names + 1)
   stmt_print names (tree.If condition chosen) closed =
       let b = stmt_nodes names chosen in
-      silent-before (operand_nodes names true condition (total names)) (Choice (operand_slot names true condition (total names)) b End End) (operand_silent names true condition (total names))
+      silent-before (operand_nodes names true condition (total names))
+      (Choice (operand_slot names true condition (total names)) b End End)
+      (operand_silent names true condition (total names))
       ∙ first_of_two (nodes_print b) false refl
       ∙ stmt_print names chosen closed.1
   stmt_print names (tree.IfElse condition chosen other) closed =
       let b = stmt_nodes names chosen in
       let c = stmt_nodes names other in
-      silent-before (operand_nodes names true condition (total names)) (Choice (operand_slot names true condition (total names)) b c End) (operand_silent names true condition (total names))
+      silent-before (operand_nodes names true condition (total names))
+      (Choice (operand_slot names true condition (total names)) b c End)
+      (operand_silent names true condition (total names))
       ∙ both_of_two (nodes_print b) (nodes_print c)
       ∙ ap (λ t. t || nodes_print c) (stmt_print names chosen closed.1)
       ∙ ap (λ t. stmt_prints chosen || t) (stmt_print names other closed.2)
   stmt_print names (tree.While condition body) closed =
       let a = condition_nodes names (Some condition) in
       let b = stmt_nodes names body in
-      one_of_two (nodes_print a) (nodes_print b) (condition_silent names (Some condition)) ∙ stmt_print names body closed.1
+      one_of_two (nodes_print a) (nodes_print b) (condition_silent names (Some condition))
+      ∙ stmt_print names body closed.1
   stmt_print names (tree.For first condition step body) closed =
       let inner = names_after names first in
       let a = stmt_nodes names first in
@@ -264,7 +341,9 @@ mutual
       let d = condition_nodes inner condition in
       let turn = before b c in
       nodes_print-before a (Loop d (condition_slot inner condition) turn End)
-      ∙ ap (λ t. nodes_print a || t) (one_of_two (nodes_print d) (nodes_print turn) (condition_silent inner condition) ∙ nodes_print-before b c ∙ or_turned (nodes_print b) (nodes_print c))
+      ∙ ap (λ t. nodes_print a || t) (one_of_two (nodes_print d) (nodes_print turn)
+      (condition_silent inner condition) ∙ nodes_print-before b c
+      ∙ or_turned (nodes_print b) (nodes_print c))
       ∙ ap (λ t. t || (nodes_print c || nodes_print b)) (stmt_print names first closed.0)
       ∙ ap (λ t. stmt_prints first || (t || nodes_print b)) (stmt_print inner step closed.2)
       ∙ ap (λ t. stmt_prints first || (stmt_prints step || t)) (stmt_print inner body closed.3)
@@ -272,7 +351,8 @@ mutual
   stmt_print names (tree.Print value) closed = used_print names value act.Print
   stmt_print names (tree.Println value) closed = used_print names value act.Println
 
-  stmts_print_is : (names : Scope) (b : tree.Stmts) → AreClosed names b → nodes_print (stmts_nodes names b) ≡ stmts_print b
+  stmts_print_is : (names : Scope) (b : tree.Stmts) → AreClosed names b
+      → nodes_print (stmts_nodes names b) ≡ stmts_print b
   stmts_print_is names tree.Done closed = refl
   stmts_print_is names (tree.Then first rest) closed =
       let rest_code = stmts_nodes (names_after names first) rest in
@@ -281,17 +361,25 @@ mutual
       ∙ ap (λ t. stmt_prints first || t) (stmts_print_is (names_after names first) rest closed.1)
 
 -- a body's code prints just where its text does
-pub body_print : (body : Body) (filter : Filter) → IsClosedFilter filter → nodes_print (body_nodes body filter) ≡ stmts_print (body_block body filter.members)
+pub body_print : (body : Body) (filter : Filter) → IsClosedFilter filter
+    → nodes_print (body_nodes body filter) ≡ stmts_print (body_block body filter.members)
 body_print body filter closed =
-    stmts_print_is (field_scope filter) (body_block body filter.members) (body_closed body (field_scope filter) filter.members closed)
+    stmts_print_is (field_scope filter) (body_block body filter.members)
+    (body_closed body (field_scope filter) filter.members closed)
 
 -- out of memory at code that prints where other code does
-wants_also : (prints prints' : Bool) → (prints ≡ true → prints' ≡ true) → (result : Result (Unit {0}) Halt) → WantsOnlyWords prints result → WantsOnlyWords prints' result
+wants_also : (prints prints' : Bool) → (prints ≡ true → prints' ≡ true)
+    → (result : Result (Unit {0}) Halt) → WantsOnlyWords prints result
+    → WantsOnlyWords prints' result
 wants_also prints prints' more (Ok done) wants = tt
 wants_also prints prints' more (Err (halt.Fault cause)) wants = tt
 wants_also prints prints' more (Err halt.NoMemory) wants = more wants
 
 -- only a body that prints can run out of memory when it is fired
-pub body_wants : (body : Body) (filter : Filter) (code : Nodes) (result : Result (Unit {0}) Halt) → IsClosedFilter filter → code ≡ body_nodes body filter → WantsOnlyWords (nodes_print code) result → WantsOnlyWords (body_prints body filter) result
+pub body_wants : (body : Body) (filter : Filter) (code : Nodes) (result : Result (Unit {0}) Halt)
+    → IsClosedFilter filter → code ≡ body_nodes body filter
+    → WantsOnlyWords (nodes_print code) result → WantsOnlyWords (body_prints body filter) result
 body_wants body filter code result closed code_is wants =
-    wants_also (nodes_print code) (body_prints body filter) (λ prints. sym (body_print body filter closed) ∙ sym (ap nodes_print code_is) ∙ prints) result wants
+    wants_also (nodes_print code) (body_prints body filter)
+    (λ prints. sym (body_print body filter closed) ∙ sym (ap nodes_print code_is) ∙ prints)
+    result wants

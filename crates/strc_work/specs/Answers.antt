@@ -9,14 +9,17 @@ use Rattle.strc_semantics.specs.declared.word.Word.{Word}
 use Rattle.strc_work.specs.Kept.{Kept}
 use Rattle.strc_semantics.specs.Firing.{Fired}
 
--- a firing gave these values of the fields and these pushes, and its words stand after those before it
-pub record HasGiven (outcome : Result Fired Cause) (fields pushes : List ℤ) (before after : List Word) : Type 0 where
+-- a firing gave these values of the fields and these pushes, and its words stand after those before
+-- it
+pub record HasGiven (outcome : Result Fired Cause) (fields pushes : List ℤ)
+    (before after : List Word) : Type 0 where
   pub words : List Word
   pub is : outcome ≡ Ok (record { fields = fields; pushes = pushes; words = words })
   pub printed : after ≡ before ++ words
 
 -- an answer tells what a firing gave, or its fault; out of memory tells nothing
-abbrev pub Fires : Result Fired Cause → Result (Unit {0}) Halt → (fields pushes : List ℤ) (before after : List Word) → Type 0
+abbrev pub Fires : Result Fired Cause → Result (Unit {0}) Halt
+    → (fields pushes : List ℤ) (before after : List Word) → Type 0
 Fires outcome (Ok done) fields pushes before after = HasGiven outcome fields pushes before after
 Fires outcome (Err (halt.Fault cause)) fields pushes before after = outcome ≡ Err cause
 Fires outcome (Err halt.NoMemory) fields pushes before after = Unit {0}

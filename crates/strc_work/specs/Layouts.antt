@@ -12,4 +12,5 @@ with_cells (first ∷ rest) = record { 0 = first.0; 1 = first.1.cells } ∷ with
 abbrev pub AreLaid : List (List ℕ × Place) → Type 0
 AreLaid [] = Unit {0}
 AreLaid (first ∷ rest) =
-    (first.1.slot ≡ total (with_cells rest)) × (first.1.slot + first.1.cells < 2 ^ 32) × AreLaid rest
+    (first.1.slot ≡ total (with_cells rest)) × (first.1.slot + first.1.cells < 2 ^ 32)
+    × AreLaid rest

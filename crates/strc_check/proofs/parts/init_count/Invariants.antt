@@ -6,5 +6,6 @@ use Rattle.strc_check.proofs.parts.init_count.Given as goal
 abbrev pub invariant-loop-member : goal.invariant-loop-member
 invariant-loop-member l = record {
   within : l.count ≤ l.member-index;
-  left : l.count + init_count (members_of (drop l.member-index l.members)) ≡ init_count (members_of l.members);
+  left : l.count + init_count (members_of (drop l.member-index l.members))
+      ≡ init_count (members_of l.members);
 }

@@ -5,4 +5,7 @@ use Rattle.strc_check.proofs.Resolved.{list_behind}
 use Rattle.strc_check.proofs.rates.resolve_rates.Given as goal
 
 abbrev pub invariant-loop-rate : goal.invariant-loop-rate
-invariant-loop-rate l = list_behind rate_view l.resolved.items (rates_resolved l.constants l.fields l.input l.output (map rate_view (drop l.rate-index l.rates))) ≡ rates_resolved l.constants l.fields l.input l.output (map rate_view l.rates)
+invariant-loop-rate l = list_behind rate_view l.resolved.items
+    (rates_resolved l.constants l.fields l.input l.output
+    (map rate_view (drop l.rate-index l.rates)))
+    ≡ rates_resolved l.constants l.fields l.input l.output (map rate_view l.rates)

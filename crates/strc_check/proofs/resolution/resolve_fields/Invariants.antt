@@ -8,6 +8,11 @@ use Rattle.strc_check.proofs.resolution.resolve_fields.Given as goal
 
 abbrev pub invariant-loop-variable : goal.invariant-loop-variable
 invariant-loop-variable l = record {
-  left : list_behind variable_view l.resolved.items (fields_resolved (context_of l.context) l.fields l.before l.kind (map variable_view (drop l.variable-index l.variables))) ≡ fields_resolved (context_of l.context) l.fields l.initial.before l.kind (map variable_view l.variables);
-  before : names_with l.before (map variable_view (drop l.variable-index l.variables)) ≡ names_with l.initial.before (map variable_view l.variables);
+  left : list_behind variable_view l.resolved.items
+      (fields_resolved (context_of l.context) l.fields l.before l.kind
+      (map variable_view (drop l.variable-index l.variables)))
+      ≡ fields_resolved (context_of l.context) l.fields l.initial.before l.kind
+      (map variable_view l.variables);
+  before : names_with l.before (map variable_view (drop l.variable-index l.variables))
+      ≡ names_with l.initial.before (map variable_view l.variables);
 }

@@ -17,12 +17,26 @@ loop-member-preserved c =
     let within : i < length members = omega arith in
     let rest = members_of (drop (i + 1) members) in
     record {
-      left = ap (λ resolved. list_behind member_view resolved (judged.members_resolved constants input output c.resolve_member.new.fields c.resolve_member.new.before rest)) c.in_ok-push.ensures.items
-          ∙ ap (λ f. list_behind member_view (c.loop-member.resolved.items ++ c.in_ok-member.member ∷ []) (judged.members_resolved constants input output f c.resolve_member.new.before rest)) c.in_ok-member.ensures.fields
-          ∙ ap (λ b. list_behind member_view (c.loop-member.resolved.items ++ c.in_ok-member.member ∷ []) (judged.members_resolved constants input output c.loop-member.fields b rest)) c.in_ok-member.ensures.before
-          ∙ list_behind_step member_view c.loop-member.resolved.items c.in_ok-member.member (judged.member_resolved constants input output c.loop-member.fields c.loop-member.before (member_view x))
-          (judged.members_resolved constants input output c.loop-member.fields (judged.fields_after c.loop-member.before (member_view x)) rest) c.in_ok-member.ensures.verdict
-          ∙ sym (ap (λ l. list_behind member_view c.loop-member.resolved.items (judged.members_resolved constants input output c.loop-member.fields c.loop-member.before l)) (map-drop member_view members i x within c.member-item.is))
+      left = ap (λ resolved. list_behind member_view resolved
+          (judged.members_resolved constants input output c.resolve_member.new.fields
+          c.resolve_member.new.before rest)) c.in_ok-push.ensures.items
+          ∙ ap (λ f. list_behind member_view
+          (c.loop-member.resolved.items ++ c.in_ok-member.member ∷ [])
+          (judged.members_resolved constants input output f c.resolve_member.new.before rest))
+          c.in_ok-member.ensures.fields
+          ∙ ap (λ b. list_behind member_view
+          (c.loop-member.resolved.items ++ c.in_ok-member.member ∷ [])
+          (judged.members_resolved constants input output c.loop-member.fields b rest))
+          c.in_ok-member.ensures.before
+          ∙ list_behind_step member_view c.loop-member.resolved.items c.in_ok-member.member
+          (judged.member_resolved constants input output c.loop-member.fields c.loop-member.before
+          (member_view x))
+          (judged.members_resolved constants input output c.loop-member.fields
+          (judged.fields_after c.loop-member.before (member_view x)) rest)
+          c.in_ok-member.ensures.verdict
+          ∙ sym (ap (λ l. list_behind member_view c.loop-member.resolved.items
+          (judged.members_resolved constants input output c.loop-member.fields
+          c.loop-member.before l)) (map-drop member_view members i x within c.member-item.is))
           ∙ c.loop-member.invariant.left;
       fields = c.in_ok-member.ensures.fields ∙ c.loop-member.invariant.fields;
     }

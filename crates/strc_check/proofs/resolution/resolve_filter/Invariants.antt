@@ -7,6 +7,10 @@ use Rattle.strc_check.proofs.resolution.resolve_filter.Given as goal
 
 abbrev pub invariant-loop-member : goal.invariant-loop-member
 invariant-loop-member l = record {
-  left : list_behind member_view l.resolved.items (members_resolved l.constants l.input l.output l.fields l.before (members_of (drop l.member-index l.members))) ≡ members_resolved l.constants l.input l.output l.initial.fields l.initial.before (members_of l.members);
+  left : list_behind member_view l.resolved.items
+      (members_resolved l.constants l.input l.output l.fields l.before
+      (members_of (drop l.member-index l.members)))
+      ≡ members_resolved l.constants l.input l.output l.initial.fields l.initial.before
+      (members_of l.members);
   fields : l.fields ≡ l.initial.fields;
 }

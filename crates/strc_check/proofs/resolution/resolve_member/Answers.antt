@@ -12,42 +12,77 @@ use Rattle.strc_check.proofs.resolution.resolve_member.Goals as goal
 
 pub returns-in_ok-block-in-Init-clause-verdict : goal.returns-in_ok-block-in-Init-clause-verdict
 returns-in_ok-block-in-Init-clause-verdict c =
-    sym (init_judged c.args.constants.now c.args.input c.args.output c.args.fields.now c.args.before.now (context_of c.init_context-context-in-Init.result) c.args.member.now c.in-Init.block c.deref-in-Init.result.now c.init_context-context-in-Init.ensures c.deref-in-Init.ensures.value c.in-Init.is)
+    sym (init_judged c.args.constants.now c.args.input c.args.output c.args.fields.now
+    c.args.before.now (context_of c.init_context-context-in-Init.result) c.args.member.now
+    c.in-Init.block c.deref-in-Init.result.now c.init_context-context-in-Init.ensures
+    c.deref-in-Init.ensures.value c.in-Init.is)
     ∙ ap (λ r. result_and_then r (λ b. Ok (tree.Init b))) c.in_ok-block-in-Init.ensures.verdict
     ∙ ap Ok (sym (member_view-Init c.in_ok-block-in-Init.block))
 
 pub returns-in_err-block-in-Init-clause-verdict : goal.returns-in_err-block-in-Init-clause-verdict
 returns-in_err-block-in-Init-clause-verdict c =
-    let p = err_from_is_err_and c.from_residual-in_err-block-in-Init.result c.from_residual-in_err-block-in-Init.ensures.1 in
+    let p = err_from_is_err_and c.from_residual-in_err-block-in-Init.result
+    c.from_residual-in_err-block-in-Init.ensures.1 in
     let refused = refusal_same _ _ c.in_err-block-in-Init.field-0.0
-    (init_judged c.args.constants.now c.args.input c.args.output c.args.fields.now c.args.before.now (context_of c.init_context-context-in-Init.result) c.args.member.now c.in-Init.block c.deref-in-Init.result.now c.init_context-context-in-Init.ensures c.deref-in-Init.ensures.value c.in-Init.is)
-    (refusal_through (judged.body_resolved (context_of c.init_context-context-in-Init.result) c.args.fields.now (block_view c.deref-in-Init.result.now)) (λ b. Ok (tree.Init b)) c.in_err-block-in-Init.field-0.0 c.in_err-block-in-Init.ensures.verdict) in
+    (init_judged c.args.constants.now c.args.input c.args.output c.args.fields.now c.args.before.now
+    (context_of c.init_context-context-in-Init.result) c.args.member.now c.in-Init.block
+    c.deref-in-Init.result.now c.init_context-context-in-Init.ensures
+    c.deref-in-Init.ensures.value c.in-Init.is)
+    (refusal_through (judged.body_resolved
+    (context_of c.init_context-context-in-Init.result) c.args.fields.now
+    (block_view c.deref-in-Init.result.now))
+    (λ b. Ok (tree.Init b)) c.in_err-block-in-Init.field-0.0
+    c.in_err-block-in-Init.ensures.verdict) in
     rw (p.1, p.2) refused
 
 pub returns-in_ok-work-in-Prework-clause-verdict : goal.returns-in_ok-work-in-Prework-clause-verdict
 returns-in_ok-work-in-Prework-clause-verdict c =
-    sym (prework_judged c.args.constants.now c.args.input c.args.output c.args.fields.now c.args.before.now c.args.member.now c.in-Prework.rates c.in-Prework.block c.deref-in-Prework.result.now c.deref-in-Prework-2.result.now c.deref-in-Prework.ensures.value c.deref-in-Prework-2.ensures.value c.in-Prework.is)
-    ∙ ap (λ r. result_and_then r (λ w. Ok (tree.Prework w.rates w.block))) c.in_ok-work-in-Prework.ensures.verdict
-    ∙ ap Ok (sym (member_view-Prework c.in_ok-work-in-Prework.work.rates c.in_ok-work-in-Prework.work.block))
+    sym (prework_judged c.args.constants.now c.args.input c.args.output c.args.fields.now
+    c.args.before.now c.args.member.now c.in-Prework.rates c.in-Prework.block
+    c.deref-in-Prework.result.now c.deref-in-Prework-2.result.now
+    c.deref-in-Prework.ensures.value c.deref-in-Prework-2.ensures.value c.in-Prework.is)
+    ∙ ap (λ r. result_and_then r (λ w. Ok (tree.Prework w.rates w.block)))
+    c.in_ok-work-in-Prework.ensures.verdict
+    ∙ ap Ok (sym (member_view-Prework c.in_ok-work-in-Prework.work.rates
+    c.in_ok-work-in-Prework.work.block))
 
-pub returns-in_err-work-in-Prework-clause-verdict : goal.returns-in_err-work-in-Prework-clause-verdict
+pub returns-in_err-work-in-Prework-clause-verdict :
+    goal.returns-in_err-work-in-Prework-clause-verdict
 returns-in_err-work-in-Prework-clause-verdict c =
-    let p = err_from_is_err_and c.from_residual-in_err-work-in-Prework.result c.from_residual-in_err-work-in-Prework.ensures.1 in
+    let p = err_from_is_err_and c.from_residual-in_err-work-in-Prework.result
+    c.from_residual-in_err-work-in-Prework.ensures.1 in
     let refused = refusal_same _ _ c.in_err-work-in-Prework.field-0.0
-    (prework_judged c.args.constants.now c.args.input c.args.output c.args.fields.now c.args.before.now c.args.member.now c.in-Prework.rates c.in-Prework.block c.deref-in-Prework.result.now c.deref-in-Prework-2.result.now c.deref-in-Prework.ensures.value c.deref-in-Prework-2.ensures.value c.in-Prework.is)
-    (refusal_through (work_judged c.args.constants.now c.args.input c.args.output c.args.fields.now c.deref-in-Prework.result.now c.deref-in-Prework-2.result.now) (λ w. Ok (tree.Prework w.rates w.block)) c.in_err-work-in-Prework.field-0.0 c.in_err-work-in-Prework.ensures.verdict) in
+    (prework_judged c.args.constants.now c.args.input c.args.output c.args.fields.now
+    c.args.before.now c.args.member.now c.in-Prework.rates c.in-Prework.block
+    c.deref-in-Prework.result.now c.deref-in-Prework-2.result.now c.deref-in-Prework.ensures.value
+    c.deref-in-Prework-2.ensures.value c.in-Prework.is)
+    (refusal_through (work_judged c.args.constants.now c.args.input c.args.output c.args.fields.now
+    c.deref-in-Prework.result.now c.deref-in-Prework-2.result.now)
+    (λ w. Ok (tree.Prework w.rates w.block)) c.in_err-work-in-Prework.field-0.0
+    c.in_err-work-in-Prework.ensures.verdict) in
     rw (p.1, p.2) refused
 
 pub returns-in_ok-work-in-Work-clause-verdict : goal.returns-in_ok-work-in-Work-clause-verdict
 returns-in_ok-work-in-Work-clause-verdict c =
-    sym (main_work_judged c.args.constants.now c.args.input c.args.output c.args.fields.now c.args.before.now c.args.member.now c.in-Work.rates c.in-Work.block c.deref-in-Work.result.now c.deref-in-Work-2.result.now c.deref-in-Work.ensures.value c.deref-in-Work-2.ensures.value c.in-Work.is)
-    ∙ ap (λ r. result_and_then r (λ w. Ok (tree.Work w.rates w.block))) c.in_ok-work-in-Work.ensures.verdict
+    sym (main_work_judged c.args.constants.now c.args.input c.args.output c.args.fields.now
+    c.args.before.now c.args.member.now c.in-Work.rates c.in-Work.block
+    c.deref-in-Work.result.now c.deref-in-Work-2.result.now c.deref-in-Work.ensures.value
+    c.deref-in-Work-2.ensures.value c.in-Work.is)
+    ∙ ap (λ r. result_and_then r (λ w. Ok (tree.Work w.rates w.block)))
+    c.in_ok-work-in-Work.ensures.verdict
     ∙ ap Ok (sym (member_view-Work c.in_ok-work-in-Work.work.rates c.in_ok-work-in-Work.work.block))
 
 pub returns-in_err-work-in-Work-clause-verdict : goal.returns-in_err-work-in-Work-clause-verdict
 returns-in_err-work-in-Work-clause-verdict c =
-    let p = err_from_is_err_and c.from_residual-in_err-work-in-Work.result c.from_residual-in_err-work-in-Work.ensures.1 in
+    let p = err_from_is_err_and c.from_residual-in_err-work-in-Work.result
+    c.from_residual-in_err-work-in-Work.ensures.1 in
     let refused = refusal_same _ _ c.in_err-work-in-Work.field-0.0
-    (main_work_judged c.args.constants.now c.args.input c.args.output c.args.fields.now c.args.before.now c.args.member.now c.in-Work.rates c.in-Work.block c.deref-in-Work.result.now c.deref-in-Work-2.result.now c.deref-in-Work.ensures.value c.deref-in-Work-2.ensures.value c.in-Work.is)
-    (refusal_through (work_judged c.args.constants.now c.args.input c.args.output c.args.fields.now c.deref-in-Work.result.now c.deref-in-Work-2.result.now) (λ w. Ok (tree.Work w.rates w.block)) c.in_err-work-in-Work.field-0.0 c.in_err-work-in-Work.ensures.verdict) in
+    (main_work_judged c.args.constants.now c.args.input c.args.output c.args.fields.now
+    c.args.before.now c.args.member.now c.in-Work.rates c.in-Work.block c.deref-in-Work.result.now
+    c.deref-in-Work-2.result.now c.deref-in-Work.ensures.value c.deref-in-Work-2.ensures.value
+    c.in-Work.is)
+    (refusal_through (work_judged c.args.constants.now c.args.input c.args.output c.args.fields.now
+    c.deref-in-Work.result.now c.deref-in-Work-2.result.now)
+    (λ w. Ok (tree.Work w.rates w.block)) c.in_err-work-in-Work.field-0.0
+    c.in_err-work-in-Work.ensures.verdict) in
     rw (p.1, p.2) refused

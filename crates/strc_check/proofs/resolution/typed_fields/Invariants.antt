@@ -4,4 +4,5 @@ use Rattle.strc_check.specs.Typing.{fields_behind}
 use Rattle.strc_check.proofs.resolution.typed_fields.Given as goal
 
 abbrev pub invariant-loop-member : goal.invariant-loop-member
-invariant-loop-member l = fields_behind l.fields (members_of (drop l.member-index l.members)) ≡ fields_behind [] (members_of l.members)
+invariant-loop-member l = fields_behind l.fields (members_of (drop l.member-index l.members))
+    ≡ fields_behind [] (members_of l.members)

@@ -8,6 +8,9 @@ use Rattle.strc_check.proofs.statement_rules.+resolve_stmt.Given as goal
 
 abbrev pub invariant-loop-inner : goal.invariant-loop-inner
 invariant-loop-inner l = record {
-  left : block_behind l.resolved.items (stmts_resolved (context_of l.context) l.names l.inner_start (block_view (drop l.inner-index l.inner-items))) ≡ stmts_resolved (context_of l.context) l.initial.names l.inner_start (block_view l.inner-items);
+  left : block_behind l.resolved.items (stmts_resolved (context_of l.context) l.names l.inner_start
+      (block_view (drop l.inner-index l.inner-items)))
+      ≡ stmts_resolved (context_of l.context) l.initial.names l.inner_start
+      (block_view l.inner-items);
   names : StandsOn l.initial.names l.names;
 }

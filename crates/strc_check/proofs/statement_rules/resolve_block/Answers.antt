@@ -6,7 +6,8 @@ use Rattle.strc_check.specs.Resolution.{stmts_resolved}
 use Rattle.strc_check.specs.Verdicts.{context_of}
 use Rattle.strc_syntax.proofs.Blocks.{block_view-drop}
 use Rattle.strc_check.proofs.TypedGrowth.{stands_on_after}
-use Rattle.strc_check.proofs.Resolved.{block_behind, block_behind_step, block_refused, block_onto-Done, refusal_same}
+use Rattle.strc_check.proofs.Resolved.{block_behind, block_behind_step, block_refused}
+use Rattle.strc_check.proofs.Resolved.{block_onto-Done, refusal_same}
 use Rattle.strc_check.proofs.statement_rules.resolve_block.Goals as goal
 
 pub loop-inner-preserved : goal.loop-inner-preserved
@@ -22,11 +23,17 @@ loop-inner-preserved c =
     let names = c.in_ok-resolve_stmt.ensures.names in
     record {
       left =
-          ap (λ l. block_behind l (stmts_resolved context c.resolve_stmt.new.names start rest)) c.in_ok-push.ensures.items
-          ∙ block_behind_step context c.loop-inner.names c.resolve_stmt.new.names start c.loop-inner.resolved.items (stmt_view x) y rest c.in_ok-resolve_stmt.ensures.verdict names
-          ∙ ap (λ b. block_behind c.loop-inner.resolved.items (stmts_resolved context c.loop-inner.names start b)) (sym (block_view-drop items i x lt c.inner-item.is))
+          ap (λ l. block_behind l (stmts_resolved context c.resolve_stmt.new.names start rest))
+          c.in_ok-push.ensures.items
+          ∙ block_behind_step context c.loop-inner.names c.resolve_stmt.new.names start
+          c.loop-inner.resolved.items (stmt_view x) y rest c.in_ok-resolve_stmt.ensures.verdict
+          names
+          ∙ ap (λ b. block_behind c.loop-inner.resolved.items
+          (stmts_resolved context c.loop-inner.names start b))
+          (sym (block_view-drop items i x lt c.inner-item.is))
           ∙ c.loop-inner.invariant.left;
-      names = rw names (stands_on_after c.args.names.now c.loop-inner.names (stmt_view x) c.loop-inner.invariant.names);
+      names = rw names (stands_on_after c.args.names.now c.loop-inner.names
+          (stmt_view x) c.loop-inner.invariant.names);
     }
 
 pub returns-in_err-resolve_stmt-clause-verdict : goal.returns-in_err-resolve_stmt-clause-verdict
@@ -39,8 +46,13 @@ returns-in_err-resolve_stmt-clause-verdict c =
     let context = context_of c.args.context.now in
     let start = c.len-start.result in
     let p = err_from_is_err_and c.from_residual.result c.from_residual.ensures.1 in
-    let here = block_refused context c.loop-inner.names start c.loop-inner.resolved.items (stmt_view x) (block_view (drop (i + 1) items)) e c.in_err-resolve_stmt.ensures.verdict in
-    let left = ap (λ b. block_behind c.loop-inner.resolved.items (stmts_resolved context c.loop-inner.names start b)) (sym (block_view-drop items i x lt c.inner-item.is)) ∙ c.loop-inner.invariant.left ∙ ap (λ n. stmts_resolved context c.args.names.now n (block_view items)) c.len-start.ensures in
+    let here = block_refused context c.loop-inner.names start c.loop-inner.resolved.items
+    (stmt_view x) (block_view (drop (i + 1) items)) e c.in_err-resolve_stmt.ensures.verdict in
+    let left = ap (λ b. block_behind c.loop-inner.resolved.items
+    (stmts_resolved context c.loop-inner.names start b))
+    (sym (block_view-drop items i x lt c.inner-item.is)) ∙ c.loop-inner.invariant.left
+    ∙ ap (λ n. stmts_resolved context c.args.names.now n (block_view items))
+    c.len-start.ensures in
     rw (p.1, p.2) (refusal_same _ _ e left here)
 
 pub returns-clause-verdict : goal.returns-clause-verdict
@@ -50,5 +62,7 @@ returns-clause-verdict c =
     let start = c.len-start.result in
     sym (ap (λ n. stmts_resolved context c.args.names.now n (block_view items)) c.len-start.ensures)
     ∙ sym c.loop-inner.invariant.left
-    ∙ ap (λ l. block_behind c.loop-inner.resolved.items (stmts_resolved context c.loop-inner.names start (block_view l))) (drop_of_length-le items c.loop-inner-test.false)
+    ∙ ap (λ l. block_behind c.loop-inner.resolved.items
+    (stmts_resolved context c.loop-inner.names start (block_view l)))
+    (drop_of_length-le items c.loop-inner-test.false)
     ∙ ap Ok (block_onto-Done c.loop-inner.resolved.items)

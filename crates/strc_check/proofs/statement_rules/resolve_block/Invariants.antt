@@ -8,6 +8,8 @@ use Rattle.strc_check.proofs.statement_rules.resolve_block.Given as goal
 
 abbrev pub invariant-loop-inner : goal.invariant-loop-inner
 invariant-loop-inner l = record {
-  left : block_behind l.resolved.items (stmts_resolved (context_of l.context) l.names l.start (block_view (drop l.inner-index l.block))) ≡ stmts_resolved (context_of l.context) l.initial.names l.start (block_view l.block);
+  left : block_behind l.resolved.items (stmts_resolved (context_of l.context) l.names l.start
+      (block_view (drop l.inner-index l.block)))
+      ≡ stmts_resolved (context_of l.context) l.initial.names l.start (block_view l.block);
   names : StandsOn l.initial.names l.names;
 }

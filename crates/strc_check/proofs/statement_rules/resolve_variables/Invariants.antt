@@ -8,6 +8,11 @@ use Rattle.strc_check.proofs.statement_rules.resolve_variables.Given as goal
 
 abbrev pub invariant-loop-variable : goal.invariant-loop-variable
 invariant-loop-variable l = record {
-  left : list_behind variable_view l.resolved.items (variables_resolved (context_of l.context) l.names l.start l.kind (map variable_view (drop l.variable-index l.variables))) ≡ variables_resolved (context_of l.context) l.initial.names l.start l.kind (map variable_view l.variables);
-  names : with_declared l.names l.kind (map variable_view (drop l.variable-index l.variables)) ≡ with_declared l.initial.names l.kind (map variable_view l.variables);
+  left : list_behind variable_view l.resolved.items
+      (variables_resolved (context_of l.context) l.names l.start l.kind
+      (map variable_view (drop l.variable-index l.variables)))
+      ≡ variables_resolved (context_of l.context) l.initial.names l.start l.kind
+      (map variable_view l.variables);
+  names : with_declared l.names l.kind (map variable_view (drop l.variable-index l.variables))
+      ≡ with_declared l.initial.names l.kind (map variable_view l.variables);
 }

@@ -5,4 +5,5 @@ use Rattle.strc_elab.proofs.Doubles.{doubled_after}
 use Rattle.strc_elab.proofs.child.is_doubled.Given as goal
 
 abbrev pub invariant-loop-name : goal.invariant-loop-name
-invariant-loop-name l = doubled_after (plain_names l.earlier) (drop l.name-index l.names) ≡ is_doubled l.names
+invariant-loop-name l = doubled_after (plain_names l.earlier) (drop l.name-index l.names)
+    ≡ is_doubled l.names

@@ -6,4 +6,5 @@ use Rattle.strc_elab.proofs.connection.count_inputs.Given as goal
 -- those so far, and those among the nodes left
 abbrev pub invariant-loop-node : goal.invariant-loop-node
 invariant-loop-node l =
-    l.count + count_by reads_input (map node_view (drop l.node-index l.nodes)) ≡ count_by reads_input (map node_view l.nodes)
+    l.count + count_by reads_input (map node_view (drop l.node-index l.nodes))
+    ≡ count_by reads_input (map node_view l.nodes)

@@ -6,4 +6,5 @@ use Rattle.strc_elab.proofs.connection.count_outputs.Given as goal
 -- those so far, and those among the nodes left
 abbrev pub invariant-loop-node : goal.invariant-loop-node
 invariant-loop-node l =
-    l.count + count_by gives_words (map node_view (drop l.node-index l.nodes)) ≡ count_by gives_words (map node_view l.nodes)
+    l.count + count_by gives_words (map node_view (drop l.node-index l.nodes))
+    ≡ count_by gives_words (map node_view l.nodes)

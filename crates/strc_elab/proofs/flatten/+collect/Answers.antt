@@ -8,8 +8,10 @@ use Rattle.strc_elab.proofs.flatten.+collect.Goals as goal
 pub returns-in-None : goal.returns-in-None
 returns-in-None t c =
     let before = map node_view c.args.nodes.now.items in
-    let none : length c.loop-child.child-iterator.rest.items ≡ 0 = omega (arith, c.loop-child.child-iterator.rest.ok.0, c.in-None.ensures.steps.0) in
-    sym (list_nodes-empty (map node_view c.loop-child.nodes.items) c.loop-child.child-iterator.rest.items none)
+    let none : length c.loop-child.child-iterator.rest.items ≡ 0 =
+    omega (arith, c.loop-child.child-iterator.rest.ok.0, c.in-None.ensures.steps.0) in
+    sym (list_nodes-empty (map node_view c.loop-child.nodes.items)
+    c.loop-child.child-iterator.rest.items none)
     ∙ c.loop-child.invariant
     ∙ ap (λ l. before ++ list_nodes l) c.into_iter-child-iterator.ensures.into_iter_gives.0
     ∙ ap (λ l. before ++ l) (sym (nodes_of-Pipeline c.in-Pipeline.children))

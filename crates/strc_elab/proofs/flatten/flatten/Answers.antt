@@ -12,23 +12,32 @@ use Rattle.strc_elab.proofs.flatten.flatten.Goals as goal
 use Rattle.strc_elab.proofs.flatten.flatten.Goals.{In_ok-collect}
 
 -- the nodes are those of the stream
-collected : (c : In_ok-collect) → map node_view c.collect.new.nodes.items ≡ nodes_of (stream_view c.args.stream)
-collected c = c.in_ok-collect.ensures ∙ ap (λ (l : List Node). map node_view l ++ nodes_of (stream_view c.args.stream)) c.new-nodes.ensures.items
+collected : (c : In_ok-collect) → map node_view c.collect.new.nodes.items
+    ≡ nodes_of (stream_view c.args.stream)
+collected c = c.in_ok-collect.ensures ∙ ap
+    (λ (l : List Node). map node_view l ++ nodes_of (stream_view c.args.stream))
+    c.new-nodes.ensures.items
 
 pub returns-in_ok-row-in-Ok-clause-verdict : goal.returns-in_ok-row-in-Ok-clause-verdict
 returns-in_ok-row-in-Ok-clause-verdict c =
-    let same = ap (map node_view) c.deref.ensures.value ∙ collected (goal.at.returns-in_ok-row-in-Ok-clause-verdict c).In_ok-collect in
-    row_verdict {A = Unit {0}} (stream_view c.args.stream) (map node_view c.deref.result.now) (Ok c.in-Ok.field-0) same c.in-Ok.ensures
+    let same = ap (map node_view) c.deref.ensures.value
+    ∙ collected (goal.at.returns-in_ok-row-in-Ok-clause-verdict c).In_ok-collect in
+    row_verdict {A = Unit {0}} (stream_view c.args.stream) (map node_view c.deref.result.now)
+    (Ok c.in-Ok.field-0) same c.in-Ok.ensures
 
 pub returns-in_ok-row-in-Ok-clause-graph : goal.returns-in_ok-row-in-Ok-clause-graph
 returns-in_ok-row-in-Ok-clause-graph c =
     let graph = c.in_ok-row-in-Ok.field-0 in
     let same : map node_view graph.nodes ≡ nodes_of (stream_view c.args.stream) =
-    ap (map node_view) c.in_ok-row-in-Ok.ensures.nodes ∙ collected (goal.at.returns-in_ok-row-in-Ok-clause-graph c).In_ok-collect in
+    ap (map node_view) c.in_ok-row-in-Ok.ensures.nodes
+    ∙ collected (goal.at.returns-in_ok-row-in-Ok-clause-graph c).In_ok-collect in
     let count : length c.collect.new.nodes.items - 1 ≡ length (map node_view graph.nodes) - 1 =
-    ap (λ (l : List Node). length l - 1) (sym c.in_ok-row-in-Ok.ensures.nodes) ∙ ap (λ n. n - 1) (sym (length-map graph.nodes node_view)) in
+    ap (λ (l : List Node). length l - 1) (sym c.in_ok-row-in-Ok.ensures.nodes)
+    ∙ ap (λ n. n - 1) (sym (length-map graph.nodes node_view)) in
     let kept = ap (map node_view) (c.deref.ensures.value ∙ sym c.in_ok-row-in-Ok.ensures.nodes) in
-    row_is_flat (stream_view c.args.stream) (graph_view graph) same (c.in_ok-row-in-Ok.ensures.channels ∙ ap links count) (subst AreLinked kept c.in-Ok.ensures.connected)
+    row_is_flat (stream_view c.args.stream) (graph_view graph) same
+    (c.in_ok-row-in-Ok.ensures.channels ∙ ap links count)
+    (subst AreLinked kept c.in-Ok.ensures.connected)
 
 pub returns-in_ok-row-in-Ok-clause-connected : goal.returns-in_ok-row-in-Ok-clause-connected
 returns-in_ok-row-in-Ok-clause-connected c =
@@ -54,5 +63,7 @@ returns-in_ok-row-in-Ok-clause-names c =
 
 pub returns-in-Err-clause-verdict : goal.returns-in-Err-clause-verdict
 returns-in-Err-clause-verdict c =
-    let same = ap (map node_view) c.deref.ensures.value ∙ collected (goal.at.returns-in-Err-clause-verdict c).In_ok-collect in
-    row_verdict {A = Unit {0}} (stream_view c.args.stream) (map node_view c.deref.result.now) (Err c.in-Err.refusal) same c.in-Err.ensures
+    let same = ap (map node_view) c.deref.ensures.value
+    ∙ collected (goal.at.returns-in-Err-clause-verdict c).In_ok-collect in
+    row_verdict {A = Unit {0}} (stream_view c.args.stream) (map node_view c.deref.result.now)
+    (Err c.in-Err.refusal) same c.in-Err.ensures

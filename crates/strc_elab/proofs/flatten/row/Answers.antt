@@ -10,9 +10,25 @@ use Rattle.strc_elab.proofs.flatten.row.Goals as goal
 pub new-requires : goal.new-requires
 new-requires c =
     let nodes = c.args.nodes.items in
-    let count : c.saturating_sub.result ≡ length (map node_view nodes) - 1 = omega (arith, length-map nodes node_view, c.args.nodes.ok.0, c.len-count.ensures, c.saturating_sub.ensures) in
-    let between : map channel_view c.in_ok-channels.channels.items ≡ links (length (map node_view nodes) - 1) = c.in_ok-channels.ensures ∙ ap links count in
+    let count : c.saturating_sub.result ≡ length (map node_view nodes) - 1 =
+    omega (
+      arith,
+      length-map nodes node_view,
+      c.args.nodes.ok.0,
+      c.len-count.ensures,
+      c.saturating_sub.ensures,
+    ) in
+    let between : map channel_view c.in_ok-channels.channels.items
+    ≡ links (length (map node_view nodes) - 1) = c.in_ok-channels.ensures ∙ ap links count in
     record {
-      channels = subst (λ (l : List Channel). All (JoinsPorts (map node_view nodes)) l) (sym between) (links_join (map node_view nodes) c.requires.linked);
-      outer_loops = omega (arith, length-map nodes node_view, c.args.nodes.ok.0, c.len-count.ensures, c.in_ok-outer_loops.outer_loops.ok.0, c.in_ok-outer_loops.ensures.len);
+      channels = subst (λ (l : List Channel). All (JoinsPorts (map node_view nodes)) l)
+          (sym between) (links_join (map node_view nodes) c.requires.linked);
+      outer_loops = omega (
+        arith,
+        length-map nodes node_view,
+        c.args.nodes.ok.0,
+        c.len-count.ensures,
+        c.in_ok-outer_loops.outer_loops.ok.0,
+        c.in_ok-outer_loops.ensures.len,
+      );
     }

@@ -5,7 +5,8 @@ use Rattle.indexmap.proofs.CallerLemmas.{insert_entry-new}
 use Rattle.strc_syntax.specs.declared.tree.Decl.{Decl}
 use Rattle.strc_elab.specs.Names.{place_from}
 use Rattle.strc_elab.specs.Elaboration.{not_doubled}
-use Rattle.strc_elab.proofs.NameTables.{first_found, lookup-append, named_push, none_of, doubled_later, doubled_here}
+use Rattle.strc_elab.proofs.NameTables.{first_found, lookup-append, named_push, none_of}
+use Rattle.strc_elab.proofs.NameTables.{doubled_later, doubled_here}
 use Rattle.strc_elab.proofs.index.index_of.Goals as goal
 
 pub loop-number-preserved : goal.loop-number-preserved
@@ -19,11 +20,18 @@ loop-number-preserved c =
       places = λ name.
           let test : Bor (List ℕ) → _ = λ k. pointwise nat_eq name k.now in
           ap (lookup test) c.in_ok-insert.ensures.entries
-          ∙ ap (lookup test) (insert_entry-new _ c.loop-number.numbers key i (sym c.in_ok-insert.ensures.old ∙ none))
+          ∙ ap (lookup test) (insert_entry-new _ c.loop-number.numbers key i
+          (sym c.in_ok-insert.ensures.old ∙ none))
           ∙ lookup-append test c.loop-number.numbers.entries key i
-          ∙ ap (λ (n : List ℕ). first_found (lookup test c.loop-number.numbers.entries) (cond (pointwise nat_eq name n) (Some i) None)) c.as_bytes.ensures
-          ∙ named_push all i x c.loop-number-test.true c.index-declarations-number.is name (lookup test c.loop-number.numbers.entries) (c.loop-number.invariant.places name);
-      doubles = doubled_later all i x c.loop-number-test.true c.index-declarations-number.is c.in_ok-insert.field-0 (c.in_ok-insert.ensures.old ∙ c.loop-number.invariant.places key.now ∙ ap (place_from 0 (map (λ (d : Decl). d.name) (take i all))) c.as_bytes.ensures) none ∙ c.loop-number.invariant.doubles;
+          ∙ ap (λ (n : List ℕ). first_found (lookup test c.loop-number.numbers.entries)
+          (cond (pointwise nat_eq name n) (Some i) None)) c.as_bytes.ensures
+          ∙ named_push all i x c.loop-number-test.true c.index-declarations-number.is name
+          (lookup test c.loop-number.numbers.entries) (c.loop-number.invariant.places name);
+      doubles = doubled_later all i x c.loop-number-test.true c.index-declarations-number.is
+          c.in_ok-insert.field-0 (c.in_ok-insert.ensures.old
+          ∙ c.loop-number.invariant.places key.now
+          ∙ ap (place_from 0 (map (λ (d : Decl). d.name) (take i all))) c.as_bytes.ensures) none
+          ∙ c.loop-number.invariant.doubles;
     }
 
 pub returns-then-is_some-clause-distinct : goal.returns-then-is_some-clause-distinct
@@ -31,4 +39,9 @@ returns-then-is_some-clause-distinct c =
     let all = c.args.declarations.now in
     let i = c.loop-number.number in
     let x = c.index-declarations-number.result in
-    ap not_doubled (sym c.loop-number.invariant.doubles ∙ doubled_here all i x c.loop-number-test.true c.index-declarations-number.is c.in_ok-insert.field-0 (c.in_ok-insert.ensures.old ∙ c.loop-number.invariant.places c.as_bytes.result.now ∙ ap (place_from 0 (map (λ (d : Decl). d.name) (take i all))) c.as_bytes.ensures) (sym c.is_some.ensures ∙ c.if-is_some.true))
+    ap not_doubled (sym c.loop-number.invariant.doubles
+    ∙ doubled_here all i x c.loop-number-test.true c.index-declarations-number.is
+    c.in_ok-insert.field-0 (c.in_ok-insert.ensures.old
+    ∙ c.loop-number.invariant.places c.as_bytes.result.now
+    ∙ ap (place_from 0 (map (λ (d : Decl). d.name) (take i all))) c.as_bytes.ensures)
+    (sym c.is_some.ensures ∙ c.if-is_some.true))

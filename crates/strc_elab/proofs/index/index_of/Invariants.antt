@@ -9,6 +9,9 @@ use Rattle.strc_elab.proofs.index.index_of.Given as goal
 -- the table has the names so far, and a double, if there is one, comes later
 abbrev pub invariant-loop-number : goal.invariant-loop-number
 invariant-loop-number l = record {
-  places : (name : List ℕ) → get_by (λ k. pointwise nat_eq name k.now) l.numbers ≡ place_from 0 (map (λ d. d.name) (take l.number l.declarations)) name;
-  doubles : doubled_from (map (λ d. d.name) (take l.number l.declarations)) l.number (map declaration_view (drop l.number l.declarations)) ≡ doubled_from [] 0 (map declaration_view l.declarations);
+  places : (name : List ℕ) → get_by (λ k. pointwise nat_eq name k.now) l.numbers
+      ≡ place_from 0 (map (λ d. d.name) (take l.number l.declarations)) name;
+  doubles : doubled_from (map (λ d. d.name) (take l.number l.declarations)) l.number
+      (map declaration_view (drop l.number l.declarations))
+      ≡ doubled_from [] 0 (map declaration_view l.declarations);
 }

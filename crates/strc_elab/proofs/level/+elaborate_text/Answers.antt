@@ -10,4 +10,5 @@ made-requires t c = (c.requires, search rules)
 pub returns : goal.returns
 returns t c =
     let task = c.args.task in
-    rw (stream_elaborated-level (program_of task) task.levels (place_of task) (text_view task.text) (tally_of task) c.if-task-eq0.false) c.made.ensures
+    rw (stream_elaborated-level (program_of task) task.levels (place_of task) (text_view task.text)
+    (tally_of task) c.if-task-eq0.false) c.made.ensures

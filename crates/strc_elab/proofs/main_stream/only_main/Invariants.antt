@@ -7,5 +7,6 @@ use Rattle.strc_elab.proofs.main_stream.only_main.Given as goal
 -- what was found, with what is found later, is all
 abbrev pub invariant-loop-number : goal.invariant-loop-number
 invariant-loop-number l =
-    option_to_list (option_map (λ f. (f.0, declaration_view f.1.now)) l.found) ++ spec.mains_from l.number (map declaration_view (drop l.number l.declarations))
+    option_to_list (option_map (λ f. (f.0, declaration_view f.1.now)) l.found)
+    ++ spec.mains_from l.number (map declaration_view (drop l.number l.declarations))
     ≡ spec.mains_from 0 (map declaration_view l.declarations)

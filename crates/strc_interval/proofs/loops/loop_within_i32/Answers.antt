@@ -1,4 +1,5 @@
-use Rattle.std.proofs.Common.{◌≡◌, ◌-◌, pos, ◌+ℤ◌, ◌*ℤ◌, ℤ, FitsSigned, w32, true, ◌&&◌, Some, None, cond, sym, ap, ◌∙◌, rules}
+use Rattle.std.proofs.Common.{◌≡◌, ◌-◌, pos, ◌+ℤ◌, ◌*ℤ◌, ℤ, FitsSigned, w32, true, ◌&&◌, Some, None}
+use Rattle.std.proofs.Common.{cond, sym, ap, ◌∙◌, rules}
 use Rattle.std.specs.Int.{int_min, int_max}
 use Rattle.std.proofs.lemmas.Int.{to_z-of_z}
 use Rattle.strc_interval.specs.Loops.{Loop, within_32_bits}
@@ -18,12 +19,18 @@ returns-in-None-clause-counted c =
     let turns = c.args.turns in
     let fits = c.ranges.start in
     let wide = c.ranges.step in
-    let advance : c.value_within-end.result ≡ cond (within_32_bits (start +ℤ pos turns *ℤ step)) (Some (start +ℤ pos turns *ℤ step)) None = simp to_z-of_z at c.value_within-end.ensures in
+    let advance : c.value_within-end.result
+    ≡ cond (within_32_bits (start +ℤ pos turns *ℤ step))
+    (Some (start +ℤ pos turns *ℤ step)) None = simp to_z-of_z at c.value_within-end.ensures in
     let kept = told_true _ _ _ advance c.if-is_none.ensures in
-    let within : within_32_bits (start +ℤ pos (turns - 1) *ℤ step) ≡ true = last_within start step turns fits kept in
-    let none : None ≡ cond (within_32_bits (start +ℤ pos c.saturating_sub.result *ℤ step)) (Some (start +ℤ pos c.saturating_sub.result *ℤ step)) None = simp to_z-of_z at c.in-None.ensures in
+    let within : within_32_bits (start +ℤ pos (turns - 1) *ℤ step) ≡ true =
+    last_within start step turns fits kept in
+    let none : None ≡ cond (within_32_bits (start +ℤ pos c.saturating_sub.result *ℤ step))
+    (Some (start +ℤ pos c.saturating_sub.result *ℤ step)) None =
+    simp to_z-of_z at c.in-None.ensures in
     let other : None ≡ Some (start +ℤ pos c.saturating_sub.result *ℤ step) =
-    none ∙ ap (λ n. cond (within_32_bits (start +ℤ pos n *ℤ step)) (Some (start +ℤ pos c.saturating_sub.result *ℤ step)) None) c.saturating_sub.ensures
+    none ∙ ap (λ n. cond (within_32_bits (start +ℤ pos n *ℤ step))
+    (Some (start +ℤ pos c.saturating_sub.result *ℤ step)) None) c.saturating_sub.ensures
     ∙ ap (λ t. cond t (Some (start +ℤ pos c.saturating_sub.result *ℤ step)) None) within in
     cc
 
@@ -34,10 +41,20 @@ returns-in-Some-clause-counted c =
     let turns = c.args.turns in
     let fits = c.ranges.start in
     let wide = c.ranges.step in
-    let advance : c.value_within-end.result ≡ cond (within_32_bits (start +ℤ pos turns *ℤ step)) (Some (start +ℤ pos turns *ℤ step)) None = simp to_z-of_z at c.value_within-end.ensures in
+    let advance : c.value_within-end.result
+    ≡ cond (within_32_bits (start +ℤ pos turns *ℤ step))
+    (Some (start +ℤ pos turns *ℤ step)) None = simp to_z-of_z at c.value_within-end.ensures in
     let kept = told_true _ _ _ advance c.if-is_none.ensures in
-    let told : Loop = record { name = c.args.name.now; start = start; move = step; turns = turns } in
-    let sequence : within_32_bits start && within_32_bits (start +ℤ pos turns *ℤ step) ≡ true = ap (λ t. t && within_32_bits (start +ℤ pos turns *ℤ step)) (within_fits start fits) ∙ kept in
+    let told : Loop = record {
+      name = c.args.name.now;
+      start = start;
+      move = step;
+      turns =
+          turns;
+    } in
+    let sequence : within_32_bits start && within_32_bits (start +ℤ pos turns *ℤ step) ≡ true =
+    ap (λ t. t && within_32_bits (start +ℤ pos turns *ℤ step)) (within_fits start fits)
+    ∙ kept in
     simp to_z-of_z (sym (ap (λ t. cond t (Some told) None) sequence))
 
 pub returns-in-Some-clause-interval : goal.returns-in-Some-clause-interval
@@ -46,8 +63,13 @@ returns-in-Some-clause-interval c =
     let step = c.args.step in
     let fits = c.ranges.start in
     let wide = c.ranges.step in
-    let given : Some c.in-Some.last ≡ cond (within_32_bits (start +ℤ pos c.saturating_sub.result *ℤ step)) (Some (start +ℤ pos c.saturating_sub.result *ℤ step)) None = simp to_z-of_z at c.in-Some.ensures in
-    let last : c.in-Some.last ≡ start +ℤ pos (c.args.turns - 1) *ℤ step = told_value _ _ _ given ∙ ap (λ n. start +ℤ pos n *ℤ step) c.saturating_sub.ensures in
+    let given : Some c.in-Some.last ≡ cond
+    (within_32_bits (start +ℤ pos c.saturating_sub.result *ℤ step))
+    (Some (start +ℤ pos c.saturating_sub.result *ℤ step)) None =
+    simp to_z-of_z at c.in-Some.ensures in
+    let last : c.in-Some.last ≡ start +ℤ pos (c.args.turns - 1) *ℤ step =
+    told_value _ _ _ given ∙ ap (λ n. start +ℤ pos n *ℤ step) c.saturating_sub.ensures in
     let narrow : FitsSigned w32 c.in-Some.last = search rules in
-    let interval : c.between.result ≡ span start c.in-Some.last = simp to_z-of_z at c.between.ensures in
+    let interval : c.between.result ≡ span start c.in-Some.last =
+    simp to_z-of_z at c.between.ensures in
     simp to_z-of_z (interval ∙ ap (span start) last)

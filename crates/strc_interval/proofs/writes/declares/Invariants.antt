@@ -4,4 +4,5 @@ use Rattle.strc_interval.specs.Loops.{declares}
 use Rattle.strc_interval.proofs.writes.declares.Given as goal
 
 abbrev pub invariant-loop-variable : goal.invariant-loop-variable
-invariant-loop-variable l = declares l.name (map variable_view (drop l.variable-index l.variables)) ≡ declares l.name (map variable_view l.variables)
+invariant-loop-variable l = declares l.name (map variable_view (drop l.variable-index l.variables))
+    ≡ declares l.name (map variable_view l.variables)

@@ -6,7 +6,9 @@ use Rattle.strc_parse.proofs.control.+statement.Goals as goal
 
 pub returns-then-depth-eq0 : goal.returns-then-depth-eq0
 unfolding statement
-returns-then-depth-eq0 t c = let none : c.args.depth ≡ 0 = omega arith in ap (λ n. statement n (kinds c.args.tokens.now)) none
+returns-then-depth-eq0 t c = let none : c.args.depth ≡ 0 = omega arith in
+    ap (λ n. statement n (kinds c.args.tokens.now)) none
 
 pub returns : goal.returns
-returns t c = rw (statement_at c.args.depth (kinds c.args.tokens.now) (omega arith)) c.shallow.ensures
+returns t c = rw (statement_at c.args.depth (kinds c.args.tokens.now) (omega arith))
+    c.shallow.ensures

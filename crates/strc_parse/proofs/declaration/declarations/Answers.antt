@@ -1,4 +1,5 @@
-use Rattle.std.proofs.Common.{◌≡◌, ◌+◌, ◌<◌, ◌∙◌, ◌∷◌, [], ◌++◌, Ok, length, map, sym, refl, arith, rules}
+use Rattle.std.proofs.Common.{◌≡◌, ◌+◌, ◌<◌, ◌∙◌, ◌∷◌, [], ◌++◌, Ok, length, map, sym, refl, arith}
+use Rattle.std.proofs.Common.{rules}
 use Rattle.std.proofs.lemmas.Result.{err_from_is_err_and}
 use Rattle.std.proofs.lemmas.List.{map_push}
 use Rattle.strc_syntax.specs.View.{declaration_view}
@@ -14,7 +15,12 @@ pub loop-rest-init : goal.loop-rest-init
 unfolding declarations
 loop-rest-init c =
     let empty : c.new-found.result.items ≡ [] = search rules in
-    record { turns = length (kinds c.args.tokens.now) + 1; enough = omega arith; same = rw empty refl }
+    record {
+      turns = length (kinds c.args.tokens.now) + 1;
+      enough = omega arith;
+      same =
+          rw empty refl;
+    }
 
 pub returns-in_err-next : goal.returns-in_err-next
 unfolding one_more
@@ -36,13 +42,15 @@ loop-rest-preserved c =
     ≡ Ok (front ++ next ∷ [], kinds c.in_ok-next.after.now) = rw c.in_ok-next.ensures refl in
     let less = declaration_shorter _ _ _ c.in_ok-next.ensures in
     rw e (goes_on at_end (one_more (declaration height_limit)) _ front (kinds c.loop-rest.rest.now)
-    c.loop-rest.invariant _ _ less (end_ahead c.loop-rest.rest.now (sym c.is_empty.ensures ∙ c.loop-rest-test.true)) one)
+    c.loop-rest.invariant _ _ less (end_ahead c.loop-rest.rest.now
+    (sym c.is_empty.ensures ∙ c.loop-rest-test.true)) one)
 
 pub loop-rest-smaller : goal.loop-rest-smaller
 loop-rest-smaller c = declaration_shorter _ _ _ c.in_ok-next.ensures
 
 pub returns : goal.returns
 returns c =
-    goes_to at_end (one_more (declaration height_limit)) _ (map declaration_view c.loop-rest.found.items)
+    goes_to at_end (one_more (declaration height_limit)) _
+    (map declaration_view c.loop-rest.found.items)
     (kinds c.loop-rest.rest.now) c.loop-rest.invariant _
     (end_reached c.loop-rest.rest.now (sym c.is_empty.ensures ∙ c.loop-rest-test.false))

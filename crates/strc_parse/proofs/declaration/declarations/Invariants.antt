@@ -8,7 +8,8 @@ use Rattle.strc_parse.proofs.declaration.declarations.Given as goal
 
 abbrev pub invariant-loop-rest : goal.invariant-loop-rest
 invariant-loop-rest l =
-    Going at_end (one_more (declaration height_limit)) (declarations height_limit (kinds l.fn.tokens))
+    Going at_end (one_more (declaration height_limit))
+    (declarations height_limit (kinds l.fn.tokens))
     (map declaration_view l.found.items) (kinds l.rest)
 
 abbrev pub decreases-loop-rest : goal.decreases-loop-rest

@@ -1,4 +1,5 @@
-use Rattle.std.proofs.Common.{◌≡◌, ◌+◌, ◌<◌, ◌∙◌, ◌∷◌, [], ◌++◌, length, map, max, Ok, Some, refl, sym, arith, rules}
+use Rattle.std.proofs.Common.{◌≡◌, ◌+◌, ◌<◌, ◌∙◌, ◌∷◌, [], ◌++◌, length, map, max, Ok, Some, refl}
+use Rattle.std.proofs.Common.{sym, arith, rules}
 use Rattle.std.proofs.lemmas.Result.{err_from_is_err_and}
 use Rattle.std.proofs.lemmas.List.{map_push}
 use Rattle.strc_syntax.specs.declared.tree.RateTree.{RateTree}
@@ -15,39 +16,64 @@ pub loop-kind-init : goal.loop-kind-init
 unfolding rates
 loop-kind-init c =
     let empty : c.new-found.result.items ≡ [] = search rules in
-    record { turns = length (kinds c.args.tokens.now) + 1; enough = omega arith; same = rw empty refl }
+    record {
+      turns = length (kinds c.args.tokens.now) + 1;
+      enough = omega arith;
+      same =
+          rw empty refl;
+    }
 
 pub returns : goal.returns
 returns c =
-    rw c.new.ensures (goes_to no_rate (rate_turn c.args.limit) _ (map rate_view c.loop-kind.found.items, c.loop-kind.highest) (kinds c.loop-kind.rest.now)
+    rw c.new.ensures (goes_to no_rate (rate_turn c.args.limit) _
+    (map rate_view c.loop-kind.found.items, c.loop-kind.highest) (kinds c.loop-kind.rest.now)
     c.loop-kind.invariant _ (no_rate_ends _ (sym c.rate_kind.ensures ∙ c.in_default.is)))
 
 pub returns-in_err-rate : goal.returns-in_err-rate
 returns-in_err-rate c =
     let p = err_from_is_err_and c.from_residual.result c.from_residual.ensures.1 in
-    let stands : rate_kind (kinds c.loop-kind.rest.now) ≡ Some c.in-Some.kind = sym c.rate_kind.ensures ∙ c.in-Some.is in
-    rw (p.1, p.2) (goes_wrong no_rate (rate_turn c.args.limit) _ (map rate_view c.loop-kind.found.items, c.loop-kind.highest) (kinds c.loop-kind.rest.now)
+    let stands : rate_kind (kinds c.loop-kind.rest.now) ≡ Some c.in-Some.kind =
+    sym c.rate_kind.ensures ∙ c.in-Some.is in
+    rw (p.1, p.2) (goes_wrong no_rate (rate_turn c.args.limit) _
+    (map rate_view c.loop-kind.found.items, c.loop-kind.highest) (kinds c.loop-kind.rest.now)
     c.loop-kind.invariant c.in_err-rate.field-0.0 (no_rate_stays _ _ stands)
-    (rate_turn_fails c.args.limit c.in_err-rate.field-0.0 (map rate_view c.loop-kind.found.items) c.loop-kind.highest _ c.in-Some.kind stands (rw c.deref.ensures.value at c.in_err-rate.ensures)))
+    (rate_turn_fails c.args.limit c.in_err-rate.field-0.0
+    (map rate_view c.loop-kind.found.items) c.loop-kind.highest _ c.in-Some.kind stands
+    (rw c.deref.ensures.value at c.in_err-rate.ensures)))
 
 pub loop-kind-preserved : goal.loop-kind-preserved
 loop-kind-preserved c =
     let front = map rate_view c.loop-kind.found.items in
-    let stands : rate_kind (kinds c.loop-kind.rest.now) ≡ Some c.in-Some.kind = sym c.rate_kind.ensures ∙ c.in-Some.is in
+    let stands : rate_kind (kinds c.loop-kind.rest.now) ≡ Some c.in-Some.kind =
+    sym c.rate_kind.ensures ∙ c.in-Some.is in
     let read = rw c.deref.ensures.value at c.in_ok-rate.ensures in
     let made : RateTree = record { kind = c.in-Some.kind; rate = c.in_ok-rate.rate.value } in
-    let next : tree.Rate = record { kind = c.in-Some.kind; rate = expr_view c.in_ok-rate.rate.value } in
-    let e : map rate_view c.push.new.self.items ≡ front ++ next ∷ [] = rw c.in_ok-push.ensures.items (map_push rate_view c.loop-kind.found.items made) in
+    let next : tree.Rate = record {
+      kind = c.in-Some.kind;
+      rate =
+          expr_view c.in_ok-rate.rate.value;
+    } in
+    let e : map rate_view c.push.new.self.items ≡ front ++ next ∷ [] =
+    rw c.in_ok-push.ensures.items (map_push rate_view c.loop-kind.found.items made) in
     let one : rate_turn c.args.limit (front, c.loop-kind.highest) (kinds c.loop-kind.rest.now)
-    ≡ Ok ((front ++ next ∷ [], max c.loop-kind.highest c.in_ok-rate.rate.height), kinds c.in_ok-rate.rate.rest.now) =
-    rate_turn_at c.args.limit front c.loop-kind.highest _ c.in-Some.kind (expr_view c.in_ok-rate.rate.value) _ _ stands read in
-    let less : length (kinds c.in_ok-rate.rate.rest.now) < length (kinds c.loop-kind.rest.now) = rate_shorter _ _ _ _ _ _ _ stands read in
-    let high : c.max-highest.result ≡ max c.loop-kind.highest c.in_ok-rate.rate.height = search rules in
-    rw (e, high) (goes_on no_rate (rate_turn c.args.limit) _ (front, c.loop-kind.highest) (kinds c.loop-kind.rest.now) c.loop-kind.invariant
-    (front ++ next ∷ [], max c.loop-kind.highest c.in_ok-rate.rate.height) (kinds c.in_ok-rate.rate.rest.now) less (no_rate_stays _ _ stands) one)
+    ≡ Ok (
+      (front ++ next ∷ [], max c.loop-kind.highest c.in_ok-rate.rate.height),
+      kinds c.in_ok-rate.rate.rest.now,
+    ) =
+    rate_turn_at c.args.limit front c.loop-kind.highest _ c.in-Some.kind
+    (expr_view c.in_ok-rate.rate.value) _ _ stands read in
+    let less : length (kinds c.in_ok-rate.rate.rest.now) < length (kinds c.loop-kind.rest.now) =
+    rate_shorter _ _ _ _ _ _ _ stands read in
+    let high : c.max-highest.result ≡ max c.loop-kind.highest c.in_ok-rate.rate.height =
+    search rules in
+    rw (e, high) (goes_on no_rate (rate_turn c.args.limit) _ (front, c.loop-kind.highest)
+    (kinds c.loop-kind.rest.now) c.loop-kind.invariant
+    (front ++ next ∷ [], max c.loop-kind.highest c.in_ok-rate.rate.height)
+    (kinds c.in_ok-rate.rate.rest.now) less (no_rate_stays _ _ stands) one)
 
 pub loop-kind-smaller : goal.loop-kind-smaller
 loop-kind-smaller c =
-    let stands : rate_kind (kinds c.loop-kind.rest.now) ≡ Some c.in-Some.kind = sym c.rate_kind.ensures ∙ c.in-Some.is in
+    let stands : rate_kind (kinds c.loop-kind.rest.now) ≡ Some c.in-Some.kind =
+    sym c.rate_kind.ensures ∙ c.in-Some.is in
     let read = rw c.deref.ensures.value at c.in_ok-rate.ensures in
     rate_shorter _ _ _ _ _ _ _ stands read

@@ -7,7 +7,8 @@ use Rattle.strc_parse.proofs.member.rates.Given as goal
 
 abbrev pub invariant-loop-kind : goal.invariant-loop-kind
 invariant-loop-kind l =
-    Going no_rate (rate_turn l.limit) (rates l.limit (kinds l.fn.tokens)) (map rate_view l.found.items, l.highest) (kinds l.rest)
+    Going no_rate (rate_turn l.limit) (rates l.limit (kinds l.fn.tokens))
+    (map rate_view l.found.items, l.highest) (kinds l.rest)
 
 abbrev pub decreases-loop-kind : goal.decreases-loop-kind
 decreases-loop-kind l = length (kinds l.rest)

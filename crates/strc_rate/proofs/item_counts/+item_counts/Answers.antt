@@ -10,7 +10,8 @@ use Rattle.strc_rate.proofs.item_counts.+item_counts.Goals as goal
 
 pub block_counts-loop-statement-init : goal.block_counts-loop-statement-init
 block_counts-loop-statement-init t c = record {
-  counted = first_stmts c.no_items.result (names_of c.args.names.now) (block_view c.args.block.now) c.no_items.ensures;
+  counted = first_stmts c.no_items.result (names_of c.args.names.now)
+      (block_view c.args.block.now) c.no_items.ensures;
   runnable = first_runnable c.no_items.result c.no_items.ensures;
   names = stands_on_itself c.args.names.now;
 }
@@ -24,12 +25,18 @@ block_counts-loop-statement-preserved t c =
     let here = c.in_ok-statement_counts.field-0 in
     let names = c.in_ok-statement_counts.ensures.names in
     record {
-      counted = stmts_step so_far here c.sequence-counts.result _ c.loop-statement.names c.statement_counts.new.names (stmt_view x) (block_view (drop (i + 1) all)) (block_view (drop i all)) c.in_ok-statement_counts.ensures.counts names c.sequence-counts.ensures (block_view-drop all i x c.loop-statement-test.true c.statement-item.is) c.loop-statement.invariant.counted;
+      counted = stmts_step so_far here c.sequence-counts.result _ c.loop-statement.names
+          c.statement_counts.new.names (stmt_view x) (block_view (drop (i + 1) all))
+          (block_view (drop i all)) c.in_ok-statement_counts.ensures.counts names
+          c.sequence-counts.ensures (block_view-drop all i x c.loop-statement-test.true
+          c.statement-item.is) c.loop-statement.invariant.counted;
       runnable = runnable_step so_far here c.sequence-counts.result c.sequence-counts.ensures;
-      names = rw names (stands_on_after c.args.names.now c.loop-statement.names (stmt_view x) c.loop-statement.invariant.names);
+      names = rw names (stands_on_after c.args.names.now c.loop-statement.names
+          (stmt_view x) c.loop-statement.invariant.names);
     }
 
-pub statement_counts-returns-in-Block-clause-counts : goal.statement_counts-returns-in-Block-clause-counts
+pub statement_counts-returns-in-Block-clause-counts :
+    goal.statement_counts-returns-in-Block-clause-counts
 statement_counts-returns-in-Block-clause-counts t c =
     let locals = names_of c.args.names.now in
     let same =

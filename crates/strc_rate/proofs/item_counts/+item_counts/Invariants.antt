@@ -7,7 +7,9 @@ use Rattle.strc_rate.proofs.item_counts.+item_counts.Given as goal
 
 abbrev pub invariant-block_counts-loop-statement : goal.invariant-block_counts-loop-statement
 invariant-block_counts-loop-statement l = record {
-  counted : sequence l.counts (stmts_counts (names_of l.names) (block_view (drop l.statement-index l.block))) ≡ stmts_counts (names_of l.initial.names) (block_view l.block);
+  counted : sequence l.counts (stmts_counts (names_of l.names)
+      (block_view (drop l.statement-index l.block)))
+      ≡ stmts_counts (names_of l.initial.names) (block_view l.block);
   runnable : sequence l.counts (Some no_items) ≡ l.counts;
   names : StandsOn l.initial.names l.names;
 }

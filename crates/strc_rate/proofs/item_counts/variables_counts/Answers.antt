@@ -5,7 +5,8 @@ use Rattle.strc_rate.proofs.item_counts.variables_counts.Goals as goal
 
 pub loop-variable-init : goal.loop-variable-init
 loop-variable-init c = record {
-  counted = first_variables c.no_items.result (map variable_view c.args.variables.now) c.no_items.ensures;
+  counted = first_variables c.no_items.result
+      (map variable_view c.args.variables.now) c.no_items.ensures;
   runnable = first_runnable c.no_items.result c.no_items.ensures;
   names = refl;
 }

@@ -6,7 +6,10 @@ use Rattle.strc_rate.proofs.item_counts.variables_counts.Given as goal
 
 abbrev pub invariant-loop-variable : goal.invariant-loop-variable
 invariant-loop-variable l = record {
-  counted : sequence l.counts (variables_counts (map variable_view (drop l.variable-index l.variables))) ≡ variables_counts (map variable_view l.variables);
+  counted : sequence l.counts (variables_counts
+      (map variable_view (drop l.variable-index l.variables)))
+      ≡ variables_counts (map variable_view l.variables);
   runnable : sequence l.counts (Some no_items) ≡ l.counts;
-  names : with_unknown l.names (map variable_view (drop l.variable-index l.variables)) ≡ with_unknown l.initial.names (map variable_view l.variables);
+  names : with_unknown l.names (map variable_view (drop l.variable-index l.variables))
+      ≡ with_unknown l.initial.names (map variable_view l.variables);
 }

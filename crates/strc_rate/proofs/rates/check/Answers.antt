@@ -9,9 +9,11 @@ use Rattle.strc_rate.proofs.rates.check.Goals as goal
 pub returns-clause-kept : goal.returns-clause-kept
 returns-clause-kept c =
     let filter = filter_of c.args.code.now in
-    promised filter (KeepsRates filter) c.judge.result (rates_kept filter c.tree-known.ensures.known) c.judge.ensures.verdict
+    promised filter (KeepsRates filter) c.judge.result
+    (rates_kept filter c.tree-known.ensures.known) c.judge.ensures.verdict
 
 pub returns-clause-safe : goal.returns-clause-safe
 returns-clause-safe c =
     let filter = filter_of c.args.code.now in
-    promised filter (HasSafePeeks filter) c.judge.result (closed_peeks filter c.tree-known.ensures.known) c.judge.ensures.verdict
+    promised filter (HasSafePeeks filter) c.judge.result
+    (closed_peeks filter c.tree-known.ensures.known) c.judge.ensures.verdict

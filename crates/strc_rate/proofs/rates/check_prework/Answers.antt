@@ -11,9 +11,15 @@ returns-in_err-prework c =
     let p = err_from_is_err_and c.from_residual.result c.from_residual.ensures.1 in
     let e = c.in_err-prework.field-0.0 in
     let there = prework_there members (sym c.if-not-has_prework.ensures) in
-    record { verdict = rw (p.1, p.2) (refusal_same _ _ e there (refusal_of_prework _ e c.in_err-prework.ensures.verdict)) }
+    record {
+      verdict = rw (p.1, p.2) (refusal_same _ _ e there
+          (refusal_of_prework _ e c.in_err-prework.ensures.verdict));
+    }
 
 pub returns : goal.returns
 returns c =
     let members = (filter_of c.args.code.now).members in
-    record { verdict = prework_there members (sym c.if-not-has_prework.ensures) ∙ ap some_prework c.in_ok-prework.ensures.verdict }
+    record {
+      verdict = prework_there members (sym c.if-not-has_prework.ensures)
+          ∙ ap some_prework c.in_ok-prework.ensures.verdict;
+    }

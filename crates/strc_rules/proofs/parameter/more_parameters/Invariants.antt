@@ -6,7 +6,8 @@ use Rattle.strc_rules.proofs.parameter.more_parameters.Given as goal
 
 abbrev pub invariant-loop-rest : goal.invariant-loop-rest
 invariant-loop-rest l =
-    Going no_comma (one_more next_parameter) (more_parameters l.fn.first.items (kinds l.fn.tokens)) l.found.items (kinds l.rest)
+    Going no_comma (one_more next_parameter)
+    (more_parameters l.fn.first.items (kinds l.fn.tokens)) l.found.items (kinds l.rest)
 
 abbrev pub decreases-loop-rest : goal.decreases-loop-rest
 decreases-loop-rest l = length (kinds l.rest)

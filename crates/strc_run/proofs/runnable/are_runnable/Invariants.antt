@@ -5,4 +5,5 @@ use Rattle.strc_run.proofs.runnable.are_runnable.Given as goal
 
 -- what is asked of the nodes left is what is asked of all
 abbrev pub invariant-loop-node : goal.invariant-loop-node
-invariant-loop-node l = are_runnable (map node_view (drop l.node-index l.nodes)) ≡ are_runnable (map node_view l.nodes)
+invariant-loop-node l = are_runnable (map node_view (drop l.node-index l.nodes))
+    ≡ are_runnable (map node_view l.nodes)

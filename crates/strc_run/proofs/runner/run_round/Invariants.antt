@@ -5,4 +5,5 @@ use Rattle.strc_run.proofs.Laps.{Underway}
 use Rattle.strc_run.proofs.runner.run_round.Given as goal
 
 abbrev pub invariant-loop-node : goal.invariant-loop-node
-invariant-loop-node l = Underway (lap_from 0 (all_loaded_in l.fn.nodes) []) l.nodes l.node l.channel.items l.fn.words.items l.words.items
+invariant-loop-node l = Underway (lap_from 0 (all_loaded_in l.fn.nodes) []) l.nodes l.node
+    l.channel.items l.fn.words.items l.words.items

@@ -8,6 +8,7 @@ use Rattle.strc_run.proofs.start.ready_nodes.Given as goal
 -- the nodes so far, and then those left, which start
 abbrev pub invariant-loop-node : goal.invariant-loop-node
 invariant-loop-node l = record {
-  all : all_loaded_in l.ready.items ++ loaded (map node_view l.node-iterator.rest.items) ≡ loaded (map node_view l.fn.nodes.items);
+  all : all_loaded_in l.ready.items ++ loaded (map node_view l.node-iterator.rest.items)
+      ≡ loaded (map node_view l.fn.nodes.items);
   start : AllByRecursion CanStart (map node_view l.node-iterator.rest.items);
 }

@@ -9,7 +9,8 @@ loop-number-preserved c =
     let variables = c.args.variables.now.variables in
     let constants = c.args.constants.now in
     let number = c.loop-number.number in
-    let counts : length names ≡ length variables = sym c.count-number-end.ensures.names ∙ c.count-number-end.ensures.variables in
+    let counts : length names ≡ length variables =
+    sym c.count-number-end.ensures.names ∙ c.count-number-end.ensures.variables in
     let below : number < length names = omega (arith, c.count-number-end.ensures.names) in
     let next : number + 1 ≡ suc number = omega arith in
     c.in_ok-capture.ensures

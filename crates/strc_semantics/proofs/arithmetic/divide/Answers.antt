@@ -13,4 +13,5 @@ returns c =
     let fits = c.ranges.dividend in
     let fits' = c.ranges.divisor in
     let e = simp to_z-of_z at c.wrapping_div.ensures in
-    ap (λ z. cast_signed w32 (cast_unsigned w32 z)) (e ∙ quotient_wraps a b fits) ∙ to_z-of_z w32 _ (SFits-int_wrap w32 (int_div a b))
+    ap (λ z. cast_signed w32 (cast_unsigned w32 z)) (e ∙ quotient_wraps a b fits)
+    ∙ to_z-of_z w32 _ (SFits-int_wrap w32 (int_div a b))

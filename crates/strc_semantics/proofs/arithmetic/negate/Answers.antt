@@ -8,4 +8,5 @@ pub returns : goal.returns
 returns c =
     let fits = c.ranges.value in
     let e = simp to_z-of_z at c.wrapping_neg.ensures in
-    ap (λ z. cast_signed w32 (cast_unsigned w32 z)) (e ∙ wrapping_neg_is w32 c.args.value fits) ∙ to_z-of_z w32 _ (SFits-int_wrap w32 (neg_ℤ c.args.value))
+    ap (λ z. cast_signed w32 (cast_unsigned w32 z)) (e ∙ wrapping_neg_is w32 c.args.value fits)
+    ∙ to_z-of_z w32 _ (SFits-int_wrap w32 (neg_ℤ c.args.value))

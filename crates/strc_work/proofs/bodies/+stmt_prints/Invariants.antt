@@ -4,4 +4,5 @@ use Rattle.strc_semantics.specs.Filters.{stmts_print}
 use Rattle.strc_work.proofs.bodies.+stmt_prints.Given as goal
 
 abbrev pub invariant-loop-inner : goal.invariant-loop-inner
-invariant-loop-inner l = stmts_print (block_view (drop l.inner-index l.inner-items)) ≡ stmts_print (block_view l.inner-items)
+invariant-loop-inner l = stmts_print (block_view (drop l.inner-index l.inner-items))
+    ≡ stmts_print (block_view l.inner-items)

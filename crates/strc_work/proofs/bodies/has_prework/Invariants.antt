@@ -3,4 +3,5 @@ use Rattle.strc_semantics.specs.Filters.{prework_block, members_of}
 use Rattle.strc_work.proofs.bodies.has_prework.Given as goal
 
 abbrev pub invariant-loop-member : goal.invariant-loop-member
-invariant-loop-member l = prework_block (members_of (drop l.member-index l.members)) ≡ prework_block (members_of l.members)
+invariant-loop-member l = prework_block (members_of (drop l.member-index l.members))
+    ≡ prework_block (members_of l.members)

@@ -4,4 +4,5 @@ use Rattle.strc_semantics.specs.Filters.{has_rate}
 use Rattle.strc_work.proofs.bodies.has_rate.Given as goal
 
 abbrev pub invariant-loop-rate : goal.invariant-loop-rate
-invariant-loop-rate l = has_rate l.kind (map rate_view (drop l.rate-index l.rates)) ≡ has_rate l.kind (map rate_view l.rates)
+invariant-loop-rate l = has_rate l.kind (map rate_view (drop l.rate-index l.rates))
+    ≡ has_rate l.kind (map rate_view l.rates)

@@ -12,7 +12,9 @@ returns-in-Prework c =
     let lt : i < length members = omega arith in
     let rest = members_of (drop (i + 1) members) in
     ap (λ l. Some (block_view l)) c.deref.ensures.value
-    ∙ ap (λ m. prework_block (m ∷ rest)) (sym (member_view-Prework c.in-Prework.field-0 c.in-Prework.block))
+    ∙ ap (λ m. prework_block (m ∷ rest)) (sym
+    (member_view-Prework c.in-Prework.field-0 c.in-Prework.block))
     ∙ ap (λ m. prework_block (member_view m ∷ rest)) (sym c.in-Prework.is)
-    ∙ ap prework_block (sym (map-drop member_view members i c.member-item.result lt c.member-item.is))
+    ∙ ap prework_block (sym (map-drop member_view members i c.member-item.result lt
+    c.member-item.is))
     ∙ c.loop-member.invariant

@@ -17,12 +17,16 @@ loop-variable-preserved c =
     let lt : i < length items = omega arith in
     let x = c.variable-item.result in
     let left = map-drop variable_view items i x lt c.variable-item.is in
-    fields_more names (written c.loop-variable.code) (written c.emit_field.new.code) (variable_view x) (map variable_view (drop (i + 1) items)) c.in_ok-emit_field.ensures ∙ ap (λ l. before (written c.loop-variable.code) (fields_nodes names l)) (sym left) ∙ c.loop-variable.invariant
+    fields_more names (written c.loop-variable.code) (written c.emit_field.new.code)
+    (variable_view x) (map variable_view (drop (i + 1) items)) c.in_ok-emit_field.ensures
+    ∙ ap (λ l. before (written c.loop-variable.code) (fields_nodes names l)) (sym left)
+    ∙ c.loop-variable.invariant
 
 pub returns : goal.returns
 returns c =
     let items = c.args.variables.now in
     let names = c.args.names.now in
     sym (before_end (written c.loop-variable.code))
-    ∙ ap (λ l. before (written c.loop-variable.code) (fields_nodes names (map variable_view l))) (sym (drop_of_length-le items c.loop-variable-test.false))
+    ∙ ap (λ l. before (written c.loop-variable.code) (fields_nodes names (map variable_view l)))
+    (sym (drop_of_length-le items c.loop-variable-test.false))
     ∙ c.loop-variable.invariant

@@ -17,4 +17,5 @@ returns-in-Init-clause-code c =
     ∙ sym (before_end (stmts_nodes names (block_view block.items)))
     ∙ ap (λ m. inits_nodes names (m ∷ [])) (sym (member_view-Init block))
     ∙ ap (λ m. inits_nodes names (member_view m ∷ [])) (sym c.in-Init.is) in
-    on_ok_weaker c.emit_block.result (λ h. h ∙ ap (before (written c.args.code.now)) same) c.emit_block.ensures.code
+    on_ok_weaker c.emit_block.result (λ h. h ∙ ap (before (written c.args.code.now)) same)
+    c.emit_block.ensures.code

@@ -18,12 +18,16 @@ loop-member-preserved c =
     let lt : i < length items = omega arith in
     let x = c.member-item.result in
     let left = map-drop member_view items i x lt c.member-item.is in
-    initials_more names (written c.loop-member.code) (written c.emit_initial.new.code) (member_view x) (members_of (drop (i + 1) items)) c.in_ok-emit_initial.ensures ∙ ap (λ l. before (written c.loop-member.code) (initials_nodes names l)) (sym left) ∙ c.loop-member.invariant
+    initials_more names (written c.loop-member.code) (written c.emit_initial.new.code)
+    (member_view x) (members_of (drop (i + 1) items)) c.in_ok-emit_initial.ensures
+    ∙ ap (λ l. before (written c.loop-member.code) (initials_nodes names l)) (sym left)
+    ∙ c.loop-member.invariant
 
 pub returns : goal.returns
 returns c =
     let items = c.args.members.now in
     let names = c.args.names.now in
     sym (before_end (written c.loop-member.code))
-    ∙ ap (λ l. before (written c.loop-member.code) (initials_nodes names (members_of l))) (sym (drop_of_length-le items c.loop-member-test.false))
+    ∙ ap (λ l. before (written c.loop-member.code) (initials_nodes names (members_of l)))
+    (sym (drop_of_length-le items c.loop-member-test.false))
     ∙ c.loop-member.invariant

@@ -6,4 +6,6 @@ use Rattle.strc_machine.specs.Written.{written}
 use Rattle.strc_work.proofs.emission.emit_initials.Given as goal
 
 abbrev pub invariant-loop-member : goal.invariant-loop-member
-invariant-loop-member l = before (written l.code) (initials_nodes l.names (members_of (drop l.member-index l.members))) ≡ before (written l.initial.code) (initials_nodes l.names (members_of l.members))
+invariant-loop-member l = before (written l.code)
+    (initials_nodes l.names (members_of (drop l.member-index l.members)))
+    ≡ before (written l.initial.code) (initials_nodes l.names (members_of l.members))

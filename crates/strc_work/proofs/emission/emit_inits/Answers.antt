@@ -20,7 +20,13 @@ loop-member-preserved c =
     let left = map-drop member_view items i x lt c.member-item.is in
     let same = c.in_ok-emit_init.ensures.names in
     record {
-      code = ap (λ n. before (written c.emit_init.new.code) (inits_nodes n (members_of (drop (i + 1) items)))) same ∙ inits_more c.loop-member.names (written c.loop-member.code) (written c.emit_init.new.code) (member_view x) (members_of (drop (i + 1) items)) c.in_ok-emit_init.ensures.code ∙ ap (λ l. before (written c.loop-member.code) (inits_nodes c.loop-member.names l)) (sym left) ∙ c.loop-member.invariant.code;
+      code = ap (λ n. before (written c.emit_init.new.code)
+          (inits_nodes n (members_of (drop (i + 1) items)))) same
+          ∙ inits_more c.loop-member.names (written c.loop-member.code)
+          (written c.emit_init.new.code) (member_view x)
+          (members_of (drop (i + 1) items)) c.in_ok-emit_init.ensures.code
+          ∙ ap (λ l. before (written c.loop-member.code) (inits_nodes c.loop-member.names l))
+          (sym left) ∙ c.loop-member.invariant.code;
       names = same ∙ c.loop-member.invariant.names;
     }
 
@@ -29,5 +35,6 @@ returns-clause-code c =
     let items = c.args.members.now in
     let names = c.loop-member.names in
     sym (before_end (written c.loop-member.code))
-    ∙ ap (λ l. before (written c.loop-member.code) (inits_nodes names (members_of l))) (sym (drop_of_length-le items c.loop-member-test.false))
+    ∙ ap (λ l. before (written c.loop-member.code) (inits_nodes names (members_of l)))
+    (sym (drop_of_length-le items c.loop-member-test.false))
     ∙ c.loop-member.invariant.code

@@ -7,6 +7,7 @@ use Rattle.strc_work.proofs.emission.emit_inits.Given as goal
 
 abbrev pub invariant-loop-member : goal.invariant-loop-member
 invariant-loop-member l = record {
-  code : before (written l.code) (inits_nodes l.names (members_of (drop l.member-index l.members))) ≡ before (written l.initial.code) (inits_nodes l.initial.names (members_of l.members));
+  code : before (written l.code) (inits_nodes l.names (members_of (drop l.member-index l.members)))
+      ≡ before (written l.initial.code) (inits_nodes l.initial.names (members_of l.members));
   names : l.names ≡ l.initial.names;
 }

@@ -15,8 +15,18 @@ returns-in_ok-right-in-Some c =
     let value = expr_view c.args.value.now in
     let free = total names in
     let plain : compound_of c.args.operator ≡ Some c.in-Some.operator = search rules in
-    let left : c.in_ok-left-in-Some.left ≡ old_slot (writes_no_variable value) (slot_of names name) free = search rules in
-    let first : written c.save_old_value.new.code ≡ before (written c.args.code.now) (old_nodes (writes_no_variable value) (slot_of names name) free) = search rules in
-    let right : c.in_ok-right-in-Some.right ≡ operand_slot names true value (free + 1) = search rules in
-    let second : written c.emit_operand.new.code ≡ before (written c.save_old_value.new.code) (operand_nodes names true value (free + 1)) = search rules in
-    on_ok c.put.result _ _ (λ last. assigned_more names name c.args.operator c.in-Some.operator value (slot_of names name) free c.in_ok-left-in-Some.left c.in_ok-right-in-Some.right (written c.args.code.now) (written c.save_old_value.new.code) (written c.emit_operand.new.code) (written c.put.new.self) plain left first right second (search rules)) c.put.ensures
+    let left : c.in_ok-left-in-Some.left ≡ old_slot (writes_no_variable value)
+    (slot_of names name) free = search rules in
+    let first : written c.save_old_value.new.code
+    ≡ before (written c.args.code.now)
+    (old_nodes (writes_no_variable value) (slot_of names name) free) = search rules in
+    let right : c.in_ok-right-in-Some.right ≡ operand_slot names true value (free + 1) =
+    search rules in
+    let second : written c.emit_operand.new.code
+    ≡ before (written c.save_old_value.new.code) (operand_nodes names true value (free + 1)) =
+    search rules in
+    on_ok c.put.result _ _ (λ last. assigned_more names name c.args.operator c.in-Some.operator
+    value (slot_of names name) free c.in_ok-left-in-Some.left c.in_ok-right-in-Some.right
+    (written c.args.code.now) (written c.save_old_value.new.code)
+    (written c.emit_operand.new.code) (written c.put.new.self) plain left first right second
+    (search rules)) c.put.ensures

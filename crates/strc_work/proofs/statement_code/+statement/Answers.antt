@@ -17,18 +17,27 @@ emit_stmt-loop-inner-preserved t c =
     let lt : i < length items = omega arith in
     let x = c.inner-item.result in
     let names = c.in_ok-emit_stmt-in-Block.ensures.names in
-    let more = stmts_nodes_more c.loop-inner.names c.emit_stmt.new.names (written c.loop-inner.code) (written c.emit_stmt.new.code) (stmt_view x) (block_view (drop (i + 1) items)) c.in_ok-emit_stmt-in-Block.ensures.code names in
+    let more = stmts_nodes_more c.loop-inner.names c.emit_stmt.new.names (written c.loop-inner.code)
+    (written c.emit_stmt.new.code) (stmt_view x)
+    (block_view (drop (i + 1) items)) c.in_ok-emit_stmt-in-Block.ensures.code names in
     record {
-      code = more ∙ ap (λ b. before (written c.loop-inner.code) (stmts_nodes c.loop-inner.names b)) (sym (block_view-drop items i x lt c.inner-item.is)) ∙ c.loop-inner.invariant.code;
-      names = rw names (stands_on_after c.args.names.now c.loop-inner.names (stmt_view x) c.loop-inner.invariant.names);
+      code = more ∙ ap (λ b. before (written c.loop-inner.code) (stmts_nodes c.loop-inner.names b))
+          (sym (block_view-drop items i x lt c.inner-item.is)) ∙ c.loop-inner.invariant.code;
+      names = rw names (stands_on_after c.args.names.now c.loop-inner.names
+          (stmt_view x) c.loop-inner.invariant.names);
     }
 
-pub emit_stmt-returns-after-loop-inner-clause-code : goal.emit_stmt-returns-after-loop-inner-clause-code
+pub emit_stmt-returns-after-loop-inner-clause-code :
+    goal.emit_stmt-returns-after-loop-inner-clause-code
 emit_stmt-returns-after-loop-inner-clause-code t c =
     let items = c.deref-inner-items.result.now in
     sym (before_end (written c.loop-inner.code))
-    ∙ ap (λ l. before (written c.loop-inner.code) (stmts_nodes c.loop-inner.names (block_view l))) (sym (drop_of_length-le items c.loop-inner-test.false))
+    ∙ ap (λ l. before (written c.loop-inner.code) (stmts_nodes c.loop-inner.names (block_view l)))
+    (sym (drop_of_length-le items c.loop-inner-test.false))
     ∙ c.loop-inner.invariant.code
-    ∙ ap (λ l. before (written c.args.code.now) (stmts_nodes c.args.names.now (block_view l))) c.deref-inner-items.ensures.value
-    ∙ sym (ap (λ s. before (written c.args.code.now) (stmt_nodes c.args.names.now s)) (stmt_view-Block c.in-Block.body))
-    ∙ ap (λ s. before (written c.args.code.now) (stmt_nodes c.args.names.now (stmt_view s))) (sym c.in-Block.is)
+    ∙ ap (λ l. before (written c.args.code.now) (stmts_nodes c.args.names.now (block_view l)))
+    c.deref-inner-items.ensures.value
+    ∙ sym (ap (λ s. before (written c.args.code.now) (stmt_nodes c.args.names.now s))
+    (stmt_view-Block c.in-Block.body))
+    ∙ ap (λ s. before (written c.args.code.now) (stmt_nodes c.args.names.now (stmt_view s)))
+    (sym c.in-Block.is)

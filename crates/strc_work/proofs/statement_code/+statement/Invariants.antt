@@ -8,6 +8,8 @@ use Rattle.strc_work.proofs.statement_code.+statement.Given as goal
 
 abbrev pub invariant-emit_stmt-loop-inner : goal.invariant-emit_stmt-loop-inner
 invariant-emit_stmt-loop-inner l = record {
-  code : before (written l.code) (stmts_nodes l.names (block_view (drop l.inner-index l.inner-items))) ≡ before (written l.initial.code) (stmts_nodes l.initial.names (block_view l.inner-items));
+  code : before (written l.code) (stmts_nodes l.names
+      (block_view (drop l.inner-index l.inner-items)))
+      ≡ before (written l.initial.code) (stmts_nodes l.initial.names (block_view l.inner-items));
   names : StandsOn l.initial.names l.names;
 }

@@ -17,15 +17,23 @@ loop-statement-preserved c =
     let lt : i < length items = omega arith in
     let x = c.statement-item.result in
     let names = c.in_ok-emit_stmt.ensures.names in
-    let more = stmts_nodes_more c.loop-statement.names c.emit_stmt.new.names (written c.loop-statement.code) (written c.emit_stmt.new.code) (stmt_view x) (block_view (drop (i + 1) items)) c.in_ok-emit_stmt.ensures.code names in
+    let more = stmts_nodes_more c.loop-statement.names c.emit_stmt.new.names
+    (written c.loop-statement.code) (written c.emit_stmt.new.code) (stmt_view x)
+    (block_view (drop (i + 1) items)) c.in_ok-emit_stmt.ensures.code names in
     record {
-      code = more ∙ ap (λ b. before (written c.loop-statement.code) (stmts_nodes c.loop-statement.names b)) (sym (block_view-drop items i x lt c.statement-item.is)) ∙ c.loop-statement.invariant.code;
-      names = rw names (stands_on_after c.args.names.now c.loop-statement.names (stmt_view x) c.loop-statement.invariant.names);
+      code = more ∙ ap (λ b. before (written c.loop-statement.code)
+          (stmts_nodes c.loop-statement.names b))
+          (sym (block_view-drop items i x lt c.statement-item.is))
+          ∙ c.loop-statement.invariant.code;
+      names = rw names (stands_on_after c.args.names.now c.loop-statement.names
+          (stmt_view x) c.loop-statement.invariant.names);
     }
 
 pub returns-clause-code : goal.returns-clause-code
 returns-clause-code c =
     let items = c.args.block.now in
     sym (before_end (written c.loop-statement.code))
-    ∙ ap (λ l. before (written c.loop-statement.code) (stmts_nodes c.loop-statement.names (block_view l))) (sym (drop_of_length-le items c.loop-statement-test.false))
+    ∙ ap (λ l. before (written c.loop-statement.code)
+    (stmts_nodes c.loop-statement.names (block_view l)))
+    (sym (drop_of_length-le items c.loop-statement-test.false))
     ∙ c.loop-statement.invariant.code

@@ -8,6 +8,7 @@ use Rattle.strc_work.proofs.statement_code.emit_block.Given as goal
 
 abbrev pub invariant-loop-statement : goal.invariant-loop-statement
 invariant-loop-statement l = record {
-  code : before (written l.code) (stmts_nodes l.names (block_view (drop l.statement-index l.block))) ≡ before (written l.initial.code) (stmts_nodes l.initial.names (block_view l.block));
+  code : before (written l.code) (stmts_nodes l.names (block_view (drop l.statement-index l.block)))
+      ≡ before (written l.initial.code) (stmts_nodes l.initial.names (block_view l.block));
   names : StandsOn l.initial.names l.names;
 }

@@ -19,13 +19,23 @@ loop-variable-preserved c =
     let left = map-drop variable_view items i x lt c.variable-item.is in
     let rest = map variable_view (drop (i + 1) items) in
     record {
-      code = variables_more c.loop-variable.names c.emit_variable.new.names c.args.cells (written c.loop-variable.code) (written c.emit_variable.new.code) (variable_view x) rest c.in_ok-emit_variable.ensures.code c.in_ok-emit_variable.ensures.names ∙ ap (λ l. before (written c.loop-variable.code) (variables_nodes c.loop-variable.names c.args.cells l)) (sym left) ∙ c.loop-variable.invariant.code;
-      names = ap (λ n. with_declared n c.args.cells rest) c.in_ok-emit_variable.ensures.names ∙ ap (with_declared c.loop-variable.names c.args.cells) (sym left) ∙ c.loop-variable.invariant.names;
+      code = variables_more c.loop-variable.names c.emit_variable.new.names c.args.cells
+          (written c.loop-variable.code) (written c.emit_variable.new.code)
+          (variable_view x) rest c.in_ok-emit_variable.ensures.code
+          c.in_ok-emit_variable.ensures.names
+          ∙ ap (λ l. before (written c.loop-variable.code)
+          (variables_nodes c.loop-variable.names c.args.cells l)) (sym left)
+          ∙ c.loop-variable.invariant.code;
+      names = ap (λ n. with_declared n c.args.cells rest) c.in_ok-emit_variable.ensures.names
+          ∙ ap (with_declared c.loop-variable.names c.args.cells) (sym left)
+          ∙ c.loop-variable.invariant.names;
     }
 
 pub returns-clause-code : goal.returns-clause-code
 returns-clause-code c =
     let items = c.args.variables.now in
     sym (before_end (written c.loop-variable.code))
-    ∙ ap (λ l. before (written c.loop-variable.code) (variables_nodes c.loop-variable.names c.args.cells (map variable_view l))) (sym (drop_of_length-le items c.loop-variable-test.false))
+    ∙ ap (λ l. before (written c.loop-variable.code)
+    (variables_nodes c.loop-variable.names c.args.cells (map variable_view l)))
+    (sym (drop_of_length-le items c.loop-variable-test.false))
     ∙ c.loop-variable.invariant.code

@@ -8,6 +8,10 @@ use Rattle.strc_work.proofs.statement_code.emit_variables.Given as goal
 
 abbrev pub invariant-loop-variable : goal.invariant-loop-variable
 invariant-loop-variable l = record {
-  code : before (written l.code) (variables_nodes l.names l.cells (map variable_view (drop l.variable-index l.variables))) ≡ before (written l.initial.code) (variables_nodes l.initial.names l.cells (map variable_view l.variables));
-  names : with_declared l.names l.cells (map variable_view (drop l.variable-index l.variables)) ≡ with_declared l.initial.names l.cells (map variable_view l.variables);
+  code : before (written l.code) (variables_nodes l.names l.cells
+      (map variable_view (drop l.variable-index l.variables)))
+      ≡ before (written l.initial.code) (variables_nodes l.initial.names l.cells
+      (map variable_view l.variables));
+  names : with_declared l.names l.cells (map variable_view (drop l.variable-index l.variables))
+      ≡ with_declared l.initial.names l.cells (map variable_view l.variables);
 }

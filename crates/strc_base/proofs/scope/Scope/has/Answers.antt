@@ -7,4 +7,5 @@ pub returns : goal.returns
 returns c =
     let names = c.args.self.now in
     let all : length names ≤ length names - 0 = omega arith in
-    c.has_since.ensures ∙ ap (λ l. has_name l c.args.name.now) (take_all (length names - 0) names all)
+    c.has_since.ensures ∙ ap (λ l. has_name l c.args.name.now)
+    (take_all (length names - 0) names all)

@@ -9,4 +9,5 @@ unfolding names_of
 returns c =
     let all = c.self.inside.declared.items in
     let count : c.len.result ≡ length all = omega arith in
-    count ∙ sym (length-reverse all) ∙ sym (length-names_in (reverse all)) ∙ ap length c.self.view_is
+    count ∙ sym (length-reverse all) ∙ sym (length-names_in (reverse all))
+    ∙ ap length c.self.view_is

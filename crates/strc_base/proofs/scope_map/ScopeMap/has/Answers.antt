@@ -8,7 +8,8 @@ pub returns : goal.returns
 returns g c =
     let inside = c.self.inside in
     let values = inside.values.items in
-    let plain = plain-with_values inside.names (reverse values) (length-reverse values ∙ c.self.invariant) in
+    let plain = plain-with_values inside.names (reverse values)
+    (length-reverse values ∙ c.self.invariant) in
     c.has.ensures
     ∙ ap (λ l. has_name l c.args.name.now) (sym plain)
     ∙ ap (λ l. has_name (plain_names l) c.args.name.now) c.self.view_is

@@ -10,7 +10,8 @@ returns g c =
     let values = reverse inside.values.items in
     let start = c.args.start in
     let name = c.args.name.now in
-    let same : length values ≡ length inside.names = length-reverse inside.values.items ∙ c.self.invariant in
+    let same : length values ≡ length inside.names =
+    length-reverse inside.values.items ∙ c.self.invariant in
     c.has_since.ensures
     ∙ ap (λ n. has_name (take (n - start) inside.names) name)
     (sym (length-with_values inside.names values same))

@@ -12,7 +12,9 @@ returns-then-is c =
     let some : 0 < c.loop-i.i = omega arith in
     let fits : FitsSigned w32 c.index-pair.result.now.1 = search rules in
     ap Some (to_z-of_z w32 c.index-pair.result.now.1 fits)
-    ∙ sym (value_named_found c.self.inside.pairs.items c.loop-i.i c.args.name.now c.index-pair.result.now some c.loop-i.invariant.within c.index-pair.ensures same) ∙ c.loop-i.invariant.same ∙ ap (λ l. value_named l c.args.name.now) c.self.view_is
+    ∙ sym (value_named_found c.self.inside.pairs.items c.loop-i.i c.args.name.now
+    c.index-pair.result.now some c.loop-i.invariant.within c.index-pair.ensures same)
+    ∙ c.loop-i.invariant.same ∙ ap (λ l. value_named l c.args.name.now) c.self.view_is
 
 pub loop-i-preserved : goal.loop-i-preserved
 loop-i-preserved c =
@@ -20,5 +22,7 @@ loop-i-preserved c =
     let some : 0 < c.loop-i.i = omega arith in
     record {
       within = omega arith;
-      same = value_named_passed c.self.inside.pairs.items c.loop-i.i c.args.name.now c.index-pair.result.now some c.loop-i.invariant.within c.index-pair.ensures other ∙ c.loop-i.invariant.same;
+      same = value_named_passed c.self.inside.pairs.items c.loop-i.i c.args.name.now
+          c.index-pair.result.now some c.loop-i.invariant.within c.index-pair.ensures other
+          ∙ c.loop-i.invariant.same;
     }

@@ -1,4 +1,5 @@
-use Rattle.std.proofs.Common.{rules, ◌≡◌, suc, true, false, length, Option, Some, Ok, Err, refl, sym, ap, ◌∙◌, subst, arith}
+use Rattle.std.proofs.Common.{rules, ◌≡◌, suc, true, false, length, Option, Some, Ok, Err, refl}
+use Rattle.std.proofs.Common.{sym, ap, ◌∙◌, subst, arith}
 use Rattle.std.specs.Option.{option_map}
 use Rattle.strc_base.specs.Results.{result_and_then}
 use Rattle.strc_syntax.specs.Tree as tree
@@ -14,8 +15,11 @@ use Rattle.strc_elab.specs.Answering.{Runs, progress_of}
 use Rattle.strc_elab.specs.Loops.{while_looped, for_looped}
 use Rattle.strc_scope.specs.Saying.{store_of}
 use Rattle.strc_elab.specs.Tasks.{setting_of}
-use Rattle.strc_elab.proofs.Bodies.{inside_refused, inside_ran, left_is, block_is, block_names_left, statement_names_left, stmts_go_on, names_go_on, chosen_runs, seen_condition, for_runs}
-use Rattle.strc_elab.proofs.LoopRuns.{Test, Step, test_refused, loop_ends, turn_refused, body_refused, loop_goes_on, loop_over}
+use Rattle.strc_elab.proofs.Bodies.{inside_refused, inside_ran, left_is, block_is, block_names_left}
+use Rattle.strc_elab.proofs.Bodies.{statement_names_left, stmts_go_on, names_go_on, chosen_runs}
+use Rattle.strc_elab.proofs.Bodies.{seen_condition, for_runs}
+use Rattle.strc_elab.proofs.LoopRuns.{Test, Step, test_refused, loop_ends, turn_refused}
+use Rattle.strc_elab.proofs.LoopRuns.{body_refused, loop_goes_on, loop_over}
 use Rattle.strc_elab.proofs.Refusals.{refused_same, first_refused, second_refused, both_done}
 use Rattle.strc_elab.proofs.body.Body.+body.Goals as goal
 
@@ -26,8 +30,15 @@ statements-loop-statement-preserved g t c =
     let x = c.statement-item.result in
     let names = c.loop-statement.progress.store.variables.names in
     record {
-      left = stmts_go_on (setting_of c.args.self.now.task) names c.statement.new.progress.store.variables.names c.args.start items i x (progress_of c.loop-statement.progress) (progress_of c.statement.new.progress) c.loop-statement-test.true c.statement-item.is c.in_ok-statement.ensures.runs c.in_ok-statement.ensures.names ∙ c.loop-statement.invariant.left;
-      names = names_go_on names c.statement.new.progress.store.variables.names items i x c.loop-statement-test.true c.statement-item.is c.in_ok-statement.ensures.names ∙ c.loop-statement.invariant.names;
+      left = stmts_go_on (setting_of c.args.self.now.task) names
+          c.statement.new.progress.store.variables.names c.args.start items i x
+          (progress_of c.loop-statement.progress)
+          (progress_of c.statement.new.progress) c.loop-statement-test.true c.statement-item.is
+          c.in_ok-statement.ensures.runs c.in_ok-statement.ensures.names
+          ∙ c.loop-statement.invariant.left;
+      names = names_go_on names c.statement.new.progress.store.variables.names items i x
+          c.loop-statement-test.true c.statement-item.is c.in_ok-statement.ensures.names
+          ∙ c.loop-statement.invariant.names;
     }
 
 pub statement-returns-in-Block-clause-runs : goal.statement-returns-in-Block-clause-runs
@@ -36,8 +47,11 @@ statement-returns-in-Block-clause-runs g t c =
     let names = c.args.progress.now.store.variables.names in
     let p = progress_of c.args.progress.now in
     let after = progress_of c.block.new.progress in
-    let is : stmt_view c.args.statement.now ≡ tree.Block (block_view c.deref.result.now) = block_is c.args.statement.now c.in-Block.body c.deref.result.now c.in-Block.is c.deref.ensures.value in
-    subst (λ s. Runs (stmt_run setting names c.args.start s p) c.block.result after) (sym is) c.block.ensures.runs
+    let is : stmt_view c.args.statement.now ≡ tree.Block (block_view c.deref.result.now) =
+    block_is c.args.statement.now c.in-Block.body c.deref.result.now c.in-Block.is
+    c.deref.ensures.value in
+    subst (λ s. Runs (stmt_run setting names c.args.start s p) c.block.result after)
+    (sym is) c.block.ensures.runs
 
 pub block-returns-in_err-statements-clause-runs : goal.block-returns-in_err-statements-clause-runs
 block-returns-in_err-statements-clause-runs g t c =
@@ -47,8 +61,11 @@ block-returns-in_err-statements-clause-runs g t c =
     let start = c.count-start.result in
     let e = c.in_err-statements.field-0.0 in
     let runs = stmts_run setting names (length names) (block_view c.args.block.now) in
-    let no : IsRefusal (runs p) e = subst (λ n. IsRefusal (stmts_run setting names n (block_view c.args.block.now) p) e) c.count-start.ensures.names c.in_err-statements.ensures.runs in
-    let told : Runs (inside runs p) (Err e) (progress_of c.statements.new.progress) = inside_refused runs p e no in
+    let no : IsRefusal (runs p) e = subst
+    (λ n. IsRefusal (stmts_run setting names n (block_view c.args.block.now) p) e)
+    c.count-start.ensures.names c.in_err-statements.ensures.runs in
+    let told : Runs (inside runs p) (Err e) (progress_of c.statements.new.progress) =
+    inside_refused runs p e no in
     search rules
 
 pub block-returns-clause-runs : goal.block-returns-clause-runs
@@ -59,12 +76,19 @@ block-returns-clause-runs g t c =
     let start = c.count-start.result in
     let after = progress_of c.statements.new.progress in
     let runs = stmts_run setting names (length names) (block_view c.args.block.now) in
-    let ran : runs p ≡ Ok after = subst (λ n. stmts_run setting names n (block_view c.args.block.now) p ≡ Ok after) c.count-start.ensures.names c.in_ok-statements.ensures.runs in
-    inside_ran runs p after ran ∙ ap (λ (r : spec.Progress). Ok r) (left_is p after c.leave.new.self.variables start c.count-start.ensures.variables (ap (λ b. b.variables) c.leave.ensures))
+    let ran : runs p ≡ Ok after = subst (λ n. stmts_run setting names n
+    (block_view c.args.block.now) p ≡ Ok after) c.count-start.ensures.names
+    c.in_ok-statements.ensures.runs in
+    inside_ran runs p after ran ∙ ap (λ (r : spec.Progress). Ok r)
+    (left_is p after c.leave.new.self.variables start c.count-start.ensures.variables
+    (ap (λ b. b.variables) c.leave.ensures))
 
 pub block-returns-clause-names : goal.block-returns-clause-names
 block-returns-clause-names g t c =
-    block_names_left c.args.progress.now.store.variables.names c.statements.new.progress.store.variables.names c.leave.new.self.names (block_view c.args.block.now) c.count-start.result c.count-start.ensures.names c.in_ok-statements.ensures.names (ap (λ b. b.names) c.leave.ensures)
+    block_names_left c.args.progress.now.store.variables.names
+    c.statements.new.progress.store.variables.names c.leave.new.self.names
+    (block_view c.args.block.now) c.count-start.result c.count-start.ensures.names
+    c.in_ok-statements.ensures.names (ap (λ b. b.names) c.leave.ensures)
 
 pub statement-returns-then-is_true-clause-runs : goal.statement-returns-then-is_true-clause-runs
 statement-returns-then-is_true-clause-runs g t c =
@@ -75,14 +99,23 @@ statement-returns-then-is_true-clause-runs g t c =
     let within : tree.Stmt → Step = λ s. inside (stmt_run setting names (length names) s) in
     let chosen : Step = within (stmt_view c.in-If.chosen.value) in
     let other : Step = λ tested. Ok tested in
-    let is : stmt_view c.args.statement.now ≡ tree.If condition (stmt_view c.in-If.chosen.value) = ap stmt_view c.in-If.is in
+    let is : stmt_view c.args.statement.now ≡ tree.If condition (stmt_view c.in-If.chosen.value) =
+    ap stmt_view c.in-If.is in
     let tested = progress_of c.eval_condition.new.progress in
     let value = c.in_ok-eval_condition-in-If.field-0 in
     let truth : c.is_true.result ≡ is_true value = search rules in
-    let whole : stmt_run setting names c.args.start (stmt_view c.args.statement.now) p ≡ chosen tested = ap (λ s. stmt_run setting names c.args.start s p) is ∙ chosen_runs (condition_evaluated setting names (Some condition) p) chosen other value tested true c.in_ok-eval_condition-in-If.ensures.tests (sym truth ∙ c.if-is_true.true) in
+    let whole : stmt_run setting names c.args.start (stmt_view c.args.statement.now) p
+    ≡ chosen tested = ap (λ s. stmt_run setting names c.args.start s p) is
+    ∙ chosen_runs (condition_evaluated setting names (Some condition) p) chosen other value
+    tested true c.in_ok-eval_condition-in-If.ensures.tests (sym truth ∙ c.if-is_true.true) in
     let after = progress_of c.inside.new.progress in
-    let ran : Runs (within (stmt_view c.deref-then-is_true.result.now) tested) c.inside.result after = subst (λ n. Runs (inside (stmt_run setting n (length n) (stmt_view c.deref-then-is_true.result.now)) tested) c.inside.result after) c.eval_condition.ensures.names c.inside.ensures.runs in
-    let here : Runs (chosen tested) c.inside.result after = subst (λ s. Runs (within (stmt_view s) tested) c.inside.result after) c.deref-then-is_true.ensures ran in
+    let ran : Runs (within (stmt_view c.deref-then-is_true.result.now) tested) c.inside.result after
+    = subst (λ n. Runs (inside (stmt_run setting n (length n)
+    (stmt_view c.deref-then-is_true.result.now)) tested) c.inside.result after)
+    c.eval_condition.ensures.names c.inside.ensures.runs in
+    let here : Runs (chosen tested) c.inside.result after =
+    subst (λ s. Runs (within (stmt_view s) tested) c.inside.result after)
+    c.deref-then-is_true.ensures ran in
     subst (λ r. Runs r c.inside.result after) (sym whole) here
 
 pub statement-returns-then-is_true-2-clause-runs : goal.statement-returns-then-is_true-2-clause-runs
@@ -94,14 +127,26 @@ statement-returns-then-is_true-2-clause-runs g t c =
     let within : tree.Stmt → Step = λ s. inside (stmt_run setting names (length names) s) in
     let chosen : Step = within (stmt_view c.in-IfElse.chosen.value) in
     let other : Step = within (stmt_view c.in-IfElse.other.value) in
-    let is : stmt_view c.args.statement.now ≡ tree.IfElse condition (stmt_view c.in-IfElse.chosen.value) (stmt_view c.in-IfElse.other.value) = ap stmt_view c.in-IfElse.is in
+    let is : stmt_view c.args.statement.now
+    ≡ tree.IfElse condition (stmt_view c.in-IfElse.chosen.value)
+    (stmt_view c.in-IfElse.other.value) = ap stmt_view c.in-IfElse.is in
     let tested = progress_of c.eval_condition-in-IfElse.new.progress in
     let value = c.in_ok-eval_condition-in-IfElse.field-0 in
     let truth : c.is_true-in-IfElse.result ≡ is_true value = search rules in
-    let whole : stmt_run setting names c.args.start (stmt_view c.args.statement.now) p ≡ chosen tested = ap (λ s. stmt_run setting names c.args.start s p) is ∙ chosen_runs (condition_evaluated setting names (Some condition) p) chosen other value tested true c.in_ok-eval_condition-in-IfElse.ensures.tests (sym truth ∙ c.if-is_true-2.true) in
+    let whole : stmt_run setting names c.args.start (stmt_view c.args.statement.now) p
+    ≡ chosen tested = ap (λ s. stmt_run setting names c.args.start s p) is
+    ∙ chosen_runs (condition_evaluated setting names (Some condition) p) chosen other value
+    tested true c.in_ok-eval_condition-in-IfElse.ensures.tests
+    (sym truth ∙ c.if-is_true-2.true) in
     let after = progress_of c.inside-then-is_true-2.new.progress in
-    let ran : Runs (within (stmt_view c.deref-then-is_true-2.result.now) tested) c.inside-then-is_true-2.result after = subst (λ n. Runs (inside (stmt_run setting n (length n) (stmt_view c.deref-then-is_true-2.result.now)) tested) c.inside-then-is_true-2.result after) c.eval_condition-in-IfElse.ensures.names c.inside-then-is_true-2.ensures.runs in
-    let here : Runs (chosen tested) c.inside-then-is_true-2.result after = subst (λ s. Runs (within (stmt_view s) tested) c.inside-then-is_true-2.result after) c.deref-then-is_true-2.ensures ran in
+    let ran : Runs (within (stmt_view c.deref-then-is_true-2.result.now) tested)
+    c.inside-then-is_true-2.result after =
+    subst (λ n. Runs (inside (stmt_run setting n (length n)
+    (stmt_view c.deref-then-is_true-2.result.now)) tested) c.inside-then-is_true-2.result
+    after) c.eval_condition-in-IfElse.ensures.names c.inside-then-is_true-2.ensures.runs in
+    let here : Runs (chosen tested) c.inside-then-is_true-2.result after =
+    subst (λ s. Runs (within (stmt_view s) tested) c.inside-then-is_true-2.result after)
+    c.deref-then-is_true-2.ensures ran in
     subst (λ r. Runs r c.inside-then-is_true-2.result after) (sym whole) here
 
 pub statement-returns-else-is_true-2-clause-runs : goal.statement-returns-else-is_true-2-clause-runs
@@ -113,14 +158,26 @@ statement-returns-else-is_true-2-clause-runs g t c =
     let within : tree.Stmt → Step = λ s. inside (stmt_run setting names (length names) s) in
     let chosen : Step = within (stmt_view c.in-IfElse.chosen.value) in
     let other : Step = within (stmt_view c.in-IfElse.other.value) in
-    let is : stmt_view c.args.statement.now ≡ tree.IfElse condition (stmt_view c.in-IfElse.chosen.value) (stmt_view c.in-IfElse.other.value) = ap stmt_view c.in-IfElse.is in
+    let is : stmt_view c.args.statement.now
+    ≡ tree.IfElse condition (stmt_view c.in-IfElse.chosen.value)
+    (stmt_view c.in-IfElse.other.value) = ap stmt_view c.in-IfElse.is in
     let tested = progress_of c.eval_condition-in-IfElse.new.progress in
     let value = c.in_ok-eval_condition-in-IfElse.field-0 in
     let truth : c.is_true-in-IfElse.result ≡ is_true value = search rules in
-    let whole : stmt_run setting names c.args.start (stmt_view c.args.statement.now) p ≡ other tested = ap (λ s. stmt_run setting names c.args.start s p) is ∙ chosen_runs (condition_evaluated setting names (Some condition) p) chosen other value tested false c.in_ok-eval_condition-in-IfElse.ensures.tests (sym truth ∙ c.if-is_true-2.false) in
+    let whole : stmt_run setting names c.args.start (stmt_view c.args.statement.now) p
+    ≡ other tested = ap (λ s. stmt_run setting names c.args.start s p) is
+    ∙ chosen_runs (condition_evaluated setting names (Some condition) p) chosen other value
+    tested false c.in_ok-eval_condition-in-IfElse.ensures.tests
+    (sym truth ∙ c.if-is_true-2.false) in
     let after = progress_of c.inside-else-is_true-2.new.progress in
-    let ran : Runs (within (stmt_view c.deref-else-is_true-2.result.now) tested) c.inside-else-is_true-2.result after = subst (λ n. Runs (inside (stmt_run setting n (length n) (stmt_view c.deref-else-is_true-2.result.now)) tested) c.inside-else-is_true-2.result after) c.eval_condition-in-IfElse.ensures.names c.inside-else-is_true-2.ensures.runs in
-    let here : Runs (other tested) c.inside-else-is_true-2.result after = subst (λ s. Runs (within (stmt_view s) tested) c.inside-else-is_true-2.result after) c.deref-else-is_true-2.ensures ran in
+    let ran : Runs (within (stmt_view c.deref-else-is_true-2.result.now) tested)
+    c.inside-else-is_true-2.result after =
+    subst (λ n. Runs (inside (stmt_run setting n (length n)
+    (stmt_view c.deref-else-is_true-2.result.now)) tested) c.inside-else-is_true-2.result
+    after) c.eval_condition-in-IfElse.ensures.names c.inside-else-is_true-2.ensures.runs in
+    let here : Runs (other tested) c.inside-else-is_true-2.result after =
+    subst (λ s. Runs (within (stmt_view s) tested) c.inside-else-is_true-2.result after)
+    c.deref-else-is_true-2.ensures ran in
     subst (λ r. Runs r c.inside-else-is_true-2.result after) (sym whole) here
 
 pub statement-returns-in-While-clause-runs : goal.statement-returns-in-While-clause-runs
@@ -129,8 +186,13 @@ statement-returns-in-While-clause-runs g t c =
     let names = c.args.progress.now.store.variables.names in
     let p = progress_of c.args.progress.now in
     let after = progress_of c.while_turns.new.progress in
-    let is : stmt_view c.args.statement.now ≡ tree.While (expr_view c.in-While.condition) (stmt_view c.deref-in-While.result.now) = ap stmt_view c.in-While.is ∙ ap (λ s. tree.While (expr_view c.in-While.condition) (stmt_view s)) (sym c.deref-in-While.ensures) in
-    subst (λ s. Runs (stmt_run setting names c.args.start s p) c.while_turns.result after) (sym is) c.while_turns.ensures.runs
+    let is : stmt_view c.args.statement.now
+    ≡ tree.While (expr_view c.in-While.condition) (stmt_view c.deref-in-While.result.now) =
+    ap stmt_view c.in-While.is ∙ ap
+    (λ s. tree.While (expr_view c.in-While.condition) (stmt_view s))
+    (sym c.deref-in-While.ensures) in
+    subst (λ s. Runs (stmt_run setting names c.args.start s p) c.while_turns.result after)
+    (sym is) c.while_turns.ensures.runs
 
 pub statement-returns-in-For-clause-runs : goal.statement-returns-in-For-clause-runs
 statement-returns-in-For-clause-runs g t c =
@@ -144,14 +206,19 @@ statement-returns-in-For-clause-runs g t c =
     let captures = option_map (λ e. expr_view e.now) c.as_ref.result in
     let is : stmt_view c.args.statement.now ≡ tree.For first captures step body =
     ap stmt_view c.in-For.is
-    ∙ ap (λ s. tree.For (stmt_view s) condition (stmt_view c.in-For.step.value) (stmt_view c.in-For.body.value)) (sym c.deref-in-For.ensures)
-    ∙ ap (λ s. tree.For first condition (stmt_view s) (stmt_view c.in-For.body.value)) (sym c.deref-in-For-2.ensures)
+    ∙ ap (λ s. tree.For (stmt_view s) condition (stmt_view c.in-For.step.value)
+    (stmt_view c.in-For.body.value)) (sym c.deref-in-For.ensures)
+    ∙ ap (λ s. tree.For first condition (stmt_view s) (stmt_view c.in-For.body.value))
+    (sym c.deref-in-For-2.ensures)
     ∙ ap (λ s. tree.For first condition step (stmt_view s)) (sym c.deref-in-For-3.ensures)
-    ∙ ap (λ o. tree.For first o step body) (sym (seen_condition c.as_ref.result c.in-For.condition c.as_ref.ensures.value))
+    ∙ ap (λ o. tree.For first o step body)
+    (sym (seen_condition c.as_ref.result c.in-For.condition c.as_ref.ensures.value))
     in
-    subst (λ s. Runs (stmt_run setting names c.args.start s p) c.for_loop.result (progress_of c.for_loop.new.progress)) (sym is) c.for_loop.ensures.runs
+    subst (λ s. Runs (stmt_run setting names c.args.start s p) c.for_loop.result
+    (progress_of c.for_loop.new.progress)) (sym is) c.for_loop.ensures.runs
 
-pub for_loop-returns-in_err-for_turns-clause-runs : goal.for_loop-returns-in_err-for_turns-clause-runs
+pub for_loop-returns-in_err-for_turns-clause-runs :
+    goal.for_loop-returns-in_err-for_turns-clause-runs
 for_loop-returns-in_err-for_turns-clause-runs g t c =
     let setting = setting_of c.args.self.now.task in
     let names = c.args.progress.now.store.variables.names in
@@ -163,11 +230,16 @@ for_loop-returns-in_err-for_turns-clause-runs g t c =
     let condition = option_map (λ e. expr_view e.now) c.args.condition in
     let begun = progress_of c.statement.new.progress in
     let names' = c.statement.new.progress.store.variables.names in
-    let loop : Step = λ outside. for_looped setting names' condition step body (suc turn_limit) begun in
-    let whole = for_runs setting names names' 0 start first step body condition p begun c.count-start.ensures.names c.in_ok-statement.ensures.runs c.in_ok-statement.ensures.names in
+    let loop : Step = λ outside. for_looped setting names' condition step body
+    (suc turn_limit) begun in
+    let whole = for_runs setting names names' 0 start first step body condition p begun
+    c.count-start.ensures.names c.in_ok-statement.ensures.runs
+    c.in_ok-statement.ensures.names in
     let e = c.in_err-for_turns.field-0.0 in
     let runs = stmt_run setting names 0 (tree.For first condition step body) p in
-    let told : Runs runs (Err e) (progress_of c.for_turns.new.progress) = refused_same (inside loop p) runs e whole (inside_refused loop p e c.in_err-for_turns.ensures.runs) in
+    let told : Runs runs (Err e) (progress_of c.for_turns.new.progress) =
+    refused_same (inside loop p) runs e whole
+    (inside_refused loop p e c.in_err-for_turns.ensures.runs) in
     search rules
 
 pub for_loop-returns-clause-runs : goal.for_loop-returns-clause-runs
@@ -182,53 +254,73 @@ for_loop-returns-clause-runs g t c =
     let condition = option_map (λ e. expr_view e.now) c.args.condition in
     let begun = progress_of c.statement.new.progress in
     let names' = c.statement.new.progress.store.variables.names in
-    let loop : Step = λ outside. for_looped setting names' condition step body (suc turn_limit) begun in
-    let whole = for_runs setting names names' 0 start first step body condition p begun c.count-start.ensures.names c.in_ok-statement.ensures.runs c.in_ok-statement.ensures.names in
+    let loop : Step = λ outside. for_looped setting names' condition step body
+    (suc turn_limit) begun in
+    let whole = for_runs setting names names' 0 start first step body condition p begun
+    c.count-start.ensures.names c.in_ok-statement.ensures.runs
+    c.in_ok-statement.ensures.names in
     let after = progress_of c.for_turns.new.progress in
     whole ∙ inside_ran loop p after c.in_ok-for_turns.ensures.runs
-    ∙ ap (λ (r : spec.Progress). Ok r) (left_is p after c.leave.new.self.variables start c.count-start.ensures.variables (ap (λ b. b.variables) c.leave.ensures))
+    ∙ ap (λ (r : spec.Progress). Ok r) (left_is p after c.leave.new.self.variables start
+    c.count-start.ensures.variables (ap (λ b. b.variables) c.leave.ensures))
 
 pub for_loop-returns-clause-names : goal.for_loop-returns-clause-names
 for_loop-returns-clause-names g t c =
-    statement_names_left c.args.progress.now.store.variables.names c.for_turns.new.progress.store.variables.names c.leave.new.self.names (stmt_view c.args.first.now) c.count-start.result c.count-start.ensures.names (c.in_ok-for_turns.ensures.names ∙ c.in_ok-statement.ensures.names) (ap (λ b. b.names) c.leave.ensures)
+    statement_names_left c.args.progress.now.store.variables.names
+    c.for_turns.new.progress.store.variables.names c.leave.new.self.names
+    (stmt_view c.args.first.now) c.count-start.result c.count-start.ensures.names
+    (c.in_ok-for_turns.ensures.names ∙ c.in_ok-statement.ensures.names)
+    (ap (λ b. b.names) c.leave.ensures)
 
 pub while_turns-loop-round-init : goal.while_turns-loop-round-init
 while_turns-loop-round-init g t c =
     record {
       names = refl;
-      left = λ fuel e. let same : fuel ≡ suc turn_limit = omega (arith, e) in ap (λ n. while_looped (setting_of c.args.self.now.task) c.args.progress.now.store.variables.names (expr_view c.args.condition.now) (stmt_view c.args.body.now) n (progress_of c.args.progress.now)) same;
+      left = λ fuel e. let same : fuel ≡ suc turn_limit = omega (arith, e) in
+          ap (λ n. while_looped (setting_of c.args.self.now.task)
+          c.args.progress.now.store.variables.names (expr_view c.args.condition.now)
+          (stmt_view c.args.body.now) n (progress_of c.args.progress.now)) same;
     }
 
-pub while_turns-returns-in_err-eval_condition-clause-runs : goal.while_turns-returns-in_err-eval_condition-clause-runs
+pub while_turns-returns-in_err-eval_condition-clause-runs :
+    goal.while_turns-returns-in_err-eval_condition-clause-runs
 while_turns-returns-in_err-eval_condition-clause-runs g t c =
     let setting = setting_of c.args.self.now.task in
     let names = c.args.progress.now.store.variables.names in
     let condition : Option tree.Expr = Some (expr_view c.args.condition.now) in
     let test : Test = condition_evaluated setting names condition in
     let body : Step = inside (stmt_run setting names (length names) (stmt_view c.args.body.now)) in
-    let whole = while_looped setting names (expr_view c.args.condition.now) (stmt_view c.args.body.now) (suc turn_limit) (progress_of c.args.progress.now) in
+    let whole = while_looped setting names (expr_view c.args.condition.now)
+    (stmt_view c.args.body.now) (suc turn_limit) (progress_of c.args.progress.now) in
     let round = c.loop-round._round in
     let left = c.loop-round.invariant.left in
     let m = progress_of c.loop-round.progress in
     let e = c.in_err-eval_condition.field-0.0 in
-    let met : IsRefusal (test m) e = subst (λ n. IsRefusal (condition_evaluated setting n condition m) e) c.loop-round.invariant.names c.in_err-eval_condition.ensures.tests in
-    let told : Runs whole (Err e) (progress_of c.eval_condition.new.progress) = test_refused test body round m whole e c.loop-round-test.true left met in
+    let met : IsRefusal (test m) e = subst
+    (λ n. IsRefusal (condition_evaluated setting n condition m) e)
+    c.loop-round.invariant.names c.in_err-eval_condition.ensures.tests in
+    let told : Runs whole (Err e) (progress_of c.eval_condition.new.progress) =
+    test_refused test body round m whole e c.loop-round-test.true left met in
     search rules
 
-pub while_turns-returns-then-not-is_true-clause-runs : goal.while_turns-returns-then-not-is_true-clause-runs
+pub while_turns-returns-then-not-is_true-clause-runs :
+    goal.while_turns-returns-then-not-is_true-clause-runs
 while_turns-returns-then-not-is_true-clause-runs g t c =
     let setting = setting_of c.args.self.now.task in
     let names = c.args.progress.now.store.variables.names in
     let condition : Option tree.Expr = Some (expr_view c.args.condition.now) in
     let test : Test = condition_evaluated setting names condition in
     let body : Step = inside (stmt_run setting names (length names) (stmt_view c.args.body.now)) in
-    let whole = while_looped setting names (expr_view c.args.condition.now) (stmt_view c.args.body.now) (suc turn_limit) (progress_of c.args.progress.now) in
+    let whole = while_looped setting names (expr_view c.args.condition.now)
+    (stmt_view c.args.body.now) (suc turn_limit) (progress_of c.args.progress.now) in
     let round = c.loop-round._round in
     let left = c.loop-round.invariant.left in
     let m = progress_of c.loop-round.progress in
     let tested = progress_of c.eval_condition.new.progress in
     let value = c.in_ok-eval_condition.field-0 in
-    let met : test m ≡ Ok (value, tested) = subst (λ n. condition_evaluated setting n condition m ≡ Ok (value, tested)) c.loop-round.invariant.names c.in_ok-eval_condition.ensures.tests in
+    let met : test m ≡ Ok (value, tested) =
+    subst (λ n. condition_evaluated setting n condition m ≡ Ok (value, tested))
+    c.loop-round.invariant.names c.in_ok-eval_condition.ensures.tests in
     let truth : c.is_true.result ≡ is_true value = search rules in
     let ends : is_true value ≡ false = sym truth ∙ c.if-not-is_true.true in
     loop_ends test body round m tested value whole c.loop-round-test.true left met ends
@@ -240,43 +332,57 @@ while_turns-returns-in_err-turn-clause-runs g t c =
     let condition : Option tree.Expr = Some (expr_view c.args.condition.now) in
     let test : Test = condition_evaluated setting names condition in
     let body : Step = inside (stmt_run setting names (length names) (stmt_view c.args.body.now)) in
-    let whole = while_looped setting names (expr_view c.args.condition.now) (stmt_view c.args.body.now) (suc turn_limit) (progress_of c.args.progress.now) in
+    let whole = while_looped setting names (expr_view c.args.condition.now)
+    (stmt_view c.args.body.now) (suc turn_limit) (progress_of c.args.progress.now) in
     let round = c.loop-round._round in
     let left = c.loop-round.invariant.left in
     let m = progress_of c.loop-round.progress in
     let tested = progress_of c.eval_condition.new.progress in
     let value = c.in_ok-eval_condition.field-0 in
-    let met : test m ≡ Ok (value, tested) = subst (λ n. condition_evaluated setting n condition m ≡ Ok (value, tested)) c.loop-round.invariant.names c.in_ok-eval_condition.ensures.tests in
+    let met : test m ≡ Ok (value, tested) =
+    subst (λ n. condition_evaluated setting n condition m ≡ Ok (value, tested))
+    c.loop-round.invariant.names c.in_ok-eval_condition.ensures.tests in
     let truth : c.is_true.result ≡ is_true value = search rules in
     let holds : is_true value ≡ true = sym truth ∙ c.if-not-is_true.false in
     let e = c.in_err-turn.field-0.0 in
     let over : IsRefusal (computed (firing.turned tested.store)) e = c.in_err-turn.ensures.done in
-    let told : Runs whole (Err e) (record tested { store = store_of c.turn.new.store }) = turn_refused test body round m tested value whole e c.loop-round-test.true left met holds over in
+    let told : Runs whole (Err e) (record tested { store = store_of c.turn.new.store }) =
+    turn_refused test body round m tested value whole e c.loop-round-test.true left met holds
+    over in
     search rules
 
-pub while_turns-returns-in_err-inside-clause-runs : goal.while_turns-returns-in_err-inside-clause-runs
+pub while_turns-returns-in_err-inside-clause-runs :
+    goal.while_turns-returns-in_err-inside-clause-runs
 while_turns-returns-in_err-inside-clause-runs g t c =
     let setting = setting_of c.args.self.now.task in
     let names = c.args.progress.now.store.variables.names in
     let condition : Option tree.Expr = Some (expr_view c.args.condition.now) in
     let test : Test = condition_evaluated setting names condition in
     let body : Step = inside (stmt_run setting names (length names) (stmt_view c.args.body.now)) in
-    let whole = while_looped setting names (expr_view c.args.condition.now) (stmt_view c.args.body.now) (suc turn_limit) (progress_of c.args.progress.now) in
+    let whole = while_looped setting names (expr_view c.args.condition.now)
+    (stmt_view c.args.body.now) (suc turn_limit) (progress_of c.args.progress.now) in
     let round = c.loop-round._round in
     let left = c.loop-round.invariant.left in
     let m = progress_of c.loop-round.progress in
     let tested = progress_of c.eval_condition.new.progress in
     let value = c.in_ok-eval_condition.field-0 in
-    let met : test m ≡ Ok (value, tested) = subst (λ n. condition_evaluated setting n condition m ≡ Ok (value, tested)) c.loop-round.invariant.names c.in_ok-eval_condition.ensures.tests in
+    let met : test m ≡ Ok (value, tested) =
+    subst (λ n. condition_evaluated setting n condition m ≡ Ok (value, tested))
+    c.loop-round.invariant.names c.in_ok-eval_condition.ensures.tests in
     let truth : c.is_true.result ≡ is_true value = search rules in
     let holds : is_true value ≡ true = sym truth ∙ c.if-not-is_true.false in
     let store = store_of c.turn.new.store in
     let turning : spec.Progress = record tested { store = store } in
     let turn : computed (firing.turned tested.store) ≡ Ok store = c.in_ok-turn.ensures.done in
-    let same : c.turn.new.store.variables.names ≡ names = c.turn.ensures.names ∙ c.eval_condition.ensures.names ∙ c.loop-round.invariant.names in
+    let same : c.turn.new.store.variables.names ≡ names =
+    c.turn.ensures.names ∙ c.eval_condition.ensures.names ∙ c.loop-round.invariant.names in
     let e = c.in_err-inside.field-0.0 in
-    let no : IsRefusal (body turning) e = subst (λ n. IsRefusal (inside (stmt_run setting n (length n) (stmt_view c.args.body.now)) turning) e) same c.in_err-inside.ensures.runs in
-    let told : Runs whole (Err e) (progress_of c.inside.new.progress) = body_refused test body round m tested value store whole e c.loop-round-test.true left met holds turn no in
+    let no : IsRefusal (body turning) e =
+    subst (λ n. IsRefusal (inside (stmt_run setting n (length n) (stmt_view c.args.body.now))
+    turning) e) same c.in_err-inside.ensures.runs in
+    let told : Runs whole (Err e) (progress_of c.inside.new.progress) =
+    body_refused test body round m tested value store whole e c.loop-round-test.true left met
+    holds turn no in
     search rules
 
 pub while_turns-loop-round-preserved : goal.while_turns-loop-round-preserved
@@ -286,24 +392,31 @@ while_turns-loop-round-preserved g t c =
     let condition : Option tree.Expr = Some (expr_view c.args.condition.now) in
     let test : Test = condition_evaluated setting names condition in
     let body : Step = inside (stmt_run setting names (length names) (stmt_view c.args.body.now)) in
-    let whole = while_looped setting names (expr_view c.args.condition.now) (stmt_view c.args.body.now) (suc turn_limit) (progress_of c.args.progress.now) in
+    let whole = while_looped setting names (expr_view c.args.condition.now)
+    (stmt_view c.args.body.now) (suc turn_limit) (progress_of c.args.progress.now) in
     let round = c.loop-round._round in
     let left = c.loop-round.invariant.left in
     let m = progress_of c.loop-round.progress in
     let tested = progress_of c.eval_condition.new.progress in
     let value = c.in_ok-eval_condition.field-0 in
-    let met : test m ≡ Ok (value, tested) = subst (λ n. condition_evaluated setting n condition m ≡ Ok (value, tested)) c.loop-round.invariant.names c.in_ok-eval_condition.ensures.tests in
+    let met : test m ≡ Ok (value, tested) =
+    subst (λ n. condition_evaluated setting n condition m ≡ Ok (value, tested))
+    c.loop-round.invariant.names c.in_ok-eval_condition.ensures.tests in
     let truth : c.is_true.result ≡ is_true value = search rules in
     let holds : is_true value ≡ true = sym truth ∙ c.if-not-is_true.false in
     let store = store_of c.turn.new.store in
     let turning : spec.Progress = record tested { store = store } in
     let turn : computed (firing.turned tested.store) ≡ Ok store = c.in_ok-turn.ensures.done in
-    let same : c.turn.new.store.variables.names ≡ names = c.turn.ensures.names ∙ c.eval_condition.ensures.names ∙ c.loop-round.invariant.names in
+    let same : c.turn.new.store.variables.names ≡ names =
+    c.turn.ensures.names ∙ c.eval_condition.ensures.names ∙ c.loop-round.invariant.names in
     let after = progress_of c.inside.new.progress in
-    let ran : body turning ≡ Ok after = subst (λ n. inside (stmt_run setting n (length n) (stmt_view c.args.body.now)) turning ≡ Ok after) same c.in_ok-inside.ensures.runs in
+    let ran : body turning ≡ Ok after = subst
+    (λ n. inside (stmt_run setting n (length n) (stmt_view c.args.body.now)) turning
+    ≡ Ok after) same c.in_ok-inside.ensures.runs in
     record {
       names = c.in_ok-inside.ensures.names ∙ same;
-      left = loop_goes_on test body round m tested after value store whole c.loop-round-test.true left met holds turn ran;
+      left = loop_goes_on test body round m tested after value store whole c.loop-round-test.true
+          left met holds turn ran;
     }
 
 pub while_turns-returns-clause-runs : goal.while_turns-returns-clause-runs
@@ -313,20 +426,27 @@ while_turns-returns-clause-runs g t c =
     let condition : Option tree.Expr = Some (expr_view c.args.condition.now) in
     let test : Test = condition_evaluated setting names condition in
     let body : Step = inside (stmt_run setting names (length names) (stmt_view c.args.body.now)) in
-    let whole = while_looped setting names (expr_view c.args.condition.now) (stmt_view c.args.body.now) (suc turn_limit) (progress_of c.args.progress.now) in
+    let whole = while_looped setting names (expr_view c.args.condition.now)
+    (stmt_view c.args.body.now) (suc turn_limit) (progress_of c.args.progress.now) in
     let round = c.loop-round._round in
     let left = c.loop-round.invariant.left in
     let m = progress_of c.loop-round.progress in
-    loop_over test body round m whole (omega (arith, c.loop-round-test.false)) (omega (arith, c.loop-round.auto._round-end)) left
+    loop_over test body round m whole (omega (arith, c.loop-round-test.false))
+    (omega (arith, c.loop-round.auto._round-end)) left
 
 pub for_turns-loop-round-init : goal.for_turns-loop-round-init
 for_turns-loop-round-init g t c =
     record {
       names = refl;
-      left = λ fuel e. let same : fuel ≡ suc turn_limit = omega (arith, e) in ap (λ n. for_looped (setting_of c.args.self.now.task) c.args.progress.now.store.variables.names (option_map (λ e. expr_view e.now) c.args.condition) (stmt_view c.args.step.now) (stmt_view c.args.body.now) n (progress_of c.args.progress.now)) same;
+      left = λ fuel e. let same : fuel ≡ suc turn_limit = omega (arith, e) in
+          ap (λ n. for_looped (setting_of c.args.self.now.task)
+          c.args.progress.now.store.variables.names
+          (option_map (λ e. expr_view e.now) c.args.condition) (stmt_view c.args.step.now)
+          (stmt_view c.args.body.now) n (progress_of c.args.progress.now)) same;
     }
 
-pub for_turns-returns-in_err-eval_condition-clause-runs : goal.for_turns-returns-in_err-eval_condition-clause-runs
+pub for_turns-returns-in_err-eval_condition-clause-runs :
+    goal.for_turns-returns-in_err-eval_condition-clause-runs
 for_turns-returns-in_err-eval_condition-clause-runs g t c =
     let setting = setting_of c.args.self.now.task in
     let names = c.args.progress.now.store.variables.names in
@@ -335,16 +455,21 @@ for_turns-returns-in_err-eval_condition-clause-runs g t c =
     let turns : Step = inside (stmt_run setting names (length names) (stmt_view c.args.body.now)) in
     let steps : Step = inside (stmt_run setting names (length names) (stmt_view c.args.step.now)) in
     let body : Step = λ turn. result_and_then (turns turn) steps in
-    let whole = for_looped setting names condition (stmt_view c.args.step.now) (stmt_view c.args.body.now) (suc turn_limit) (progress_of c.args.progress.now) in
+    let whole = for_looped setting names condition (stmt_view c.args.step.now)
+    (stmt_view c.args.body.now) (suc turn_limit) (progress_of c.args.progress.now) in
     let round = c.loop-round._round in
     let left = c.loop-round.invariant.left in
     let m = progress_of c.loop-round.progress in
     let e = c.in_err-eval_condition.field-0.0 in
-    let met : IsRefusal (test m) e = subst (λ n. IsRefusal (condition_evaluated setting n condition m) e) c.loop-round.invariant.names c.in_err-eval_condition.ensures.tests in
-    let told : Runs whole (Err e) (progress_of c.eval_condition.new.progress) = test_refused test body round m whole e c.loop-round-test.true left met in
+    let met : IsRefusal (test m) e = subst
+    (λ n. IsRefusal (condition_evaluated setting n condition m) e)
+    c.loop-round.invariant.names c.in_err-eval_condition.ensures.tests in
+    let told : Runs whole (Err e) (progress_of c.eval_condition.new.progress) =
+    test_refused test body round m whole e c.loop-round-test.true left met in
     search rules
 
-pub for_turns-returns-then-not-is_true-clause-runs : goal.for_turns-returns-then-not-is_true-clause-runs
+pub for_turns-returns-then-not-is_true-clause-runs :
+    goal.for_turns-returns-then-not-is_true-clause-runs
 for_turns-returns-then-not-is_true-clause-runs g t c =
     let setting = setting_of c.args.self.now.task in
     let names = c.args.progress.now.store.variables.names in
@@ -353,13 +478,16 @@ for_turns-returns-then-not-is_true-clause-runs g t c =
     let turns : Step = inside (stmt_run setting names (length names) (stmt_view c.args.body.now)) in
     let steps : Step = inside (stmt_run setting names (length names) (stmt_view c.args.step.now)) in
     let body : Step = λ turn. result_and_then (turns turn) steps in
-    let whole = for_looped setting names condition (stmt_view c.args.step.now) (stmt_view c.args.body.now) (suc turn_limit) (progress_of c.args.progress.now) in
+    let whole = for_looped setting names condition (stmt_view c.args.step.now)
+    (stmt_view c.args.body.now) (suc turn_limit) (progress_of c.args.progress.now) in
     let round = c.loop-round._round in
     let left = c.loop-round.invariant.left in
     let m = progress_of c.loop-round.progress in
     let tested = progress_of c.eval_condition.new.progress in
     let value = c.in_ok-eval_condition.field-0 in
-    let met : test m ≡ Ok (value, tested) = subst (λ n. condition_evaluated setting n condition m ≡ Ok (value, tested)) c.loop-round.invariant.names c.in_ok-eval_condition.ensures.tests in
+    let met : test m ≡ Ok (value, tested) =
+    subst (λ n. condition_evaluated setting n condition m ≡ Ok (value, tested))
+    c.loop-round.invariant.names c.in_ok-eval_condition.ensures.tests in
     let truth : c.is_true.result ≡ is_true value = search rules in
     let ends : is_true value ≡ false = sym truth ∙ c.if-not-is_true.true in
     loop_ends test body round m tested value whole c.loop-round-test.true left met ends
@@ -373,18 +501,23 @@ for_turns-returns-in_err-turn-clause-runs g t c =
     let turns : Step = inside (stmt_run setting names (length names) (stmt_view c.args.body.now)) in
     let steps : Step = inside (stmt_run setting names (length names) (stmt_view c.args.step.now)) in
     let body : Step = λ turn. result_and_then (turns turn) steps in
-    let whole = for_looped setting names condition (stmt_view c.args.step.now) (stmt_view c.args.body.now) (suc turn_limit) (progress_of c.args.progress.now) in
+    let whole = for_looped setting names condition (stmt_view c.args.step.now)
+    (stmt_view c.args.body.now) (suc turn_limit) (progress_of c.args.progress.now) in
     let round = c.loop-round._round in
     let left = c.loop-round.invariant.left in
     let m = progress_of c.loop-round.progress in
     let tested = progress_of c.eval_condition.new.progress in
     let value = c.in_ok-eval_condition.field-0 in
-    let met : test m ≡ Ok (value, tested) = subst (λ n. condition_evaluated setting n condition m ≡ Ok (value, tested)) c.loop-round.invariant.names c.in_ok-eval_condition.ensures.tests in
+    let met : test m ≡ Ok (value, tested) =
+    subst (λ n. condition_evaluated setting n condition m ≡ Ok (value, tested))
+    c.loop-round.invariant.names c.in_ok-eval_condition.ensures.tests in
     let truth : c.is_true.result ≡ is_true value = search rules in
     let holds : is_true value ≡ true = sym truth ∙ c.if-not-is_true.false in
     let e = c.in_err-turn.field-0.0 in
     let over : IsRefusal (computed (firing.turned tested.store)) e = c.in_err-turn.ensures.done in
-    let told : Runs whole (Err e) (record tested { store = store_of c.turn.new.store }) = turn_refused test body round m tested value whole e c.loop-round-test.true left met holds over in
+    let told : Runs whole (Err e) (record tested { store = store_of c.turn.new.store }) =
+    turn_refused test body round m tested value whole e c.loop-round-test.true left met holds
+    over in
     search rules
 
 pub for_turns-returns-in_err-inside-clause-runs : goal.for_turns-returns-in_err-inside-clause-runs
@@ -396,26 +529,35 @@ for_turns-returns-in_err-inside-clause-runs g t c =
     let turns : Step = inside (stmt_run setting names (length names) (stmt_view c.args.body.now)) in
     let steps : Step = inside (stmt_run setting names (length names) (stmt_view c.args.step.now)) in
     let body : Step = λ turn. result_and_then (turns turn) steps in
-    let whole = for_looped setting names condition (stmt_view c.args.step.now) (stmt_view c.args.body.now) (suc turn_limit) (progress_of c.args.progress.now) in
+    let whole = for_looped setting names condition (stmt_view c.args.step.now)
+    (stmt_view c.args.body.now) (suc turn_limit) (progress_of c.args.progress.now) in
     let round = c.loop-round._round in
     let left = c.loop-round.invariant.left in
     let m = progress_of c.loop-round.progress in
     let tested = progress_of c.eval_condition.new.progress in
     let value = c.in_ok-eval_condition.field-0 in
-    let met : test m ≡ Ok (value, tested) = subst (λ n. condition_evaluated setting n condition m ≡ Ok (value, tested)) c.loop-round.invariant.names c.in_ok-eval_condition.ensures.tests in
+    let met : test m ≡ Ok (value, tested) =
+    subst (λ n. condition_evaluated setting n condition m ≡ Ok (value, tested))
+    c.loop-round.invariant.names c.in_ok-eval_condition.ensures.tests in
     let truth : c.is_true.result ≡ is_true value = search rules in
     let holds : is_true value ≡ true = sym truth ∙ c.if-not-is_true.false in
     let store = store_of c.turn.new.store in
     let turning : spec.Progress = record tested { store = store } in
     let turn : computed (firing.turned tested.store) ≡ Ok store = c.in_ok-turn.ensures.done in
-    let same : c.turn.new.store.variables.names ≡ names = c.turn.ensures.names ∙ c.eval_condition.ensures.names ∙ c.loop-round.invariant.names in
+    let same : c.turn.new.store.variables.names ≡ names =
+    c.turn.ensures.names ∙ c.eval_condition.ensures.names ∙ c.loop-round.invariant.names in
     let e = c.in_err-inside.field-0.0 in
-    let no : IsRefusal (turns turning) e = subst (λ n. IsRefusal (inside (stmt_run setting n (length n) (stmt_view c.args.body.now)) turning) e) same c.in_err-inside.ensures.runs in
+    let no : IsRefusal (turns turning) e =
+    subst (λ n. IsRefusal (inside (stmt_run setting n (length n) (stmt_view c.args.body.now))
+    turning) e) same c.in_err-inside.ensures.runs in
     let none : IsRefusal (body turning) e = first_refused (turns turning) steps e no in
-    let told : Runs whole (Err e) (progress_of c.inside.new.progress) = body_refused test body round m tested value store whole e c.loop-round-test.true left met holds turn none in
+    let told : Runs whole (Err e) (progress_of c.inside.new.progress) =
+    body_refused test body round m tested value store whole e c.loop-round-test.true left met
+    holds turn none in
     search rules
 
-pub for_turns-returns-in_err-inside-2-clause-runs : goal.for_turns-returns-in_err-inside-2-clause-runs
+pub for_turns-returns-in_err-inside-2-clause-runs :
+    goal.for_turns-returns-in_err-inside-2-clause-runs
 for_turns-returns-in_err-inside-2-clause-runs g t c =
     let setting = setting_of c.args.self.now.task in
     let names = c.args.progress.now.store.variables.names in
@@ -424,26 +566,37 @@ for_turns-returns-in_err-inside-2-clause-runs g t c =
     let turns : Step = inside (stmt_run setting names (length names) (stmt_view c.args.body.now)) in
     let steps : Step = inside (stmt_run setting names (length names) (stmt_view c.args.step.now)) in
     let body : Step = λ turn. result_and_then (turns turn) steps in
-    let whole = for_looped setting names condition (stmt_view c.args.step.now) (stmt_view c.args.body.now) (suc turn_limit) (progress_of c.args.progress.now) in
+    let whole = for_looped setting names condition (stmt_view c.args.step.now)
+    (stmt_view c.args.body.now) (suc turn_limit) (progress_of c.args.progress.now) in
     let round = c.loop-round._round in
     let left = c.loop-round.invariant.left in
     let m = progress_of c.loop-round.progress in
     let tested = progress_of c.eval_condition.new.progress in
     let value = c.in_ok-eval_condition.field-0 in
-    let met : test m ≡ Ok (value, tested) = subst (λ n. condition_evaluated setting n condition m ≡ Ok (value, tested)) c.loop-round.invariant.names c.in_ok-eval_condition.ensures.tests in
+    let met : test m ≡ Ok (value, tested) =
+    subst (λ n. condition_evaluated setting n condition m ≡ Ok (value, tested))
+    c.loop-round.invariant.names c.in_ok-eval_condition.ensures.tests in
     let truth : c.is_true.result ≡ is_true value = search rules in
     let holds : is_true value ≡ true = sym truth ∙ c.if-not-is_true.false in
     let store = store_of c.turn.new.store in
     let turning : spec.Progress = record tested { store = store } in
     let turn : computed (firing.turned tested.store) ≡ Ok store = c.in_ok-turn.ensures.done in
-    let same : c.turn.new.store.variables.names ≡ names = c.turn.ensures.names ∙ c.eval_condition.ensures.names ∙ c.loop-round.invariant.names in
+    let same : c.turn.new.store.variables.names ≡ names =
+    c.turn.ensures.names ∙ c.eval_condition.ensures.names ∙ c.loop-round.invariant.names in
     let after = progress_of c.inside.new.progress in
-    let ran : turns turning ≡ Ok after = subst (λ n. inside (stmt_run setting n (length n) (stmt_view c.args.body.now)) turning ≡ Ok after) same c.in_ok-inside.ensures.runs in
-    let same' : c.inside.new.progress.store.variables.names ≡ names = c.in_ok-inside.ensures.names ∙ same in
+    let ran : turns turning ≡ Ok after = subst
+    (λ n. inside (stmt_run setting n (length n) (stmt_view c.args.body.now)) turning
+    ≡ Ok after) same c.in_ok-inside.ensures.runs in
+    let same' : c.inside.new.progress.store.variables.names ≡ names =
+    c.in_ok-inside.ensures.names ∙ same in
     let e = c.in_err-inside-2.field-0.0 in
-    let no : IsRefusal (steps after) e = subst (λ n. IsRefusal (inside (stmt_run setting n (length n) (stmt_view c.args.step.now)) after) e) same' c.in_err-inside-2.ensures.runs in
+    let no : IsRefusal (steps after) e = subst
+    (λ n. IsRefusal (inside (stmt_run setting n (length n) (stmt_view c.args.step.now)) after)
+    e) same' c.in_err-inside-2.ensures.runs in
     let none : IsRefusal (body turning) e = second_refused (turns turning) steps after e ran no in
-    let told : Runs whole (Err e) (progress_of c.inside-in-loop-round.new.progress) = body_refused test body round m tested value store whole e c.loop-round-test.true left met holds turn none in
+    let told : Runs whole (Err e) (progress_of c.inside-in-loop-round.new.progress) =
+    body_refused test body round m tested value store whole e c.loop-round-test.true left met
+    holds turn none in
     search rules
 
 pub for_turns-loop-round-preserved : goal.for_turns-loop-round-preserved
@@ -455,28 +608,38 @@ for_turns-loop-round-preserved g t c =
     let turns : Step = inside (stmt_run setting names (length names) (stmt_view c.args.body.now)) in
     let steps : Step = inside (stmt_run setting names (length names) (stmt_view c.args.step.now)) in
     let body : Step = λ turn. result_and_then (turns turn) steps in
-    let whole = for_looped setting names condition (stmt_view c.args.step.now) (stmt_view c.args.body.now) (suc turn_limit) (progress_of c.args.progress.now) in
+    let whole = for_looped setting names condition (stmt_view c.args.step.now)
+    (stmt_view c.args.body.now) (suc turn_limit) (progress_of c.args.progress.now) in
     let round = c.loop-round._round in
     let left = c.loop-round.invariant.left in
     let m = progress_of c.loop-round.progress in
     let tested = progress_of c.eval_condition.new.progress in
     let value = c.in_ok-eval_condition.field-0 in
-    let met : test m ≡ Ok (value, tested) = subst (λ n. condition_evaluated setting n condition m ≡ Ok (value, tested)) c.loop-round.invariant.names c.in_ok-eval_condition.ensures.tests in
+    let met : test m ≡ Ok (value, tested) =
+    subst (λ n. condition_evaluated setting n condition m ≡ Ok (value, tested))
+    c.loop-round.invariant.names c.in_ok-eval_condition.ensures.tests in
     let truth : c.is_true.result ≡ is_true value = search rules in
     let holds : is_true value ≡ true = sym truth ∙ c.if-not-is_true.false in
     let store = store_of c.turn.new.store in
     let turning : spec.Progress = record tested { store = store } in
     let turn : computed (firing.turned tested.store) ≡ Ok store = c.in_ok-turn.ensures.done in
-    let same : c.turn.new.store.variables.names ≡ names = c.turn.ensures.names ∙ c.eval_condition.ensures.names ∙ c.loop-round.invariant.names in
+    let same : c.turn.new.store.variables.names ≡ names =
+    c.turn.ensures.names ∙ c.eval_condition.ensures.names ∙ c.loop-round.invariant.names in
     let after = progress_of c.inside.new.progress in
-    let ran : turns turning ≡ Ok after = subst (λ n. inside (stmt_run setting n (length n) (stmt_view c.args.body.now)) turning ≡ Ok after) same c.in_ok-inside.ensures.runs in
-    let same' : c.inside.new.progress.store.variables.names ≡ names = c.in_ok-inside.ensures.names ∙ same in
+    let ran : turns turning ≡ Ok after = subst
+    (λ n. inside (stmt_run setting n (length n) (stmt_view c.args.body.now)) turning
+    ≡ Ok after) same c.in_ok-inside.ensures.runs in
+    let same' : c.inside.new.progress.store.variables.names ≡ names =
+    c.in_ok-inside.ensures.names ∙ same in
     let next = progress_of c.inside-in-loop-round.new.progress in
-    let stepped : steps after ≡ Ok next = subst (λ n. inside (stmt_run setting n (length n) (stmt_view c.args.step.now)) after ≡ Ok next) same' c.in_ok-inside-2.ensures.runs in
+    let stepped : steps after ≡ Ok next =
+    subst (λ n. inside (stmt_run setting n (length n) (stmt_view c.args.step.now)) after
+    ≡ Ok next) same' c.in_ok-inside-2.ensures.runs in
     let both : body turning ≡ Ok next = both_done (turns turning) steps after next ran stepped in
     record {
       names = c.in_ok-inside-2.ensures.names ∙ same';
-      left = loop_goes_on test body round m tested next value store whole c.loop-round-test.true left met holds turn both;
+      left = loop_goes_on test body round m tested next value store whole c.loop-round-test.true
+          left met holds turn both;
     }
 
 pub for_turns-returns-clause-runs : goal.for_turns-returns-clause-runs
@@ -488,8 +651,10 @@ for_turns-returns-clause-runs g t c =
     let turns : Step = inside (stmt_run setting names (length names) (stmt_view c.args.body.now)) in
     let steps : Step = inside (stmt_run setting names (length names) (stmt_view c.args.step.now)) in
     let body : Step = λ turn. result_and_then (turns turn) steps in
-    let whole = for_looped setting names condition (stmt_view c.args.step.now) (stmt_view c.args.body.now) (suc turn_limit) (progress_of c.args.progress.now) in
+    let whole = for_looped setting names condition (stmt_view c.args.step.now)
+    (stmt_view c.args.body.now) (suc turn_limit) (progress_of c.args.progress.now) in
     let round = c.loop-round._round in
     let left = c.loop-round.invariant.left in
     let m = progress_of c.loop-round.progress in
-    loop_over test body round m whole (omega (arith, c.loop-round-test.false)) (omega (arith, c.loop-round.auto._round-end)) left
+    loop_over test body round m whole (omega (arith, c.loop-round-test.false))
+    (omega (arith, c.loop-round.auto._round-end)) left

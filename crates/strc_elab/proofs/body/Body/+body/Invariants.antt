@@ -22,7 +22,8 @@ abbrev pub decreases-block : goal.decreases-block
 decreases-block g l = 4 * goal.size-block g l + 4
 
 abbrev pub decreases-for_loop : goal.decreases-for_loop
-decreases-for_loop g l = 4 * max (the_size l.first.now) (max (the_size l.step.now) (the_size l.body.now)) + 4
+decreases-for_loop g l = 4 * max (the_size l.first.now)
+    (max (the_size l.step.now) (the_size l.body.now)) + 4
 
 abbrev pub decreases-while_turns : goal.decreases-while_turns
 decreases-while_turns g l = 4 * the_size l.body.now + 3
@@ -32,18 +33,33 @@ decreases-for_turns g l = 4 * max (the_size l.step.now) (the_size l.body.now) + 
 
 abbrev pub invariant-statements-loop-statement : goal.invariant-statements-loop-statement
 invariant-statements-loop-statement g l = record {
-  left : spec.stmts_run (setting_of l.self.task) l.progress.store.variables.names l.start (block_view (drop l.statement-index l.block)) (progress_of l.progress) ≡ spec.stmts_run (setting_of l.self.task) l.initial.progress.store.variables.names l.start (block_view l.block) (progress_of l.initial.progress);
-  names : names_after_block l.progress.store.variables.names (block_view (drop l.statement-index l.block)) ≡ names_after_block l.initial.progress.store.variables.names (block_view l.block);
+  left : spec.stmts_run (setting_of l.self.task) l.progress.store.variables.names l.start
+      (block_view (drop l.statement-index l.block)) (progress_of l.progress)
+      ≡ spec.stmts_run (setting_of l.self.task) l.initial.progress.store.variables.names l.start
+      (block_view l.block) (progress_of l.initial.progress);
+  names : names_after_block l.progress.store.variables.names
+      (block_view (drop l.statement-index l.block))
+      ≡ names_after_block l.initial.progress.store.variables.names (block_view l.block);
 }
 
 abbrev pub invariant-while_turns-loop-round : goal.invariant-while_turns-loop-round
 invariant-while_turns-loop-round g l = record {
   names : l.progress.store.variables.names ≡ l.initial.progress.store.variables.names;
-  left : (fuel : ℕ) → fuel + l._round ≡ suc turn_limit → while_looped (setting_of l.self.task) l.initial.progress.store.variables.names (expr_view l.condition) (stmt_view l.body) fuel (progress_of l.progress) ≡ while_looped (setting_of l.self.task) l.initial.progress.store.variables.names (expr_view l.condition) (stmt_view l.body) (suc turn_limit) (progress_of l.initial.progress);
+  left : (fuel : ℕ) → fuel + l._round ≡ suc turn_limit
+      → while_looped (setting_of l.self.task) l.initial.progress.store.variables.names
+      (expr_view l.condition) (stmt_view l.body) fuel (progress_of l.progress)
+      ≡ while_looped (setting_of l.self.task) l.initial.progress.store.variables.names
+      (expr_view l.condition) (stmt_view l.body) (suc turn_limit) (progress_of l.initial.progress);
 }
 
 abbrev pub invariant-for_turns-loop-round : goal.invariant-for_turns-loop-round
 invariant-for_turns-loop-round g l = record {
   names : l.progress.store.variables.names ≡ l.initial.progress.store.variables.names;
-  left : (fuel : ℕ) → fuel + l._round ≡ suc turn_limit → for_looped (setting_of l.self.task) l.initial.progress.store.variables.names (option_map (λ e. expr_view e.now) l.condition) (stmt_view l.step) (stmt_view l.body) fuel (progress_of l.progress) ≡ for_looped (setting_of l.self.task) l.initial.progress.store.variables.names (option_map (λ e. expr_view e.now) l.condition) (stmt_view l.step) (stmt_view l.body) (suc turn_limit) (progress_of l.initial.progress);
+  left : (fuel : ℕ) → fuel + l._round ≡ suc turn_limit
+      → for_looped (setting_of l.self.task) l.initial.progress.store.variables.names
+      (option_map (λ e. expr_view e.now) l.condition) (stmt_view l.step) (stmt_view l.body) fuel
+      (progress_of l.progress) ≡ for_looped
+      (setting_of l.self.task) l.initial.progress.store.variables.names
+      (option_map (λ e. expr_view e.now) l.condition) (stmt_view l.step) (stmt_view l.body)
+      (suc turn_limit) (progress_of l.initial.progress);
 }

@@ -18,7 +18,9 @@ returns-in-Filter-clause-runs g c =
     let types = c.in-Filter.types in
     let same = ap (λ child. spec.child_run setting names (child_view child) before) c.in-Filter.is
     ∙ filter_child setting names types c.in-Filter.members before
-    ∙ ap (λ l. spec.found_run setting (Ok (spec.unnamed_found setting names (FilterText None (filter_parts types.input types.output l)) before.store)) before) (sym c.deref-in-Filter.ensures.value)
+    ∙ ap (λ l. spec.found_run setting (Ok
+    (spec.unnamed_found setting names (FilterText None (filter_parts types.input types.output l))
+    before.store)) before) (sym c.deref-in-Filter.ensures.value)
     in
     subst (λ r. Runs r c.unnamed-in-Filter.result after) (sym same) c.unnamed-in-Filter.ensures.runs
 
@@ -28,8 +30,13 @@ returns-in-Composite-clause-runs g c =
     let before = progress_of c.args.progress.now in
     let names = c.args.progress.now.store.variables.names in
     let after = progress_of c.unnamed-in-Composite.new.progress in
-    let same = ap (λ child. spec.child_run setting names (child_view child) before) c.in-Composite.is
-    ∙ composite_child setting names c.in-Composite.written c.in-Composite.kind c.in-Composite.block before
-    ∙ ap (λ l. spec.found_run setting (Ok (spec.unnamed_found setting names (CompositeText c.in-Composite.written c.in-Composite.kind (block_view l)) before.store)) before) (sym c.deref-in-Composite.ensures.value)
+    let same = ap (λ child. spec.child_run setting names (child_view child) before)
+    c.in-Composite.is
+    ∙ composite_child setting names c.in-Composite.written c.in-Composite.kind c.in-Composite.block
+    before
+    ∙ ap (λ l. spec.found_run setting (Ok
+    (spec.unnamed_found setting names (CompositeText c.in-Composite.written c.in-Composite.kind
+    (block_view l)) before.store)) before) (sym c.deref-in-Composite.ensures.value)
     in
-    subst (λ r. Runs r c.unnamed-in-Composite.result after) (sym same) c.unnamed-in-Composite.ensures.runs
+    subst (λ r. Runs r c.unnamed-in-Composite.result after)
+    (sym same) c.unnamed-in-Composite.ensures.runs

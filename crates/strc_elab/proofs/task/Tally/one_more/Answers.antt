@@ -4,7 +4,8 @@ use Rattle.strc_elab.proofs.Tallies.{one_more-under, one_more-over}
 use Rattle.strc_elab.proofs.task.Tally.one_more.Goals as goal
 
 pub returns-then-self-ge-FILTER_LIMIT : goal.returns-then-self-ge-FILTER_LIMIT
-returns-then-self-ge-FILTER_LIMIT c = one_more-over (tally_view c.args.self) (omega (arith, c.if-self-ge-FILTER_LIMIT.true))
+returns-then-self-ge-FILTER_LIMIT c = one_more-over (tally_view c.args.self)
+    (omega (arith, c.if-self-ge-FILTER_LIMIT.true))
 
 pub returns : goal.returns
 returns c = one_more-under (tally_view c.args.self) (omega (arith, c.if-self-ge-FILTER_LIMIT.false))

@@ -8,4 +8,5 @@ use Rattle.strc_parse.proofs.control.StatementRules.statements.Given as goal
 abbrev pub invariant-loop-turn : goal.invariant-loop-turn
 invariant-loop-turn g l =
     statements (statement (l.self.depth - 1)) (kinds l.fn.tokens)
-    ≡ repeated brace (one_taller (statement (l.self.depth - 1))) (l._turn-end - l._turn) (map stmt_view l.found.items, l.highest) (kinds l.rest)
+    ≡ repeated brace (one_taller (statement (l.self.depth - 1))) (l._turn-end - l._turn)
+    (map stmt_view l.found.items, l.highest) (kinds l.rest)

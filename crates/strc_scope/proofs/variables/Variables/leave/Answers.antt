@@ -12,4 +12,5 @@ returns c =
     ap (λ n. bound n (with_cells n c.truncate.new.self.items)) c.leave.ensures
     ∙ ap (λ l. bound left (with_cells left l)) c.truncate.ensures.items
     ∙ ap (λ v. bound left v) (left_with_cells names cells start)
-    ∙ ap (λ (b : Bindings). bound (drop (length b.names - start) b.names) (drop (length b.variables - start) b.variables)) c.self.view_is
+    ∙ ap (λ (b : Bindings). bound (drop (length b.names - start) b.names)
+    (drop (length b.variables - start) b.variables)) c.self.view_is

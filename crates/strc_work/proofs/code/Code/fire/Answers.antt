@@ -29,21 +29,35 @@ returns-clause-fired g c =
     let within : inside.fields ≤ length old = omega (arith, c.state.invariant, ap length old_is) in
     let enough : slot_count (filter_of tree) ≤ length old = omega (arith, c.requires.state.roomy) in
     let back : take inside.slots.len (new ++ drop (length new) inside.slots.items) ≡ new =
-    given_back inside.slots.len new inside.slots.items (omega (arith, inside.slots.ok.0, ap length old_is)) (omega (arith, ap length old_is)) in
+    given_back inside.slots.len new inside.slots.items
+    (omega (arith, inside.slots.ok.0, ap length old_is)) (omega (arith, ap length old_is)) in
     let after = machine_of new c.run-result.new.io in
     let limits = c.routine-routine.result.now.limits in
     let window = g.W.Window.items c.args.window.now in
     let words = c.args.words.now.items in
     let io = fresh_io c.frame.inside.io.room words in
-    let ran : Tells (node_done (port_within limits window) c.routine-routine.result.now.flat (machine_of old io)) c.run-result.result after = search rules in
-    let told = subst (λ r. Tells r c.run-result.result after) (c.routine-routine.ensures.flat.does (port_within limits window) (machine_of old io)) ran in
-    let answer = fire_answer tree c.args.body c.args.state.now.fields old inside.fields c.frame.inside.io.room limits window words (code_of c.routine-routine.result.now.code) c.run-result.result after closed c.routine-routine.ensures.code fields_are c.requires.state.one_for_each within enough c.routine-routine.ensures.limits told in
-    let given = subst (λ l. Fires (fired (filter_of tree) c.args.body c.args.state.now.fields window) c.run-result.result (take inside.fields l) c.run-result.new.io.traffic.pushes words c.run-result.new.io.traffic.words) (sym back) answer in
+    let ran : Tells (node_done (port_within limits window) c.routine-routine.result.now.flat
+    (machine_of old io)) c.run-result.result after = search rules in
+    let told = subst (λ r. Tells r c.run-result.result after)
+    (c.routine-routine.ensures.flat.does (port_within limits window) (machine_of old io))
+    ran in
+    let answer = fire_answer tree c.args.body c.args.state.now.fields old inside.fields
+    c.frame.inside.io.room limits window words
+    (code_of c.routine-routine.result.now.code) c.run-result.result after closed
+    c.routine-routine.ensures.code fields_are c.requires.state.one_for_each within enough
+    c.routine-routine.ensures.limits told in
+    let given = subst (λ l. Fires (fired (filter_of tree) c.args.body c.args.state.now.fields
+    window) c.run-result.result (take inside.fields l) c.run-result.new.io.traffic.pushes
+    words c.run-result.new.io.traffic.words) (sym back) answer in
     search rules
 
 pub returns-clause-memory : goal.returns-clause-memory
 returns-clause-memory g c =
     let tree = c.args.self.now in
     let closed = c.routine-routine.ensures.closed in
-    body_wants c.args.body (filter_of tree) (code_of c.routine-routine.result.now.code) c.run-result.result closed c.routine-routine.ensures.code
-    (wants_as (nodes_print (code_of c.routine-routine.result.now.flat)) (nodes_print (code_of c.routine-routine.result.now.code)) c.run-result.result c.routine-routine.ensures.flat.prints c.run-result.ensures.memory)
+    body_wants c.args.body (filter_of tree)
+    (code_of c.routine-routine.result.now.code) c.run-result.result closed
+    c.routine-routine.ensures.code
+    (wants_as (nodes_print (code_of c.routine-routine.result.now.flat))
+    (nodes_print (code_of c.routine-routine.result.now.code)) c.run-result.result
+    c.routine-routine.ensures.flat.prints c.run-result.ensures.memory)

@@ -3,4 +3,5 @@ use Rattle.strc_work.proofs.Layouts.{length-with_cells}
 use Rattle.strc_work.proofs.layout.Layout.len.Goals as goal
 
 pub returns : goal.returns
-returns c = c.len.ensures ∙ sym (length-with_cells c.self.inside.variables) ∙ ap length c.self.view_is
+returns c = c.len.ensures ∙ sym (length-with_cells c.self.inside.variables)
+    ∙ ap length c.self.view_is
