@@ -2,17 +2,20 @@
 // programs of filters that look ahead.
 // Takes the word `times`, or no word.
 // Gives a line for each graph: its nodes and channels, and how often its last node fires in a
-// round; and for each program how often its source fires before the first round. With `times` also
-// the least of nine times that planning took, and how it grew.
-// There is no theorem here; `balance` and `startup` have their own.
-// Stands on strc_balance and strc_startup, which it times, on strc_graph, whose graphs it makes, and
-// on strc_run, which compiles the programs.
+// round, the units of its schedule and the items of its buffers; and for each program how often
+// its source fires before the first round. With `times` also the least of nine times that planning
+// took, and how it grew.
+// There is no theorem here; `balance`, `startup` and `schedule` have their own.
+// Stands on strc_balance, strc_startup and strc_sched, which it times, on strc_graph, whose graphs
+// it makes, and on strc_run, which compiles the programs.
 #![tactic(auto)]
 
 mod peeks;
+mod schedules;
 mod shapes;
 
 use crate::peeks::{Peeks, Primed, prime};
+use crate::schedules::{Scheduled, timed_schedule};
 use crate::shapes::{Shape, graph_of};
 use std::io::ErrorKind;
 use std::process::ExitCode;
@@ -64,6 +67,7 @@ struct Plan {
     channels: usize,
     last: u32,
     took: Duration,
+    schedule: Scheduled,
 }
 
 fn main(rt: HostRuntime) -> ExitCode {
@@ -85,6 +89,7 @@ fn print_plans(rt: &HostRuntime) -> io::Result<()> {
         print_plan(rt, *shape, large)?;
         if timed {
             print_growth(rt, shape.name(), small.took, large.took)?;
+            print_growth(rt, "schedule", small.schedule.took, large.schedule.took)?;
         }
     }
     print_startups(rt, timed)
@@ -132,7 +137,12 @@ fn print_plan(rt: &HostRuntime, shape: Shape, plan: Plan) -> io::Result<()> {
     println!(rt;
         "{shape}: {} nodes, {} channels, the last fires {} times",
         plan.nodes, plan.channels, plan.last
-    )
+    )?;
+    let schedule = plan.schedule;
+    match schedule.items {
+        Some(items) => println!(rt; "  {} units, {items} items", schedule.units),
+        None => println!(rt; "  too many items on channel {}", schedule.units),
+    }
 }
 
 fn print_growth(rt: &HostRuntime, name: &str, small: Duration, large: Duration) -> io::Result<()> {
@@ -163,11 +173,13 @@ fn plan_of(rt: &HostRuntime, shape: Shape, nodes: u32) -> io::Result<Plan> {
         least = least.min(begun.elapsed(rt)?);
         last = last_of(&counts);
     }
+    let schedule = timed_schedule(rt, &graph, REPEATS)?;
     Ok(Plan {
         nodes: graph.nodes().len(),
         channels: graph.channels().len(),
         last,
         took: least,
+        schedule,
     })
 }
 

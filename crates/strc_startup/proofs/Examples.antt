@@ -51,6 +51,7 @@ nothing = record {
   push = 0;
   target = 0;
   prework_window = 0;
+  first_window = 0;
   first_pop = 0;
   pop = 0;
   window = 0;

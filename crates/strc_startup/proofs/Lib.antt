@@ -1,5 +1,5 @@
 pub mod Counting
-pub mod Incomings
+pub mod Groups
 pub mod Raising
 pub mod Bounds
 pub mod Nearing

@@ -1,15 +1,18 @@
 -- The nodes that wait are looked at one after another until none waits.
 use Rattle.std.proofs.Common.{◌≡◌, ◌∙◌, sym, subst, ℕ, zero, suc, ◌+◌, ◌*◌, ◌<◌, List, [], ◌∷◌}
-use Rattle.std.proofs.Common.{length, All}
+use Rattle.std.proofs.Common.{length, All, map, ap, option_map}
 use Rattle.std.proofs.Common.{Contains, Some, slice_get, slice_index_or, ◌⊎◌, inl, inr}
 use Rattle.std.proofs.Common.{IsPermutation, arith}
+use Rattle.std.proofs.lemmas.List.{length-map}
 use Rattle.std.proofs.lemmas.List.Elements.{All-tail, Contains-append_cases}
+use Rattle.std.proofs.lemmas.List.Elements.{Contains-get_or}
 use Rattle.std.proofs.lemmas.List.Sorted.{All-permutation, Contains-permutation, length_permutation}
-use Rattle.std.proofs.lemmas.Option.{slice_get-get_or}
+use Rattle.std.proofs.lemmas.Option.{slice_get-get_or, slice_get-map, slice_get_within}
 use Rattle.strc_balance.specs.Balance.{IsWithinLimit}
 use Rattle.strc_startup.specs.Startup.{IsMet, IsLeast}
+use Rattle.strc_startup.specs.Grouping.{IsGrouping, places_at}
 use Rattle.strc_startup.specs.Raises.{Raises, IsBelow, room}
-use Rattle.strc_startup.specs.Waiting.{Waits, IsIncoming, listed_at}
+use Rattle.strc_startup.specs.Waiting.{Waits}
 use Rattle.strc_startup.specs.declared.channel_rates.ChannelRates.{ChannelRates}
 
 -- counts on the way to the least ones
@@ -47,9 +50,10 @@ module _ (first : List ℕ) (channels : List ChannelRates) (counts before after 
   pub nodes_within : All (λ n. n < length counts) after
   nodes_within = All-tail (λ n. n < length counts) node after both
 
-  module _ (lists : List (List ℕ)) (incoming : IsIncoming lists channels) (raised waiting : List ℕ)
+  module _ (lists : List (List ℕ))
+      (incoming : IsGrouping lists (map (λ rates. rates.target) channels)) (raised waiting : List ℕ)
       (raises : Raises channels counts after raised waiting)
-      (served : (channel : ℕ) (rates : ChannelRates) → Contains (listed_at lists node) channel
+      (served : (channel : ℕ) (rates : ChannelRates) → Contains (places_at lists node) channel
       → slice_get channels channel ≡ Some rates → Waits raised waiting rates) where
     all_served : (channel : ℕ) (rates : ChannelRates) → slice_get channels channel ≡ Some rates
         → Waits raised waiting rates
@@ -59,8 +63,9 @@ module _ (first : List ℕ) (channels : List ChannelRates) (counts before after 
           | inr waits ↦
               elim (taken_cases node before after taken rates.target waits) [
                 | inl same ↦ served channel rates
-                    (subst (λ n. Contains (listed_at lists n) channel) same
-                    (incoming channel rates is)) is
+                    (subst (λ n. Contains (places_at lists n) channel) same
+                    ((incoming channel rates.target).0 (slice_get-map (λ rates. rates.target)
+                    channels channel ∙ ap (option_map (λ rates. rates.target)) is))) is
                 | inr later ↦ raises.kept rates (inr later)
               ]
         ]
@@ -77,6 +82,17 @@ module _ (first : List ℕ) (channels : List ChannelRates) (counts before after 
 
     pub fewer_steps : 2 * room raised + length waiting < 2 * room counts + length before
     fewer_steps = omega (arith, raises.steps, length_permutation before (node ∷ after) taken)
+
+-- the channels of a node are channels
+pub listed_within : (lists : List (List ℕ)) (channels : List ChannelRates) (node : ℕ)
+    → IsGrouping lists (map (λ rates. rates.target) channels)
+    → All (λ channel. channel < length channels) (places_at lists node)
+listed_within lists channels node groups k d within =
+    let targets = map (λ rates. rates.target) channels in
+    let there = (groups (slice_index_or (places_at lists node) k d) node).1
+    (Contains-get_or (places_at lists node) k d within) in
+    let inside = slice_get_within targets (slice_index_or (places_at lists node) k d) node there in
+    omega (arith, inside, length-map channels (λ (rates : ChannelRates). rates.target))
 
 -- where none waits, the counts are the least ones
 pub arrived : (first : List ℕ) (channels : List ChannelRates) (counts waiting : List ℕ)

@@ -49,6 +49,7 @@ rates_of_channel nodes channel = record {
   push = push_at nodes 1 channel.source;
   target = channel.target.node;
   prework_window = prework_window nodes channel.target;
+  first_window = look_at nodes 0 channel.target;
   first_pop = pop_at nodes 0 channel.target;
   pop = pop_at nodes 1 channel.target;
   window = look_at nodes 1 channel.target;

@@ -1,6 +1,5 @@
 -- Nodes whose count was raised wait until what they need has come.
-use Rattle.std.specs.Prelude.{◌≡◌, ℕ, ◌^◌, ◌<◌, ◌⊎◌, List, [], Contains, slice_get}
-use Rattle.std.specs.Prelude.{slice_index_or, Some}
+use Rattle.std.specs.Prelude.{ℕ, ◌^◌, ◌<◌, ◌⊎◌, List, Contains}
 use Rattle.strc_startup.specs.Startup.{IsMet}
 use Rattle.strc_startup.specs.declared.channel_rates.ChannelRates.{ChannelRates}
 
@@ -13,12 +12,15 @@ pub record HasEnds (size : ℕ) (rates : ChannelRates) : Type 0 where
 abbrev pub Pushes : ChannelRates → Type 0
 Pushes rates = 0 < rates.push
 
--- the rates are sums of fewer than 2 ^ 64 weights
+-- nodes have numbers of 32 bits, and the rates are sums of fewer than 2 ^ 64 weights
 pub record IsBounded (rates : ChannelRates) : Type 0 where
+  pub source : rates.source < 2 ^ 32
+  pub target : rates.target < 2 ^ 32
   pub first_push : rates.first_push < 2 ^ 96
   pub push : rates.push < 2 ^ 96
   pub enqueued : rates.enqueued < 2 ^ 64
   pub prework_window : rates.prework_window < 2 ^ 96
+  pub first_window : rates.first_window < 2 ^ 96
   pub first_pop : rates.first_pop < 2 ^ 96
   pub pop : rates.pop < 2 ^ 96
   pub window : rates.window < 2 ^ 96
@@ -26,13 +28,3 @@ pub record IsBounded (rates : ChannelRates) : Type 0 where
 -- a channel is met, or its target waits
 abbrev pub Waits : (counts waiting : List ℕ) → ChannelRates → Type 0
 Waits counts waiting rates = IsMet counts rates ⊎ Contains waiting rates.target
-
--- the channels listed at a node
-abbrev pub listed_at : List (List ℕ) → (node : ℕ) → List ℕ
-listed_at lists node = slice_index_or lists node []
-
--- each channel is listed at its target
-abbrev pub IsIncoming : List (List ℕ) → List ChannelRates → Type 0
-IsIncoming lists channels =
-    (channel : ℕ) (rates : ChannelRates) → slice_get channels channel ≡ Some rates
-    → Contains (listed_at lists rates.target) channel

@@ -20,11 +20,13 @@ pub struct ChannelRates {
     pub target: usize,
     /// How many items the target's prework looks at; 0 where it has none.
     pub prework_window: u128,
+    /// How many items its first firing looks at.
+    pub first_window: u128,
     /// How many items its first firing pops.
     pub first_pop: u128,
     /// How many items each of its later firings pops.
     pub pop: u128,
-    /// How many items they look at.
+    /// How many items each of these looks at.
     pub window: u128,
 }
 

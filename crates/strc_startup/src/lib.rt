@@ -7,9 +7,9 @@
 
 pub mod channel_rates;
 pub mod error;
-mod incoming;
+pub mod grouping;
 pub mod laws;
 mod priming;
-mod rates;
+pub mod rates;
 pub mod startup;
 mod waiting;

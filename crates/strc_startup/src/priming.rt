@@ -10,7 +10,8 @@ ghost use Rattle.strc_startup.specs.declared.error.StartupError.TheVariants as r
 
 use crate::channel_rates::ChannelRates;
 use crate::error::StartupError;
-use crate::incoming::incoming_of;
+use crate::grouping::grouping_of;
+use crate::rates::targets_of;
 use crate::waiting::Waiting;
 use std::alloc::{AllocError, Global};
 use strc_balance::COUNT_LIMIT;
@@ -32,7 +33,8 @@ pub(crate) fn primed(
     ensures within { IfOk result (λ counts. IsWithinLimit counts.items) }
     ensures unbounded { result ≡ Err refused.Unbounded → IsUnbounded channels.now first.items }
 {
-    let incoming = incoming_of(alloc, channels, first.len())?;
+    let targets = targets_of(alloc, channels)?;
+    let incoming = grouping_of(alloc, &targets, first.len())?;
     let mut counts = first;
     let mut waiting = all_nodes(alloc, counts.len())?;
     while let Some(node) = waiting.take_highest() {

@@ -1,18 +1,55 @@
 // The rates of a graph's channels, and its nodes' first counts.
 
-ghost use Rattle.std.specs.Prelude.{◌≡◌, ◌<◌, ◌≤◌, ◌^◌, All, IfOk, map};
+ghost use Rattle.std.specs.Prelude.{◌≡◌, ◌<◌, ◌≤◌, ◌^◌, All, IfOk, length, map};
+ghost use Rattle.strc_balance.specs.Rates.{IsRated, equations_of};
 ghost use Rattle.strc_graph.specs.Graphs.{JoinsPorts};
-ghost use Rattle.strc_graph.specs.NodeView.{node_view, channel_view};
+ghost use Rattle.strc_graph.specs.NodeView.{graph_view, node_view, channel_view};
 ghost use Rattle.strc_startup.specs.Rates as spec;
-ghost use Rattle.strc_startup.specs.Waiting.{IsBounded};
+ghost use Rattle.strc_startup.specs.Waiting.{HasEnds, IsBounded, Pushes};
 
 use crate::channel_rates::ChannelRates;
 use std::alloc::{AllocError, Global};
-use strc_graph::graph::{Channel, Node};
+use strc_graph::graph::{Channel, Graph, Node};
 use strc_graph::rates::{pops_at, pushes_at, window_at};
 
+/// The rates of each channel of a graph; at both ends they are at least 1 by `work`.
+pub fn channel_rates(alloc: Global, graph: &Graph) -> Result<Vec<ChannelRates>, AllocError>
+    requires { All IsRated (equations_of (graph_view graph.now)) }
+    ensures rates { IfOk result (λ rates. rates.items ≡ spec.rates_of (graph_view graph.now)) }
+    ensures ends { IfOk result (λ rates. All (HasEnds (length graph.now.nodes)) rates.items) }
+    ensures pushes { IfOk result (λ rates. All Pushes rates.items) }
+    ensures bounds { IfOk result (λ rates. All IsBounded rates.items) }
+{
+    let rates = rates_of(alloc, graph.nodes(), graph.channels())?;
+    Ok(rates)
+}
+
+/// The targets of channels.
+pub fn targets_of(alloc: Global, channels: &[ChannelRates]) -> Result<Vec<usize>, AllocError>
+    ensures { IfOk result (λ targets. targets.items
+        ≡ map (λ rates. rates.target) channels.now) }
+{
+    let mut targets = Vec::with_capacity(alloc, channels.len())?;
+    for rates in channels {
+        targets.push(rates.target)?;
+    }
+    Ok(targets)
+}
+
+/// The sources of channels.
+pub fn sources_of(alloc: Global, channels: &[ChannelRates]) -> Result<Vec<usize>, AllocError>
+    ensures { IfOk result (λ sources. sources.items
+        ≡ map (λ rates. rates.source) channels.now) }
+{
+    let mut sources = Vec::with_capacity(alloc, channels.len())?;
+    for rates in channels {
+        sources.push(rates.source)?;
+    }
+    Ok(sources)
+}
+
 /// The rates of each channel.
-pub(crate) fn rates_of(
+fn rates_of(
     alloc: Global,
     nodes: &[Node],
     channels: &[Channel],
@@ -47,6 +84,7 @@ fn rates_of_channel(nodes: &[Node], channel: &Channel) -> ChannelRates
         push: pushes_at(source, 1, output),
         target: channel.target.node as usize,
         prework_window: prework_window(target, input),
+        first_window: window_at(target, 0, input),
         first_pop: pops_at(target, 0, input),
         pop: pops_at(target, 1, input),
         window: window_at(target, 1, input),

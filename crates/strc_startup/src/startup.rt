@@ -10,7 +10,7 @@ ghost use Rattle.strc_startup.specs.declared.error.StartupError.TheVariants as r
 
 use crate::error::StartupError;
 use crate::priming::primed;
-use crate::rates::{first_counts, rates_of};
+use crate::rates::{channel_rates, first_counts};
 use std::alloc::Global;
 use strc_balance::counts::Counts;
 use strc_graph::graph::Graph;
@@ -36,8 +36,7 @@ pub fn startup(alloc: Global, graph: &Graph, _round: &Counts) -> Result<Counts, 
         → IsPrimed (spec.first_counts (graph_view graph.now)) (spec.rates_of (graph_view graph.now))
         counts → ¬ IsWithinLimit counts }
 {
-    let nodes = graph.nodes();
-    let channels = rates_of(alloc, nodes, graph.channels())?;
-    let first = first_counts(alloc, nodes)?;
+    let channels = channel_rates(alloc, graph)?;
+    let first = first_counts(alloc, graph.nodes())?;
     Ok(Counts::new(primed(alloc, &channels, first)?))
 }

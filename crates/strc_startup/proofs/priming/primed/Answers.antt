@@ -1,9 +1,26 @@
-use Rattle.std.proofs.Common.{◌∙◌, ◌<◌, ◌+◌, ◌*◌, All, Contains, length, sym, subst, arith}
-use Rattle.std.proofs.lemmas.List.{with_items_is}
+use Rattle.std.proofs.Common.{◌∙◌, ◌<◌, ◌+◌, ◌*◌, All, Contains, length, slice_index_or, sym, subst}
+use Rattle.std.proofs.Common.{arith}
+use Rattle.std.proofs.lemmas.List.{with_items_is, get_or-map, length-map}
+use Rattle.strc_startup.specs.Grouping.{IsGrouping}
+use Rattle.strc_startup.specs.declared.channel_rates.ChannelRates.{ChannelRates}
 use Rattle.strc_startup.specs.Raises.{Raises, room}
 use Rattle.strc_startup.proofs.Nearing.{Nears, node_within, nodes_within, nearer, fewer_steps}
-use Rattle.strc_startup.proofs.Nearing.{arrived}
+use Rattle.strc_startup.proofs.Nearing.{arrived, listed_within}
 use Rattle.strc_startup.proofs.priming.primed.Goals as goal
+
+abbrev nothing : ChannelRates
+nothing = record {
+  source = 0;
+  enqueued = 0;
+  first_push = 0;
+  push = 0;
+  target = 0;
+  prework_window = 0;
+  first_window = 0;
+  first_pop = 0;
+  pop = 0;
+  window = 0;
+}
 
 pub at-requires : goal.at-requires
 at-requires c =
@@ -13,6 +30,26 @@ at-requires c =
     let within = node_within first channels c.loop-node.counts.items c.loop-node.waiting
     c.take_highest.new.self c.in-Some.node near c.in-Some.ensures.taken in
     omega (arith, within, near.each, c.in_ok-incoming.ensures.size, c.len.ensures)
+
+pub grouping_of-requires : goal.grouping_of-requires
+grouping_of-requires c =
+    let channels = c.args.channels.now in
+    let target = λ (rates : ChannelRates). rates.target in
+    subst (All (λ n. n < c.len.result)) (sym (c.deref.ensures.value ∙ c.in_ok-targets.ensures))
+    (λ k d within.
+    let short : k < length channels = omega (arith, within, length-map channels target) in
+    let own = slice_index_or channels k nothing in
+    subst (λ n. n < c.len.result) (sym (get_or-map target channels k nothing d short))
+    (let h = (c.requires.ends k nothing short).target in omega (arith, h, c.len.ensures)))
+
+pub raise_sources-requires-clause-numbers : goal.raise_sources-requires-clause-numbers
+raise_sources-requires-clause-numbers c =
+    let channels = c.args.channels.now in
+    let lists = c.in_ok-incoming.incoming in
+    let targets = c.deref.ensures.value ∙ c.in_ok-targets.ensures in
+    let groups = subst (IsGrouping lists) targets c.in_ok-incoming.ensures.groups in
+    subst (All (λ n. n < length channels)) (sym c.at.ensures)
+    (listed_within lists channels c.in-Some.node groups)
 
 pub raise_sources-requires-clause-nodes : goal.raise_sources-requires-clause-nodes
 raise_sources-requires-clause-nodes c =
@@ -34,11 +71,13 @@ loop-node-smaller c =
     let written = with_items_is c.loop-node.counts raised
     (c.in_ok-raise_sources.ensures.raises.each ∙ c.deref_mut.ensures.len) in
     let lists = c.in_ok-incoming.incoming in
+    let targets = c.deref.ensures.value ∙ c.in_ok-targets.ensures in
+    let groups = subst (IsGrouping lists) targets c.in_ok-incoming.ensures.groups in
     subst (λ l. 2 * room l + length waiting < 2 * room counts + length c.loop-node.waiting)
     (sym written)
     (fewer_steps first channels counts c.loop-node.waiting c.take_highest.new.self
     c.in-Some.node c.loop-node.invariant c.in-Some.ensures.taken lists
-    c.in_ok-incoming.ensures.listed raised waiting raises
+    groups raised waiting raises
     (λ channel rates there is. c.in_ok-raise_sources.ensures.served channel rates
     (subst (λ l. Contains l channel) (sym c.at.ensures) there) is))
 
@@ -55,10 +94,12 @@ loop-node-preserved c =
     let written = with_items_is c.loop-node.counts raised
     (c.in_ok-raise_sources.ensures.raises.each ∙ c.deref_mut.ensures.len) in
     let lists = c.in_ok-incoming.incoming in
+    let targets = c.deref.ensures.value ∙ c.in_ok-targets.ensures in
+    let groups = subst (IsGrouping lists) targets c.in_ok-incoming.ensures.groups in
     subst (λ l. Nears first channels l waiting) (sym written)
     (nearer first channels counts c.loop-node.waiting c.take_highest.new.self
     c.in-Some.node c.loop-node.invariant c.in-Some.ensures.taken lists
-    c.in_ok-incoming.ensures.listed raised waiting raises
+    groups raised waiting raises
     (λ channel rates there is. c.in_ok-raise_sources.ensures.served channel rates
     (subst (λ l. Contains l channel) (sym c.at.ensures) there) is))
 

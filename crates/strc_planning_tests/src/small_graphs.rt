@@ -1,0 +1,140 @@
+// Graphs by what their nodes are and what their channels join, and their counts as texts.
+
+use std::alloc::{AllocError, Global};
+use std::process::Abort;
+use strc_balance::balance::balance;
+use strc_balance::condition::can_balance;
+use strc_balance::error::BalanceError;
+use strc_graph::condition::is_graph;
+use strc_graph::graph::{Channel, Fission, Graph, Node, Port, Splitter};
+
+/// What a node is. A port that no channel uses lets a node stand for a filter of any rates.
+#[derive(Clone, Copy)]
+pub(crate) enum Kind {
+    Reader,
+    Writer,
+    Identity,
+    /// It takes so many items at port 0 and at port 1, and gives them all.
+    Join(u32, u32),
+    /// It gives so many items at port 0 and at port 1, and takes them all.
+    Split(u32, u32),
+    /// It gives each item at both ports.
+    Duplicate,
+    Gather,
+}
+
+/// The node and the port that a channel leaves, and the node and the port that it comes to.
+pub(crate) type Ends = (u32, u32, u32, u32);
+
+/// A graph's nodes and channels, and the answer.
+pub(crate) type Case = (&'static [Kind], &'static [Ends], &'static str);
+
+/// A node of this kind.
+fn node_of(alloc: Global, kind: Kind) -> Result<Node, AllocError> {
+    match kind {
+        Kind::Reader => Ok(Node::FileReader),
+        Kind::Writer => Ok(Node::FileWriter),
+        Kind::Identity => Ok(Node::Identity),
+        Kind::Join(first, second) => joiner(alloc, first, second),
+        Kind::Split(first, second) => splitter(alloc, first, second),
+        Kind::Duplicate => duplicate(alloc),
+        Kind::Gather => Ok(Node::Gather(Fission {
+            ways: 2,
+            firings: 1,
+            pop: 1,
+            window: 1,
+            push: 1,
+        })),
+    }
+}
+
+fn joiner(alloc: Global, first: u32, second: u32) -> Result<Node, AllocError> {
+    Ok(Node::Joiner(Vec::from_slice(alloc, &[first, second])?))
+}
+
+fn splitter(alloc: Global, first: u32, second: u32) -> Result<Node, AllocError> {
+    let weights = Vec::from_slice(alloc, &[first, second])?;
+    Ok(Node::Splitter(Splitter::Roundrobin(weights)))
+}
+
+fn duplicate(alloc: Global) -> Result<Node, AllocError> {
+    let carried = Vec::from_elem(alloc, true, 2)?;
+    Ok(Node::Splitter(Splitter::Duplicate(carried)))
+}
+
+/// A channel with so many enqueued items.
+fn channel_of(alloc: Global, ends: Ends, items: usize) -> Result<Channel, AllocError> {
+    Ok(Channel {
+        source: Port {
+            node: ends.0,
+            port: ends.1,
+        },
+        target: Port {
+            node: ends.2,
+            port: ends.3,
+        },
+        enqueued: Vec::from_elem(alloc, 0, items)?,
+    })
+}
+
+/// The graph of these nodes and channels, with so many items on the last channel.
+pub(crate) fn graph_of(
+    rt: &impl Abort,
+    alloc: Global,
+    nodes: Vec<Node>,
+    ends: &[Ends],
+    items: usize,
+) -> Result<Graph, AllocError> {
+    let mut channels = Vec::new(alloc);
+    for channel in 0..ends.len() {
+        let items = if channel + 1 == ends.len() { items } else { 0 };
+        channels.push(channel_of(alloc, ends[channel], items)?)?;
+    }
+    let outer_loops = Vec::from_elem(alloc, None, nodes.len())?;
+    let joined = is_graph(&nodes, &channels, &outer_loops);
+    assert!(rt; joined, "a channel without a port");
+    Ok(Graph::new(nodes, channels, outer_loops))
+}
+
+/// The counts of a graph, or why there are none.
+pub(crate) fn answer_of(alloc: Global, graph: &Graph) -> Result<String, AllocError> {
+    match can_balance(alloc, graph) {
+        Ok(true) => {}
+        Ok(false) => return format!(in alloc; "outside the condition"),
+        Err(_) => return Err(AllocError),
+    }
+    match balance(alloc, graph) {
+        Ok(counts) => shown(alloc, counts.as_slice()),
+        Err(BalanceError::NoMemory) => Err(AllocError),
+        Err(error) => format!(in alloc; "{error}"),
+    }
+}
+
+/// Numbers with a space behind each.
+pub(crate) fn shown(alloc: Global, counts: &[u32]) -> Result<String, AllocError> {
+    let mut text = String::new(alloc);
+    for count in counts {
+        text.push_str(&format!(in alloc; "{count} ")?)?;
+    }
+    Ok(text)
+}
+
+/// Nodes of these kinds.
+pub(crate) fn nodes_of(alloc: Global, kinds: &[Kind]) -> Result<Vec<Node>, AllocError> {
+    let mut nodes = Vec::new(alloc);
+    for kind in kinds {
+        nodes.push(node_of(alloc, *kind)?)?;
+    }
+    Ok(nodes)
+}
+
+/// The answer for the graph of these nodes and channels.
+pub(crate) fn answer(
+    rt: &impl Abort,
+    alloc: Global,
+    kinds: &[Kind],
+    ends: &[Ends],
+) -> Result<String, AllocError> {
+    let graph = graph_of(rt, alloc, nodes_of(alloc, kinds)?, ends, 0)?;
+    answer_of(alloc, &graph)
+}

@@ -1,0 +1,16 @@
+pub mod Sets
+pub mod Tallies
+pub mod Windows
+pub mod Networks
+pub mod Looking
+pub mod Turning
+pub mod Exchange
+pub mod Firing
+pub mod Fills
+pub mod Touching
+pub mod Units
+pub mod Buffering
+pub mod Scheduling
+pub mod Connecting
+pub mod Greedily
+pub mod Ordering

@@ -1,0 +1,9 @@
+pub mod Firings
+pub mod Order
+pub mod Greedy
+pub mod Network
+pub mod Progress
+pub mod Buffers
+pub mod Peaks
+pub mod Schedules
+pub mod Sentences

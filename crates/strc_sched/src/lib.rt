@@ -1,0 +1,20 @@
+// Takes a flat graph, and how often its nodes fire in start-up and in a round.
+// Gives orders of these firings, and the sizes of all buffers.
+// The theorem to rely on: `schedule` gives greedy orders in which each firing finds its windows,
+// and buffers of just the sizes that they need; where it says Deadlock, no order exists.
+// Stands on strc_startup, whose rates by channel it reads, on strc_balance, whose counts it takes,
+// and on strc_graph.
+#![tactic(auto)]
+
+mod buffers;
+pub mod error;
+mod greedy;
+mod limit;
+mod network;
+pub mod parts;
+mod peaks;
+pub mod planning;
+mod progress;
+mod ready;
+mod turns;
+pub mod unit;

@@ -1,0 +1,11 @@
+// What a schedule is made of.
+
+/// Nodes that fire in turn, and the whole list a number of times: the list of a unit of a greedy
+/// order has one node.
+#[derive(Drop)]
+pub struct Unit {
+    /// How many times the list fires.
+    pub turns: u32,
+    /// The nodes, by their numbers; a node can stand there more than once.
+    pub nodes: Vec<u32>,
+}
