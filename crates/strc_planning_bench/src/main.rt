@@ -16,7 +16,7 @@ mod shapes;
 
 use crate::peeks::{Peeks, Primed, prime};
 use crate::schedules::{Scheduled, timed_schedule};
-use crate::shapes::{Shape, graph_of};
+use crate::shapes::{Shape, circle, graph_of};
 use std::io::ErrorKind;
 use std::process::ExitCode;
 use std::time::{Duration, Instant};
@@ -92,7 +92,22 @@ fn print_plans(rt: &HostRuntime) -> io::Result<()> {
             print_growth(rt, "schedule", small.schedule.took, large.schedule.took)?;
         }
     }
+    print_circle(rt, timed)?;
     print_startups(rt, timed)
+}
+
+/// The schedule of a loop that starts with a single item.
+fn print_circle(rt: &HostRuntime, timed: bool) -> io::Result<()> {
+    let graph = match circle(rt.alloc())? {
+        Some(graph) => graph,
+        None => return Err(io::Error::new(ErrorKind::InvalidData, "not a graph")),
+    };
+    let schedule = timed_schedule(rt, &graph, 1)?;
+    println!(rt; "circle: {} units", schedule.units)?;
+    if timed {
+        println!(rt; "circle: {} microseconds", schedule.took.as_micros())?;
+    }
+    Ok(())
 }
 
 fn print_startups(rt: &HostRuntime, timed: bool) -> io::Result<()> {

@@ -46,7 +46,13 @@ struct Parts {
 type End = (u32, u32);
 
 impl Parts {
+    /// A channel without items.
     fn join(&mut self, source: End, target: End) -> Result<(), AllocError> {
+        self.join_with(source, target, 0)
+    }
+
+    /// A channel with so many enqueued items.
+    fn join_with(&mut self, source: End, target: End, items: usize) -> Result<(), AllocError> {
         self.channels.push(Channel {
             source: Port {
                 node: source.0,
@@ -56,7 +62,7 @@ impl Parts {
                 node: target.0,
                 port: target.1,
             },
-            enqueued: Vec::new(self.alloc),
+            enqueued: Vec::from_elem(self.alloc, 0, items)?,
         })?;
         Ok(())
     }
@@ -81,6 +87,34 @@ pub(crate) fn graph_of(
         Shape::SplitJoin => split_join(&mut parts, nodes)?,
         Shape::Ladder => ladder(&mut parts, nodes)?,
     }
+    graph_from(parts)
+}
+
+/// Two nodes in a loop that starts with a single item, so that each fires once at a time, 1,000,000
+/// times in a round, and a sink that takes all; none where its channels wouldn't join ports.
+pub(crate) fn circle(alloc: Global) -> Result<Option<Graph>, AllocError> {
+    let mut parts = Parts {
+        alloc,
+        nodes: Vec::new(alloc),
+        channels: Vec::new(alloc),
+    };
+    let carried = Vec::from_elem(alloc, true, 2)?;
+    parts
+        .nodes
+        .push(Node::Splitter(Splitter::Duplicate(carried)))?;
+    parts.nodes.push(Node::Identity)?;
+    let sink = Vec::from_slice(alloc, &[1, 999_999])?;
+    parts
+        .nodes
+        .push(Node::Splitter(Splitter::Roundrobin(sink)))?;
+    parts.join((0, 0), (1, 0))?;
+    parts.join((0, 1), (2, 0))?;
+    parts.join_with((1, 0), (0, 0), 1)?;
+    graph_from(parts)
+}
+
+/// The graph of these parts.
+fn graph_from(parts: Parts) -> Result<Option<Graph>, AllocError> {
     let Parts {
         alloc,
         nodes,

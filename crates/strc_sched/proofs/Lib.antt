@@ -14,3 +14,4 @@ pub mod Scheduling
 pub mod Connecting
 pub mod Greedily
 pub mod Ordering
+pub mod Deciding

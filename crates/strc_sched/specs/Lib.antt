@@ -6,4 +6,5 @@ pub mod Progress
 pub mod Buffers
 pub mod Peaks
 pub mod Schedules
+pub mod Laws
 pub mod Sentences

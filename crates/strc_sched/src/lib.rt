@@ -9,6 +9,7 @@
 mod buffers;
 pub mod error;
 mod greedy;
+pub mod laws;
 mod limit;
 mod network;
 pub mod parts;
