@@ -15,3 +15,4 @@ pub mod Connecting
 pub mod Greedily
 pub mod Ordering
 pub mod Deciding
+pub mod Repeating

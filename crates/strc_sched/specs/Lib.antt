@@ -7,4 +7,5 @@ pub mod Buffers
 pub mod Peaks
 pub mod Schedules
 pub mod Laws
+pub mod Rounds
 pub mod Sentences

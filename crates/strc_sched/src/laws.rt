@@ -1,6 +1,7 @@
-// What greedy orders are worth.
+// What greedy orders are worth, in the first round and in all others.
 
 ghost use Rattle.strc_sched.specs.Laws.{GreedyIsAnOrder, GreedyFindsAnOrder, OneGreedyOrder};
+ghost use Rattle.strc_sched.specs.Rounds.{OrderRepeats, FillsRepeat, NoBufferOverflows};
 
 /// In a greedy order each firing finds its windows.
 pub fn greedy_is_an_order()
@@ -15,4 +16,19 @@ pub fn greedy_finds_an_order()
 /// The greedy order of some firings is one.
 pub fn one_greedy_order()
     ensures { OneGreedyOrder }
+{}
+
+/// An order of a round is an order of each later one.
+pub fn order_repeats()
+    ensures { OrderRepeats }
+{}
+
+/// The numbers of items in a round are those of the first one.
+pub fn fills_repeat()
+    ensures { FillsRepeat }
+{}
+
+/// In no round a channel holds more items than the size of its buffer.
+pub fn no_buffer_overflows()
+    ensures { NoBufferOverflows }
 {}
