@@ -16,3 +16,4 @@ pub mod Greedily
 pub mod Ordering
 pub mod Deciding
 pub mod Repeating
+pub mod Settling

@@ -1,6 +1,11 @@
 -- Round after round (Lee and Messerschmitt 1987: a periodic schedule).
 use Rattle.std.specs.Prelude.{◌≡◌, ◌⊎◌, ℕ, ◌+◌, ◌*◌, ◌<◌, ◌≤◌, List, All, slice_get, slice_index}
 use Rattle.std.specs.Prelude.{Some}
+use Rattle.strc_graph.specs.Graphs.{Graph}
+use Rattle.strc_balance.specs.Balance.{count_at}
+use Rattle.strc_balance.specs.Rates.{IsRated, equations_of}
+use Rattle.strc_startup.specs.Rates.{rates_of, first_counts}
+use Rattle.strc_startup.specs.Startup.{IsPrimed}
 use Rattle.strc_startup.specs.declared.channel_rates.ChannelRates.{ChannelRates}
 use Rattle.strc_sched.specs.Buffers.{peak_fill}
 use Rattle.strc_sched.specs.Firings.{Firings}
@@ -46,3 +51,10 @@ NoBufferOverflows =
     → (rounds number : ℕ) (rates : ChannelRates) → slice_get channels number ≡ Some rates
     → peak_fill rates (rounds_on startup rounds round) (firings_of schedule.round)
     ≤ slice_index schedule.sizes number
+
+-- counts that prime a graph leave no first firing that is unlike the others
+abbrev pub PrimedCountsSettle : Type 0
+PrimedCountsSettle =
+    (graph : Graph) (counts : List ℕ) → All IsRated (equations_of graph)
+    → IsPrimed (first_counts graph) (rates_of graph) counts
+    → All (IsSettled (count_at counts)) (rates_of graph)

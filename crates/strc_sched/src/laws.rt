@@ -2,6 +2,7 @@
 
 ghost use Rattle.strc_sched.specs.Laws.{GreedyIsAnOrder, GreedyFindsAnOrder, OneGreedyOrder};
 ghost use Rattle.strc_sched.specs.Rounds.{OrderRepeats, FillsRepeat, NoBufferOverflows};
+ghost use Rattle.strc_sched.specs.Rounds.{PrimedCountsSettle};
 
 /// In a greedy order each firing finds its windows.
 pub fn greedy_is_an_order()
@@ -31,4 +32,9 @@ pub fn fills_repeat()
 /// In no round a channel holds more items than the size of its buffer.
 pub fn no_buffer_overflows()
     ensures { NoBufferOverflows }
+{}
+
+/// After start-up no first firing is to come that is unlike the others.
+pub fn primed_counts_settle()
+    ensures { PrimedCountsSettle }
 {}
