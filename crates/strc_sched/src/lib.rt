@@ -2,8 +2,8 @@
 // Gives orders of these firings, and the sizes of all buffers.
 // The theorem to rely on: `schedule` gives greedy orders in which each firing finds its windows,
 // and buffers of just the sizes that they need; where it says Deadlock, no order exists.
-// Stands on strc_startup, whose rates by channel it reads, on strc_balance, whose counts it takes, on
-// strc_graph, and on strc_semantics and strc_syntax, by whose filters a law tells first firings.
+// Stands on strc_startup, whose rates by channel it reads, on strc_balance, whose counts it takes,
+// on strc_graph, and on strc_semantics and strc_syntax, by whose filters a law tells first firings.
 #![tactic(auto)]
 
 mod buffers;
