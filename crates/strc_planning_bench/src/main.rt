@@ -6,7 +6,7 @@
 // its source fires before the first round. With `times` also the least of nine times that planning
 // took, and how it grew.
 // There is no theorem here; `balance`, `startup` and `schedule` have their own.
-// Stands on strc_balance, strc_startup and strc_sched, which it times, on strc_graph, whose graphs
+// Stands on strc_balance, strc_startup and strc_order, which it times, on strc_graph, whose graphs
 // it makes, and on strc_run, which compiles the programs.
 #![tactic(auto)]
 

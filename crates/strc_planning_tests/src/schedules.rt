@@ -7,9 +7,9 @@ use std::test::Fail;
 use strc_balance::balance::balance;
 use strc_balance::condition::can_balance;
 use strc_graph::graph::Graph;
-use strc_sched::error::ScheduleError;
-use strc_sched::planning::schedule;
-use strc_sched::unit::Unit;
+use strc_order::error::ScheduleError;
+use strc_order::planning::schedule;
+use strc_order::unit::Unit;
 use strc_startup::startup::startup;
 
 /// Two and four nodes in a row.

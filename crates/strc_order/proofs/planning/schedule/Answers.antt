@@ -1,0 +1,14 @@
+use Rattle.std.proofs.Common.{◌∙◌, ◌≤◌, ◌^◌, All, sym, subst, ap, length}
+use Rattle.std.proofs.lemmas.List.{length-map}
+use Rattle.strc_graph.specs.NodeView.{graph_view, node_view}
+use Rattle.strc_startup.specs.Waiting.{IsBounded}
+use Rattle.strc_order.proofs.Connecting.{few_nodes}
+use Rattle.strc_order.proofs.planning.schedule.Goals as goal
+
+pub new-requires-clause-few : goal.new-requires-clause-few
+new-requires-clause-few c =
+    let parts = c.args.graph.now in
+    let bounds = subst (All IsBounded) c.in_ok-channels.ensures.rates
+    c.in_ok-channels.ensures.bounds in
+    subst (λ n. n ≤ 2 ^ 32) (length-map parts.nodes node_view ∙ ap length (sym c.nodes.ensures))
+    (few_nodes (graph_view parts) c.requires.connected bounds)

@@ -1,0 +1,60 @@
+-- Round after round (Lee and Messerschmitt 1987: a periodic schedule).
+use Rattle.std.specs.Prelude.{◌≡◌, ◌⊎◌, ℕ, ◌+◌, ◌*◌, ◌<◌, ◌≤◌, List, All, slice_get, slice_index}
+use Rattle.std.specs.Prelude.{Some}
+use Rattle.strc_graph.specs.Graphs.{Graph}
+use Rattle.strc_balance.specs.Balance.{count_at}
+use Rattle.strc_balance.specs.Rates.{IsRated, equations_of}
+use Rattle.strc_startup.specs.Rates.{rates_of, first_counts}
+use Rattle.strc_startup.specs.Startup.{IsPrimed}
+use Rattle.strc_startup.specs.declared.channel_rates.ChannelRates.{ChannelRates}
+use Rattle.strc_order.specs.Buffers.{peak_fill}
+use Rattle.strc_order.specs.Firings.{Firings}
+use Rattle.strc_order.specs.Greedy.{firings_of}
+use Rattle.strc_order.specs.Order.{IsOrder}
+use Rattle.strc_order.specs.Schedules.{ScheduleParts, IsSchedule}
+
+-- after so many rounds
+abbrev pub rounds_on : Firings → (rounds : ℕ) → (round : Firings) → Firings
+rounds_on counts rounds round node = counts node + rounds * round node
+
+-- in a round as many items are pushed on a channel as are popped
+abbrev pub RoundBalances : (round : Firings) → ChannelRates → Type 0
+RoundBalances round rates = rates.push * round rates.source ≡ rates.pop * round rates.target
+
+-- the first firings of a channel's ends are done, or are like all others
+pub record IsSettled (counts : Firings) (rates : ChannelRates) : Type 0 where
+  pub source : (0 < counts rates.source) ⊎ (rates.first_push ≡ rates.push)
+  pub target : (0 < counts rates.target)
+      ⊎ ((rates.first_pop ≡ rates.pop) × (rates.first_window ≡ rates.window))
+
+-- an order of a round is one in each later round
+abbrev pub OrderRepeats : Type 0
+OrderRepeats =
+    (channels : List ChannelRates) (counts round : Firings) (rounds : ℕ) (order : List ℕ)
+    → All (IsSettled counts) channels → All (RoundBalances round) channels
+    → IsOrder channels counts order
+    → IsOrder channels (rounds_on counts rounds round) order
+
+-- and leaves as many items on each channel
+abbrev pub FillsRepeat : Type 0
+FillsRepeat =
+    (rates : ChannelRates) (counts round : Firings) (rounds : ℕ) (order : List ℕ)
+    → IsSettled counts rates → RoundBalances round rates
+    → peak_fill rates (rounds_on counts rounds round) order ≡ peak_fill rates counts order
+
+-- so no buffer ever holds more than its size
+abbrev pub NoBufferOverflows : Type 0
+NoBufferOverflows =
+    (channels : List ChannelRates) (startup round : Firings) (schedule : ScheduleParts)
+    → IsSchedule channels startup round schedule
+    → All (IsSettled startup) channels → All (RoundBalances round) channels
+    → (rounds number : ℕ) (rates : ChannelRates) → slice_get channels number ≡ Some rates
+    → peak_fill rates (rounds_on startup rounds round) (firings_of schedule.round)
+    ≤ slice_index schedule.sizes number
+
+-- counts that prime a graph leave no first firing that is unlike the others
+abbrev pub PrimedCountsSettle : Type 0
+PrimedCountsSettle =
+    (graph : Graph) (counts : List ℕ) → All IsRated (equations_of graph)
+    → IsPrimed (first_counts graph) (rates_of graph) counts
+    → All (IsSettled (count_at counts)) (rates_of graph)

@@ -1,0 +1,106 @@
+// The channels of a graph, by number and by the nodes at their ends.
+
+ghost use Rattle.std.specs.Prelude.{◌≡◌, ℕ, ◌<◌, ◌≤◌, ◌^◌, length, slice_get, Some, All, IfOk};
+ghost use Rattle.strc_startup.specs.Grouping.{places_at};
+ghost use Rattle.strc_startup.specs.Waiting.{HasEnds, IsBounded};
+ghost use Rattle.strc_order.specs.Network.{size_of, IsNetwork};
+
+use std::alloc::{AllocError, Global};
+use std::marker::Model;
+use strc_startup::channel_rates::ChannelRates;
+use strc_startup::grouping::{Grouping, grouping_of};
+use strc_startup::rates::{sources_of, targets_of};
+
+/// The channels of a graph. Contracts see their rates and their numbers by node.
+#[derive(Drop)]
+pub(crate) struct Network {
+    channels: Vec<ChannelRates>,
+    incoming: Grouping,
+    outgoing: Grouping,
+}
+
+impl Model for Network {
+    ghost use Rattle.strc_order.specs.Network.{NetworkView, IsNetwork};
+
+    ghost Value = { NetworkView };
+
+    ghost view = { λ n. record {
+      channels = n.channels.items;
+      incoming = n.incoming;
+      outgoing = n.outgoing;
+    } };
+
+    ghost invariant = { λ n. IsNetwork (record {
+      channels = n.channels.items;
+      incoming = n.incoming;
+      outgoing = n.outgoing;
+    }) };
+}
+
+impl Network {
+    /// The network of these channels and so many nodes.
+    pub(crate) fn new(
+        alloc: Global,
+        channels: Vec<ChannelRates>,
+        size: usize,
+    ) -> Result<Network, AllocError>
+        requires ends { All (HasEnds size) channels.items }
+        requires bounds { All IsBounded channels.items }
+        requires few { size ≤ 2 ^ 32 }
+        ensures channels { IfOk result (λ network. network.channels ≡ channels.items) }
+        ensures size { IfOk result (λ network. size_of network ≡ size) }
+    {
+        let targets = targets_of(alloc, &channels)?;
+        let incoming = grouping_of(alloc, &targets, size)?;
+        let sources = sources_of(alloc, &channels)?;
+        let outgoing = grouping_of(alloc, &sources, size)?;
+        Ok(Network {
+            channels,
+            incoming,
+            outgoing,
+        })
+    }
+
+    /// How many nodes there are.
+    pub(crate) fn size(&self) -> usize
+        ensures size { result ≡ size_of self.now }
+        ensures network { IsNetwork self.now }
+    {
+        self.incoming.len()
+    }
+
+    /// The rates of all channels.
+    pub(crate) fn channels(&self) -> &[ChannelRates]
+        ensures channels { result.now ≡ self.now.channels }
+        ensures network { IsNetwork self.now }
+    {
+        self.channels.as_slice()
+    }
+
+    /// The rates of a channel.
+    pub(crate) fn channel(&self, number: usize) -> &ChannelRates
+        requires { number < length self.now.channels }
+        ensures rates { slice_get self.now.channels number ≡ Some result.now }
+        ensures network { IsNetwork self.now }
+    {
+        &self.channels[number]
+    }
+
+    /// The numbers of the channels that end at a node.
+    pub(crate) fn incoming(&self, node: usize) -> &[usize]
+        requires { node < size_of self.now }
+        ensures numbers { result.now ≡ places_at self.now.incoming node }
+        ensures network { IsNetwork self.now }
+    {
+        self.incoming.at(node)
+    }
+
+    /// The numbers of the channels that begin at a node.
+    pub(crate) fn outgoing(&self, node: usize) -> &[usize]
+        requires { node < size_of self.now }
+        ensures numbers { result.now ≡ places_at self.now.outgoing node }
+        ensures network { IsNetwork self.now }
+    {
+        self.outgoing.at(node)
+    }
+}

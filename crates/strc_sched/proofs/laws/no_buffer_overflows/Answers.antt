@@ -1,5 +1,0 @@
-use Rattle.strc_sched.proofs.Repeating.{no_overflow}
-use Rattle.strc_sched.proofs.laws.no_buffer_overflows.Goals as goal
-
-pub returns : goal.returns
-returns c = no_overflow
