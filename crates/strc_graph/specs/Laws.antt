@@ -2,18 +2,19 @@
 use Rattle.std.specs.Prelude.{◌≡◌, ℕ, true, ℤ, List}
 use Rattle.strc_dataflow.specs.Flat.{Graph}
 use Rattle.strc_dataflow.specs.Answer.{whole_run}
-use Rattle.strc_graph.specs.Graphs.{NodeCode}
+use Rattle.strc_graph.specs.Graphs.{NodeCode, reads_input}
 use Rattle.strc_graph.specs.Carriers.{carries_in}
 use Rattle.strc_graph.specs.Meaning.{node_meaning}
 
--- Two graphs with the same nodes, and the same sources at the ports that carry items, run alike:
--- what stands at a joiner's port of weight 0 makes no difference.
+-- Two graphs with the same nodes, and the same sources at the ports that carry items and where the
+-- program's input is read, run alike: what stands at a joiner's port of weight 0 makes no difference.
 abbrev pub OnlyCarriersMatter : Type 0
 OnlyCarriersMatter =
     (a b : Graph NodeCode)
     → ((node : ℕ) → a.code node ≡ b.code node)
     → ((node port : ℕ) → carries_in (a.code node) port ≡ true
     → a.source node port ≡ b.source node port)
+    → ((node : ℕ) → reads_input (a.code node) ≡ true → a.source node 0 ≡ b.source node 0)
     → (input : List ℤ) (startup_order round_order : List ℕ) (rounds : ℕ)
     → whole_run node_meaning a input round_order startup_order rounds
     ≡ whole_run node_meaning b input round_order startup_order rounds

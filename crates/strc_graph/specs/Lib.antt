@@ -4,4 +4,5 @@ pub mod NodeView
 pub mod Rates
 pub mod Connections
 pub mod Meaning
+pub mod FlatGraphs
 pub mod Laws
