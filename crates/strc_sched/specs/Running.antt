@@ -1,0 +1,64 @@
+-- How the machine over rings answers.
+use Rattle.std.specs.Prelude.{◌≡◌, ℕ, ℤ, List, [], ◌++◌, Bool, true, false, length, map, replicate}
+use Rattle.std.specs.Prelude.{slice_set, Result, Ok, Err}
+use Rattle.strc_semantics.specs.declared.fault.Halt.{Halt}
+use Rattle.strc_semantics.specs.declared.fault.Halt.TheVariants as halt
+use Rattle.strc_semantics.specs.declared.word.Word.{Word}
+use Rattle.strc_inst.specs.Running.{MoreWords}
+use Rattle.strc_graph.specs.Graphs.{Graph}
+use Rattle.strc_graph.specs.Meaning.{node_fields}
+use Rattle.strc_sched.specs.Actors.{AreActors, fields_of}
+use Rattle.strc_sched.specs.Machine.{CircuitView, MachineView, Progress, Went, Stopped}
+use Rattle.strc_sched.specs.Rings.{Ring, AreFirst}
+use Rattle.strc_sched.specs.Steps.{Step, Stays, Goes, Faults, AreRings}
+use Rattle.strc_sched.specs.Wiring.{PortRings, ports_at}
+use Rattle.strc_sched.specs.declared.machine.Machine.{Machine}
+use Rattle.strc_sched.specs.declared.machine.Stop.{Stop}
+use Rattle.strc_sched.specs.declared.machine.Stop.TheVariants as stop
+
+abbrev pub machine_view : Machine → MachineView
+machine_view machine = record {
+  fields = map fields_of machine.actors.items;
+  fired = machine.fired.items;
+  rings = machine.rings.items;
+  words = machine.words.items;
+}
+
+-- the rings at all ports are some of so many
+abbrev pub HoldRings : (count : ℕ) → PortRings → Type 0
+HoldRings count rings = (node : ℕ) → AreRings count (ports_at rings node)
+
+-- a machine has a place for each node, and a ring for each port at which one stands
+pub record IsMachine (circuit : CircuitView) (machine : Machine) : Type 0 where
+  pub actors : AreActors circuit.codes machine.actors.items
+  pub fired : length machine.fired.items ≡ length circuit.codes
+  pub input_nodes : length circuit.inputs ≡ length circuit.codes
+  pub output_nodes : length circuit.outputs ≡ length circuit.codes
+  pub inputs : HoldRings (length machine.rings.items) circuit.inputs
+  pub outputs : HoldRings (length machine.rings.items) circuit.outputs
+
+-- before the first firing
+pub record IsFirst (graph : Graph) (sizes : List ℕ) (machine : MachineView) : Type 0 where
+  pub fields : machine.fields ≡ map node_fields graph.nodes
+  pub fired : machine.fired ≡ replicate (length graph.nodes) 0
+  pub rings : AreFirst graph.channels sizes machine.rings
+  pub words : machine.words ≡ []
+
+-- an answer tells what a step of a node left, or its fault; out of memory tells nothing
+abbrev pub HasDone : Step → (node : ℕ) → Result Bool Halt → (before after : MachineView) → Type 0
+HasDone step node (Ok true) before after =
+    (fields : List ℤ) × (more : List Word) × (step ≡ Goes fields after.rings more)
+    × (after.fields ≡ slice_set before.fields node fields)
+    × (after.words ≡ before.words ++ more)
+HasDone step node (Ok false) before after = (step ≡ Stays) × (after ≡ before)
+HasDone step node (Err (halt.Fault cause)) before after =
+    (step ≡ Faults cause) × MoreWords before.words after.words
+HasDone step node (Err halt.NoMemory) before after = MoreWords before.words after.words
+
+-- an answer tells what firing nodes came to; out of memory tells nothing
+abbrev pub HasGone : Progress → Result (Unit {0}) Stop → (before : List Word) → MachineView → Type 0
+HasGone progress (Ok done) before machine =
+    (progress ≡ Went machine) × MoreWords before machine.words
+HasGone progress (Err (stop.Fault node firing cause)) before machine =
+    (progress ≡ Stopped node firing cause) × MoreWords before machine.words
+HasGone progress (Err stop.NoMemory) before machine = Unit {0}

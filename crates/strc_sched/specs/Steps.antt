@@ -1,0 +1,154 @@
+-- One firing of a node over the rings at its ports.
+use Rattle.std.specs.Prelude.{ℕ, suc, ◌+◌, ℤ, List, [], ◌∷◌, ◌++◌, length, map, take, drop, sum}
+use Rattle.std.specs.Prelude.{◌≡◌, ◌<◌, Bool, true, false, ◌&&◌, nat_le, nat_lt, Option, Some, None}
+use Rattle.std.specs.Prelude.{Result, Ok, Err}
+use Rattle.strc_syntax.specs.declared.tree.ItemType.{ItemType}
+use Rattle.strc_syntax.specs.declared.tree.ItemType.TheVariants as item
+use Rattle.strc_semantics.specs.Firing as firing
+use Rattle.strc_semantics.specs.Filters as filters
+use Rattle.strc_semantics.specs.declared.fault.Cause.{Cause}
+use Rattle.strc_semantics.specs.declared.fault.Halt.{Halt}
+use Rattle.strc_semantics.specs.declared.fault.Halt.TheVariants as halt
+use Rattle.strc_semantics.specs.declared.word.Word.{Word}
+use Rattle.strc_inst.specs.Running.{MoreWords}
+use Rattle.strc_graph.specs.Graphs as graphs
+use Rattle.strc_graph.specs.Graphs.{NodeCode, SplitterCode, Duplicate, Roundrobin}
+use Rattle.strc_graph.specs.Meaning.{line_of}
+use Rattle.strc_graph.specs.Rates.{body_at, filter_window, filter_pops}
+use Rattle.strc_sched.specs.Rings.{Ring, at_port, items_at, taken, given, moved, dealt_out}
+use Rattle.strc_sched.specs.Rings.{copied_out, gathered_in}
+
+-- what a firing came to: it didn't find its windows; or it left these fields and rings, and wrote
+-- words; or it faulted
+pub data Step : Type 0 where
+  Stays : Step
+  Goes : (fields : List ℤ) → (rings : List Ring) → (words : List Word) → Step
+  Faults : Cause → Step
+
+-- a firing that finds its windows, or doesn't
+abbrev pub if_found : Bool → Step → Step
+if_found true step = step
+if_found false step = Stays
+
+-- a firing of a filter, by what its text does
+abbrev pub filter_after : (pops : ℕ) → (input output : Option ℕ) → List Ring
+    → Result firing.Fired Cause → Step
+filter_after pops input output rings (Ok done) =
+    Goes done.fields (given output done.pushes (taken input pops rings)) done.words
+filter_after pops input output rings (Err cause) = Faults cause
+
+-- how many items a filter looks at where it takes any at all
+abbrev pub look_by : ItemType → (window : ℕ) → ℕ
+look_by item.Int window = window
+look_by item.Void window = 0
+
+abbrev pub filter_looks : filters.Filter → (firing : ℕ) → ℕ
+filter_looks filter number = look_by filter.input (filter_window filter number)
+
+abbrev pub filter_step : filters.Filter → (firing : ℕ) → (fields : List ℤ)
+    → (input output : Option ℕ) → List Ring → Step
+filter_step filter number fields input output rings =
+    if_found (nat_le (filter_looks filter number) (length (items_at rings input)))
+    (filter_after (filter_pops filter number) input output rings
+    (firing.fired filter (body_at number) fields (items_at rings input)))
+
+-- whether each port holds as many items as its weight; ports are numbered from one on
+abbrev pub finds_weights : (weights : List ℕ) → (inputs : List (Option ℕ)) → (port : ℕ)
+    → List Ring → Bool
+finds_weights [] inputs port rings = true
+finds_weights (weight ∷ weights) inputs port rings =
+    nat_le weight (length (items_at rings (at_port inputs port)))
+    && finds_weights weights inputs (suc port) rings
+
+abbrev pub duplicate_step : (carried : List Bool) → (input : Option ℕ)
+    → (outputs : List (Option ℕ)) → List Ring → Step
+duplicate_step carried input outputs rings =
+    if_found (nat_le 1 (length (items_at rings input)))
+    (Goes [] (copied_out carried outputs (take 1 (items_at rings input)) 0 (taken input 1 rings)) [])
+
+abbrev pub roundrobin_step : (weights : List ℕ) → (input : Option ℕ)
+    → (outputs : List (Option ℕ)) → List Ring → Step
+roundrobin_step weights input outputs rings =
+    if_found (nat_le (sum weights) (length (items_at rings input)))
+    (Goes [] (dealt_out weights input outputs 0 rings) [])
+
+abbrev pub splitter_step : SplitterCode → (input : Option ℕ) → (outputs : List (Option ℕ))
+    → List Ring → Step
+splitter_step (Duplicate carried) input outputs rings =
+    duplicate_step carried input outputs rings
+splitter_step (Roundrobin weights) input outputs rings =
+    roundrobin_step weights input outputs rings
+
+abbrev pub identity_step : (input output : Option ℕ) → List Ring → Step
+identity_step input output rings =
+    if_found (nat_le 1 (length (items_at rings input))) (Goes [] (moved input output 1 rings) [])
+
+-- a reader's firing gives the item of its number
+abbrev pub reader_step : (firing : ℕ) → (output : Option ℕ) → (input : List ℤ) → List Ring → Step
+reader_step firing output input rings =
+    if_found (nat_lt firing (length input))
+    (Goes [] (given output (take 1 (drop firing input)) rings) [])
+
+abbrev pub writer_step : (input : Option ℕ) → List Ring → Step
+writer_step input rings =
+    if_found (nat_le 1 (length (items_at rings input)))
+    (Goes [] (taken input 1 rings) (map line_of (take 1 (items_at rings input))))
+
+abbrev pub joiner_step : (weights : List ℕ) → (inputs : List (Option ℕ)) → (output : Option ℕ)
+    → List Ring → Step
+joiner_step weights inputs output rings =
+    if_found (finds_weights weights inputs 0 rings)
+    (Goes [] (gathered_in weights inputs output 0 rings) [])
+
+-- a firing of a node by its number since the beginning, from these values of its fields, over the
+-- rings at its ports, and over the program's input; the nodes of fission don't fire
+abbrev pub node_step : NodeCode → (firing : ℕ) → (fields : List ℤ)
+    → (inputs outputs : List (Option ℕ)) → (input : List ℤ) → List Ring → Step
+node_step (graphs.Filter name filter) number fields inputs outputs input rings =
+    filter_step filter number fields (at_port inputs 0) (at_port outputs 0) rings
+node_step graphs.Identity number fields inputs outputs input rings =
+    identity_step (at_port inputs 0) (at_port outputs 0) rings
+node_step graphs.FileReader number fields inputs outputs input rings =
+    reader_step number (at_port outputs 0) input rings
+node_step graphs.FileWriter number fields inputs outputs input rings =
+    writer_step (at_port inputs 0) rings
+node_step (graphs.Splitter splitter) number fields inputs outputs input rings =
+    splitter_step splitter (at_port inputs 0) outputs rings
+node_step (graphs.Joiner weights) number fields inputs outputs input rings =
+    joiner_step weights inputs (at_port outputs 0) rings
+node_step _ number fields inputs outputs input rings = Stays
+
+-- the same where there may be no such node
+abbrev pub maybe_step : Option NodeCode → (firing : ℕ) → (fields : List ℤ)
+    → (inputs outputs : List (Option ℕ)) → (input : List ℤ) → List Ring → Step
+maybe_step None number fields inputs outputs input rings = Stays
+maybe_step (Some code) number fields inputs outputs input rings =
+    node_step code number fields inputs outputs input rings
+
+-- each ring that stands at a port is one of so many
+abbrev pub AreRings : (count : ℕ) → List (Option ℕ) → Type 0
+AreRings count ports = (port number : ℕ) → at_port ports port ≡ Some number → number < count
+
+-- an answer tells whether a node without fields fired, and what it left; out of memory tells nothing
+abbrev pub HasMoved : {E : Type 0} → Step → Result Bool E → (before rings : List Ring) → Type 0
+HasMoved step (Ok true) before rings = step ≡ Goes [] rings []
+HasMoved step (Ok false) before rings = (step ≡ Stays) × (rings ≡ before)
+HasMoved step (Err refused) before rings = Unit {0}
+
+-- an answer tells whether a node fired, what it left, and that its words stand after those before
+-- it; or its fault; out of memory tells nothing
+abbrev pub HasStepped : Step → Result Bool Halt → (fields_before fields : List ℤ)
+    → (rings_before rings : List Ring) → (words_before words : List Word) → Type 0
+HasStepped step (Ok true) fields_before fields rings_before rings words_before words =
+    (more : List Word) × (step ≡ Goes fields rings more) × (words ≡ words_before ++ more)
+HasStepped step (Ok false) fields_before fields rings_before rings words_before words =
+    (step ≡ Stays) × (fields ≡ fields_before) × (rings ≡ rings_before) × (words ≡ words_before)
+HasStepped step (Err (halt.Fault cause)) fields_before fields rings_before rings words_before
+    words = (step ≡ Faults cause) × MoreWords words_before words
+HasStepped step (Err halt.NoMemory) fields_before fields rings_before rings words_before words =
+    MoreWords words_before words
+
+-- a node that is no filter
+abbrev pub IsPassive : NodeCode → Type 0
+IsPassive (graphs.Filter name filter) = ⊥
+IsPassive code = Unit {0}

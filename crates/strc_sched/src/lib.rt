@@ -1,0 +1,3 @@
+#![tactic(auto)]
+pub mod ring;
+pub mod wiring;

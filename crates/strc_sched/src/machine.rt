@@ -1,0 +1,216 @@
+// The machine that fires a graph's nodes over rings.
+
+ghost use Rattle.std.specs.Prelude.{◌≡◌, ◌<◌, IfOk, length};
+ghost use Rattle.strc_graph.specs.NodeView.{graph_view};
+ghost use Rattle.strc_order.specs.Greedy.{firings_of};
+ghost use Rattle.strc_order.specs.Order.{repeated};
+ghost use Rattle.strc_sched.specs.Actors.{AreActors, AreStartable, AreClosed};
+ghost use Rattle.strc_sched.specs.Circuits.{circuit_view, IsCircuit};
+ghost use Rattle.strc_sched.specs.Machine as spec;
+ghost use Rattle.strc_sched.specs.Running.{HasDone, HasGone, IsFirst, IsMachine, machine_view};
+
+use crate::actor::{Actor, start_actors};
+use crate::circuit::Circuit;
+use crate::filter::fire_filter;
+use crate::movers::ring_of;
+use crate::passing::fire_passive;
+use crate::ring::{Ring, first_rings};
+use std::alloc::Global;
+use strc_base::memory::NoMemory;
+use strc_graph::graph::{Graph, Node};
+use strc_order::unit::Unit;
+use strc_semantics::fault::{Cause, Halt};
+use strc_semantics::word::Word;
+
+/// What a run has come to.
+#[derive(Drop)]
+pub(crate) struct Machine {
+    /// What each node keeps between firings.
+    actors: Vec<Actor>,
+    /// How often each node has fired.
+    fired: Vec<u64>,
+    /// The items on each channel.
+    rings: Vec<Ring>,
+    /// Room for items on their way from ring to ring.
+    items: Vec<i32>,
+    words: Vec<Word>,
+}
+
+/// Why a run ends early.
+#[derive(Clone, Copy)]
+pub(crate) enum Stop {
+    Fault {
+        node: u32,
+        firing: u64,
+        cause: Cause,
+    },
+    NoMemory,
+}
+
+impl Machine {
+    /// Before the first firing: on each channel are its enqueued items.
+    pub(crate) fn new(
+        alloc: Global,
+        graph: &Graph,
+        circuit: &Circuit,
+        sizes: &[u32],
+    ) -> Result<Machine, NoMemory>
+        requires circuit { IsCircuit (graph_view graph.now) (circuit_view circuit.now) }
+        requires starts { AreStartable (graph_view graph.now).nodes }
+        ensures machine { IfOk result (IsMachine (circuit_view circuit.now)) }
+        ensures first { IfOk result (λ machine. IsFirst (graph_view graph.now) sizes.now
+            (machine_view machine)) }
+        ensures known { IfOk result (λ machine. AreClosed (graph_view graph.now).nodes) }
+    {
+        let actors = start_actors(alloc, graph.nodes())?;
+        let fired = Vec::from_elem(alloc, 0, graph.nodes().len())?;
+        let rings = first_rings(alloc, graph.channels(), sizes)?;
+        let items = Vec::with_capacity(alloc, greatest(sizes))?;
+        Ok(Machine {
+            actors,
+            fired,
+            rings,
+            items,
+            words: Vec::new(alloc),
+        })
+    }
+
+    /// Fires the nodes of units, each as often as its unit says, until one faults.
+    pub(crate) fn fire_units(&mut self, circuit: &Circuit, units: &[Unit]) -> Result<(), Stop>
+        requires machine { IsMachine (circuit_view circuit.now) self.old }
+        ensures machine { IsMachine (circuit_view circuit.now) self.new }
+        ensures gone { HasGone (spec.order_run (circuit_view circuit.now) (firings_of units.now)
+            (machine_view self.old)) result (machine_view self.old).words (machine_view self.new) }
+    {
+        for unit in units {
+            match self.fire_unit(circuit, unit) {
+                Ok(()) => {}
+                Err(stop) => return Err(stop),
+            }
+        }
+        Ok(())
+    }
+
+    /// Fires a unit's nodes in turn, and the whole list a number of times.
+    fn fire_unit(&mut self, circuit: &Circuit, unit: &Unit) -> Result<(), Stop>
+        requires machine { IsMachine (circuit_view circuit.now) self.old }
+        ensures machine { IsMachine (circuit_view circuit.now) self.new }
+        ensures gone { HasGone (spec.order_run (circuit_view circuit.now)
+            (repeated unit.now.turns unit.now.nodes.items) (machine_view self.old)) result
+            (machine_view self.old).words (machine_view self.new) }
+    {
+        for _turn in 0..unit.turns {
+            match self.fire_nodes(circuit, &unit.nodes) {
+                Ok(()) => {}
+                Err(stop) => return Err(stop),
+            }
+        }
+        Ok(())
+    }
+
+    /// Fires nodes in turn.
+    fn fire_nodes(&mut self, circuit: &Circuit, nodes: &[u32]) -> Result<(), Stop>
+        requires machine { IsMachine (circuit_view circuit.now) self.old }
+        ensures machine { IsMachine (circuit_view circuit.now) self.new }
+        ensures gone { HasGone (spec.order_run (circuit_view circuit.now) nodes.now
+            (machine_view self.old)) result (machine_view self.old).words (machine_view self.new) }
+    {
+        for node in nodes {
+            match self.fire(circuit, *node) {
+                Ok(()) => {}
+                Err(stop) => return Err(stop),
+            }
+        }
+        Ok(())
+    }
+
+    /// Fires a node once, where there is one and it finds its windows.
+    fn fire(&mut self, circuit: &Circuit, node: u32) -> Result<(), Stop>
+        requires machine { IsMachine (circuit_view circuit.now) self.old }
+        ensures machine { IsMachine (circuit_view circuit.now) self.new }
+        ensures gone { HasGone (spec.after_step (machine_view self.old) node
+            (spec.next_step (circuit_view circuit.now) (machine_view self.old) node)) result
+            (machine_view self.old).words (machine_view self.new) }
+    {
+        let place = node as usize;
+        if place >= circuit.nodes.len() {
+            return Ok(());
+        }
+        let firing = self.fired[place];
+        match self.step(circuit, place, firing) {
+            Ok(true) => {
+                self.fired[place] = firing.saturating_add(1);
+                Ok(())
+            }
+            Ok(false) => Ok(()),
+            Err(Halt::Fault(cause)) => Err(Stop::Fault {
+                node,
+                firing,
+                cause,
+            }),
+            Err(Halt::NoMemory) => Err(Stop::NoMemory),
+        }
+    }
+
+    /// One firing of a node, by its number. Whether it found its windows; if not, it leaves all as it
+    /// was.
+    fn step(&mut self, circuit: &Circuit, node: usize, firing: u64) -> Result<bool, Halt>
+        requires machine { IsMachine (circuit_view circuit.now) self.old }
+        requires node { node < length circuit.now.nodes.now }
+        ensures machine { IsMachine (circuit_view circuit.now) self.new }
+        ensures fired { self.new.fired ≡ self.old.fired }
+        ensures step { HasDone (spec.step_at (circuit_view circuit.now) (machine_view self.old) node
+            firing) node result (machine_view self.old) (machine_view self.new) }
+    {
+        let inputs = circuit.inputs.at(node);
+        let outputs = circuit.outputs.at(node);
+        match &circuit.nodes[node] {
+            Node::Filter(instance) => match &mut self.actors[node] {
+                Actor::Filter(actor) => fire_filter(
+                    &instance.code,
+                    firing,
+                    actor,
+                    &mut self.rings,
+                    ring_of(inputs, 0),
+                    ring_of(outputs, 0),
+                    &mut self.words,
+                ),
+                Actor::Passive => unreachable!(),
+            },
+            passive => fire_passive(
+                passive,
+                firing,
+                inputs,
+                outputs,
+                circuit.input,
+                &mut self.rings,
+                &mut self.items,
+                &mut self.words,
+            ),
+        }
+    }
+
+    /// The words, taken out.
+    pub(crate) fn into_words(self) -> Vec<Word>
+        ensures { result.items ≡ (machine_view self).words }
+    {
+        let Machine { words, .. } = self;
+        words
+    }
+
+    /// How many words there are.
+    pub(crate) fn word_count(&self) -> usize
+        ensures { result ≡ length (machine_view self.now).words }
+    {
+        self.words.len()
+    }
+}
+
+/// The greatest of some sizes.
+fn greatest(sizes: &[u32]) -> usize {
+    let mut greatest = 0;
+    for size in sizes {
+        greatest = greatest.max(*size);
+    }
+    greatest as usize
+}

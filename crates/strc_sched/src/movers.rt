@@ -1,0 +1,187 @@
+// Firings of the nodes that only pass items on: identities, readers, writers, splitters, joiners.
+// Each tells whether it found its windows; if not, it leaves all as it was.
+
+ghost use Rattle.std.specs.Prelude.{◌≡◌, ◌<◌, Ok, OnOk, IfSome, length};
+ghost use Rattle.strc_sched.specs.Rings as spec;
+ghost use Rattle.strc_sched.specs.Rings.{at_port};
+ghost use Rattle.strc_sched.specs.Steps as steps;
+ghost use Rattle.strc_sched.specs.Steps.{AreRings, HasMoved, HasStepped};
+
+use crate::ring::{Ring, copy_front, count_at, give_to, move_items, take_from};
+use std::alloc::AllocError;
+use strc_semantics::fault::Halt;
+use strc_semantics::word::Word;
+
+/// The ring at a port; none where the node has no such port.
+pub(crate) fn ring_of(ports: &[Option<usize>], port: usize) -> Option<usize>
+    ensures { result ≡ at_port ports.now port }
+{
+    if port < ports.len() { ports[port] } else { None }
+}
+
+/// One firing of an identity.
+pub(crate) fn fire_identity(
+    rings: &mut [Ring],
+    input: Option<usize>,
+    output: Option<usize>,
+    items: &mut Vec<i32>,
+) -> Result<bool, AllocError>
+    requires input { IfSome input (λ number. number < length rings.old) }
+    requires output { IfSome output (λ number. number < length rings.old) }
+    ensures { HasMoved (steps.identity_step input output rings.old) result rings.old rings.new }
+{
+    if count_at(rings, input) == 0 {
+        return Ok(false);
+    }
+    move_items(rings, input, output, 1, items)?;
+    Ok(true)
+}
+
+/// One firing of a reader, by its number: it gives the item of that number.
+pub(crate) fn fire_reader(
+    rings: &mut [Ring],
+    firing: u64,
+    output: Option<usize>,
+    input: &[i32],
+) -> bool
+    requires output { IfSome output (λ number. number < length rings.old) }
+    ensures { HasMoved (steps.reader_step firing output input.now rings.old)
+        (Ok {E = Unit {0}} result) rings.old rings.new }
+{
+    if firing >= input.len() as u64 {
+        return false;
+    }
+    let place = firing as usize;
+    give_to(rings, output, &input[place..place + 1]);
+    true
+}
+
+/// One firing of a writer: a line for an item.
+pub(crate) fn fire_writer(
+    rings: &mut [Ring],
+    input: Option<usize>,
+    words: &mut Vec<Word>,
+) -> Result<bool, Halt>
+    requires input { IfSome input (λ number. number < length rings.old) }
+    ensures { HasStepped (steps.writer_step input rings.old) result [] [] rings.old rings.new
+        words.old.items words.new.items }
+{
+    let Some(number) = input else {
+        return Ok(false);
+    };
+    let Some(item) = rings[number].front() else {
+        return Ok(false);
+    };
+    let word = Word {
+        value: *item,
+        ends_line: true,
+    };
+    if words.push(word).is_err() {
+        return Err(Halt::NoMemory);
+    }
+    take_from(rings, input, 1);
+    Ok(true)
+}
+
+/// One firing of a duplicating splitter: each port that carries items gets the item.
+pub(crate) fn fire_duplicate(
+    rings: &mut [Ring],
+    carried: &[bool],
+    input: Option<usize>,
+    outputs: &[Option<usize>],
+    items: &mut Vec<i32>,
+) -> Result<bool, AllocError>
+    requires input { IfSome input (λ number. number < length rings.old) }
+    requires outputs { AreRings (length rings.old) outputs.now }
+    ensures { HasMoved (steps.duplicate_step carried.now input outputs.now rings.old) result
+        rings.old rings.new }
+{
+    if count_at(rings, input) == 0 {
+        return Ok(false);
+    }
+    copy_front(rings, input, 1, items)?;
+    take_from(rings, input, 1);
+    copy_out(rings, carried, outputs, items);
+    Ok(true)
+}
+
+/// Items go to each port that carries items.
+fn copy_out(rings: &mut [Ring], carried: &[bool], outputs: &[Option<usize>], items: &[i32])
+    requires outputs { AreRings (length rings.old) outputs.now }
+    ensures { rings.new ≡ spec.copied_out carried.now outputs.now items.now 0 rings.old }
+{
+    for port in 0..carried.len() {
+        if carried[port] {
+            give_to(rings, ring_of(outputs, port), items);
+        }
+    }
+}
+
+/// One firing of a round-robin splitter: each port gets as many items as its weight, in turn.
+pub(crate) fn fire_splitter(
+    rings: &mut [Ring],
+    weights: &[u32],
+    input: Option<usize>,
+    outputs: &[Option<usize>],
+    items: &mut Vec<i32>,
+) -> Result<bool, AllocError>
+    requires input { IfSome input (λ number. number < length rings.old) }
+    requires outputs { AreRings (length rings.old) outputs.now }
+    ensures { HasMoved (steps.roundrobin_step weights.now input outputs.now rings.old) result
+        rings.old rings.new }
+{
+    if (count_at(rings, input) as u128) < total(weights) {
+        return Ok(false);
+    }
+    for port in 0..weights.len() {
+        move_items(
+            rings,
+            input,
+            ring_of(outputs, port),
+            weights[port] as usize,
+            items,
+        )?;
+    }
+    Ok(true)
+}
+
+/// One firing of a joiner: as many items of each port as its weight, in turn.
+pub(crate) fn fire_joiner(
+    rings: &mut [Ring],
+    weights: &[u32],
+    inputs: &[Option<usize>],
+    output: Option<usize>,
+    items: &mut Vec<i32>,
+) -> Result<bool, AllocError>
+    requires inputs { AreRings (length rings.old) inputs.now }
+    requires output { IfSome output (λ number. number < length rings.old) }
+    ensures { HasMoved (steps.joiner_step weights.now inputs.now output rings.old) result rings.old
+        rings.new }
+{
+    if !have_weights(rings, weights, inputs) {
+        return Ok(false);
+    }
+    for port in 0..weights.len() {
+        move_items(
+            rings,
+            ring_of(inputs, port),
+            output,
+            weights[port] as usize,
+            items,
+        )?;
+    }
+    Ok(true)
+}
+
+/// Whether each port holds as many items as its weight.
+fn have_weights(rings: &[Ring], weights: &[u32], inputs: &[Option<usize>]) -> bool
+    requires inputs { AreRings (length rings.now) inputs.now }
+    ensures { result ≡ steps.finds_weights weights.now inputs.now 0 rings.now }
+{
+    for port in 0..weights.len() {
+        if count_at(rings, ring_of(inputs, port)) < weights[port] as usize {
+            return false;
+        }
+    }
+    true
+}

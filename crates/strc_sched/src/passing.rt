@@ -1,0 +1,59 @@
+// A firing of a node that keeps nothing between firings, whatever its kind.
+
+ghost use Rattle.std.specs.Prelude.{◌<◌, [], length};
+ghost use Rattle.strc_graph.specs.NodeView.{node_view};
+ghost use Rattle.strc_sched.specs.Steps as steps;
+ghost use Rattle.strc_sched.specs.Steps.{AreRings, HasStepped, IsPassive};
+
+use crate::movers::{fire_duplicate, fire_identity, fire_joiner, fire_reader, fire_splitter};
+use crate::movers::{fire_writer, ring_of};
+use crate::ring::Ring;
+use std::alloc::AllocError;
+use strc_graph::graph::{Node, Splitter};
+use strc_semantics::fault::Halt;
+use strc_semantics::word::Word;
+
+/// One firing, by its number. Whether it found its windows; if not, it leaves all as it was.
+pub(crate) fn fire_passive(
+    node: &Node,
+    firing: u64,
+    inputs: &[Option<usize>],
+    outputs: &[Option<usize>],
+    input: &[i32],
+    rings: &mut [Ring],
+    items: &mut Vec<i32>,
+    words: &mut Vec<Word>,
+) -> Result<bool, Halt>
+    requires passive { IsPassive (node_view node.now) }
+    requires inputs { AreRings (length rings.old) inputs.now }
+    requires outputs { AreRings (length rings.old) outputs.now }
+    ensures rings { length rings.new ≡ length rings.old }
+    ensures { HasStepped (steps.node_step (node_view node.now) firing [] inputs.now outputs.now
+        input.now rings.old) result [] [] rings.old rings.new words.old.items words.new.items }
+{
+    if let Node::FileWriter = node {
+        return fire_writer(rings, ring_of(inputs, 0), words);
+    }
+    let moved = match node {
+        Node::Identity => fire_identity(rings, ring_of(inputs, 0), ring_of(outputs, 0), items),
+        Node::FileReader => Ok(fire_reader(rings, firing, ring_of(outputs, 0), input)),
+        Node::Splitter(Splitter::Duplicate(carried)) => {
+            fire_duplicate(rings, carried, ring_of(inputs, 0), outputs, items)
+        }
+        Node::Splitter(Splitter::Roundrobin(weights)) => {
+            fire_splitter(rings, weights, ring_of(inputs, 0), outputs, items)
+        }
+        Node::Joiner(weights) => {
+            fire_joiner(rings, weights, inputs, ring_of(outputs, 0), items)
+        }
+        Node::Filter(_)
+        | Node::FileWriter
+        | Node::Scatter(_)
+        | Node::Copy(_, _)
+        | Node::Gather(_) => Ok(false),
+    };
+    match moved {
+        Ok(fired) => Ok(fired),
+        Err(AllocError) => Err(Halt::NoMemory),
+    }
+}

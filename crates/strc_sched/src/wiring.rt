@@ -1,0 +1,72 @@
+// Which ring stands at each port of a graph's nodes.
+
+ghost use Rattle.std.specs.Prelude.{◌≡◌, ◌<◌, ◌∷◌, length, map, take, replicate, None, Some};
+ghost use Rattle.std.specs.Prelude.{slice_set, slice_index_or, All, IfOk};
+ghost use Rattle.strc_sched.specs.Wiring.{unwired, ports_at, HasPort, IsWired};
+
+use std::alloc::{AllocError, Global};
+use std::marker::Model;
+use strc_graph::graph::Port;
+
+/// For each port of each node the number of the ring that stands there. Contracts see lists.
+#[derive(Drop)]
+pub(crate) struct PortRings {
+    rings: Vec<Vec<Option<usize>>>,
+}
+
+impl Model for PortRings {
+    ghost use Rattle.std.specs.Prelude.{ℕ, List, Option, map};
+
+    ghost Value = { List (List (Option ℕ)) };
+
+    ghost view = { λ p. map (λ rings. rings.items) p.rings.items };
+}
+
+impl PortRings {
+    /// A ring for each of these ends of channels, by their numbers, at nodes with so many ports.
+    pub(crate) fn wired(
+        alloc: Global,
+        counts: &[usize],
+        ends: &[Port],
+    ) -> Result<PortRings, AllocError>
+        requires ends { All (HasPort counts.now) ends.now }
+        ensures wired { IfOk result (IsWired ends.now) }
+        ensures nodes { IfOk result (λ rings. length rings ≡ length counts.now) }
+    {
+        let mut rings = PortRings::unwired(alloc, counts)?;
+        for number in 0..ends.len() {
+            let end = ends[number];
+            rings.put(end.node as usize, end.port as usize, number);
+        }
+        Ok(rings)
+    }
+
+    /// No ring stands at any of so many ports of each node.
+    fn unwired(alloc: Global, counts: &[usize]) -> Result<PortRings, AllocError>
+        ensures { IfOk result (λ rings. rings ≡ unwired counts.now) }
+    {
+        let mut rings = Vec::with_capacity(alloc, counts.len())?;
+        for count in counts {
+            rings.push(Vec::from_elem(alloc, None, *count)?)?;
+        }
+        Ok(PortRings { rings })
+    }
+
+    /// A ring stands at a port.
+    fn put(&mut self, node: usize, port: usize, ring: usize)
+        requires node { node < length self.old }
+        requires port { port < length (ports_at self.old node) }
+        ensures { self.new ≡ slice_set self.old node
+            (slice_set (ports_at self.old node) port (Some ring)) }
+    {
+        self.rings[node][port] = Some(ring);
+    }
+
+    /// The rings at a node's ports.
+    pub(crate) fn at(&self, node: usize) -> &[Option<usize>]
+        requires { node < length self.now }
+        ensures { result.now ≡ ports_at self.now node }
+    {
+        self.rings[node].as_slice()
+    }
+}
