@@ -1,7 +1,7 @@
 // Firings of the nodes that only pass items on: identities, readers, writers, splitters, joiners.
 // Each tells whether it found its windows; if not, it leaves all as it was.
 
-ghost use Rattle.std.specs.Prelude.{◌≡◌, ◌<◌, Ok, OnOk, IfSome, length};
+ghost use Rattle.std.specs.Prelude.{◌≡◌, ◌<◌, Ok, IfSome, length, sum};
 ghost use Rattle.strc_sched.specs.Rings as spec;
 ghost use Rattle.strc_sched.specs.Rings.{at_port};
 ghost use Rattle.strc_sched.specs.Steps as steps;
@@ -130,7 +130,7 @@ pub(crate) fn fire_splitter(
     ensures { HasMoved (steps.roundrobin_step weights.now input outputs.now rings.old) result
         rings.old rings.new }
 {
-    if (count_at(rings, input) as u128) < total(weights) {
+    if (count_at(rings, input) as u128) < cycle_length(weights) {
         return Ok(false);
     }
     for port in 0..weights.len() {
@@ -143,6 +143,17 @@ pub(crate) fn fire_splitter(
         )?;
     }
     Ok(true)
+}
+
+/// How many items a splitter deals in turn: all weights together.
+fn cycle_length(weights: &[u32]) -> u128
+    ensures length { result ≡ sum weights.now }
+{
+    let mut length: u128 = 0;
+    for weight in weights {
+        length += u128::from(*weight);
+    }
+    length
 }
 
 /// One firing of a joiner: as many items of each port as its weight, in turn.

@@ -1,6 +1,6 @@
 // A firing of a node that keeps nothing between firings, whatever its kind.
 
-ghost use Rattle.std.specs.Prelude.{◌<◌, [], length};
+ghost use Rattle.std.specs.Prelude.{◌≡◌, [], length};
 ghost use Rattle.strc_graph.specs.NodeView.{node_view};
 ghost use Rattle.strc_sched.specs.Steps as steps;
 ghost use Rattle.strc_sched.specs.Steps.{AreRings, HasStepped, IsPassive};
@@ -28,7 +28,7 @@ pub(crate) fn fire_passive(
     requires inputs { AreRings (length rings.old) inputs.now }
     requires outputs { AreRings (length rings.old) outputs.now }
     ensures rings { length rings.new ≡ length rings.old }
-    ensures { HasStepped (steps.node_step (node_view node.now) firing [] inputs.now outputs.now
+    ensures step { HasStepped (steps.node_step (node_view node.now) firing [] inputs.now outputs.now
         input.now rings.old) result [] [] rings.old rings.new words.old.items words.new.items }
 {
     if let Node::FileWriter = node {

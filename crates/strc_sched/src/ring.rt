@@ -40,6 +40,7 @@ fn first_ring(alloc: Global, channel: &Channel, size: u32) -> Result<Ring, Alloc
 }
 
 /// The items at a port, in the two pieces in which a ring has them.
+#[derive(Clone, Copy)]
 pub(crate) struct RingWindow<'a> {
     front: &'a [i32],
     back: &'a [i32],
