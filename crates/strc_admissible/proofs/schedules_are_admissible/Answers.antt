@@ -1,0 +1,5 @@
+use Rattle.strc_admissible.proofs.Splitting.{fits_from, fit_split}
+use Rattle.strc_admissible.proofs.schedules_are_admissible.Goals as goal
+
+pub returns : goal.returns
+returns c = ?
