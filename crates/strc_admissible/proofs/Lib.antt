@@ -1,3 +1,6 @@
 pub mod Splitting
 pub mod Codes
 pub mod Totals
+pub mod Supplies
+pub mod Windows
+pub mod Orders

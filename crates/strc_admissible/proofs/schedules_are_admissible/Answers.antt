@@ -1,6 +1,5 @@
 use Rattle.strc_admissible.proofs.Splitting.{fits_from, fit_split}
-use Rattle.strc_admissible.proofs.Codes.{code_is}
-use Rattle.strc_admissible.proofs.Totals.{pushed_is}
+use Rattle.strc_admissible.proofs.Orders.{generic_order}
 use Rattle.strc_admissible.proofs.schedules_are_admissible.Goals as goal
 
 pub returns : goal.returns
