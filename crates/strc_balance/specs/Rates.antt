@@ -1,19 +1,12 @@
 -- The balance equations of a graph, by the rates of `work` (Lee and Messerschmitt 1987).
-use Rattle.std.specs.Prelude.{ℕ, ◌<◌, Bool, true, false, List, map, length, slice_get}
+use Rattle.std.specs.Prelude.{ℕ, ◌<◌, List, map, length, slice_get}
 use Rattle.std.specs.Prelude.{if◌then◌else◌}
 use Rattle.std.specs.Option.{option_map_or}
-use Rattle.strc_graph.specs.Graphs as graphs
 use Rattle.strc_graph.specs.Graphs.{NodeCode, Channel, Graph}
 use Rattle.strc_graph.specs.Rates.{pops_at, pushes_at}
+pub use Rattle.strc_graph.specs.Rates.{fires_by_rounds}
 use Rattle.strc_graph.specs.declared.graph.Port.{Port}
 use Rattle.strc_balance.specs.declared.equation.Equation.{Equation}
-
--- scatters, copies and gathers fire by rounds that are known before: they have no rates by `work`
-abbrev pub fires_by_rounds : NodeCode → Bool
-fires_by_rounds (graphs.Scatter fission) = true
-fires_by_rounds (graphs.Copy name filter fission) = true
-fires_by_rounds (graphs.Gather fission) = true
-fires_by_rounds _ = false
 
 -- the rates by `work` are those of each firing after the first one
 abbrev pub pops_by_work : NodeCode → (port : ℕ) → ℕ

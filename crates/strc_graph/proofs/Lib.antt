@@ -1,3 +1,5 @@
 pub mod Carriers
 pub mod Works
 pub mod Idle
+pub mod Firings
+pub mod Quiet

@@ -1,8 +1,10 @@
 -- What a run of a flat graph stands on, as laws about all graphs.
-use Rattle.std.specs.Prelude.{◌≡◌, ℕ, true, ℤ, List}
+use Rattle.std.specs.Prelude.{◌≡◌, ℕ, ◌<◌, Bool, true, ℤ, List, map, sum, if◌then◌else◌}
 use Rattle.strc_dataflow.specs.Flat.{Graph}
 use Rattle.strc_dataflow.specs.Answer.{whole_run}
-use Rattle.strc_graph.specs.Graphs.{NodeCode, reads_input}
+use Rattle.strc_dataflow.specs.RoundRobin.{IsRoundRobinSplitter, IsDuplicateSplitter}
+use Rattle.strc_dataflow.specs.RoundRobin.{IsRoundRobinJoiner}
+use Rattle.strc_graph.specs.Graphs.{NodeCode, Splitter, Joiner, Duplicate, Roundrobin, reads_input}
 use Rattle.strc_graph.specs.Carriers.{carries_in}
 use Rattle.strc_graph.specs.Meaning.{node_meaning}
 
@@ -18,3 +20,17 @@ OnlyCarriersMatter =
     → (input : List ℤ) (startup_order round_order : List ℕ) (rounds : ℕ)
     → whole_run node_meaning a input round_order startup_order rounds
     ≡ whole_run node_meaning b input round_order startup_order rounds
+
+-- the weight of a port of a duplicating splitter: one where it carries items
+abbrev pub carried_weight : Bool → ℕ
+carried_weight carries = if carries then 1 else 0
+
+-- Splitters and joiners are those of the generic layer, whose runs over whole lists are formulas on
+-- places.
+abbrev pub NodesSplitAndJoin : Type 0
+NodesSplitAndJoin =
+    (weights : List ℕ) (carried : List Bool)
+    → (0 < sum weights
+    → IsRoundRobinSplitter node_meaning (Splitter (Roundrobin weights)) weights)
+    × IsDuplicateSplitter node_meaning (Splitter (Duplicate carried)) (map carried_weight carried)
+    × IsRoundRobinJoiner node_meaning (Joiner weights) weights

@@ -1,8 +1,8 @@
 -- How many items a firing of a node looks at, takes and gives at each of its ports (Lee and
 -- Messerschmitt 1987; StreamIt specification 2.1, "Filters" and "Split-joins"). The firings of a
 -- node are numbered from 0 over its whole life. A port that a node doesn't have has the rate 0.
-use Rattle.std.specs.Prelude.{ℕ, zero, suc, ◌+◌, ◌-◌, ◌*◌, ◌%◌, ◌==◌, nat_lt, false, List, sum}
-use Rattle.std.specs.Prelude.{slice_index, slice_index_or, if◌then◌else◌}
+use Rattle.std.specs.Prelude.{ℕ, zero, suc, ◌+◌, ◌-◌, ◌*◌, ◌%◌, ◌==◌, nat_lt, Bool, true, false, List}
+use Rattle.std.specs.Prelude.{sum, slice_index, slice_index_or, if◌then◌else◌}
 use Rattle.strc_syntax.specs.Tree as tree
 use Rattle.strc_semantics.specs.declared.body.Body.{Body}
 use Rattle.strc_semantics.specs.declared.body.Body.TheVariants as body
@@ -11,6 +11,13 @@ use Rattle.strc_semantics.specs.Filters.{window_size}
 use Rattle.strc_graph.specs.declared.graph.Fission.{Fission}
 use Rattle.strc_graph.specs.Graphs as graphs
 use Rattle.strc_graph.specs.Graphs.{NodeCode, SplitterCode, Duplicate, Roundrobin}
+
+-- scatters, copies and gathers fire by rounds that are known before
+abbrev pub fires_by_rounds : NodeCode → Bool
+fires_by_rounds (graphs.Scatter fission) = true
+fires_by_rounds (graphs.Copy name filter fission) = true
+fires_by_rounds (graphs.Gather fission) = true
+fires_by_rounds _ = false
 
 -- a rate at each of so many ports
 abbrev pub at_ports : (count rate port : ℕ) → ℕ

@@ -1,8 +1,13 @@
-// What a run of a flat graph stands on, as a law about all graphs.
+// What a run of a flat graph stands on, as laws about all graphs.
 
-ghost use Rattle.strc_graph.specs.Laws.{OnlyCarriersMatter};
+ghost use Rattle.strc_graph.specs.Laws.{NodesSplitAndJoin, OnlyCarriersMatter};
 
 /// What stands at a port that carries no items makes no difference to a run.
 pub fn only_carriers_matter()
     ensures { OnlyCarriersMatter }
+{}
+
+/// Splitters deal and joiners weave by the formulas on places of the generic layer.
+pub fn nodes_split_and_join()
+    ensures { NodesSplitAndJoin }
 {}

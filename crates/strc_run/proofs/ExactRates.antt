@@ -35,11 +35,11 @@ use Rattle.strc_graph.specs.Graphs.{NodeCode, ports_of, input_ports, output_port
 use Rattle.strc_graph.specs.Rates.{rate_at_0, body_at, window_at, pops_at, pushes_at}
 use Rattle.strc_graph.specs.Meaning.{node_fired, as_fired, node_meaning}
 use Rattle.strc_graph.proofs.Works.{rates_of_work, fired_as_work}
+use Rattle.strc_graph.proofs.Quiet.{then_ok, firing_quiet}
 use Rattle.strc_run.specs.declared.refusal.Refusal.{Refusal}
 use Rattle.strc_run.specs.Rates.{filter_checked, node_checked, then_check, rates_checked}
 use Rattle.strc_run.specs.Answers.{IsKnown, AreKnown, AreJoined, is_runnable_filter, is_runnable}
 use Rattle.strc_run.specs.Answers.{are_runnable, PrintsNothing, PrintsAtMostOnce}
-use Rattle.strc_run.proofs.QuietFirings.{then_ok, firing_quiet}
 
 -- a firing gives so many items, and prints only where the node's text does
 abbrev pub GivesItems : NodeCode → firing.Fired → Type 0
@@ -179,7 +179,7 @@ filter_gives name filter keeps pushes fields items =
     (λ done. length done.pushes ≡ ports_of filter.output)
     (keeps body.Work fields items) (λ store h. h.1 ∙ pushes))
     (quiet_if (firing.fired filter body.Work fields items) (filter_prints filter ≡ false)
-    (firing_quiet filter fields items))
+    (firing_quiet filter body.Work fields items))
 
 -- a runnable filter whose rates of work are the numbers of its ports
 settled_exact : (name : Option (List ℕ)) (filter : filters.Filter) → kept.KeepsRates filter

@@ -3,7 +3,6 @@ pub mod ExactRates
 pub mod Exclusion
 pub mod Instances
 pub mod NodeFirings
-pub mod QuietFirings
 pub mod PipelineAnswer
 pub mod Readiness
 pub mod Refusals

@@ -1,5 +1,6 @@
--- A firing prints only where its text does.
-use Rattle.std.proofs.Common.{◌≡◌, refl, ◌∙◌, ℕ, zero, suc, ◌+◌, ℤ, Bool, true, false, ◌||◌, List}
+-- A firing of a filter prints only where its text does, and one of a node only where the node can
+-- write words.
+use Rattle.std.proofs.Common.{◌≡◌, refl, subst, ◌∙◌, ℕ, zero, suc, ◌+◌, ℤ, Bool, true, false, ◌||◌, List}
 use Rattle.std.proofs.Common.{[], ◌∷◌, ◌++◌, length, Option, Some, None, Result, Ok, Err}
 use Rattle.std.specs.Prelude.{nat_lt, slice_get, if◌then◌else◌}
 use Rattle.std.specs.Result.{IfOk}
@@ -13,8 +14,9 @@ use Rattle.strc_semantics.specs.declared.fault.Cause.{Cause}
 use Rattle.strc_semantics.specs.declared.fault.Cause.TheVariants.{PeekRange, Turns}
 use Rattle.strc_semantics.specs.declared.word.Word.{Word}
 use Rattle.strc_semantics.specs.Arithmetic.{is_true, binary_value}
+use Rattle.strc_semantics.specs.declared.body.Body.{Body}
 use Rattle.strc_semantics.specs.declared.body.Body.TheVariants as body
-use Rattle.strc_semantics.specs.Filters.{Filter, work_block, stmt_prints, stmts_print}
+use Rattle.strc_semantics.specs.Filters.{Filter, work_block, body_block, stmt_prints, stmts_print}
 use Rattle.strc_semantics.specs.Filters.{filter_prints}
 use Rattle.strc_semantics.specs.Scoping.{cells_of}
 use Rattle.strc_semantics.specs.Firing.{Port, Traffic, Store, item_popped, looked_at, item_ahead}
@@ -22,7 +24,13 @@ use Rattle.strc_semantics.specs.Firing.{pushed_to, joined, value_of, assigned_va
 use Rattle.strc_semantics.specs.Firing.{cell_in, cell_set, declared_in, element_joined, element_set}
 use Rattle.strc_semantics.specs.Firing.{initial_cells, variables_declared, condition_value, turned}
 use Rattle.strc_semantics.specs.Firing.{turn_limit, looped, inside, stmt_done, stmts_done, store_at}
-use Rattle.strc_semantics.specs.Firing.{port_of, fired}
+use Rattle.strc_semantics.specs.Firing.{port_of, Fired, fired}
+use Rattle.strc_dataflow.specs.Node.{ByPort, Fired.Fires, Fired.Faults}
+use Rattle.strc_dataflow.specs.Node as generic
+use Rattle.strc_graph.specs.Graphs as graphs
+use Rattle.strc_graph.specs.Graphs.{NodeCode, gives_words}
+use Rattle.strc_graph.specs.Rates.{body_at}
+use Rattle.strc_graph.specs.Meaning.{node_fired, as_fired}
 
 or_first : (a b : Bool) → (a || b) ≡ false → a ≡ false
 or_first true b e = e
@@ -382,13 +390,54 @@ mutual
       (λ middle k. stmts_quiet port rest middle words
       (or_second (stmt_prints first) (stmts_print rest) none) k)
 
+-- a body of a filter that doesn't print
+body_silent : (fires : Body) (filter : Filter) → filter_prints filter ≡ false
+    → stmts_print (body_block fires filter.members) ≡ false
+body_silent body.Prework filter silent =
+    or_second (stmts_print (work_block filter.members))
+    (stmts_print (body_block body.Prework filter.members)) silent
+body_silent body.Work filter silent =
+    or_first (stmts_print (work_block filter.members))
+    (stmts_print (body_block body.Prework filter.members)) silent
+
 -- a firing of a filter that doesn't print has no words
-pub firing_quiet : (filter : Filter) (fields window : List ℤ) → filter_prints filter ≡ false
-    → IfOk (fired filter body.Work fields window) (λ done. done.words ≡ [])
-firing_quiet filter fields window silent =
-    then_ok (stmts_done (port_of filter body.Work window) (work_block filter.members)
+pub firing_quiet : (filter : Filter) (fires : Body) (fields window : List ℤ)
+    → filter_prints filter ≡ false
+    → IfOk (fired filter fires fields window) (λ done. done.words ≡ [])
+firing_quiet filter fires fields window silent =
+    then_ok (stmts_done (port_of filter fires window) (body_block fires filter.members)
     (store_at filter fields)) _ (λ after. after.traffic.words ≡ []) (λ done. done.words ≡ [])
-    (stmts_quiet (port_of filter body.Work window) (work_block filter.members)
-    (store_at filter fields) [] (or_first (stmts_print (work_block filter.members)) _ silent)
-    refl)
+    (stmts_quiet (port_of filter fires window) (body_block fires filter.members)
+    (store_at filter fields) [] (body_silent fires filter silent) refl)
     (λ store h. h)
+
+-- an outcome without words
+abbrev IsSilent : generic.Fired (List ℤ) Cause Word → Type 0
+IsSilent (Fires next pushes words) = words ≡ []
+IsSilent (Faults cause) = Unit {0}
+
+fired_silent : (result : Result Fired Cause) → IfOk result (λ done. done.words ≡ [])
+    → IsSilent (as_fired result)
+fired_silent (Ok done) h = h
+fired_silent (Err cause) h = tt
+
+node_silent : (code : NodeCode) (firing : ℕ) (fields : List ℤ) (seen : ByPort)
+    → gives_words code ≡ false → IsSilent (node_fired code firing fields seen)
+node_silent (graphs.Filter name filter) firing fields seen silent =
+    fired_silent (fired filter (body_at firing) fields (seen 0))
+    (firing_quiet filter (body_at firing) fields (seen 0) silent)
+node_silent graphs.Identity firing fields seen silent = refl
+node_silent graphs.FileReader firing fields seen silent = refl
+node_silent graphs.FileWriter firing fields seen silent = absurd (cc)
+node_silent (graphs.Splitter splitter) firing fields seen silent = refl
+node_silent (graphs.Joiner weights) firing fields seen silent = refl
+node_silent (graphs.Scatter fission) firing fields seen silent = refl
+node_silent (graphs.Copy name filter fission) firing fields seen silent = refl
+node_silent (graphs.Gather fission) firing fields seen silent = refl
+
+-- a firing of a node that can't write words has none
+pub node_quiet : (code : NodeCode) (firing : ℕ) (fields : List ℤ) (seen : ByPort)
+    (next : List ℤ) (pushes : ByPort) (words : List Word) → gives_words code ≡ false
+    → node_fired code firing fields seen ≡ Fires next pushes words → words ≡ []
+node_quiet code firing fields seen next pushes words silent fires =
+    subst IsSilent fires (node_silent code firing fields seen silent)
