@@ -12,7 +12,7 @@ use Rattle.strc_dataflow.proofs.WholeRun.{counted-tally}
 use Rattle.strc_graph.specs.Graphs.{NodeCode, Identity, FileReader, Graph, reads_input}
 use Rattle.strc_graph.specs.FlatGraphs.{IsProgram}
 use Rattle.strc_graph.specs.Meaning.{node_meaning}
-use Rattle.strc_balance.specs.Rates.{fires_by_rounds}
+use Rattle.strc_graph.specs.Rates.{fires_by_rounds}
 use Rattle.strc_startup.specs.Rates.{rates_of}
 use Rattle.strc_order.specs.Firings.{Firings, fired}
 use Rattle.strc_order.specs.Order.{tally, after, IsOrder}

@@ -12,8 +12,7 @@ use Rattle.strc_graph.specs.Graphs.{NodeCode, Channel, Graph, source_of}
 use Rattle.strc_graph.specs.Carriers.{carries_in, carries_out, JoinsCarriers}
 use Rattle.strc_graph.specs.FlatGraphs.{IsFlat}
 use Rattle.strc_graph.specs.Meaning.{node_meaning}
-use Rattle.strc_graph.specs.Rates.{pops_at, pushes_at}
-use Rattle.strc_balance.specs.Rates.{fires_by_rounds}
+use Rattle.strc_graph.specs.Rates.{fires_by_rounds, pops_at, pushes_at}
 use Rattle.strc_startup.specs.Rates.{rates_of_channel}
 use Rattle.strc_startup.specs.Startup.{pushed, popped, supply}
 use Rattle.strc_order.specs.Firings.{Firings, fill}
@@ -71,8 +70,7 @@ module _ (tree : Stream NodeCode) (graph : Graph) (input : List ℤ) (is : IsFla
       + total (pushes_at own) (counts source.node) source.port)
       (code_is tree graph is source.node code found)
       ∙ ap (λ (n : ℕ). length channel.enqueued + n)
-      (pushed_is graph.nodes channel code (each source.node code found) found
-      (counts source.node))
+      (pushed_is graph.nodes channel code found (counts source.node))
 
   -- how many have been taken from it
   pub taken_is : (counts : Firings)

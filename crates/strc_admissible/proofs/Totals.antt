@@ -1,14 +1,12 @@
 -- How many items a node has taken and given after so many firings, where each firing after the
 -- first one has the same rates.
-use Rattle.std.proofs.Common.{◌≡◌, refl, sym, ap, ◌∙◌, ℕ, zero, suc, ◌+◌, ◌*◌, Bool, true, false}
+use Rattle.std.proofs.Common.{◌≡◌, refl, sym, ap, ◌∙◌, ℕ, zero, suc, ◌+◌, ◌*◌, false}
 use Rattle.std.proofs.Common.{List, Option, Some, slice_get, arith}
 use Rattle.std.specs.Option.{option_map_or}
-use Rattle.std.proofs.lemmas.Bool.{true≢false}
 use Rattle.strc_dataflow.specs.Node.{total}
-use Rattle.strc_graph.specs.Graphs as graphs
 use Rattle.strc_graph.specs.Graphs.{NodeCode, Channel}
-use Rattle.strc_graph.specs.Rates.{window_at, pops_at, pushes_at}
-use Rattle.strc_balance.specs.Rates.{fires_by_rounds}
+use Rattle.strc_graph.specs.Rates.{fires_by_rounds, window_at, pops_at, pushes_at}
+use Rattle.strc_graph.proofs.Firings.{windows_settle, pops_settle, pushes_settle}
 use Rattle.strc_startup.specs.Rates.{rates_of_channel}
 use Rattle.strc_startup.specs.Startup.{pushed, popped}
 use Rattle.strc_order.specs.Firings.{reach}
@@ -29,31 +27,7 @@ unfolding total
 total_idle rate port none zero = refl
 total_idle rate port none (suc n) = omega (arith, total_idle rate port none n, none n)
 
--- nodes other than those of fission
-
-pushes_settle : (code : NodeCode) → fires_by_rounds code ≡ false → (port n : ℕ)
-    → pushes_at code (suc n) port ≡ pushes_at code 1 port
-pushes_settle (graphs.Scatter fission) each port n = absurd (true≢false each)
-pushes_settle (graphs.Copy name filter fission) each port n = absurd (true≢false each)
-pushes_settle (graphs.Gather fission) each port n = absurd (true≢false each)
-pushes_settle code each port n = refl
-
-pops_settle : (code : NodeCode) → fires_by_rounds code ≡ false → (port n : ℕ)
-    → pops_at code (suc n) port ≡ pops_at code 1 port
-pops_settle (graphs.Scatter fission) each port n = absurd (true≢false each)
-pops_settle (graphs.Copy name filter fission) each port n = absurd (true≢false each)
-pops_settle (graphs.Gather fission) each port n = absurd (true≢false each)
-pops_settle code each port n = refl
-
-windows_settle : (code : NodeCode) → fires_by_rounds code ≡ false → (port n : ℕ)
-    → window_at code (suc n) port ≡ window_at code 1 port
-windows_settle (graphs.Scatter fission) each port n = absurd (true≢false each)
-windows_settle (graphs.Copy name filter fission) each port n = absurd (true≢false each)
-windows_settle (graphs.Gather fission) each port n = absurd (true≢false each)
-windows_settle code each port n = refl
-
-module _ (nodes : List NodeCode) (channel : Channel) (code : NodeCode)
-    (each : fires_by_rounds code ≡ false) where
+module _ (nodes : List NodeCode) (channel : Channel) (code : NodeCode) where
   -- what a channel's source has given
   pub pushed_is : slice_get nodes channel.source.node ≡ Some code → (n : ℕ)
       → total (pushes_at code) n channel.source.port ≡ pushed (rates_of_channel nodes channel) n
@@ -65,10 +39,11 @@ module _ (nodes : List NodeCode) (channel : Channel) (code : NodeCode)
       option_map_or (λ node. pushes_at node firing port) found 0 in
       let first = ap (rate 0) there in
       let later = ap (λ (found : Option NodeCode). rate 1 found * n) there in
-      omega (arith, total_settled (pushes_at code) port (pushes_settle code each port) n, first,
+      omega (arith, total_settled (pushes_at code) port (λ k. pushes_settle code k port) n, first,
       later)
 
-  module _ (there : slice_get nodes channel.target.node ≡ Some code) where
+  module _ (each : fires_by_rounds code ≡ false)
+      (there : slice_get nodes channel.target.node ≡ Some code) where
     -- what its target has taken
     pub popped_is : (n : ℕ)
         → total (pops_at code) n channel.target.port ≡ popped (rates_of_channel nodes channel) n
@@ -80,7 +55,7 @@ module _ (nodes : List NodeCode) (channel : Channel) (code : NodeCode)
         option_map_or (λ node. pops_at node firing port) found 0 in
         let first = ap (rate 0) there in
         let later = ap (λ (found : Option NodeCode). rate 1 found * n) there in
-        omega (arith, total_settled (pops_at code) port (pops_settle code each port) n, first,
+        omega (arith, total_settled (pops_at code) port (λ k. pops_settle code each k port) n, first,
         later)
 
     -- and how far its next firing sees
@@ -96,4 +71,4 @@ module _ (nodes : List NodeCode) (channel : Channel) (code : NodeCode)
         let port = channel.target.port in
         let later = ap (λ (found : Option NodeCode).
         option_map_or (λ node. window_at node 1 port) found 0) there in
-        omega (arith, popped_is (suc n), windows_settle code each port n, later)
+        omega (arith, popped_is (suc n), windows_settle code n port, later)

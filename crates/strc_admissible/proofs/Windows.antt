@@ -13,9 +13,8 @@ use Rattle.strc_graph.specs.Graphs.{NodeCode, FileReader, Channel, Graph, reads_
 use Rattle.strc_graph.specs.Carriers.{carries_in}
 use Rattle.strc_graph.specs.FlatGraphs.{IsFed, IsProgram, program_input}
 use Rattle.strc_graph.specs.Meaning.{node_meaning, ports_in}
-use Rattle.strc_graph.specs.Rates.{window_at, pops_at}
+use Rattle.strc_graph.specs.Rates.{fires_by_rounds, window_at, pops_at}
 use Rattle.strc_graph.proofs.Idle.{idle_port}
-use Rattle.strc_balance.specs.Rates.{fires_by_rounds}
 use Rattle.strc_startup.specs.Rates.{rates_of, rates_of_channel}
 use Rattle.strc_order.specs.Firings.{Firings, HasWindow, FindsWindows}
 use Rattle.strc_admissible.proofs.Codes.{code_is}
