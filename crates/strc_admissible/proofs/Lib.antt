@@ -4,3 +4,5 @@ pub mod Totals
 pub mod Supplies
 pub mod Windows
 pub mod Orders
+pub mod Inputs
+pub mod Rounds
