@@ -6,3 +6,4 @@ pub mod Windows
 pub mod Orders
 pub mod Inputs
 pub mod Rounds
+pub mod Keeping
