@@ -7,3 +7,5 @@ pub mod Orders
 pub mod Inputs
 pub mod Rounds
 pub mod Keeping
+pub mod Peaks
+pub mod Fired
