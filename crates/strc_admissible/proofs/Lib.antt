@@ -9,3 +9,4 @@ pub mod Rounds
 pub mod Keeping
 pub mod Peaks
 pub mod Fired
+pub mod Filling

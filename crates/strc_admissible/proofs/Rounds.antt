@@ -123,7 +123,7 @@ module _ (graph : Graph) (schedule : ScheduleParts) (planned : IsPlanned graph s
 
   module _ (tree : Stream NodeCode) (input : List ℤ) (rounds : ℕ) (program : IsProgram tree graph)
       (supplied : items_read graph.nodes (counts_at schedule rounds) ≤ length input) where
-    all_supplied : IsSupplied graph input (rounds_on at_startup rounds in_round)
+    pub all_supplied : IsSupplied graph input (rounds_on at_startup rounds in_round)
     all_supplied node reads =
         let firings = reader_reads graph.nodes node (counts_at schedule rounds) program.one_input
         reads in
