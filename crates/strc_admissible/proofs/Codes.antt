@@ -1,7 +1,7 @@
--- The codes of a flat graph's nodes are those of the graph of nodes and channels, and so is the code
--- that stands past the last node.
-use Rattle.std.proofs.Common.{◌≡◌, refl, sym, ap, ◌∙◌, subst, ℕ, ◌<◌, ◌≤◌, List, [], ◌∷◌, ◌++◌, length}
-use Rattle.std.proofs.Common.{Option, Some, None, Contains, slice_get, get_or, inl, inr, arith}
+-- The codes of a flat graph's nodes are those of the graph of nodes and channels, and so is the
+-- code that stands past the last node.
+use Rattle.std.proofs.Common.{◌≡◌, refl, sym, ap, ◌∙◌, ℕ, List, [], ◌∷◌, ◌++◌, length}
+use Rattle.std.proofs.Common.{Some, None, Contains, slice_get, inl, inr, arith}
 use Rattle.std.proofs.lemmas.Bool.{cases_lt}
 use Rattle.std.proofs.lemmas.List.{get_or_past}
 use Rattle.std.proofs.lemmas.List.Elements.{Contains-append_left, Contains-append_right}
@@ -65,11 +65,17 @@ module _ (tree : Stream NodeCode) (graph : Graph) (is : IsFlat tree graph) where
   unfolding flat
   code_there node =
       elim (cases_lt node (length codes)) [
-        | inl within ↦ (node, ap (λ (l : List NodeCode). slice_get l node) is.nodes
-            ∙ slice_get-get_or codes node (any_code tree) within)
-        | inr past ↦ (any_is.0, ap (λ (l : List NodeCode). slice_get l any_is.0) is.nodes
-            ∙ slice_get-get_or codes any_is.0 (any_code tree) any_is.1
-            ∙ ap Some (any_is.2 ∙ sym (get_or_past codes node (any_code tree) past)))
+        | inl within ↦ (
+          node,
+          ap (λ (l : List NodeCode). slice_get l node) is.nodes
+              ∙ slice_get-get_or codes node (any_code tree) within,
+        )
+        | inr past ↦ (
+          any_is.0,
+          ap (λ (l : List NodeCode). slice_get l any_is.0) is.nodes
+              ∙ slice_get-get_or codes any_is.0 (any_code tree) any_is.1
+              ∙ ap Some (any_is.2 ∙ sym (get_or_past codes node (any_code tree) past)),
+        )
       ]
     where
       codes : List NodeCode

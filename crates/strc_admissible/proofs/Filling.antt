@@ -13,11 +13,10 @@ use Rattle.strc_graph.specs.Graphs.{NodeCode, FileReader, Channel, Graph, input_
 use Rattle.strc_graph.specs.FlatGraphs.{IsProgram}
 use Rattle.strc_graph.specs.Meaning.{node_meaning, ports_in}
 use Rattle.strc_graph.proofs.Carriers.{carrier_is_input}
-use Rattle.strc_balance.specs.Balance.{count_at, count_limit}
+use Rattle.strc_balance.specs.Balance.{count_limit}
 use Rattle.strc_startup.specs.Rates.{rates_of_channel, first_count}
 use Rattle.strc_order.specs.Firings.{Firings, none_fired, fill}
 use Rattle.strc_order.specs.Order.{tally, after}
-use Rattle.strc_order.specs.Rounds.{rounds_on}
 use Rattle.strc_order.specs.Schedules.{ScheduleParts}
 use Rattle.strc_order.proofs.Tallies.{tally_append}
 use Rattle.strc_admissible.specs.Planned.{IsPlanned, AreKnown, items_read}
@@ -68,7 +67,8 @@ module _ (graph : Graph) (schedule : ScheduleParts) (planned : IsPlanned graph s
   module _ (tree : Stream NodeCode) (input : List ℤ) (rounds : ℕ) (program : IsProgram tree graph)
       (known : AreKnown graph) (few : rounds < 2 ^ 32)
       (supplied : items_read graph.nodes (counts_at schedule rounds) ≤ length input) where
-    run_supplied : IsSupplied graph input (after none_fired (run_order graph schedule planned rounds))
+    run_supplied : IsSupplied graph input
+        (after none_fired (run_order graph schedule planned rounds))
     run_supplied node reads =
         omega (
           arith,
@@ -85,8 +85,8 @@ module _ (graph : Graph) (schedule : ScheduleParts) (planned : IsPlanned graph s
 
     module _ (front back : List ℕ) (now : Queues)
         (is : front ++ back ≡ run_order graph schedule planned rounds)
-        (went : fifo_go node_meaning (flat tree) front (fifo_at_first node_meaning (flat tree) input)
-        ≡ FifoWent now) where
+        (went : fifo_go node_meaning (flat tree) front
+        (fifo_at_first node_meaning (flat tree) input) ≡ FifoWent now) where
       generic_front : orders.IsOrder node_meaning (flat tree) input (λ node. 0) front
       generic_front =
           order_front tree graph input program planned.unfissioned none_fired front back

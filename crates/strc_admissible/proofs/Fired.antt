@@ -1,5 +1,5 @@
 -- After an order that finds its windows, each node has fired as often as it stands there.
-use Rattle.std.proofs.Common.{◌≡◌, refl, sym, ap, ◌∙◌, subst, ℕ, List, ℤ, arith}
+use Rattle.std.proofs.Common.{◌≡◌, refl, sym, ap, ◌∙◌, ℕ, List, ℤ, arith}
 use Rattle.strc_dataflow.specs.Node.{Meaning}
 use Rattle.strc_dataflow.specs.Histories.{Run, begun, runs, KeepsRates}
 use Rattle.strc_dataflow.specs.Flat.{Graph}

@@ -1,11 +1,10 @@
 -- The nodes of a planned graph keep their rates, and take no more than they look at.
-use Rattle.std.proofs.Common.{◌≡◌, sym, ap, ◌∙◌, subst, ℕ, ℤ, List, length, Option, Some, Result}
+use Rattle.std.proofs.Common.{◌≡◌, ap, ◌∙◌, subst, ℕ, length, Some}
 use Rattle.std.specs.Prelude.{IfOk}
 use Rattle.strc_dataflow.specs.Histories.{KeepsRates}
 use Rattle.strc_dataflow.specs.Queues.{TakesWithinWindow}
 use Rattle.strc_dataflow.specs.Streams.{Stream, flat}
 use Rattle.strc_semantics.specs.Filters.{Filter, body_rates, push_rate, pop_rate, item_count}
-use Rattle.strc_graph.specs.Graphs as graphs
 use Rattle.strc_graph.specs.Graphs.{NodeCode, Graph}
 use Rattle.strc_graph.specs.FlatGraphs.{IsFlat}
 use Rattle.strc_graph.specs.Meaning.{node_meaning}
@@ -37,7 +36,8 @@ checked_pushes graph schedule planned known filter is =
 
 module _ (tree : Stream NodeCode) (graph : Graph) (schedule : ScheduleParts)
     (flat_graph : IsFlat tree graph) (planned : IsPlanned graph schedule) where
-  pub nodes_keep_rates : AreKnown graph → (node : ℕ) → KeepsRates node_meaning ((flat tree).code node)
+  pub nodes_keep_rates : AreKnown graph → (node : ℕ)
+      → KeepsRates node_meaning ((flat tree).code node)
   nodes_keep_rates known node =
       let (place, there) = code_there tree graph flat_graph node in
       let code = (flat tree).code node in

@@ -1,8 +1,8 @@
 -- An order in which each firing finds its windows on all channels is one in the generic layer of
 -- streams.
 use Rattle.std.proofs.Common.{◌≡◌, refl, sym, ap, ◌∙◌, subst, ℕ, suc, ◌+◌, ◌<◌, ◌≤◌, ℤ, Bool, true}
-use Rattle.std.proofs.Common.{false, cond, eqb, List, [], ◌∷◌, ◌++◌, length, get_or, Some, slice_get}
-use Rattle.std.proofs.Common.{arith}
+use Rattle.std.proofs.Common.{false, cond, eqb, List, [], ◌∷◌, ◌++◌, length, get_or, Some}
+use Rattle.std.proofs.Common.{slice_get, arith}
 use mathlib.Core.Path.{fun_ext}
 use Rattle.std.proofs.lemmas.Bool.{true≢false}
 use Rattle.std.proofs.lemmas.Option.{slice_get-get_or}
@@ -40,7 +40,8 @@ tally_is (first ∷ order) node =
     by_test mine its true e = omega arith
     by_test mine its false e = omega arith
 
-pub counted_is : (counts : Firings) (order : List ℕ) → orders.counted counts order ≡ after counts order
+pub counted_is : (counts : Firings) (order : List ℕ)
+    → orders.counted counts order ≡ after counts order
 counted_is counts order = fun_ext (λ node. counted-tally order counts node
     ∙ ap (λ (n : ℕ). counts node + n) (tally_is order node))
 

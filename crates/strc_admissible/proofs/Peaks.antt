@@ -1,8 +1,9 @@
 -- Start-up and all rounds are one order, in which no channel holds more items than its buffer.
-use Rattle.std.proofs.Common.{◌≡◌, refl, sym, ap, ◌∙◌, subst, ℕ, zero, suc, ◌+◌, ◌*◌, ◌<◌, ◌≤◌, List}
-use Rattle.std.proofs.Common.{[], ◌∷◌, ◌++◌, max, Some, slice_get, slice_index, arith}
+use Rattle.std.proofs.Common.{◌≡◌, sym, ap, ◌∙◌, subst, ℕ, zero, suc, ◌*◌, ◌≤◌, List}
+use Rattle.std.proofs.Common.{[], ◌∷◌, ◌++◌, Some, slice_get, slice_index, arith}
 use mathlib.Core.Path.{fun_ext}
 use Rattle.strc_graph.specs.Graphs.{Graph}
+use Rattle.strc_startup.specs.Rates.{rates_of}
 use Rattle.strc_startup.specs.declared.channel_rates.ChannelRates.{ChannelRates}
 use Rattle.strc_order.specs.Buffers.{peak_fill, buffer_size}
 use Rattle.strc_order.specs.Firings.{Firings, none_fired, fired, fill}
@@ -15,7 +16,7 @@ use Rattle.strc_order.proofs.Repeating.{no_overflow}
 use Rattle.strc_order.proofs.Tallies.{after_none, after_cons, tally_append}
 use Rattle.strc_admissible.specs.Planned.{IsPlanned}
 use Rattle.strc_admissible.specs.Laws.{startup_order, round_order}
-use Rattle.strc_admissible.proofs.Rounds.{channels, at_startup, in_round, settled, balances}
+use Rattle.strc_admissible.proofs.Rounds.{at_startup, in_round, settled, balances}
 use Rattle.strc_admissible.proofs.Rounds.{startup_finds, round_finds}
 
 -- an order, and after it another one
@@ -72,30 +73,30 @@ module _ (graph : Graph) (schedule : ScheduleParts) (planned : IsPlanned graph s
   after_round : (q : ℕ) → after (after_rounds q) (round_order schedule) ≡ after_rounds (suc q)
   after_round q = fun_ext (λ node. omega (arith, planned.schedule.round_order.all node))
 
-  rounds_find : (left q : ℕ) → IsOrder (channels graph schedule planned) (after_rounds q)
+  rounds_find : (left q : ℕ) → IsOrder (rates_of graph) (after_rounds q)
       (repeated left (round_order schedule))
   rounds_find zero q = tt
   rounds_find (suc left) q =
-      order_append (channels graph schedule planned) (after_rounds q) (round_order schedule)
+      order_append (rates_of graph) (after_rounds q) (round_order schedule)
       (repeated left (round_order schedule)) (round_finds graph schedule planned q)
-      (subst (λ (now : Firings). IsOrder (channels graph schedule planned) now
+      (subst (λ (now : Firings). IsOrder (rates_of graph) now
       (repeated left (round_order schedule))) (sym (after_round q)) (rounds_find left (suc q)))
 
   -- each firing of all finds its windows
   pub run_finds : (rounds : ℕ)
-      → IsOrder (channels graph schedule planned) none_fired (run_order rounds)
+      → IsOrder (rates_of graph) none_fired (run_order rounds)
   run_finds rounds =
-      order_append (channels graph schedule planned) none_fired (startup_order schedule)
+      order_append (rates_of graph) none_fired (startup_order schedule)
       (repeated rounds (round_order schedule)) (startup_finds graph schedule planned)
-      (subst (λ (now : Firings). IsOrder (channels graph schedule planned) now
+      (subst (λ (now : Firings). IsOrder (rates_of graph) now
       (repeated rounds (round_order schedule))) (sym after_startup) (rounds_find rounds 0))
 
   module _ (number : ℕ) (rates : ChannelRates)
-      (there : slice_get (channels graph schedule planned) number ≡ Some rates) where
+      (there : slice_get (rates_of graph) number ≡ Some rates) where
     round_peak : (q : ℕ) → peak_fill rates (after_rounds q) (round_order schedule)
         ≤ slice_index schedule.sizes number
     round_peak q =
-        no_overflow (channels graph schedule planned) (at_startup graph schedule planned)
+        no_overflow (rates_of graph) (at_startup graph schedule planned)
         (in_round graph schedule planned) schedule planned.schedule
         (settled graph schedule planned) (balances graph schedule planned) q number rates there
 
@@ -118,7 +119,7 @@ module _ (graph : Graph) (schedule : ScheduleParts) (planned : IsPlanned graph s
         let own = buffer_size (at_startup graph schedule planned) schedule.startup
         schedule.round in
         let holds = ap (λ (sizes : List ℕ). slice_index sizes number) planned.schedule.sizes
-        ∙ at_channel own (channels graph schedule planned) number rates there in
+        ∙ at_channel own (rates_of graph) number rates there in
         let parts = peak_append rates none_fired (startup_order schedule)
         (repeated rounds (round_order schedule)) in
         let later = ap (λ (now : Firings). peak_fill rates now

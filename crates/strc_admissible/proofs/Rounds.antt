@@ -1,6 +1,6 @@
 -- The orders of a graph's schedule: each firing finds its windows, in start-up and in each round.
 use Rattle.std.proofs.Common.{◌≡◌, refl, sym, ap, ◌∙◌, subst, ℕ, zero, suc, ◌+◌, ◌*◌, ◌<◌, ◌≤◌, ℤ}
-use Rattle.std.proofs.Common.{false, cond, List, [], ◌∷◌, length, map, get_or, Option, Some, None}
+use Rattle.std.proofs.Common.{false, cond, List, [], ◌∷◌, length, map, Option, Some, None}
 use Rattle.std.proofs.Common.{All, slice_get, inl, inr, arith, mul-le-mul_right}
 use mathlib.Core.Path.{fun_ext}
 use Rattle.std.specs.Option.{option_map_or}
@@ -8,16 +8,15 @@ use Rattle.std.proofs.lemmas.Bool.{cases_lt}
 use Rattle.std.proofs.lemmas.List.{get_or_past, length-map}
 use Rattle.strc_dataflow.specs.Order as orders
 use Rattle.strc_dataflow.specs.Streams.{Stream, flat}
-use Rattle.strc_graph.specs.Graphs.{NodeCode, FileReader, Graph}
+use Rattle.strc_graph.specs.Graphs.{NodeCode, Graph}
 use Rattle.strc_graph.specs.FlatGraphs.{IsProgram}
 use Rattle.strc_graph.specs.Meaning.{node_meaning}
 use Rattle.strc_graph.specs.Rates.{fires_by_rounds, pops_at, pushes_at}
 use Rattle.strc_balance.specs.Balance.{count_at, IsBalanced}
 use Rattle.strc_balance.specs.Rates.{pops_by_work, pushes_by_work, equation_of}
 use Rattle.strc_startup.specs.Rates.{rates_of, rates_of_channel, first_count}
-use Rattle.strc_startup.specs.declared.channel_rates.ChannelRates.{ChannelRates}
 use Rattle.strc_order.specs.Firings.{Firings, none_fired}
-use Rattle.strc_order.specs.Order.{tally, after, IsOrder}
+use Rattle.strc_order.specs.Order.{tally, IsOrder}
 use Rattle.strc_order.specs.Rounds.{rounds_on, RoundBalances, IsSettled}
 use Rattle.strc_order.specs.Schedules.{ScheduleParts}
 use Rattle.strc_order.proofs.Deciding.{is_an_order}
@@ -64,19 +63,16 @@ counted_within counts node some =
     ]
 
 module _ (graph : Graph) (schedule : ScheduleParts) (planned : IsPlanned graph schedule) where
-  abbrev pub channels : List ChannelRates
-  channels = rates_of graph
-
   abbrev pub at_startup : Firings
   at_startup = count_at planned.startup
 
   abbrev pub in_round : Firings
   in_round = count_at planned.round
 
-  pub settled : All (IsSettled at_startup) channels
+  pub settled : All (IsSettled at_startup) (rates_of graph)
   settled = all_settle graph planned.startup planned.rated planned.least_startup.primed
 
-  pub balances : All (RoundBalances in_round) channels
+  pub balances : All (RoundBalances in_round) (rates_of graph)
   balances =
       mapped_all (equation_of graph.nodes) (rates_of_channel graph.nodes)
       (IsBalanced planned.round) (RoundBalances in_round) graph.channels
@@ -90,22 +86,27 @@ module _ (graph : Graph) (schedule : ScheduleParts) (planned : IsPlanned graph s
       (planned.unfissioned channel.target.node)))
       planned.least_round.balances.balanced
 
-  pub startup_finds : IsOrder channels none_fired (startup_order schedule)
+  pub startup_finds : IsOrder (rates_of graph) none_fired (startup_order schedule)
   startup_finds =
-      is_an_order channels none_fired at_startup schedule.startup planned.schedule.startup_order
+      is_an_order (rates_of graph) none_fired at_startup schedule.startup
+      planned.schedule.startup_order
 
-  pub round_finds : (q : ℕ) → IsOrder channels (rounds_on at_startup q in_round)
+  pub round_finds : (q : ℕ) → IsOrder (rates_of graph) (rounds_on at_startup q in_round)
       (round_order schedule)
   round_finds q =
-      order_repeats channels at_startup in_round q (round_order schedule) settled balances
-      (is_an_order channels at_startup in_round schedule.round planned.schedule.round_order)
+      order_repeats (rates_of graph) at_startup in_round q (round_order schedule) settled balances
+      (is_an_order (rates_of graph) at_startup in_round schedule.round planned.schedule.round_order)
 
   startup_nodes : AreNodes graph (startup_order schedule)
   startup_nodes node some =
       let within = counted_within planned.startup node
       (omega (arith, some, planned.schedule.startup_order.all node)) in
-      omega (arith, within, planned.least_startup.primed.each,
-      length-map graph.nodes first_count)
+      omega (
+        arith,
+        within,
+        planned.least_startup.primed.each,
+        length-map graph.nodes first_count,
+      )
 
   round_nodes : AreNodes graph (round_order schedule)
   round_nodes node some =
@@ -137,8 +138,11 @@ module _ (graph : Graph) (schedule : ScheduleParts) (planned : IsPlanned graph s
     generic_startup =
         generic_order tree graph input program planned.unfissioned none_fired
         (startup_order schedule) startup_finds startup_nodes
-        (λ node reads. omega (arith, all_supplied node reads,
-        planned.schedule.startup_order.all node))
+        (λ node reads. omega (
+          arith,
+          all_supplied node reads,
+          planned.schedule.startup_order.all node,
+        ))
 
     generic_round : (q : ℕ) → q < rounds
         → IsGenericOrder (rounds_on at_startup q in_round) (round_order schedule)

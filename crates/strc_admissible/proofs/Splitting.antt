@@ -1,5 +1,5 @@
 -- Runs over queues that fit, part by part.
-use Rattle.std.proofs.Common.{◌≡◌, refl, sym, ap, ◌∙◌, ℕ, ℤ, List, [], ◌∷◌, ◌++◌, append_assoc}
+use Rattle.std.proofs.Common.{◌≡◌, refl, ap, ◌∙◌, ℕ, ℤ, List, [], ◌∷◌, ◌++◌, append_assoc}
 use Rattle.strc_dataflow.specs.Flat as flat
 use Rattle.strc_dataflow.specs.Queues.{FifoProgress, FifoProgress.FifoWent}
 use Rattle.strc_dataflow.specs.Queues.{FifoProgress.FifoStopped, fifo_fire, fifo_then, fifo_go}

@@ -1,11 +1,10 @@
 -- The channels of a flat graph, in the generic layer of streams: what comes by them, and how many
 -- items stand on them.
-use Rattle.std.proofs.Common.{◌≡◌, refl, sym, ap, ◌∙◌, subst, ℕ, ◌+◌, ◌-◌, ◌<◌, ℤ, Bool, true, false}
-use Rattle.std.proofs.Common.{List, length, get_or, Option, Some, None, All, slice_get, arith}
+use Rattle.std.proofs.Common.{◌≡◌, refl, sym, ap, ◌∙◌, subst, ℕ, ◌+◌, ◌-◌, ℤ, Bool, true, false}
+use Rattle.std.proofs.Common.{List, length, get_or, Option, Some, None, All, slice_get}
 use Rattle.std.specs.Option.{option_map_or}
 use Rattle.std.proofs.lemmas.Option.{same_Some, slice_get-get_or, slice_get_within}
 use Rattle.strc_dataflow.specs.Node.{total}
-use Rattle.strc_dataflow.specs.Flat.{Source}
 use Rattle.strc_dataflow.specs.Order as orders
 use Rattle.strc_dataflow.specs.Streams.{Stream, flat}
 use Rattle.strc_graph.specs.Graphs.{NodeCode, Channel, Graph, source_of}
@@ -14,7 +13,7 @@ use Rattle.strc_graph.specs.FlatGraphs.{IsFlat}
 use Rattle.strc_graph.specs.Meaning.{node_meaning}
 use Rattle.strc_graph.specs.Rates.{fires_by_rounds, pops_at, pushes_at}
 use Rattle.strc_startup.specs.Rates.{rates_of_channel}
-use Rattle.strc_startup.specs.Startup.{pushed, popped, supply}
+use Rattle.strc_startup.specs.Startup.{popped, supply}
 use Rattle.strc_order.specs.Firings.{Firings, fill}
 use Rattle.strc_admissible.proofs.Codes.{code_is}
 use Rattle.strc_admissible.proofs.Totals.{pushed_is, popped_is}

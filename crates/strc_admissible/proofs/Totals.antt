@@ -1,6 +1,6 @@
 -- How many items a node has taken and given after so many firings, where each firing after the
 -- first one has the same rates.
-use Rattle.std.proofs.Common.{◌≡◌, refl, sym, ap, ◌∙◌, ℕ, zero, suc, ◌+◌, ◌*◌, false}
+use Rattle.std.proofs.Common.{◌≡◌, refl, ap, ℕ, zero, suc, ◌+◌, ◌*◌, false}
 use Rattle.std.proofs.Common.{List, Option, Some, slice_get, arith}
 use Rattle.std.specs.Option.{option_map_or}
 use Rattle.strc_dataflow.specs.Node.{total}
@@ -39,8 +39,12 @@ module _ (nodes : List NodeCode) (channel : Channel) (code : NodeCode) where
       option_map_or (λ node. pushes_at node firing port) found 0 in
       let first = ap (rate 0) there in
       let later = ap (λ (found : Option NodeCode). rate 1 found * n) there in
-      omega (arith, total_settled (pushes_at code) port (λ k. pushes_settle code k port) n, first,
-      later)
+      omega (
+        arith,
+        total_settled (pushes_at code) port (λ k. pushes_settle code k port) n,
+        first,
+        later,
+      )
 
   module _ (each : fires_by_rounds code ≡ false)
       (there : slice_get nodes channel.target.node ≡ Some code) where
@@ -55,8 +59,12 @@ module _ (nodes : List NodeCode) (channel : Channel) (code : NodeCode) where
         option_map_or (λ node. pops_at node firing port) found 0 in
         let first = ap (rate 0) there in
         let later = ap (λ (found : Option NodeCode). rate 1 found * n) there in
-        omega (arith, total_settled (pops_at code) port (λ k. pops_settle code each k port) n, first,
-        later)
+        omega (
+          arith,
+          total_settled (pops_at code) port (λ k. pops_settle code each k port) n,
+          first,
+          later,
+        )
 
     -- and how far its next firing sees
     pub reach_is : (n : ℕ) → total (pops_at code) n channel.target.port

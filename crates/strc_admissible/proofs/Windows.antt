@@ -1,7 +1,7 @@
 -- A node that finds its windows on all channels is ready.
 use Rattle.std.proofs.Common.{◌≡◌, refl, sym, ap, ◌∙◌, subst, ℕ, zero, suc, ◌+◌, ◌<◌, ◌≤◌, ℤ, Bool}
-use Rattle.std.proofs.Common.{true, false, ◌&&◌, List, length, Option, Some, All, slice_get, arith}
-use Rattle.std.proofs.Common.{eqb-true, map}
+use Rattle.std.proofs.Common.{true, false, ◌&&◌, List, length, Option, Some, slice_get, arith}
+use Rattle.std.proofs.Common.{eqb-true}
 use Rattle.std.specs.Option.{option_map, option_map_or}
 use Rattle.std.proofs.lemmas.Bool.{true≢false}
 use Rattle.std.proofs.lemmas.Option.{slice_get-map}
@@ -9,9 +9,9 @@ use Rattle.strc_dataflow.specs.Node.{total}
 use Rattle.strc_dataflow.specs.Flat.{Source}
 use Rattle.strc_dataflow.specs.Order as orders
 use Rattle.strc_dataflow.specs.Streams.{Stream, flat}
-use Rattle.strc_graph.specs.Graphs.{NodeCode, FileReader, Channel, Graph, reads_input, ends_at}
+use Rattle.strc_graph.specs.Graphs.{NodeCode, FileReader, Channel, Graph, reads_input}
 use Rattle.strc_graph.specs.Carriers.{carries_in}
-use Rattle.strc_graph.specs.FlatGraphs.{IsFed, IsProgram, program_input}
+use Rattle.strc_graph.specs.FlatGraphs.{IsFed, IsProgram}
 use Rattle.strc_graph.specs.Meaning.{node_meaning, ports_in}
 use Rattle.strc_graph.specs.Rates.{fires_by_rounds, window_at, pops_at}
 use Rattle.strc_graph.proofs.Idle.{idle_port}
@@ -71,8 +71,11 @@ module _ (tree : Stream NodeCode) (graph : Graph) (input : List ℤ) (program : 
   idle_reaches node port FileReader inner less none = absurd (true≢false inner)
   idle_reaches node port code inner less none =
       let idle = idle_port code port less none in
-      omega (arith, total_idle (pops_at code) port (λ n. (idle n).1) (counts node),
-      (idle (counts node)).0)
+      omega (
+        arith,
+        total_idle (pops_at code) port (λ n. (idle n).1) (counts node),
+        (idle (counts node)).0,
+      )
 
   reader_reaches : (node port : ℕ) (code : NodeCode) → slice_get graph.nodes node ≡ Some code
       → reads_input code ≡ true → port < ports_in code → counts node < length input

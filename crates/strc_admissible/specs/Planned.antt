@@ -1,5 +1,5 @@
 -- A flat graph with its schedule, as they are run.
-use Rattle.std.specs.Prelude.{◌≡◌, ℕ, zero, suc, false, ℤ, List, [], ◌∷◌, All, Option, Some, Ok}
+use Rattle.std.specs.Prelude.{◌≡◌, ℕ, suc, false, ℤ, List, [], ◌∷◌, All, Option, Some, Ok}
 use Rattle.std.specs.Prelude.{slice_get, if◌then◌else◌}
 use Rattle.strc_semantics.specs.Filters as filters
 use Rattle.strc_semantics.specs.Firing.{started}
