@@ -24,8 +24,8 @@ module _ (schedule : ScheduleParts) where
   abbrev pub counts_at : (rounds : ℕ) → (node : ℕ) → ℕ
   counts_at rounds = counts_after (tally startup_order) (tally round_order) rounds
 
--- start-up and so many rounds of a schedule over a tree's graph: each firing finds what it looks at,
--- no buffer holds more than its size, and the run over queues is the answer of the equations
+-- start-up and so many rounds of a schedule over a tree's graph: each firing finds what it looks
+-- at, no buffer holds more than its size, and the run over queues is the answer of the equations
 pub record IsAdmissible (tree : trees.Stream NodeCode) (graph : Graph) (schedule : ScheduleParts)
     (input : List ℤ) (rounds : ℕ) : Type 0 where
   pub finds : IsSchedule node_meaning (trees.flat tree) input (tally (startup_order schedule))

@@ -1,5 +1,5 @@
 -- A flat graph with its schedule, as they are run.
-use Rattle.std.specs.Prelude.{◌≡◌, ℕ, zero, suc, false, ℤ, List, [], ◌∷◌, All, Option, Some, Ok}
+use Rattle.std.specs.Prelude.{◌≡◌, ℕ, suc, false, ℤ, List, [], ◌∷◌, All, Option, Some, Ok}
 use Rattle.std.specs.Prelude.{slice_get, if◌then◌else◌}
 use Rattle.strc_semantics.specs.Filters as filters
 use Rattle.strc_semantics.specs.Firing.{started}
@@ -20,7 +20,7 @@ IsFilterOf graph filter = (node : ℕ) × (name : Option (List ℕ))
 
 -- a graph without nodes of fission, of filters that start and whose rates are checked, with the
 -- schedule of its least counts
-pub record IsPlanned (graph : Graph) (schedule : ScheduleParts) : Type 0 where
+pub record IsPlanned (graph : Graph) (parts : ScheduleParts) : Type 0 where
   pub unfissioned : (node : ℕ) (code : NodeCode) → slice_get graph.nodes node ≡ Some code
       → fires_by_rounds code ≡ false
   pub starts : (filter : filters.Filter) → IsFilterOf graph filter
@@ -35,7 +35,7 @@ pub record IsPlanned (graph : Graph) (schedule : ScheduleParts) : Type 0 where
   pub least_round : balance.IsLeast (size_of graph) (equations_of graph) round
   pub startup_within : IsWithinLimit startup
   pub round_within : IsWithinLimit round
-  pub schedule : IsSchedule (rates_of graph) (count_at startup) (count_at round) schedule
+  pub schedule : IsSchedule (rates_of graph) (count_at startup) (count_at round) parts
 
 -- the names in each filter are known
 abbrev pub AreKnown : Graph → Type 0

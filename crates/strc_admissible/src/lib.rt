@@ -1,16 +1,17 @@
 // Takes a flat graph that a whole program has, with its schedule.
 // Gives no code but a law: the schedule is admissible.
-// The theorem to rely on: `schedules_are_admissible`: in start-up and in each round each firing finds
-// what it looks at, no buffer holds more than its size, and the run over queues gives the answer of
-// the stream equations.
-// Stands on strc_dataflow, whose theorem of the run it applies, on strc_order, strc_startup and
-// strc_balance, whose orders and counts it speaks of, and on strc_rate, whose filters keep their rates.
+// The theorem to rely on: `schedules_are_admissible`: in start-up and in each round each firing
+// finds what it looks at, no buffer holds more than its size, and the run over queues gives the
+// answer of the stream equations.
+// Stands on strc_dataflow, whose theorem of the run it applies, on strc_graph, whose nodes it runs,
+// on strc_order, strc_startup and strc_balance, whose orders and counts it speaks of, on strc_rate,
+// whose filters keep their rates, and on strc_semantics, whose filters these are.
 #![tactic(auto)]
 
 ghost use Rattle.strc_admissible.specs.Laws.{SchedulesAreAdmissible};
 
-/// The schedule of a program's graph is admissible (Lee and Messerschmitt 1987: a periodic admissible
-/// sequential schedule), and what its run gives is the answer of the stream equations.
+/// The schedule of a program's graph is admissible (Lee and Messerschmitt 1987: a periodic
+/// admissible sequential schedule), and what its run gives is the answer of the stream equations.
 pub fn schedules_are_admissible()
     ensures { SchedulesAreAdmissible }
 {}

@@ -15,7 +15,7 @@ no_weight n e = omega (arith, ltb-false 0 n e)
 none_there : (port count : ℕ) → port < count → nat_lt port count ≡ false → ⊥
 none_there port count less e = absurd (omega (arith, less, ltb-false port count e))
 
-idle_port : (code : NodeCode) (port : ℕ) → port < input_ports code
+pub idle_port : (code : NodeCode) (port : ℕ) → port < input_ports code
     → carries_in code port ≡ false → IsIdle node_meaning code port
 idle_port (Joiner weights) port less e = λ firing. (
   no_weight (slice_index weights port) e,

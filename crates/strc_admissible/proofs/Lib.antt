@@ -1,0 +1,12 @@
+pub mod Splitting
+pub mod Codes
+pub mod Totals
+pub mod Supplies
+pub mod Windows
+pub mod Orders
+pub mod Inputs
+pub mod Rounds
+pub mod Keeping
+pub mod Peaks
+pub mod Fired
+pub mod Filling
