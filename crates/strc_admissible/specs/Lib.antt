@@ -1,3 +1,9 @@
 pub mod Planned
 pub mod Fits
 pub mod Laws
+pub mod Rings
+pub mod Wiring
+pub mod Steps
+pub mod Machine
+pub mod Circuits
+pub mod Told

@@ -9,9 +9,16 @@
 #![tactic(auto)]
 
 ghost use Rattle.strc_admissible.specs.Laws.{SchedulesAreAdmissible};
+ghost use Rattle.strc_admissible.specs.Told.{RingRunsAnswer};
 
 /// The schedule of a program's graph is admissible (Lee and Messerschmitt 1987: a periodic
 /// admissible sequential schedule), and what its run gives is the answer of the stream equations.
 pub fn schedules_are_admissible()
     ensures { SchedulesAreAdmissible }
+{}
+
+/// The run of a program's nodes over rings, each as large as the schedule says, gives the answer of
+/// the stream equations.
+pub fn ring_runs_answer()
+    ensures { RingRunsAnswer }
 {}

@@ -1,22 +1,19 @@
--- One firing of a node over the rings at its ports.
+-- One firing of a node over the rings at its ports (Lee and Messerschmitt 1987: static buffers).
 use Rattle.std.specs.Prelude.{ℕ, suc, ◌+◌, ℤ, List, [], ◌∷◌, ◌++◌, length, map, take, drop, sum}
-use Rattle.std.specs.Prelude.{◌≡◌, ◌<◌, Bool, true, false, ◌&&◌, nat_le, nat_lt, Option, Some, None}
+use Rattle.std.specs.Prelude.{Bool, true, false, ◌&&◌, nat_le, nat_lt, Option, Some, None}
 use Rattle.std.specs.Prelude.{Result, Ok, Err}
 use Rattle.strc_syntax.specs.declared.tree.ItemType.{ItemType}
 use Rattle.strc_syntax.specs.declared.tree.ItemType.TheVariants as item
 use Rattle.strc_semantics.specs.Firing as firing
 use Rattle.strc_semantics.specs.Filters as filters
 use Rattle.strc_semantics.specs.declared.fault.Cause.{Cause}
-use Rattle.strc_semantics.specs.declared.fault.Halt.{Halt}
-use Rattle.strc_semantics.specs.declared.fault.Halt.TheVariants as halt
 use Rattle.strc_semantics.specs.declared.word.Word.{Word}
-use Rattle.strc_inst.specs.Running.{MoreWords}
 use Rattle.strc_graph.specs.Graphs as graphs
 use Rattle.strc_graph.specs.Graphs.{NodeCode, SplitterCode, Duplicate, Roundrobin}
 use Rattle.strc_graph.specs.Meaning.{line_of}
 use Rattle.strc_graph.specs.Rates.{body_at, filter_window, filter_pops}
-use Rattle.strc_sched.specs.Rings.{Ring, at_port, items_at, taken, given, moved, dealt_out}
-use Rattle.strc_sched.specs.Rings.{copied_out, gathered_in}
+use Rattle.strc_admissible.specs.Rings.{Ring, at_port, items_at, taken, given, moved, dealt_out}
+use Rattle.strc_admissible.specs.Rings.{copied_out, gathered_in}
 
 -- what a firing came to: it didn't find its windows; or it left these fields and rings, and wrote
 -- words; or it faulted
@@ -124,31 +121,3 @@ abbrev pub maybe_step : Option NodeCode → (firing : ℕ) → (fields : List �
 maybe_step None number fields inputs outputs input rings = Stays
 maybe_step (Some code) number fields inputs outputs input rings =
     node_step code number fields inputs outputs input rings
-
--- each ring that stands at a port is one of so many
-abbrev pub AreRings : (count : ℕ) → List (Option ℕ) → Type 0
-AreRings count ports = (port number : ℕ) → at_port ports port ≡ Some number → number < count
-
--- an answer tells whether a node without fields fired, and what it left; out of memory tells nothing
-abbrev pub HasMoved : {E : Type 0} → Step → Result Bool E → (before rings : List Ring) → Type 0
-HasMoved step (Ok true) before rings = step ≡ Goes [] rings []
-HasMoved step (Ok false) before rings = (step ≡ Stays) × (rings ≡ before)
-HasMoved step (Err refused) before rings = Unit {0}
-
--- an answer tells whether a node fired, what it left, and that its words stand after those before
--- it; or its fault; out of memory tells nothing
-abbrev pub HasStepped : Step → Result Bool Halt → (fields_before fields : List ℤ)
-    → (rings_before rings : List Ring) → (words_before words : List Word) → Type 0
-HasStepped step (Ok true) fields_before fields rings_before rings words_before words =
-    (more : List Word) × (step ≡ Goes fields rings more) × (words ≡ words_before ++ more)
-HasStepped step (Ok false) fields_before fields rings_before rings words_before words =
-    (step ≡ Stays) × (fields ≡ fields_before) × (rings ≡ rings_before) × (words ≡ words_before)
-HasStepped step (Err (halt.Fault cause)) fields_before fields rings_before rings words_before
-    words = (step ≡ Faults cause) × MoreWords words_before words
-HasStepped step (Err halt.NoMemory) fields_before fields rings_before rings words_before words =
-    MoreWords words_before words
-
--- a node that is no filter
-abbrev pub IsPassive : NodeCode → Type 0
-IsPassive (graphs.Filter name filter) = ⊥
-IsPassive code = Unit {0}

@@ -2,7 +2,7 @@
 use Rattle.std.specs.Prelude.{◌≡◌, ℕ, ◌<◌, List, [], Option, Some, None, length, map, slice_get}
 use Rattle.std.specs.Prelude.{slice_index_or, replicate}
 use Rattle.strc_graph.specs.declared.graph.Port.{Port}
-use Rattle.strc_sched.specs.Rings.{at_port}
+use Rattle.strc_admissible.specs.Rings.{at_port}
 
 -- for each port of each node the number of the ring that stands there
 abbrev pub PortRings : Type 0

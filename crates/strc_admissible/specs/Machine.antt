@@ -5,9 +5,9 @@ use Rattle.std.specs.Prelude.{if◌then◌else◌}
 use Rattle.strc_semantics.specs.declared.fault.Cause.{Cause}
 use Rattle.strc_semantics.specs.declared.word.Word.{Word}
 use Rattle.strc_graph.specs.Graphs.{NodeCode}
-use Rattle.strc_sched.specs.Rings.{Ring}
-use Rattle.strc_sched.specs.Steps.{Step, Stays, Goes, Faults, maybe_step}
-use Rattle.strc_sched.specs.Wiring.{PortRings, ports_at}
+use Rattle.strc_admissible.specs.Rings.{Ring}
+use Rattle.strc_admissible.specs.Steps.{Step, Stays, Goes, Faults, maybe_step}
+use Rattle.strc_admissible.specs.Wiring.{PortRings, ports_at}
 
 -- what stays the same in a run: the nodes, for each of them the rings at its ports, and the
 -- program's input

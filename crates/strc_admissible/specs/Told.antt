@@ -1,0 +1,55 @@
+-- How a run over rings ends, as the answer of the stream equations.
+use Rattle.std.specs.Prelude.{◌≡◌, ℕ, zero, suc, ◌<◌, ◌≤◌, ◌^◌, ℤ, List, [], ◌++◌, length}
+use Rattle.strc_dataflow.specs.Answer.{Outcome, Outcome.Done, Outcome.StartupFault}
+use Rattle.strc_dataflow.specs.Answer.{Outcome.RoundFault, IsAnswer}
+use Rattle.strc_dataflow.specs.Streams as trees
+use Rattle.strc_semantics.specs.declared.fault.Cause.{Cause}
+use Rattle.strc_semantics.specs.declared.word.Word.{Word}
+use Rattle.strc_graph.specs.Graphs.{NodeCode, Graph}
+use Rattle.strc_graph.specs.FlatGraphs.{IsProgram}
+use Rattle.strc_graph.specs.Meaning.{node_meaning}
+use Rattle.strc_order.specs.Order.{tally}
+use Rattle.strc_order.specs.Schedules.{ScheduleParts}
+use Rattle.strc_admissible.specs.Circuits.{IsCircuit, IsFirst}
+use Rattle.strc_admissible.specs.Laws.{startup_order, round_order, counts_at}
+use Rattle.strc_admissible.specs.Machine.{CircuitView, MachineView, Ending, Ended, FaultedAtFirst}
+use Rattle.strc_admissible.specs.Machine.{FaultedIn, whole_run}
+use Rattle.strc_admissible.specs.Planned.{IsPlanned, AreKnown, items_read}
+
+-- the words of so many nodes, of which at most one has any
+abbrev pub words_below : ℕ → (words : ℕ → List Word) → List Word
+words_below zero words = []
+words_below (suc count) words = words_below count words ++ words count
+
+-- an ending of so many nodes is an outcome: the same words; or the same fault, in start-up without
+-- words, in a round with the words before it
+abbrev pub Tells : (count : ℕ) → Outcome Cause Word → Ending → Type 0
+Tells count (Done words) (Ended printed) = printed ≡ words_below count words
+Tells count (StartupFault stop) (FaultedAtFirst node firing cause) =
+    stop ≡ record { node = node; firing = firing; cause = cause }
+Tells count (RoundFault q stop words) (FaultedIn round node firing cause printed) =
+    (q ≡ round) × (stop ≡ record { node = node; firing = firing; cause = cause })
+    × (printed ≡ words_below count words)
+Tells count _ _ = ⊥
+
+-- an ending is the answer of a tree's stream equations, at the counts and in the orders of a
+-- schedule
+abbrev pub IsAnswered : trees.Stream NodeCode → ScheduleParts → (input : List ℤ) → (rounds : ℕ)
+    → (count : ℕ) → Ending → Type 0
+IsAnswered tree schedule input rounds count ending =
+    (outcome : Outcome Cause Word)
+    × IsAnswer node_meaning tree input (tally (startup_order schedule))
+    (tally (round_order schedule)) (startup_order schedule) (round_order schedule) rounds outcome
+    × Tells count outcome ending
+
+-- the machine over rings, each as large as the schedule says, gives the answer
+abbrev pub RingRunsAnswer : Type 0
+RingRunsAnswer =
+    (tree : trees.Stream NodeCode) (graph : Graph) (schedule : ScheduleParts) (input : List ℤ)
+    (rounds : ℕ) (circuit : CircuitView) (machine : MachineView)
+    → IsProgram tree graph → IsPlanned graph schedule → AreKnown graph
+    → rounds < 2 ^ 32
+    → items_read graph.nodes (counts_at schedule rounds) ≤ length input
+    → IsCircuit graph circuit → circuit.input ≡ input → IsFirst graph schedule.sizes machine
+    → IsAnswered tree schedule input rounds (length graph.nodes)
+    (whole_run circuit (startup_order schedule) (round_order schedule) rounds machine)
