@@ -1,2 +1,6 @@
 pub mod Fronts
 pub mod Wirings
+pub mod Ports
+pub mod Firsts
+pub mod CircuitPorts
+pub mod Starting

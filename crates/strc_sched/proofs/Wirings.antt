@@ -7,8 +7,8 @@ use Rattle.std.specs.declared.vec.Vec.{Vec}
 use Rattle.std.proofs.lemmas.List.{map-set, get_or-map, length-map, get_or-set_same}
 use Rattle.std.proofs.lemmas.List.{get_or-set_other, length-set}
 use Rattle.strc_graph.specs.declared.graph.Port.{Port}
-use Rattle.strc_sched.specs.Rings.{at_port}
-use Rattle.strc_sched.specs.Wiring.{PortRings, ports_at, unwired, HasPort, IsWired}
+use Rattle.strc_admissible.specs.Rings.{at_port}
+use Rattle.strc_admissible.specs.Wiring.{PortRings, ports_at, unwired, HasPort, IsWired}
 
 -- a ring is put at a port of a vector of vectors
 pub put_at : {Z : Type 0} (vectors : List (Vec (Option ℕ) Z)) (lists : PortRings)

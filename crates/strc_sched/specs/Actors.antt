@@ -9,7 +9,7 @@ use Rattle.strc_semantics.specs.declared.body.Body.TheVariants as body
 use Rattle.strc_work.specs.States.{IsStateOf, IsFrameOf}
 use Rattle.strc_graph.specs.Graphs as graphs
 use Rattle.strc_graph.specs.Graphs.{NodeCode}
-use Rattle.strc_sched.specs.Steps.{look_by}
+use Rattle.strc_admissible.specs.Steps.{look_by}
 use Rattle.strc_sched.specs.declared.filter.Taking.{Taking}
 use Rattle.strc_sched.specs.declared.filter.FilterActor.{FilterActor}
 use Rattle.strc_sched.specs.declared.actor.Actor.{Actor}

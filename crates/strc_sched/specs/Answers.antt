@@ -14,10 +14,13 @@ use Rattle.strc_admissible.specs.Steps.{Step, Stays, Goes, Faults}
 abbrev pub AreRings : (count : ℕ) → List (Option ℕ) → Type 0
 AreRings count ports = (port number : ℕ) → at_port ports port ≡ Some number → number < count
 
--- an answer tells whether a node without fields fired, and what it left; out of memory tells nothing
+-- whether a node without fields fired, and what it left; out of memory tells nothing
+abbrev pub MovesBy : Step → Bool → (before rings : List Ring) → Type 0
+MovesBy step true before rings = step ≡ Goes [] rings []
+MovesBy step false before rings = (step ≡ Stays) × (rings ≡ before)
+
 abbrev pub HasMoved : {E : Type 0} → Step → Result Bool E → (before rings : List Ring) → Type 0
-HasMoved step (Ok true) before rings = step ≡ Goes [] rings []
-HasMoved step (Ok false) before rings = (step ≡ Stays) × (rings ≡ before)
+HasMoved step (Ok fired) before rings = MovesBy step fired before rings
 HasMoved step (Err refused) before rings = Unit {0}
 
 -- an answer tells whether a node fired, what it left, and that its words stand after those before
@@ -37,3 +40,8 @@ HasStepped step (Err halt.NoMemory) fields_before fields rings_before rings word
 abbrev pub IsPassive : NodeCode → Type 0
 IsPassive (graphs.Filter name filter) = ⊥
 IsPassive code = Unit {0}
+
+-- nor a writer
+abbrev pub IsMover : NodeCode → Type 0
+IsMover graphs.FileWriter = ⊥
+IsMover code = IsPassive code

@@ -1,7 +1,5 @@
-pub mod Rings
-pub mod Steps
-pub mod Wiring
+pub mod Answers
 pub mod Actors
 pub mod Circuits
-pub mod Machine
+pub mod Running
 pub mod Sentences

@@ -1,17 +1,15 @@
 -- How the machine over rings answers.
-use Rattle.std.specs.Prelude.{◌≡◌, ℕ, ℤ, List, [], ◌++◌, Bool, true, false, length, map, replicate}
+use Rattle.std.specs.Prelude.{◌≡◌, ℕ, ℤ, List, [], ◌++◌, Bool, true, false, length, map}
 use Rattle.std.specs.Prelude.{slice_set, Result, Ok, Err}
 use Rattle.strc_semantics.specs.declared.fault.Halt.{Halt}
 use Rattle.strc_semantics.specs.declared.fault.Halt.TheVariants as halt
 use Rattle.strc_semantics.specs.declared.word.Word.{Word}
 use Rattle.strc_inst.specs.Running.{MoreWords}
-use Rattle.strc_graph.specs.Graphs.{Graph}
-use Rattle.strc_graph.specs.Meaning.{node_fields}
 use Rattle.strc_sched.specs.Actors.{AreActors, fields_of}
-use Rattle.strc_sched.specs.Machine.{CircuitView, MachineView, Progress, Went, Stopped}
-use Rattle.strc_sched.specs.Rings.{Ring, AreFirst}
-use Rattle.strc_sched.specs.Steps.{Step, Stays, Goes, Faults, AreRings}
-use Rattle.strc_sched.specs.Wiring.{PortRings, ports_at}
+use Rattle.strc_admissible.specs.Machine.{CircuitView, MachineView, Progress, Went, Stopped}
+use Rattle.strc_admissible.specs.Steps.{Step, Stays, Goes, Faults}
+use Rattle.strc_sched.specs.Answers.{AreRings}
+use Rattle.strc_admissible.specs.Wiring.{PortRings, ports_at}
 use Rattle.strc_sched.specs.declared.machine.Machine.{Machine}
 use Rattle.strc_sched.specs.declared.machine.Stop.{Stop}
 use Rattle.strc_sched.specs.declared.machine.Stop.TheVariants as stop
@@ -36,13 +34,6 @@ pub record IsMachine (circuit : CircuitView) (machine : Machine) : Type 0 where
   pub output_nodes : length circuit.outputs ≡ length circuit.codes
   pub inputs : HoldRings (length machine.rings.items) circuit.inputs
   pub outputs : HoldRings (length machine.rings.items) circuit.outputs
-
--- before the first firing
-pub record IsFirst (graph : Graph) (sizes : List ℕ) (machine : MachineView) : Type 0 where
-  pub fields : machine.fields ≡ map node_fields graph.nodes
-  pub fired : machine.fired ≡ replicate (length graph.nodes) 0
-  pub rings : AreFirst graph.channels sizes machine.rings
-  pub words : machine.words ≡ []
 
 -- an answer tells what a step of a node left, or its fault; out of memory tells nothing
 abbrev pub HasDone : Step → (node : ℕ) → Result Bool Halt → (before after : MachineView) → Type 0

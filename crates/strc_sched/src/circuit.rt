@@ -3,7 +3,8 @@
 ghost use Rattle.std.specs.Prelude.{◌≡◌, IfOk, map};
 ghost use Rattle.strc_graph.specs.Graphs as graphs;
 ghost use Rattle.strc_graph.specs.NodeView.{graph_view, node_view};
-ghost use Rattle.strc_sched.specs.Circuits.{IsCircuit, circuit_view, source_of, target_of};
+ghost use Rattle.strc_admissible.specs.Circuits.{IsCircuit};
+ghost use Rattle.strc_sched.specs.Circuits.{circuit_view, source_of, target_of};
 
 use crate::wiring::PortRings;
 use std::alloc::{AllocError, Global};

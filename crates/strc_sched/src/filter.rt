@@ -5,8 +5,8 @@ ghost use Rattle.strc_semantics.specs.Closed.{IsClosedFilter};
 ghost use Rattle.strc_semantics.specs.Filters.{filter_of};
 ghost use Rattle.strc_semantics.specs.Firing.{started};
 ghost use Rattle.strc_sched.specs.Actors.{CanStart, IsFilterActor, IsTakingOf};
-ghost use Rattle.strc_sched.specs.Steps as steps;
-ghost use Rattle.strc_sched.specs.Steps.{HasStepped};
+ghost use Rattle.strc_admissible.specs.Steps as steps;
+ghost use Rattle.strc_sched.specs.Answers.{HasStepped};
 
 use crate::ring::{Ring, count_at, give_to, take_from, window_at};
 use std::alloc::Global;

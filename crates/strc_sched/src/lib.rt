@@ -2,6 +2,7 @@
 pub mod actor;
 pub mod circuit;
 pub mod filter;
+pub mod machine;
 pub mod movers;
 pub mod outcome;
 pub mod passing;

@@ -5,9 +5,10 @@ ghost use Rattle.strc_graph.specs.NodeView.{graph_view};
 ghost use Rattle.strc_order.specs.Greedy.{firings_of};
 ghost use Rattle.strc_order.specs.Order.{repeated};
 ghost use Rattle.strc_sched.specs.Actors.{AreActors, AreStartable, AreClosed};
-ghost use Rattle.strc_sched.specs.Circuits.{circuit_view, IsCircuit};
-ghost use Rattle.strc_sched.specs.Machine as spec;
-ghost use Rattle.strc_sched.specs.Running.{HasDone, HasGone, IsFirst, IsMachine, machine_view};
+ghost use Rattle.strc_admissible.specs.Circuits.{IsCircuit, IsFirst};
+ghost use Rattle.strc_sched.specs.Circuits.{circuit_view};
+ghost use Rattle.strc_admissible.specs.Machine as spec;
+ghost use Rattle.strc_sched.specs.Running.{HasDone, HasGone, IsMachine, machine_view};
 
 use crate::actor::{Actor, start_actors};
 use crate::circuit::Circuit;

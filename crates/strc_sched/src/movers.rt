@@ -1,14 +1,16 @@
 // Firings of the nodes that only pass items on: identities, readers, writers, splitters, joiners.
 // Each tells whether it found its windows; if not, it leaves all as it was.
 
-ghost use Rattle.std.specs.Prelude.{◌≡◌, ◌<◌, Ok, IfSome, length, sum};
-ghost use Rattle.strc_sched.specs.Rings as spec;
-ghost use Rattle.strc_sched.specs.Rings.{at_port};
-ghost use Rattle.strc_sched.specs.Steps as steps;
-ghost use Rattle.strc_sched.specs.Steps.{AreRings, HasMoved, HasStepped};
+ghost use Rattle.std.specs.Prelude.{◌≡◌, ◌<◌, [], IfSome, length, sum};
+ghost use Rattle.strc_graph.specs.NodeView.{splitter_view};
+ghost use Rattle.strc_admissible.specs.Rings as spec;
+ghost use Rattle.strc_admissible.specs.Rings.{at_port};
+ghost use Rattle.strc_admissible.specs.Steps as steps;
+ghost use Rattle.strc_sched.specs.Answers.{AreRings, HasMoved, HasStepped, MovesBy};
 
 use crate::ring::{Ring, copy_front, count_at, give_to, move_items, take_from};
 use std::alloc::AllocError;
+use strc_graph::graph::Splitter;
 use strc_semantics::fault::Halt;
 use strc_semantics::word::Word;
 
@@ -28,7 +30,8 @@ pub(crate) fn fire_identity(
 ) -> Result<bool, AllocError>
     requires input { IfSome input (λ number. number < length rings.old) }
     requires output { IfSome output (λ number. number < length rings.old) }
-    ensures { HasMoved (steps.identity_step input output rings.old) result rings.old rings.new }
+    ensures rings { length rings.new ≡ length rings.old }
+    ensures step { HasMoved (steps.identity_step input output rings.old) result rings.old rings.new }
 {
     if count_at(rings, input) == 0 {
         return Ok(false);
@@ -45,8 +48,9 @@ pub(crate) fn fire_reader(
     input: &[i32],
 ) -> bool
     requires output { IfSome output (λ number. number < length rings.old) }
-    ensures { HasMoved (steps.reader_step firing output input.now rings.old)
-        (Ok {E = Unit {0}} result) rings.old rings.new }
+    ensures rings { length rings.new ≡ length rings.old }
+    ensures step { MovesBy (steps.reader_step firing output input.now rings.old) result rings.old
+        rings.new }
 {
     if firing >= input.len() as u64 {
         return false;
@@ -63,7 +67,8 @@ pub(crate) fn fire_writer(
     words: &mut Vec<Word>,
 ) -> Result<bool, Halt>
     requires input { IfSome input (λ number. number < length rings.old) }
-    ensures { HasStepped (steps.writer_step input rings.old) result [] [] rings.old rings.new
+    ensures rings { length rings.new ≡ length rings.old }
+    ensures step { HasStepped (steps.writer_step input rings.old) result [] [] rings.old rings.new
         words.old.items words.new.items }
 {
     let Some(number) = input else {
@@ -83,8 +88,28 @@ pub(crate) fn fire_writer(
     Ok(true)
 }
 
+/// One firing of a splitter.
+pub(crate) fn fire_splitter(
+    rings: &mut [Ring],
+    splitter: &Splitter,
+    input: Option<usize>,
+    outputs: &[Option<usize>],
+    items: &mut Vec<i32>,
+) -> Result<bool, AllocError>
+    requires input { IfSome input (λ number. number < length rings.old) }
+    requires outputs { AreRings (length rings.old) outputs.now }
+    ensures rings { length rings.new ≡ length rings.old }
+    ensures step { HasMoved (steps.splitter_step (splitter_view splitter.now) input outputs.now
+        rings.old) result rings.old rings.new }
+{
+    match splitter {
+        Splitter::Duplicate(carried) => fire_duplicate(rings, carried, input, outputs, items),
+        Splitter::Roundrobin(weights) => fire_roundrobin(rings, weights, input, outputs, items),
+    }
+}
+
 /// One firing of a duplicating splitter: each port that carries items gets the item.
-pub(crate) fn fire_duplicate(
+fn fire_duplicate(
     rings: &mut [Ring],
     carried: &[bool],
     input: Option<usize>,
@@ -93,7 +118,8 @@ pub(crate) fn fire_duplicate(
 ) -> Result<bool, AllocError>
     requires input { IfSome input (λ number. number < length rings.old) }
     requires outputs { AreRings (length rings.old) outputs.now }
-    ensures { HasMoved (steps.duplicate_step carried.now input outputs.now rings.old) result
+    ensures rings { length rings.new ≡ length rings.old }
+    ensures step { HasMoved (steps.duplicate_step carried.now input outputs.now rings.old) result
         rings.old rings.new }
 {
     if count_at(rings, input) == 0 {
@@ -118,7 +144,7 @@ fn copy_out(rings: &mut [Ring], carried: &[bool], outputs: &[Option<usize>], ite
 }
 
 /// One firing of a round-robin splitter: each port gets as many items as its weight, in turn.
-pub(crate) fn fire_splitter(
+fn fire_roundrobin(
     rings: &mut [Ring],
     weights: &[u32],
     input: Option<usize>,
@@ -127,7 +153,8 @@ pub(crate) fn fire_splitter(
 ) -> Result<bool, AllocError>
     requires input { IfSome input (λ number. number < length rings.old) }
     requires outputs { AreRings (length rings.old) outputs.now }
-    ensures { HasMoved (steps.roundrobin_step weights.now input outputs.now rings.old) result
+    ensures rings { length rings.new ≡ length rings.old }
+    ensures step { HasMoved (steps.roundrobin_step weights.now input outputs.now rings.old) result
         rings.old rings.new }
 {
     if (count_at(rings, input) as u128) < cycle_length(weights) {
@@ -166,7 +193,8 @@ pub(crate) fn fire_joiner(
 ) -> Result<bool, AllocError>
     requires inputs { AreRings (length rings.old) inputs.now }
     requires output { IfSome output (λ number. number < length rings.old) }
-    ensures { HasMoved (steps.joiner_step weights.now inputs.now output rings.old) result rings.old
+    ensures rings { length rings.new ≡ length rings.old }
+    ensures step { HasMoved (steps.joiner_step weights.now inputs.now output rings.old) result rings.old
         rings.new }
 {
     if !have_weights(rings, weights, inputs) {

@@ -2,14 +2,13 @@
 
 ghost use Rattle.std.specs.Prelude.{◌≡◌, [], length};
 ghost use Rattle.strc_graph.specs.NodeView.{node_view};
-ghost use Rattle.strc_sched.specs.Steps as steps;
-ghost use Rattle.strc_sched.specs.Steps.{AreRings, HasStepped, IsPassive};
+ghost use Rattle.strc_admissible.specs.Steps as steps;
+ghost use Rattle.strc_sched.specs.Answers.{AreRings, HasMoved, HasStepped, IsMover, IsPassive};
 
-use crate::movers::{fire_duplicate, fire_identity, fire_joiner, fire_reader, fire_splitter};
-use crate::movers::{fire_writer, ring_of};
+use crate::movers::{fire_identity, fire_joiner, fire_reader, fire_splitter, fire_writer, ring_of};
 use crate::ring::Ring;
 use std::alloc::AllocError;
-use strc_graph::graph::{Node, Splitter};
+use strc_graph::graph::Node;
 use strc_semantics::fault::Halt;
 use strc_semantics::word::Word;
 
@@ -34,26 +33,40 @@ pub(crate) fn fire_passive(
     if let Node::FileWriter = node {
         return fire_writer(rings, ring_of(inputs, 0), words);
     }
-    let moved = match node {
+    match fire_mover(node, firing, inputs, outputs, input, rings, items) {
+        Ok(fired) => Ok(fired),
+        Err(_) => Err(Halt::NoMemory),
+    }
+}
+
+/// The same for a node that prints nothing.
+fn fire_mover(
+    node: &Node,
+    firing: u64,
+    inputs: &[Option<usize>],
+    outputs: &[Option<usize>],
+    input: &[i32],
+    rings: &mut [Ring],
+    items: &mut Vec<i32>,
+) -> Result<bool, AllocError>
+    requires mover { IsMover (node_view node.now) }
+    requires inputs { AreRings (length rings.old) inputs.now }
+    requires outputs { AreRings (length rings.old) outputs.now }
+    ensures rings { length rings.new ≡ length rings.old }
+    ensures step { HasMoved (steps.node_step (node_view node.now) firing [] inputs.now outputs.now
+        input.now rings.old) result rings.old rings.new }
+{
+    match node {
         Node::Identity => fire_identity(rings, ring_of(inputs, 0), ring_of(outputs, 0), items),
         Node::FileReader => Ok(fire_reader(rings, firing, ring_of(outputs, 0), input)),
-        Node::Splitter(Splitter::Duplicate(carried)) => {
-            fire_duplicate(rings, carried, ring_of(inputs, 0), outputs, items)
+        Node::Splitter(splitter) => {
+            fire_splitter(rings, splitter, ring_of(inputs, 0), outputs, items)
         }
-        Node::Splitter(Splitter::Roundrobin(weights)) => {
-            fire_splitter(rings, weights, ring_of(inputs, 0), outputs, items)
-        }
-        Node::Joiner(weights) => {
-            fire_joiner(rings, weights, inputs, ring_of(outputs, 0), items)
-        }
+        Node::Joiner(weights) => fire_joiner(rings, weights, inputs, ring_of(outputs, 0), items),
         Node::Filter(_)
         | Node::FileWriter
         | Node::Scatter(_)
         | Node::Copy(_, _)
         | Node::Gather(_) => Ok(false),
-    };
-    match moved {
-        Ok(fired) => Ok(fired),
-        Err(AllocError) => Err(Halt::NoMemory),
     }
 }

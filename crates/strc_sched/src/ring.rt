@@ -2,8 +2,8 @@
 
 ghost use Rattle.std.specs.Prelude.{◌≡◌, ◌<◌, ◌++◌, take, length, map, IfSome, IfOk, OnOk};
 ghost use Rattle.strc_graph.specs.NodeView.{channel_view};
-ghost use Rattle.strc_sched.specs.Rings as spec;
-ghost use Rattle.strc_sched.specs.Rings.{AreFirst, items_at};
+ghost use Rattle.strc_admissible.specs.Rings as spec;
+ghost use Rattle.strc_admissible.specs.Rings.{AreFirst, items_at};
 
 use circular_buffer::HeapCircularBuffer;
 use std::alloc::{AllocError, Global};

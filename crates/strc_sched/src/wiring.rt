@@ -2,7 +2,7 @@
 
 ghost use Rattle.std.specs.Prelude.{◌≡◌, ◌<◌, ◌∷◌, length, map, take, replicate, None, Some};
 ghost use Rattle.std.specs.Prelude.{slice_set, slice_index_or, All, IfOk};
-ghost use Rattle.strc_sched.specs.Wiring.{unwired, ports_at, HasPort, IsWired};
+ghost use Rattle.strc_admissible.specs.Wiring.{unwired, ports_at, HasPort, IsWired};
 
 use std::alloc::{AllocError, Global};
 use std::marker::Model;

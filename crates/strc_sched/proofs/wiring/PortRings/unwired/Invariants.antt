@@ -1,5 +1,5 @@
 use Rattle.std.proofs.Common.{◌≡◌, map, take}
-use Rattle.strc_sched.specs.Wiring.{unwired}
+use Rattle.strc_admissible.specs.Wiring.{unwired}
 use Rattle.strc_sched.proofs.wiring.PortRings.unwired.Given as goal
 
 abbrev pub invariant-loop-count : goal.invariant-loop-count
