@@ -1,7 +1,7 @@
 -- What the nodes of a flat graph mean in the generic layer of streams: the state that each starts
 -- from, its rates, and what a firing gives (StreamIt specification 2.1, "Filters" and
--- "Split-joins"). A filter's firings are those of its text, the first one that of its prework, where
--- there is one. The nodes of fission aren't run yet: their firings give nothing.
+-- "Split-joins"). A filter's firings are those of its text, the first one that of its prework,
+-- where there is one. The nodes of fission aren't run yet: their firings give nothing.
 use Rattle.std.specs.Prelude.{ℕ, ℤ, List, [], map, take, drop, slice_index, slice_index_or}
 use Rattle.std.specs.Prelude.{true, false, Result, Ok, Err, if◌then◌else◌}
 use Rattle.strc_dataflow.specs.Node.{ByPort, Meaning, Fired, Fired.Fires, Fired.Faults, at_port_0}
