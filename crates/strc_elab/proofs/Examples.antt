@@ -5,7 +5,6 @@ use Rattle.std.specs.Int.{int_wrap}
 use Rattle.strc_base.specs.Results.{result_and_then}
 use Rattle.strc_syntax.specs.Tree as tree
 use Rattle.strc_syntax.specs.declared.tree.ItemType.TheVariants.{Void}
-use Rattle.strc_semantics.specs.Firing as firing
 use Rattle.strc_semantics.specs.Firing.{turn_limit}
 use Rattle.strc_check.specs.Typing.{TypedNames}
 use Rattle.strc_semantics.specs.declared.fault.Cause.TheVariants.{Turns}

@@ -20,3 +20,4 @@ pub mod FlatGraphs
 pub mod Verdicts
 pub mod Places
 pub mod OneGraph
+pub mod WholePrograms

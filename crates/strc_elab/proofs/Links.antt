@@ -1,8 +1,12 @@
 -- The channels between nodes in a row give each input port what the flat graph gives it.
 use Rattle.std.proofs.Common.{◌≡◌, ℕ, zero, suc, ◌+◌, ◌-◌, ◌<◌, ◌≤◌, true, false, cond, ◌&&◌, List}
-use Rattle.std.proofs.Common.{[], ◌∷◌, ◌++◌, length, refl, sym, ap, ◌∙◌, arith, append_assoc}
+use Rattle.std.proofs.Common.{[], ◌∷◌, ◌++◌, length, get_or, Some, refl, sym, ap, ◌∙◌, subst, arith}
+use Rattle.std.proofs.Common.{append_assoc, length-append}
 use mathlib.Core.Logic.{inl, inr}
-use Rattle.std.specs.Prelude.{All, AllPairs, nat_eq}
+use Rattle.std.specs.Prelude.{All, AllPairs, nat_eq, slice_get}
+use Rattle.std.proofs.Math.ListN.{get_or-append}
+use Rattle.std.proofs.Math.Seq.{get_or-append_seam}
+use Rattle.std.proofs.lemmas.Option.{slice_get-get_or}
 use Rattle.std.proofs.lemmas.Bool.{cases_lt, ne_eqb, eq-eqb}
 use Rattle.std.proofs.lemmas.List.Elements.{All-push}
 use Rattle.std.proofs.lemmas.List.Quantifiers.{all_pairs_push}
@@ -12,11 +16,12 @@ use Rattle.strc_syntax.specs.declared.tree.ItemType.{ItemType}
 use Rattle.strc_syntax.specs.declared.tree.ItemType.TheVariants as item
 use Rattle.strc_elab.specs.Instances.{Stream, Streams, Filter, Identity, Pipeline, Done, More}
 use Rattle.std.specs.List.{AllByRecursion}
-use Rattle.strc_graph.specs.Carriers.{JoinsCarriers}
-use Rattle.strc_graph.proofs.Carriers.{CarriesAll, all_take, all_give}
+use Rattle.strc_graph.specs.Carriers.{JoinsCarriers, takes_at}
+use Rattle.strc_graph.specs.FlatGraphs.{IsBefore}
+use Rattle.strc_graph.proofs.Carriers.{CarriesAll, all_take, all_give, taker_is_input}
 use Rattle.strc_graph.specs.Graphs.{NodeCode, Channel, JoinsPorts, ports_of, input_ports, inputs_at}
 use Rattle.strc_graph.specs.Graphs.{ends_at, source_in, source_of}
-use Rattle.strc_elab.specs.Flattening.{nodes_of, row_nodes, IsBefore}
+use Rattle.strc_elab.specs.Flattening.{nodes_of, row_nodes}
 use Rattle.strc_elab.specs.Rows.{AreLinked, link_at, links}
 use Rattle.strc_elab.proofs.Chains.{items_from}
 use Rattle.strc_elab.proofs.Rows.{IsRowGraph}
@@ -116,6 +121,51 @@ links_ordered (suc count) =
     all_pairs_push IsBefore (links count) (link_at count) (links_ordered count)
     (λ k d less. inl (all_links (λ channel. channel.source.node < count) count
     (λ place under. under) k d less))
+
+length-links : (count : ℕ) → length (links count) ≡ count
+length-links zero = refl
+length-links (suc count) =
+    omega (arith, length-append (links count) (link_at count ∷ []), length-links count)
+
+nth_link : (count place : ℕ) (other : Channel) → place < count
+    → get_or (links count) place other ≡ link_at place
+nth_link zero place other less = absurd (omega arith)
+nth_link (suc count) place other less = elim (cases_lt place count) [
+  | inl below ↦
+      get_or-append (links count) (link_at count ∷ []) other place
+      (omega (arith, length-links count))
+      ∙ nth_link count place other below
+  | inr above ↦
+      let last : count ≡ place = omega arith in
+      ap (λ (n : ℕ). get_or (links (suc count)) n other) (sym last ∙ sym (length-links count))
+      ∙ get_or-append_seam (links count) (link_at count) [] other
+      ∙ ap link_at last
+]
+
+link_got : (count place : ℕ) → place < count
+    → slice_get (links count) place ≡ Some (link_at place)
+link_got count place less =
+    slice_get-get_or (links count) place (link_at place) (omega (arith, length-links count))
+    ∙ ap Some (nth_link count place (link_at place) less)
+
+-- where the first node takes nothing, a channel ends at each input port that carries items
+pub links_feed : (nodes : List NodeCode) → AreSingle nodes → inputs_at nodes 0 ≡ 0
+    → (node port : ℕ) → takes_at nodes node port ≡ true
+    → (number : ℕ) × (channel : Channel)
+    × (slice_get (links (length nodes - 1)) number ≡ Some channel)
+    × (ends_at node port channel ≡ true)
+links_feed nodes single none zero port takes =
+    absurd (omega (arith, none, taker_is_input nodes 0 port takes))
+links_feed nodes single none (suc node) port takes =
+    let input = taker_is_input nodes (suc node) port takes in
+    let within = input_within nodes (suc node) port input in
+    let only : 0 ≡ port = omega (arith, input, one_input nodes (suc node) single) in (
+      node,
+      link_at node,
+      link_got (length nodes - 1) node (omega (arith, within)),
+      subst (λ (p : ℕ). ends_at (suc node) p (link_at node) ≡ true) only
+          (ends_here (suc node) node (omega arith)),
+    )
 
 -- each joins ports
 pub links_join : (nodes : List NodeCode) → AreLinked nodes

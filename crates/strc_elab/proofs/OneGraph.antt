@@ -1,15 +1,16 @@
 -- A stream has one flat graph: its channels are those of the tree, in one order.
-use Rattle.std.proofs.Common.{◌≡◌, ℕ, suc, ◌<◌, ◌⊎◌, List, [], ◌∷◌, length, true, false, Bool, refl}
+use Rattle.std.proofs.Common.{◌≡◌, ℕ, suc, ◌⊎◌, List, [], ◌∷◌, true, false, Bool, refl}
 use Rattle.std.proofs.Common.{sym}
 use Rattle.std.proofs.Common.{ap, ◌∙◌, subst, inl, inr, arith, eqb-true}
 use Rattle.std.specs.Prelude.{All, AllPairs, nat_eq, ◌&&◌, if◌then◌else◌}
 use Rattle.strc_dataflow.specs.Flat.{Source, Origin}
 use Rattle.strc_dataflow.specs.Streams.{nothing}
 use Rattle.strc_graph.specs.Carriers.{JoinsCarriers}
+use Rattle.strc_graph.specs.FlatGraphs.{IsBefore}
 use Rattle.strc_graph.specs.Graphs.{Channel, Graph, source_of, source_in, ends_at}
 use Rattle.strc_graph.specs.declared.graph.Port.{Port}
 use Rattle.strc_elab.specs.Instances.{Stream}
-use Rattle.strc_elab.specs.Flattening.{IsFlat, IsBefore, meaning_of}
+use Rattle.strc_elab.specs.Flattening.{IsFlat, meaning_of}
 use Rattle.strc_elab.specs.OneGraph.{HasOneGraph}
 
 -- a channel is one of these

@@ -8,10 +8,11 @@ use Rattle.strc_elab.specs.Instances.{Stream}
 use Rattle.strc_elab.specs.Types.{IsWellTyped}
 use Rattle.strc_graph.specs.Connections as channels
 use Rattle.strc_graph.specs.Carriers.{JoinsCarriers}
+use Rattle.strc_graph.specs.FlatGraphs.{IsBefore}
 use Rattle.strc_graph.specs.Graphs.{NodeCode, Graph, inputs_at, source_of, source_in}
 use Rattle.strc_graph.proofs.Carriers.{CarriesAll, taker_is_input}
 use Rattle.strc_elab.specs.Flattening.{nodes_of, meaning_of, IsVerdict, IsFlattened, IsConnected}
-use Rattle.strc_elab.specs.Flattening.{IsFlat, IsBefore}
+use Rattle.strc_elab.specs.Flattening.{IsFlat}
 use Rattle.strc_elab.specs.Rows.{AreLinked, links}
 use Rattle.strc_elab.proofs.Rows.{IsRowGraph, codes_of-is, meaning_is_row}
 use Rattle.strc_elab.proofs.Connections.{linked_from_connected, connected_from_linked}

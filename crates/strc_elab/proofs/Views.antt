@@ -1,5 +1,7 @@
 -- Declared streams in a row as contracts speak of them, and the nodes of streams in a row.
-use Rattle.std.proofs.Common.{◌≡◌, List, [], ◌∷◌, ◌++◌, length, map, Vec, Global, refl, ap, ◌∙◌}
+use Rattle.std.proofs.Common.{◌≡◌, ℕ, ◌+◌, ◌<◌, List, [], ◌∷◌, ◌++◌, length, get_or, drop, map, Vec}
+use Rattle.std.proofs.Common.{Global, refl, sym, ap, ◌∙◌}
+use Rattle.std.proofs.lemmas.List.{at_drop_more}
 use mathlib.Core.Former.{Count}
 use Rattle.strc_elab.specs.declared.stream.Stream.{Stream, Row_of-Stream, end_of-Stream}
 use Rattle.strc_elab.specs.declared.stream.Stream.{more_of-Stream, items-the_row-Stream}
@@ -48,6 +50,16 @@ pub list_nodes-empty : (nodes : List NodeCode) (left : List Stream) → length l
     → nodes ++ list_nodes left ≡ nodes
 list_nodes-empty nodes [] e = append_nil nodes
 list_nodes-empty nodes (first ∷ rest) e = cc
+
+-- the nodes of the streams from a place on: first those of the stream there
+pub list_nodes-drop : (streams : List Stream) (index : ℕ) (stream : Stream)
+    → index < length streams → stream ≡ get_or streams index stream
+    → list_nodes (drop index streams)
+    ≡ nodes_of (stream_view stream) ++ list_nodes (drop (index + 1) streams)
+list_nodes-drop streams index stream less is =
+    at_drop_more list_nodes streams index stream less
+    ∙ ap (λ (s : Stream). nodes_of (stream_view s) ++ list_nodes (drop (index + 1) streams))
+    (sym is)
 
 map_append : (xs ys : List NodeCode) → map node_name (xs ++ ys) ≡ map node_name xs
     ++ map node_name ys

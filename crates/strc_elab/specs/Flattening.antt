@@ -1,7 +1,7 @@
 -- The flat graph that a stream of instances means, and which streams have one that can be run
 -- (StreamIt specification 2.1, "Streams"; Lee and Messerschmitt 1987).
-use Rattle.std.specs.Prelude.{◌≡◌, ℕ, ◌<◌, ◌≤◌, true, List, [], ◌∷◌, ◌++◌, length, All, AllPairs}
-use Rattle.std.specs.Prelude.{count_by, codes, ◌⊎◌, Result, Ok, Err}
+use Rattle.std.specs.Prelude.{◌≡◌, ℕ, ◌<◌, ◌≤◌, true, List, [], ◌∷◌, ◌++◌, length, count_by, codes}
+use Rattle.std.specs.Prelude.{Result, Ok, Err}
 use Rattle.strc_dataflow.specs.Streams as trees
 use Rattle.strc_dataflow.specs.Flat as flat
 use Rattle.strc_elab.specs.declared.connection.TheConstants.{NODE_LIMIT}
@@ -9,9 +9,9 @@ use Rattle.strc_scope.specs.declared.error.ElabError.{ElabError}
 use Rattle.strc_scope.specs.declared.error.ElabError.TheVariants as refusal
 use Rattle.strc_elab.specs.Instances.{Stream, Streams, Filter, Identity, Pipeline, Done, More}
 use Rattle.strc_graph.specs.Graphs as graphs
-use Rattle.strc_graph.specs.Carriers.{carries_in, carries_out, takes_at, JoinsCarriers}
-use Rattle.strc_graph.specs.Graphs.{NodeCode, Graph, Channel, reads_input, gives_words, source_of}
-use Rattle.strc_graph.specs.Graphs.{source_in, filter_name}
+use Rattle.strc_graph.specs.Carriers.{carries_in, carries_out}
+use Rattle.strc_graph.specs.FlatGraphs as flat_graphs
+use Rattle.strc_graph.specs.Graphs.{NodeCode, Graph, reads_input, gives_words, filter_name}
 
 -- the tree of a stream
 
@@ -63,27 +63,9 @@ abbrev mutual
   row_names Done = []
   row_names (More first rest) = names_of first ++ row_names rest
 
--- channels
-
--- one channel before another: by the node that it leaves, and then by the port
-abbrev pub IsBefore : Channel → Channel → Type 0
-IsBefore first second = (first.source.node < second.source.node)
-    ⊎ ((first.source.node ≡ second.source.node) × (first.source.port < second.source.port))
-
 -- a graph of nodes and channels is the flat graph of a stream
-pub record IsFlat (stream : Stream) (graph : Graph) : Type 0 where
-  -- its nodes are the tree's
-  pub nodes : graph.nodes ≡ codes_of stream
-  -- what comes to each input port that carries items comes from where the tree says
-  pub sources : (node port : ℕ) → takes_at graph.nodes node port ≡ true
-      → source_in graph.channels node port ≡ (meaning_of stream).source node port
-  -- each channel joins ports that carry items
-  pub joined : All (JoinsCarriers graph.nodes) graph.channels
-  -- and is one of those
-  pub channels : All (λ channel. (meaning_of stream).source channel.target.node channel.target.port
-      ≡ source_of channel) graph.channels
-  -- and no two leave one port
-  pub ordered : AllPairs IsBefore graph.channels
+abbrev pub IsFlat : Stream → Graph → Type 0
+IsFlat stream graph = flat_graphs.IsFlat (tree_of stream) graph
 
 -- connections
 

@@ -1,6 +1,6 @@
 // From a program's tree to the stream that it means.
 
-ghost use Rattle.std.specs.Prelude.{◌≡◌, ℕ, List, map, nat_eq};
+ghost use Rattle.std.specs.Prelude.{◌≡◌, ℕ, List, map, nat_eq, IfOk};
 ghost use Rattle.std.specs.Option.{option_map};
 ghost use Rattle.std.specs.Cmp.Lexicographic.{pointwise};
 ghost use Rattle.indexmap.specs.IndexMap.{get_by};
@@ -8,6 +8,7 @@ ghost use Rattle.strc_syntax.specs.View.{declaration_view, program_view};
 ghost use Rattle.strc_elab.specs.Elaboration as spec;
 ghost use Rattle.strc_scope.specs.Answers.{IsVerdict};
 ghost use Rattle.strc_elab.specs.Names.{place_from};
+ghost use Rattle.strc_elab.specs.Sound.{IsElaborated};
 ghost use Rattle.strc_elab.specs.Tasks.{elaborated_view};
 ghost use Rattle.strc_elab.specs.View.{stream_view};
 
@@ -35,6 +36,7 @@ const LEVEL_LIMIT: u32 = 64;
 pub fn elaborate(alloc: Global, program: &Program, main: Option<&str>) -> Result<Stream, ElabError>
     ensures verdict { IsVerdict stream_view (spec.elaborated (program_view program.now)
         (option_map (λ n. n.now) main.entry)) result }
+    ensures sound { IfOk result (λ stream. IsElaborated (stream_view stream)) }
 {
     let declarations = program.declarations.as_slice();
     let numbers = index_of(alloc, declarations)?;

@@ -6,30 +6,37 @@ ghost use Rattle.strc_elab.specs.Types.{IsWellTyped};
 ghost use Rattle.strc_elab.specs.View.{stream_view};
 ghost use Rattle.strc_graph.specs.Connections.{IsConnected};
 ghost use Rattle.strc_graph.specs.NodeView.{node_view, channel_view, graph_view, node_names};
-ghost use Rattle.strc_elab.specs.Flattening.{nodes_of, names_of, node_limit, IsFlat, IsFlattened};
+ghost use Rattle.strc_graph.specs.FlatGraphs.{IsProgram};
+ghost use Rattle.strc_elab.specs.Flattening.{tree_of, nodes_of, names_of, node_limit};
+ghost use Rattle.strc_elab.specs.Flattening.{IsFlat, IsFlattened};
 ghost use Rattle.strc_elab.specs.Rows.{AreLinked, link_at, links};
+ghost use Rattle.strc_elab.specs.Sound.{IsElaborated};
 
 use crate::connection::check;
 use crate::stream::Stream;
 use std::alloc::{AllocError, Global};
+use strc_base::memory::NoMemory;
 use strc_graph::graph::{Channel, Graph, Node, Port};
 use strc_scope::error::ElabError;
 
 /// The flat graph of a stream: its nodes in preorder, and a channel from each port to where its
 /// items go.
-pub fn flatten(alloc: Global, stream: Stream) -> Result<Graph, ElabError>
-    ensures verdict { IsWellTyped (stream_view stream) → IsFlattened (stream_view stream) result }
-    ensures graph { IsWellTyped (stream_view stream)
-        → IfOk result (λ graph. IsFlat (stream_view stream) (graph_view graph)) }
-    ensures connected { IsWellTyped (stream_view stream)
+pub fn flatten(alloc: Global, stream: &Stream) -> Result<Graph, ElabError>
+    ensures verdict { IsWellTyped (stream_view stream.now)
+        → IsFlattened (stream_view stream.now) result }
+    ensures graph { IsWellTyped (stream_view stream.now)
+        → IfOk result (λ graph. IsFlat (stream_view stream.now) (graph_view graph)) }
+    ensures connected { IsWellTyped (stream_view stream.now)
         → IfOk result (λ graph. IsConnected (graph_view graph)) }
+    ensures program { IsElaborated (stream_view stream.now)
+        → IfOk result (λ graph. IsProgram (tree_of (stream_view stream.now)) (graph_view graph)) }
     ensures nodes { IfOk result (λ graph. map node_view graph.nodes
-        ≡ nodes_of (stream_view stream)) }
-    ensures names { IfOk result (λ graph. node_names graph ≡ names_of (stream_view stream)) }
+        ≡ nodes_of (stream_view stream.now)) }
+    ensures names { IfOk result (λ graph. node_names graph ≡ names_of (stream_view stream.now)) }
     ensures loops { IfOk result (λ graph. graph.outer_loops ≡ replicate (length graph.nodes) None) }
 {
     let mut nodes = Vec::new(alloc);
-    collect(stream, &mut nodes)?;
+    collect(alloc, stream, &mut nodes)?;
     match check(&nodes) {
         Ok(()) => Ok(row(alloc, nodes)?),
         Err(refusal) => Err(refusal),
@@ -37,13 +44,13 @@ pub fn flatten(alloc: Global, stream: Stream) -> Result<Graph, ElabError>
 }
 
 /// Adds a stream's nodes in preorder.
-fn collect(stream: Stream, nodes: &mut Vec<Node>) -> Result<(), AllocError>
+fn collect(alloc: Global, stream: &Stream, nodes: &mut Vec<Node>) -> Result<(), NoMemory>
     ensures { OnOk result (map node_view nodes.new.items ≡ map node_view nodes.old.items
-        ++ nodes_of (stream_view stream)) }
+        ++ nodes_of (stream_view stream.now)) }
 {
     match stream {
         Stream::Filter(instance) => {
-            nodes.push(Node::Filter(instance))?;
+            nodes.push(Node::Filter(instance.copy(alloc)?))?;
             Ok(())
         }
         Stream::Identity => {
@@ -52,7 +59,7 @@ fn collect(stream: Stream, nodes: &mut Vec<Node>) -> Result<(), AllocError>
         }
         Stream::Pipeline(children) => {
             for child in children {
-                collect(child, nodes)?;
+                collect(alloc, child, nodes)?;
             }
             Ok(())
         }

@@ -1,7 +1,7 @@
 -- How nodes fire: they keep their rates, take no more than they look at, and have one and the same
 -- rate from the second firing on. The nodes of fission, which fire by rounds, are left out.
-use Rattle.std.proofs.Common.{◌≡◌, refl, sym, ap, ◌∙◌, subst, ℕ, zero, suc, ◌+◌, ◌<◌, ◌≤◌, Bool, true}
-use Rattle.std.proofs.Common.{false, ℤ, List, [], ◌∷◌, length, take, drop, sum, Option, Result, Ok}
+use Rattle.std.proofs.Common.{◌≡◌, refl, ap, ◌∙◌, subst, ℕ, zero, suc, ◌<◌, ◌≤◌, Bool, true}
+use Rattle.std.proofs.Common.{false, ℤ, List, [], length, take, drop, sum, Option, Result, Ok}
 use Rattle.std.proofs.Common.{Err, arith, length-take, length-drop}
 use Rattle.std.specs.Prelude.{if◌then◌else◌, slice_index, slice_index_or, IfOk}
 use Rattle.std.proofs.lemmas.List.{take-take}

@@ -1,13 +1,12 @@
 -- What the nodes of a flat graph mean in the generic layer of streams: the state that each starts
 -- from, its rates, and what a firing gives (StreamIt specification 2.1, "Filters" and
--- "Split-joins"). A filter's firings are those of its text, the first one that of its prework, where
--- there is one. The nodes of fission aren't run yet: their firings give nothing.
-use Rattle.std.specs.Prelude.{ℕ, ℤ, List, [], ◌∷◌, map, take, drop, slice_index, slice_index_or}
+-- "Split-joins"). A filter's firings are those of its text, the first one that of its prework,
+-- where there is one. The nodes of fission aren't run yet: their firings give nothing.
+use Rattle.std.specs.Prelude.{ℕ, ℤ, List, [], map, take, drop, slice_index, slice_index_or}
 use Rattle.std.specs.Prelude.{true, false, Result, Ok, Err, if◌then◌else◌}
 use Rattle.strc_dataflow.specs.Node.{ByPort, Meaning, Fired, Fired.Fires, Fired.Faults, at_port_0}
 use Rattle.strc_dataflow.specs.RoundRobin.{span_start, one_cycle}
 use Rattle.strc_semantics.specs.Firing as filters
-use Rattle.strc_semantics.specs.declared.body.Body.{Body}
 use Rattle.strc_semantics.specs.declared.fault.Cause.{Cause}
 use Rattle.strc_semantics.specs.declared.word.Word.{Word}
 use Rattle.strc_graph.specs.Graphs.{NodeCode, Filter, Identity, FileReader, FileWriter, Splitter}

@@ -1,8 +1,8 @@
 -- How many items a firing of a node looks at, takes and gives at each of its ports (Lee and
 -- Messerschmitt 1987; StreamIt specification 2.1, "Filters" and "Split-joins"). The firings of a
 -- node are numbered from 0 over its whole life. A port that a node doesn't have has the rate 0.
-use Rattle.std.specs.Prelude.{ℕ, zero, suc, ◌+◌, ◌-◌, ◌*◌, ◌%◌, ◌==◌, nat_lt, Bool, true, false, List}
-use Rattle.std.specs.Prelude.{sum, slice_index, slice_index_or, if◌then◌else◌}
+use Rattle.std.specs.Prelude.{ℕ, zero, suc, ◌+◌, ◌-◌, ◌*◌, ◌%◌, ◌==◌, nat_lt, Bool, true, false}
+use Rattle.std.specs.Prelude.{List, sum, slice_index, slice_index_or, if◌then◌else◌}
 use Rattle.strc_syntax.specs.Tree as tree
 use Rattle.strc_semantics.specs.declared.body.Body.{Body}
 use Rattle.strc_semantics.specs.declared.body.Body.TheVariants as body

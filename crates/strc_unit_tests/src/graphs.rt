@@ -47,7 +47,7 @@ fn shown(alloc: Global, graph: &Graph) -> Result<String, AllocError> {
 }
 
 fn flat(rt: &impl Abort, alloc: Global, stream: Stream) -> Result<String, AllocError> {
-    match flatten(alloc, stream) {
+    match flatten(alloc, &stream) {
         Ok(graph) => shown(alloc, &graph),
         Err(_) => panic!(rt; "a refusal"),
     }

@@ -1,5 +1,5 @@
-use Rattle.std.proofs.Common.{◌≡◌, refl, sym, ap, ◌∙◌, ℕ, zero, suc, ◌<◌, Bool, true, false, cond, eqb}
-use Rattle.std.proofs.Common.{ℤ, List, [], ◌∷◌, get_or, map, sum}
+use Rattle.std.proofs.Common.{◌≡◌, refl, sym, ap, ◌∙◌, ℕ, zero, suc, ◌<◌, Bool, true, false, cond}
+use Rattle.std.proofs.Common.{eqb, ℤ, List, [], ◌∷◌, get_or, map, sum}
 use Rattle.std.specs.Prelude.{if◌then◌else◌, slice_index_or}
 use Rattle.strc_dataflow.specs.Node.{at_port_0}
 use Rattle.strc_dataflow.specs.RoundRobin.{IsRoundRobinSplitter, IsDuplicateSplitter, one_cycle}

@@ -1,0 +1,14 @@
+use Rattle.std.proofs.Common.{◌≡◌, Ok, option_map, rules}
+use Rattle.strc_syntax.specs.View.{program_view}
+use Rattle.strc_elab.specs.Elaboration.{elaborated}
+use Rattle.strc_elab.specs.View.{stream_view}
+use Rattle.strc_elab.proofs.Soundness.{elaborated_is_sound}
+use Rattle.strc_elab.proofs.elaborate.elaborate.Goals as goal
+
+pub returns-clause-sound : goal.returns-clause-sound
+returns-clause-sound c =
+    let main = option_map (λ n. n.now) c.args.main in
+    let made : elaborated (program_view c.args.program.now) main
+    ≡ Ok (stream_view c.in_ok-made.made.stream) = search rules in
+    elaborated_is_sound (program_view c.args.program.now) main
+    (stream_view c.in_ok-made.made.stream) made
