@@ -7,7 +7,7 @@ use Rattle.strc_sched.specs.declared.refusal.RunRefusal.TheVariants.{RoundsNeede
 
 abbrev pub refusal_sentence : RunRefusal → List ℕ
 refusal_sentence (InputShort need got) =
-    codes "the rounds read " ++ decimal need ++ codes " items, and the input has " ++ decimal got
+    codes "the input has fewer items than the rounds read, " ++ decimal need
 refusal_sentence BadWorkers = codes "the number of workers must be from 1 to 64"
 refusal_sentence NoMemory = codes "out of memory"
 refusal_sentence NoWorker = codes "a thread was refused"

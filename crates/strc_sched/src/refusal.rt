@@ -30,8 +30,8 @@ impl fmt::Display for RunRefusal {
 
     fn fmt<W: fmt::Write>(&self, f: &mut fmt::Formatter<W>) -> fmt::Result {
         match self {
-            RunRefusal::InputShort { need, got } => {
-                write!(f, "the rounds read {need} items, and the input has {got}")
+            RunRefusal::InputShort { need, .. } => {
+                write!(f, "the input has fewer items than the rounds read, {need}")
             }
             RunRefusal::BadWorkers => write!(f, "the number of workers must be from 1 to 64"),
             RunRefusal::NoMemory => write!(f, "out of memory"),

@@ -1,0 +1,48 @@
+-- What a run on one thread answers.
+use Rattle.std.specs.Prelude.{◌≡◌, ℕ, ◌<◌, ◌≤◌, ℤ, List, [], length}
+use Rattle.strc_dataflow.specs.Streams as trees
+use Rattle.strc_graph.specs.Graphs.{NodeCode, Graph}
+use Rattle.strc_graph.specs.FlatGraphs.{IsProgram}
+use Rattle.strc_order.specs.Schedules.{ScheduleParts}
+use Rattle.strc_admissible.specs.Laws.{counts_at}
+use Rattle.strc_admissible.specs.Machine.{Ending, Ended, FaultedAtFirst, FaultedIn}
+use Rattle.strc_admissible.specs.Planned.{items_read}
+use Rattle.strc_admissible.specs.Told.{IsAnswered}
+use Rattle.strc_sched.specs.declared.outcome.Outcome.{Outcome}
+use Rattle.strc_sched.specs.declared.outcome.Outcome.TheVariants as outcome
+use Rattle.strc_sched.specs.declared.outcome.Round.TheVariants as round
+use Rattle.strc_sched.specs.declared.refusal.RunRefusal.{RunRefusal}
+use Rattle.strc_sched.specs.declared.refusal.RunRefusal.TheVariants as refused
+
+-- an outcome is how a run ends; a fault in start-up leaves no words
+abbrev pub IsEnding : Outcome → Ending → Type 0
+IsEnding (outcome.Done words) (Ended all) = words.items ≡ all
+IsEnding (outcome.Fault node firing round.Startup cause words) (FaultedAtFirst at number why) =
+    (node ≡ at) × (firing ≡ number) × (cause ≡ why) × (words.items ≡ [])
+IsEnding (outcome.Fault node firing (round.At q) cause words) (FaultedIn round at number why all) =
+    (q ≡ round) × (node ≡ at) × (firing ≡ number) × (cause ≡ why) × (words.items ≡ all)
+IsEnding _ _ = ⊥
+
+-- it is the answer of a tree's stream equations, at the counts and in the orders of a schedule
+pub record IsAnswer (tree : trees.Stream NodeCode) (schedule : ScheduleParts) (input : List ℤ)
+    (rounds count : ℕ) (outcome : Outcome) : Type 0 where
+  pub ending : Ending
+  pub answered : IsAnswered tree schedule input rounds count ending
+  pub told : IsEnding outcome ending
+
+-- of whatever program the graph is
+abbrev pub AnswersGraph : Graph → ScheduleParts → (input : List ℤ) → (rounds : ℕ) → Outcome → Type 0
+AnswersGraph graph schedule input rounds outcome =
+    (tree : trees.Stream NodeCode) → IsProgram tree graph
+    → IsAnswer tree schedule input rounds (length graph.nodes) outcome
+
+-- how many items start-up and so many rounds read
+abbrev pub need_of : Graph → ScheduleParts → (rounds : ℕ) → ℕ
+need_of graph schedule rounds = items_read graph.nodes (counts_at schedule rounds)
+
+-- a run is refused for an input that is shorter than what it reads, or where memory runs out
+abbrev pub IsPlainRefusal : (need got : ℕ) → RunRefusal → Type 0
+IsPlainRefusal need got (refused.InputShort needed had) =
+    (needed ≡ need) × (had ≡ got) × (got < need)
+IsPlainRefusal need got refused.NoMemory = Unit {0}
+IsPlainRefusal need got _ = ⊥
