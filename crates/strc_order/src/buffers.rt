@@ -49,6 +49,7 @@ pub(crate) fn buffers_of(
     ensures sizes { IfOk result (λ buffers. buffers.sizes.items
         ≡ map (buffer_size (after none_fired (firings_of startup.now)) startup.now round.now)
         network.now.channels) }
+    ensures within { IfOk result (λ buffers. All (λ size. size ≤ size_limit) buffers.sizes.items) }
     ensures limit { (channel : ℕ) → result ≡ Err (refused.BufferLimit channel) → IsFirstPast
         (map (buffer_size (after none_fired (firings_of startup.now)) startup.now round.now)
         network.now.channels) channel }
