@@ -19,8 +19,9 @@ new-requires-clause-few c =
 
 pub returns-clause-channels : goal.returns-clause-channels
 returns-clause-channels c =
-    all_sized c.args.graph.now (count_at c.args.startup.now) (count_at c.args.round.now)
-    c.scheduled.result
-    (subst (λ l. IfOk c.scheduled.result (IsSchedule l (count_at c.args.startup.now)
-    (count_at c.args.round.now))) (c.in_ok-network.ensures.channels ∙ c.in_ok-channels.ensures.rates)
+    let startup = count_at c.as_slice.result.now in
+    let round = count_at c.as_slice-2.result.now in
+    all_sized c.args.graph.now startup round c.scheduled.result
+    (subst (λ l. IfOk c.scheduled.result (IsSchedule l startup round))
+    (c.in_ok-network.ensures.channels ∙ c.in_ok-channels.ensures.rates)
     c.scheduled.ensures.schedule)
