@@ -18,3 +18,5 @@ pub mod Deciding
 pub mod Limiting
 pub mod Repeating
 pub mod Settling
+pub mod Passing
+pub mod Continuing

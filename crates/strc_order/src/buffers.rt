@@ -130,7 +130,7 @@ pub(crate) fn copy_of<T: Copy + Drop>(alloc: Global, numbers: &[T]) -> Result<Ve
 }
 
 /// The first number past the limit of sizes.
-fn first_past(sizes: &[u128]) -> Option<usize>
+pub(crate) fn first_past(sizes: &[u128]) -> Option<usize>
     ensures past { IfSome result (IsFirstPast sizes.now) }
     ensures within { IfNone result (All (λ size. size ≤ size_limit) sizes.now) }
 {
@@ -143,7 +143,7 @@ fn first_past(sizes: &[u128]) -> Option<usize>
 }
 
 /// Numbers that are not past the limit of sizes.
-fn narrowed(alloc: Global, numbers: &[u128]) -> Result<Vec<u32>, AllocError>
+pub(crate) fn narrowed(alloc: Global, numbers: &[u128]) -> Result<Vec<u32>, AllocError>
     requires { All (λ number. number ≤ size_limit) numbers.now }
     ensures { IfOk result (λ narrowed. narrowed.items ≡ numbers.now) }
 {
