@@ -45,7 +45,9 @@ returns-in_err-check_rates c =
 
 pub balance-requires-clause-rates : goal.balance-requires-clause-rates
 balance-requires-clause-rates c =
-    flat_is_rated elaborated_is_sound _ _ _ (graph_view c.in_ok-graph.graph)
+    flat_is_rated elaborated_is_sound (program_view c.args.program.now)
+    (option_map (λ n. n.now) c.args.main) (stream_view c.in_ok-stream.stream)
+    (graph_view c.in_ok-graph.graph)
     c.in_ok-stream.ensures.verdict c.in_ok-graph.ensures.graph c.in_ok-graph.ensures.nodes
     (ap (rates_checked 0) (sym (ap (map node_view) c.nodes.ensures))
     ∙ c.in_ok-check_rates.ensures)
@@ -75,7 +77,9 @@ returns-in_err-round_counts c =
 
 pub startup-requires : goal.startup-requires
 startup-requires c =
-    flat_is_rated elaborated_is_sound _ _ _ (graph_view c.in_ok-graph.graph)
+    flat_is_rated elaborated_is_sound (program_view c.args.program.now)
+    (option_map (λ n. n.now) c.args.main) (stream_view c.in_ok-stream.stream)
+    (graph_view c.in_ok-graph.graph)
     c.in_ok-stream.ensures.verdict c.in_ok-graph.ensures.graph c.in_ok-graph.ensures.nodes
     (ap (rates_checked 0) (sym (ap (map node_view) c.nodes.ensures))
     ∙ c.in_ok-check_rates.ensures)
@@ -100,7 +104,9 @@ returns-in_err-startup_counts c =
 
 pub schedule-requires-clause-rated : goal.schedule-requires-clause-rated
 schedule-requires-clause-rated c =
-    flat_is_rated elaborated_is_sound _ _ _ (graph_view c.in_ok-graph.graph)
+    flat_is_rated elaborated_is_sound (program_view c.args.program.now)
+    (option_map (λ n. n.now) c.args.main) (stream_view c.in_ok-stream.stream)
+    (graph_view c.in_ok-graph.graph)
     c.in_ok-stream.ensures.verdict c.in_ok-graph.ensures.graph c.in_ok-graph.ensures.nodes
     (ap (rates_checked 0) (sym (ap (map node_view) c.nodes.ensures))
     ∙ c.in_ok-check_rates.ensures)
