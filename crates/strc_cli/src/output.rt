@@ -114,7 +114,12 @@ fn push_nodes(text: &mut Vec<u8>, plan: &Plan) -> Result<(), AllocError>
         ++ spec.node_lines 0 (node_names plan.now.graph) plan.now.round_counts) }
 {
     for node in 0..plan.graph.nodes().len() {
-        push_node(text, node, plan.graph.name(node), plan.round_counts.at(node))?;
+        push_node(
+            text,
+            node,
+            plan.graph.name(node),
+            plan.round_counts.at(node),
+        )?;
     }
     Ok(())
 }
@@ -154,11 +159,7 @@ fn push_start(text: &mut Vec<u8>, node: usize, count: u32) -> Result<(), AllocEr
 }
 
 // The lines of all channels.
-fn push_channels(
-    text: &mut Vec<u8>,
-    channels: &[Channel],
-    sizes: &[u32],
-) -> Result<(), AllocError>
+fn push_channels(text: &mut Vec<u8>, channels: &[Channel], sizes: &[u32]) -> Result<(), AllocError>
     requires { length sizes.now ≡ length channels.now }
     ensures { OnOk result (text.new.items ≡ text.old.items
         ++ spec.channel_lines 0 channels.now sizes.now) }

@@ -53,12 +53,7 @@ fn filter_of(alloc: Global, text: &str) -> Result<Node, Fail> {
 }
 
 /// The answer for a loop with this body and so many items on its last channel.
-fn loop_answer(
-    rt: &impl Abort,
-    alloc: Global,
-    body: &str,
-    items: usize,
-) -> Result<String, Fail> {
+fn loop_answer(rt: &impl Abort, alloc: Global, body: &str, items: usize) -> Result<String, Fail> {
     let mut nodes = Vec::new(alloc);
     nodes.push(node_of(alloc, Reader)?)?;
     nodes.push(node_of(alloc, Join(1, 1))?)?;
@@ -79,11 +74,7 @@ const CASES: [(&str, usize, &str); 3] = [
         "no order of the firings before the first round exists",
     ),
     // Start-up is node 0, 1 and 2, and leaves one item before the body and two behind it.
-    (
-        TAKES,
-        1,
-        "1*0 1*2 1*3 1*4 1*1 1*2 1*5 : 1 2 3 1 1 1 ",
-    ),
+    (TAKES, 1, "1*0 1*2 1*3 1*4 1*1 1*2 1*5 : 1 2 3 1 1 1 "),
     // Start-up is the body alone.
     (GIVES, 0, "1*0 1*3 1*4 1*1 2*2 1*5 : 1 2 2 1 1 1 "),
 ];
