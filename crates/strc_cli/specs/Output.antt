@@ -1,12 +1,13 @@
 -- The text that is written: the words of a run and its fault line, the lines of a check or a plan,
 -- or the line of a refusal.
-use Rattle.std.specs.Prelude.{ℕ, ◌+◌, ◌-◌, Bool, false, not, Option, Some, None, length, slice_get}
-use Rattle.std.specs.Prelude.{List, [], ◌∷◌, ◌++◌, codes, decimal, if◌then◌else◌}
+use Rattle.std.specs.Prelude.{ℕ, ◌+◌, ◌-◌, Bool, true, false, not, Option, Some, None, length}
+use Rattle.std.specs.Prelude.{List, [], ◌∷◌, ◌++◌, slice_get, codes, decimal, if◌then◌else◌}
 use Rattle.std.specs.Fmt.{signed_decimal}
 use Rattle.strc_semantics.specs.declared.word.Word.{Word}
 use Rattle.strc_semantics.specs.declared.fault.Cause.{Cause}
 use Rattle.strc_semantics.specs.declared.fault.Cause.TheVariants as cause
 use Rattle.strc_graph.specs.NodeView.{node_names}
+use Rattle.strc_graph.specs.declared.graph.Channel.{Channel}
 use Rattle.strc_run.specs.declared.plan.Plan.{Plan}
 use Rattle.strc_run.specs.declared.outcome.Outcome.{Outcome}
 use Rattle.strc_run.specs.declared.outcome.Outcome.TheVariants as outcome
@@ -74,9 +75,35 @@ node_lines node (name ∷ names) (count ∷ counts) =
     node_line node name count ++ node_lines (node + 1) names counts
 node_lines node names counts = []
 
--- all that is written of a plan: a line for each node, with how often it fires in a round
+-- `start 0 2`
+abbrev pub start_line : (node count : ℕ) → List ℕ
+start_line node count =
+    codes "start " ++ decimal node ++ codes " " ++ decimal count ++ line_end
+
+-- the lines of nodes with these start-up counts, the first of which has this number
+abbrev pub start_lines : (node : ℕ) → (counts : List ℕ) → List ℕ
+start_lines node [] = []
+start_lines node (count ∷ counts) = start_line node count ++ start_lines (node + 1) counts
+
+-- `channel 0 from 0 to 1 size 3`
+abbrev pub channel_line : (number source target size : ℕ) → List ℕ
+channel_line number source target size =
+    codes "channel " ++ decimal number ++ codes " from " ++ decimal source ++ codes " to "
+    ++ decimal target ++ codes " size " ++ decimal size ++ line_end
+
+-- the lines of channels with buffers of these sizes, the first of which has this number
+abbrev pub channel_lines : (number : ℕ) → List Channel → (sizes : List ℕ) → List ℕ
+channel_lines number (channel ∷ channels) (size ∷ sizes) =
+    channel_line number channel.source.node channel.target.node size
+    ++ channel_lines (number + 1) channels sizes
+channel_lines number channels sizes = []
+
+-- all that is written of a plan: for each node how often it fires in a round, for each node how
+-- often it fires before the first round, and for each channel the size of its buffer
 abbrev pub plan_text : Plan → List ℕ
-plan_text plan = node_lines 0 (node_names plan.graph) plan.round_counts
+plan_text plan =
+    node_lines 0 (node_names plan.graph) plan.round_counts ++ start_lines 0 plan.startup_counts
+    ++ channel_lines 0 plan.graph.channels plan.schedule.sizes
 
 -- the number and the name of a refusal, with its fields, each after its name
 abbrev pub refusal_words : Refusal → List ℕ
@@ -107,6 +134,11 @@ refusal_words refusal.Disconnected = codes "E19 Disconnected"
 refusal_words refusal.CountsTooLarge = codes "E20 CountsTooLarge"
 refusal_words (refusal.Inconsistent channel) =
     codes "E21 Inconsistent" ++ codes " channel " ++ decimal channel
+refusal_words refusal.StartupUnbounded = codes "E22 StartupUnbounded"
+refusal_words (refusal.Deadlock true) = codes "E23 Deadlock startup"
+refusal_words (refusal.Deadlock false) = codes "E23 Deadlock round"
+refusal_words (refusal.BufferLimit channel) =
+    codes "E24 BufferLimit" ++ codes " channel " ++ decimal channel
 refusal_words refusal.NoMemory = codes "E25 NoMemory"
 refusal_words refusal.Nesting = codes "E26 Nesting"
 refusal_words refusal.RoundsNeeded = codes "S5 RoundsNeeded"

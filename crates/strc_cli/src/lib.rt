@@ -1,10 +1,11 @@
 // Takes the words of the command line, a program's text and its input.
 // Gives the printed numbers, or one named fault and the numbers before its round; or how large the
-// program's graph is, or how often its nodes fire; or one named refusal.
+// program's graph is, or how often its nodes fire and how large its buffers are; or one named
+// refusal.
 // The theorem to rely on: `execute` reports exactly the answer of a text and a command: an outcome
-// of its rounds, the size of its graph, its counts, or a refusal that holds.
-// Stands on strc_run, which compiles and runs a text, on strc_graph and strc_balance, whose graph
-// and counts it writes, and on clap for the command line.
+// of its rounds, the size of its graph, its plan, or a refusal that holds.
+// Stands on strc_run, which compiles and runs a text, on strc_graph, strc_balance and strc_order,
+// whose graph, counts and buffers it writes, and on clap for the command line.
 #![tactic(auto)]
 
 mod answer;

@@ -15,7 +15,8 @@ pub enum Command {
         /// The name of the main stream, where one is given.
         main: Option<String>,
     },
-    /// Tell how often each node fires in a round.
+    /// Tell how often each node fires before the first round and in a round, and how large the
+    /// buffer of each channel is.
     Plan {
         /// The name of the main stream, where one is given.
         main: Option<String>,

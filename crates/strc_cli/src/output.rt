@@ -1,11 +1,13 @@
 // What is written: the words and the fault line, the lines of a check or a plan, or the line of a
 // refusal.
 
-ghost use Rattle.std.specs.Prelude.{◌≡◌, ◌++◌, IfOk, OnOk, codes, decimal};
+ghost use Rattle.std.specs.Prelude.{◌≡◌, ◌++◌, IfOk, OnOk, codes, decimal, length};
+ghost use Rattle.strc_graph.specs.NodeView.{node_names};
 ghost use Rattle.strc_cli.specs.Output as spec;
 
 use crate::text::{push_bytes, push_integer, push_number};
 use std::alloc::{AllocError, Global};
+use strc_graph::graph::Channel;
 use strc_run::outcome::{Fault, Outcome};
 use strc_run::plan::Plan;
 use strc_run::refusal::Refusal;
@@ -94,20 +96,32 @@ pub(crate) fn check_text(
     Ok(text)
 }
 
-/// The lines of a plan: one for each node, in order of their numbers.
+/// The lines of a plan: one for each node, then one for each node's start-up, then one for each
+/// channel, in order of their numbers.
 pub(crate) fn plan_text(alloc: Global, plan: &Plan) -> Result<Vec<u8>, AllocError>
     ensures { IfOk result (λ text. text.items ≡ spec.plan_text plan.now) }
 {
     let mut text = Vec::new(alloc);
+    push_nodes(&mut text, plan)?;
+    push_starts(&mut text, plan.startup_counts.as_slice())?;
+    push_channels(&mut text, plan.graph.channels(), plan.schedule.sizes())?;
+    Ok(text)
+}
+
+// The lines of all nodes.
+fn push_nodes(text: &mut Vec<u8>, plan: &Plan) -> Result<(), AllocError>
+    ensures { OnOk result (text.new.items ≡ text.old.items
+        ++ spec.node_lines 0 (node_names plan.now.graph) plan.now.round_counts) }
+{
     for node in 0..plan.graph.nodes().len() {
         push_node(
-            &mut text,
+            text,
             node,
             plan.graph.name(node),
             plan.round_counts.at(node),
         )?;
     }
-    Ok(text)
+    Ok(())
 }
 
 // The line of a node: its number, its name, and how often it fires in a round.
@@ -120,6 +134,60 @@ fn push_node(text: &mut Vec<u8>, node: usize, name: &[u8], count: u32) -> Result
     push_bytes(text, name)?;
     push_bytes(text, b" round ")?;
     push_number(text, u64::from(count))?;
+    push_bytes(text, b"\n")
+}
+
+// The lines of the start-up of nodes that fire so often before the first round.
+fn push_starts(text: &mut Vec<u8>, counts: &[u32]) -> Result<(), AllocError>
+    ensures { OnOk result (text.new.items ≡ text.old.items ++ spec.start_lines 0 counts.now) }
+{
+    for node in 0..counts.len() {
+        push_start(text, node, counts[node])?;
+    }
+    Ok(())
+}
+
+// The line of a node's start-up: its number, and how often it fires before the first round.
+fn push_start(text: &mut Vec<u8>, node: usize, count: u32) -> Result<(), AllocError>
+    ensures { OnOk result (text.new.items ≡ text.old.items ++ spec.start_line node count) }
+{
+    push_bytes(text, b"start ")?;
+    push_number(text, node as u64)?;
+    push_bytes(text, b" ")?;
+    push_number(text, u64::from(count))?;
+    push_bytes(text, b"\n")
+}
+
+// The lines of all channels.
+fn push_channels(text: &mut Vec<u8>, channels: &[Channel], sizes: &[u32]) -> Result<(), AllocError>
+    requires { length sizes.now ≡ length channels.now }
+    ensures { OnOk result (text.new.items ≡ text.old.items
+        ++ spec.channel_lines 0 channels.now sizes.now) }
+{
+    for number in 0..channels.len() {
+        push_channel(text, number, &channels[number], sizes[number])?;
+    }
+    Ok(())
+}
+
+// The line of a channel: its number, the nodes at its ends, and the size of its buffer.
+fn push_channel(
+    text: &mut Vec<u8>,
+    number: usize,
+    channel: &Channel,
+    size: u32,
+) -> Result<(), AllocError>
+    ensures { OnOk result (text.new.items ≡ text.old.items
+        ++ spec.channel_line number channel.now.source.node channel.now.target.node size) }
+{
+    push_bytes(text, b"channel ")?;
+    push_number(text, number as u64)?;
+    push_bytes(text, b" from ")?;
+    push_number(text, u64::from(channel.source.node))?;
+    push_bytes(text, b" to ")?;
+    push_number(text, u64::from(channel.target.node))?;
+    push_bytes(text, b" size ")?;
+    push_number(text, u64::from(size))?;
     push_bytes(text, b"\n")
 }
 
@@ -180,6 +248,12 @@ fn push_refusal(text: &mut Vec<u8>, refusal: &Refusal) -> Result<(), AllocError>
         Refusal::CountsTooLarge => push_bytes(text, b"E20 CountsTooLarge"),
         Refusal::Inconsistent { channel } => {
             push_field(text, b"E21 Inconsistent", b" channel ", *channel as u64)
+        }
+        Refusal::StartupUnbounded => push_bytes(text, b"E22 StartupUnbounded"),
+        Refusal::Deadlock { in_startup: true } => push_bytes(text, b"E23 Deadlock startup"),
+        Refusal::Deadlock { in_startup: false } => push_bytes(text, b"E23 Deadlock round"),
+        Refusal::BufferLimit { channel } => {
+            push_field(text, b"E24 BufferLimit", b" channel ", *channel as u64)
         }
         Refusal::NoMemory => push_bytes(text, b"E25 NoMemory"),
         Refusal::Nesting => push_bytes(text, b"E26 Nesting"),

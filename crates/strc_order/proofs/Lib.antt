@@ -15,5 +15,8 @@ pub mod Connecting
 pub mod Greedily
 pub mod Ordering
 pub mod Deciding
+pub mod Limiting
 pub mod Repeating
 pub mod Settling
+pub mod Passing
+pub mod Continuing

@@ -18,7 +18,7 @@ use Rattle.std.proofs.lemmas.Option.{same_Some, slice_get-get_or, slice_get_with
 
 -- more firings push, pop and see so much more, where the first one is done or like all others
 
-supply_more : (rates : ChannelRates) (n more : ℕ) → (0 < n) ⊎ (rates.first_push ≡ rates.push)
+pub supply_more : (rates : ChannelRates) (n more : ℕ) → (0 < n) ⊎ (rates.first_push ≡ rates.push)
     → supply rates (n + more) ≡ supply rates n + rates.push * more
 supply_more rates zero zero settled = omega arith
 supply_more rates zero (suc more) (inl some) = absurd (omega (arith, some))
@@ -29,7 +29,7 @@ supply_more rates (suc n) more settled =
     let e : suc n + more ≡ suc (n + more) = omega arith in
     omega (arith, ap (supply rates) e)
 
-popped_more : (rates : ChannelRates) (n more : ℕ) → (0 < n) ⊎ (rates.first_pop ≡ rates.pop)
+pub popped_more : (rates : ChannelRates) (n more : ℕ) → (0 < n) ⊎ (rates.first_pop ≡ rates.pop)
     → popped rates (n + more) ≡ popped rates n + rates.pop * more
 popped_more rates zero zero settled = omega arith
 popped_more rates zero (suc more) (inl some) = absurd (omega (arith, some))
@@ -52,7 +52,7 @@ reach_more rates (suc n) more settled =
     let e : suc n + more ≡ suc (n + more) = omega arith in
     omega (arith, ap (reach rates) e)
 
-pops_alike : (rates : ChannelRates) (n : ℕ)
+pub pops_alike : (rates : ChannelRates) (n : ℕ)
     → (0 < n) ⊎ ((rates.first_pop ≡ rates.pop) × (rates.first_window ≡ rates.window))
     → (0 < n) ⊎ (rates.first_pop ≡ rates.pop)
 pops_alike rates n (inl some) = inl some
@@ -125,7 +125,7 @@ order_repeats channels counts round rounds (node ∷ order) settled balances (fi
 )
 
 -- what holds of all channels holds of one
-rates_there : (P : ChannelRates → Type 0) (channels : List ChannelRates) (number : ℕ)
+pub rates_there : (P : ChannelRates → Type 0) (channels : List ChannelRates) (number : ℕ)
     (rates : ChannelRates) → All P channels → slice_get channels number ≡ Some rates → P rates
 rates_there P channels number rates all there =
     let within = slice_get_within channels number rates there in

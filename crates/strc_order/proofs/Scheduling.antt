@@ -1,10 +1,13 @@
 -- A schedule, of two greedy orders and the buffers that they need.
 use Rattle.std.proofs.Common.{◌≡◌, ◌∙◌, sym, ap, subst, ℕ, ◌<◌, List, [], ◌∷◌}
 use Rattle.std.proofs.Common.{map, slice_get, slice_index, Some, All, arith}
-use Rattle.std.proofs.Common.{Result, Err}
+use Rattle.std.proofs.Common.{Result, Ok, Err, length}
+use Rattle.std.specs.Prelude.{IfOk}
 use mathlib.Core.Path.{Path, fun_ext}
 use Rattle.std.proofs.lemmas.List.{length-map}
 use Rattle.std.proofs.lemmas.List.Elements.{All-cons, All-nil}
+use Rattle.strc_graph.specs.NodeView.{GraphParts, graph_view, channel_view}
+use Rattle.strc_startup.specs.Rates.{rates_of, rates_of_channel}
 use Rattle.strc_startup.specs.declared.channel_rates.ChannelRates.{ChannelRates}
 use Rattle.strc_order.specs.declared.error.ScheduleError.{ScheduleError}
 use Rattle.strc_order.specs.declared.unit as units
@@ -100,3 +103,16 @@ some_order channels counts firings order is =
 pub same_error : {A : Type 0} (error other : ScheduleError)
     → Path (Result A ScheduleError) (Err error) (Err other) → error ≡ other
 same_error error other is = cc is
+
+-- a schedule has a size for each channel of its graph
+pub all_sized : (graph : GraphParts) (startup round : Firings)
+    (result : Result ScheduleParts ScheduleError)
+    → IfOk result (IsSchedule (rates_of (graph_view graph)) startup round)
+    → IfOk result (λ schedule. length schedule.sizes ≡ length graph.channels)
+all_sized graph startup round (Ok schedule) is =
+    ap length is.sizes
+    ∙ length-map (rates_of (graph_view graph))
+    (buffer_size startup schedule.startup schedule.round)
+    ∙ length-map (graph_view graph).channels (rates_of_channel (graph_view graph).nodes)
+    ∙ length-map graph.channels channel_view
+all_sized graph startup round (Err error) is = tt

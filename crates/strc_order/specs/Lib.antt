@@ -8,4 +8,5 @@ pub mod Peaks
 pub mod Schedules
 pub mod Laws
 pub mod Rounds
+pub mod Sizing
 pub mod Sentences

@@ -1,10 +1,12 @@
 -- The greatest numbers of items on channels while an order fires.
 use Rattle.std.specs.Prelude.{◌≡◌, ℕ, ◌<◌, ◌≤◌, max, List, ◌∷◌, [], length, slice_get, slice_index}
-use Rattle.std.specs.Prelude.{Some}
+use Rattle.std.specs.Prelude.{Some, All}
+use Rattle.strc_balance.specs.Balance.{count_at}
 use Rattle.strc_startup.specs.declared.channel_rates.ChannelRates.{ChannelRates}
 use Rattle.strc_order.specs.declared.unit as units
 use Rattle.strc_order.specs.Buffers.{peak_fill, size_limit}
 use Rattle.strc_order.specs.Firings.{Firings, fill}
+use Rattle.strc_order.specs.Order.{after}
 
 -- no channel has more items than a number of its own
 abbrev pub AreBelow : List ChannelRates → Firings → (peaks : List ℕ) → Type 0
@@ -37,3 +39,15 @@ pub record IsFirstPast (sizes : List ℕ) (channel : ℕ) : Type 0 where
   pub there : channel < length sizes
   pub passes : size_limit < slice_index sizes channel
   pub lowest : (lower : ℕ) → lower < channel → slice_index sizes lower ≤ size_limit
+
+-- the nodes of a unit are there
+abbrev pub HasNodes : (size : ℕ) → units.Unit.Unit → Type 0
+HasNodes size unit = All (λ node. node < size) unit.nodes.items
+
+-- the firings of an order are counted, and numbers raised to the greatest numbers of items
+pub record Raises (channels : List ChannelRates) (order counts peaks later raised : List ℕ) : Type 0
+  where
+    pub counted : count_at later ≡ after (count_at counts) order
+    pub nodes : length later ≡ length counts
+    pub channel : length raised ≡ length peaks
+    pub peak : AreRaised channels (count_at counts) order peaks raised

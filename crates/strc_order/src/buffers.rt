@@ -49,6 +49,7 @@ pub(crate) fn buffers_of(
     ensures sizes { IfOk result (λ buffers. buffers.sizes.items
         ≡ map (buffer_size (after none_fired (firings_of startup.now)) startup.now round.now)
         network.now.channels) }
+    ensures within { IfOk result (λ buffers. All (λ size. size ≤ size_limit) buffers.sizes.items) }
     ensures limit { (channel : ℕ) → result ≡ Err (refused.BufferLimit channel) → IsFirstPast
         (map (buffer_size (after none_fired (firings_of startup.now)) startup.now round.now)
         network.now.channels) channel }
@@ -129,7 +130,7 @@ pub(crate) fn copy_of<T: Copy + Drop>(alloc: Global, numbers: &[T]) -> Result<Ve
 }
 
 /// The first number past the limit of sizes.
-fn first_past(sizes: &[u128]) -> Option<usize>
+pub(crate) fn first_past(sizes: &[u128]) -> Option<usize>
     ensures past { IfSome result (IsFirstPast sizes.now) }
     ensures within { IfNone result (All (λ size. size ≤ size_limit) sizes.now) }
 {
@@ -142,7 +143,7 @@ fn first_past(sizes: &[u128]) -> Option<usize>
 }
 
 /// Numbers that are not past the limit of sizes.
-fn narrowed(alloc: Global, numbers: &[u128]) -> Result<Vec<u32>, AllocError>
+pub(crate) fn narrowed(alloc: Global, numbers: &[u128]) -> Result<Vec<u32>, AllocError>
     requires { All (λ number. number ≤ size_limit) numbers.now }
     ensures { IfOk result (λ narrowed. narrowed.items ≡ numbers.now) }
 {

@@ -17,5 +17,6 @@ mod peaks;
 pub mod planning;
 mod progress;
 mod ready;
+pub mod sizing;
 mod turns;
 pub mod unit;

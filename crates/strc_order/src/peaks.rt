@@ -11,6 +11,7 @@ ghost use Rattle.strc_order.specs.Greedy.{firings_of};
 ghost use Rattle.strc_order.specs.Network.{size_of};
 ghost use Rattle.strc_order.specs.Order.{after, tally, repeated};
 ghost use Rattle.strc_order.specs.Peaks.{AreBelow, AreRaised, AreTouched, IsTurns};
+ghost use Rattle.strc_order.specs.Peaks.{HasNodes, Raises};
 ghost use Rattle.strc_order.specs.Progress.{AreCounts, count_bound};
 
 use crate::network::Network;
@@ -35,6 +36,76 @@ pub(crate) fn raise_peaks(network: &Network, units: &[Unit], counts: &mut [u32],
 {
     for unit in units {
         raise_by_turns(network, unit.nodes[0] as usize, unit.turns, counts, peaks);
+    }
+}
+
+/// The same of units of any nodes.
+pub(crate) fn raise_units(network: &Network, units: &[Unit], counts: &mut [u32], peaks: &mut [u128])
+    requires each { length counts.old ≡ size_of network.now }
+    requires peaks { length peaks.old ≡ length network.now.channels }
+    requires nodes { All (HasNodes (size_of network.now)) units.now }
+    requires few { (node : ℕ) → count_at counts.old node + tally (firings_of units.now) node
+        ≤ count_bound }
+    requires known { AreBelow network.now.channels (count_at counts.old) peaks.old }
+    ensures { Raises network.now.channels (firings_of units.now) counts.old peaks.old
+        counts.new peaks.new }
+{
+    for unit in units {
+        raise_unit(network, unit, counts, peaks);
+    }
+}
+
+/// The same of one unit. One of a single node fires at once, however many its turns are.
+fn raise_unit(network: &Network, unit: &Unit, counts: &mut [u32], peaks: &mut [u128])
+    requires each { length counts.old ≡ size_of network.now }
+    requires peaks { length peaks.old ≡ length network.now.channels }
+    requires nodes { HasNodes (size_of network.now) unit.now }
+    requires few { (node : ℕ) → count_at counts.old node
+        + tally (repeated unit.now.turns unit.now.nodes.items) node ≤ count_bound }
+    requires known { AreBelow network.now.channels (count_at counts.old) peaks.old }
+    ensures { Raises network.now.channels (repeated unit.now.turns unit.now.nodes.items)
+        counts.old peaks.old counts.new peaks.new }
+{
+    if unit.turns > 0 && unit.nodes.len() == 1 {
+        raise_by_turns(network, unit.nodes[0] as usize, unit.turns, counts, peaks);
+    } else {
+        raise_by_passes(network, unit.turns, &unit.nodes, counts, peaks);
+    }
+}
+
+/// The same of a list of nodes so many times, one firing after another.
+fn raise_by_passes(
+    network: &Network,
+    turns: u32,
+    nodes: &[u32],
+    counts: &mut [u32],
+    peaks: &mut [u128],
+)
+    requires each { length counts.old ≡ size_of network.now }
+    requires peaks { length peaks.old ≡ length network.now.channels }
+    requires nodes { All (λ node. node < size_of network.now) nodes.now }
+    requires few { (node : ℕ) → count_at counts.old node + tally (repeated turns nodes.now) node
+        ≤ count_bound }
+    requires known { AreBelow network.now.channels (count_at counts.old) peaks.old }
+    ensures { Raises network.now.channels (repeated turns nodes.now) counts.old peaks.old
+        counts.new peaks.new }
+{
+    for turn in 0..turns {
+        raise_by_list(network, nodes, counts, peaks);
+    }
+}
+
+/// The same of a list of nodes.
+fn raise_by_list(network: &Network, nodes: &[u32], counts: &mut [u32], peaks: &mut [u128])
+    requires each { length counts.old ≡ size_of network.now }
+    requires peaks { length peaks.old ≡ length network.now.channels }
+    requires nodes { All (λ node. node < size_of network.now) nodes.now }
+    requires few { (node : ℕ) → count_at counts.old node + tally nodes.now node ≤ count_bound }
+    requires known { AreBelow network.now.channels (count_at counts.old) peaks.old }
+    ensures { Raises network.now.channels nodes.now counts.old peaks.old counts.new peaks.new }
+{
+    for node in nodes {
+        raise_by_turns(network, *node as usize, 1, counts, peaks);
     }
 }
 

@@ -6,6 +6,7 @@ ghost use Rattle.strc_balance.specs.Rates.{IsRated, equations_of};
 ghost use Rattle.strc_graph.specs.Connections.{IsConnected};
 ghost use Rattle.strc_graph.specs.NodeView.{graph_view};
 ghost use Rattle.strc_startup.specs.Rates.{rates_of};
+ghost use Rattle.strc_order.specs.Buffers.{size_limit};
 ghost use Rattle.strc_order.specs.Firings.{none_fired};
 ghost use Rattle.strc_order.specs.Network.{size_of};
 ghost use Rattle.strc_order.specs.Order.{HasOrder};
@@ -48,6 +49,9 @@ pub fn schedule(
     requires round_within { IsWithinLimit round.now }
     ensures schedule { IfOk result (IsSchedule (rates_of (graph_view graph.now))
         (count_at startup.now) (count_at round.now)) }
+    ensures within { IfOk result (λ schedule. All (λ size. size ≤ size_limit) schedule.sizes) }
+    ensures channels { IfOk result (λ schedule. length schedule.sizes
+        ≡ length graph.now.channels) }
     ensures startup { result ≡ Err (refused.Deadlock true) → ¬ HasOrder
         (rates_of (graph_view graph.now)) none_fired (count_at startup.now) }
     ensures round { result ≡ Err (refused.Deadlock false) → ¬ HasOrder
@@ -75,6 +79,7 @@ fn scheduled(
     requires round_within { IsWithinLimit round.now }
     ensures schedule { IfOk result (IsSchedule network.now.channels (count_at startup.now)
         (count_at round.now)) }
+    ensures within { IfOk result (λ schedule. All (λ size. size ≤ size_limit) schedule.sizes) }
     ensures startup { result ≡ Err (refused.Deadlock true) → ¬ HasOrder network.now.channels
         none_fired (count_at startup.now) }
     ensures round { result ≡ Err (refused.Deadlock false) → ¬ HasOrder network.now.channels

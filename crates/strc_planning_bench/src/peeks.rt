@@ -7,6 +7,7 @@ use strc_balance::condition::can_balance;
 use strc_balance::counts::Counts;
 use strc_run::compile::compile;
 use strc_run::plan::Plan;
+use strc_run::refusal::Refusal;
 use strc_startup::error::StartupError;
 use strc_startup::startup::startup;
 
@@ -27,7 +28,12 @@ pub(crate) struct Primed {
 
 /// The start-up of a program.
 pub(crate) fn prime(rt: &HostRuntime, peeks: Peeks, repeats: u32) -> io::Result<Primed> {
-    let plan = plan_of(rt, peeks)?;
+    let Some(plan) = plan_of(rt, peeks)? else {
+        return Ok(Primed {
+            source: None,
+            took: Duration::ZERO,
+        });
+    };
     match can_balance(rt.alloc(), &plan.graph) {
         Ok(true) => {}
         Ok(false) => return Err(io::Error::new(ErrorKind::InvalidData, "not to be balanced")),
@@ -47,8 +53,8 @@ pub(crate) fn prime(rt: &HostRuntime, peeks: Peeks, repeats: u32) -> io::Result<
     })
 }
 
-/// The plan of the program's text.
-fn plan_of(rt: &HostRuntime, peeks: Peeks) -> io::Result<Plan> {
+/// The plan of the program's text, unless it has no start-up counts.
+fn plan_of(rt: &HostRuntime, peeks: Peeks) -> io::Result<Option<Plan>> {
     let text = format!(in rt.alloc();
         "void->int filter Source {{ work push 1 {{ push(0); }} }}
          int->int filter Ahead(int n) {{ work push 1 pop 1 peek n {{ push(pop()); }} }}
@@ -61,7 +67,8 @@ fn plan_of(rt: &HostRuntime, peeks: Peeks) -> io::Result<Plan> {
         peeks.filters, peeks.peek
     )?;
     match compile(rt.alloc(), text.as_bytes(), None) {
-        Ok(plan) => Ok(plan),
+        Ok(plan) => Ok(Some(plan)),
+        Err(Refusal::StartupUnbounded) => Ok(None),
         Err(_) => Err(io::Error::new(ErrorKind::InvalidData, "the text is refused")),
     }
 }

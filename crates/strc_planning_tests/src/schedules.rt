@@ -121,7 +121,7 @@ const CASES: [Case; 14] = [
 ];
 
 /// The schedule of a graph as a text, or why there is none.
-fn answer_of(alloc: Global, graph: &Graph) -> Result<String, AllocError> {
+pub(crate) fn answer_of(alloc: Global, graph: &Graph) -> Result<String, AllocError> {
     match can_balance(alloc, graph) {
         Ok(true) => {}
         Ok(false) => return format!(in alloc; "outside the condition"),

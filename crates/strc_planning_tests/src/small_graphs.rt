@@ -30,7 +30,7 @@ pub(crate) type Ends = (u32, u32, u32, u32);
 pub(crate) type Case = (&'static [Kind], &'static [Ends], &'static str);
 
 /// A node of this kind.
-fn node_of(alloc: Global, kind: Kind) -> Result<Node, AllocError> {
+pub(crate) fn node_of(alloc: Global, kind: Kind) -> Result<Node, AllocError> {
     match kind {
         Kind::Reader => Ok(Node::FileReader),
         Kind::Writer => Ok(Node::FileWriter),

@@ -17,7 +17,13 @@ use Rattle.strc_graph.specs.Graphs.{NodeCode, Channel, Graph, JoinsPorts, ports_
 use Rattle.strc_graph.specs.Graphs.{output_ports, inputs_at, outputs_at}
 use Rattle.strc_balance.specs.Rates.{IsRated, equation_of, equations_of, pops_by_work}
 use Rattle.strc_balance.specs.Rates.{pushes_by_work}
-use Rattle.strc_elab.specs.Sound.{IsInstance}
+use Rattle.strc_syntax.specs.Tree.{Declaration}
+use Rattle.strc_graph.proofs.Carriers.{carriers_are_joined}
+use Rattle.strc_elab.specs.Elaboration.{elaborated}
+use Rattle.strc_elab.specs.Flattening.{nodes_of, IsFlat}
+use Rattle.strc_elab.specs.Instances.{Stream}
+use Rattle.strc_elab.specs.Sound.{IsInstance, ElaboratedIsSound}
+use Rattle.strc_elab.specs.Types.{IsWellTyped}
 use Rattle.strc_run.specs.Rates.{node_checked, rates_checked}
 use Rattle.strc_run.proofs.ExactRates.{neither, node_ok, filter_ok, work_ok, lacks_none}
 
@@ -136,3 +142,14 @@ graph_is_rated graph joined instances e k d within =
       push = source_pushes nodes all channel.source.node channel.source.port joins.source;
       pop = target_pops nodes all channel.target.node channel.target.port joins.target;
     })
+
+-- the flat graph of an elaborated stream whose rates hold is rated
+pub flat_is_rated : ElaboratedIsSound → (program : List Declaration) (main : Option (List ℕ))
+    (stream : Stream) (graph : Graph) → elaborated program main ≡ Ok stream
+    → (IsWellTyped stream → IsFlat stream graph) → graph.nodes ≡ nodes_of stream
+    → rates_checked 0 graph.nodes ≡ Ok tt → All IsRated (equations_of graph)
+flat_is_rated elaborated_is_sound program main stream graph elaborates flat same checks =
+    let sound = elaborated_is_sound program main stream elaborates in
+    let is = flat sound.typed in
+    graph_is_rated graph (carriers_are_joined graph.nodes graph.channels is.joined)
+    (subst (AllByRecursion IsInstance) (sym same) sound.instances) checks

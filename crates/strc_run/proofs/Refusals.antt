@@ -1,5 +1,6 @@
 -- What is answered for a text holds by the definitions.
 use Rattle.std.proofs.Common.{◌≡◌, refl, sym, subst, List, ℕ, Option, Result, Ok, Err, inl, inr}
+use Rattle.std.specs.Prelude.{Bool, true, false}
 use Rattle.std.specs.Result.{IsErrAnd}
 use Rattle.strc_syntax.specs.Tree.{Declaration}
 use Rattle.strc_scope.specs.Answers as elaboration
@@ -8,9 +9,16 @@ use Rattle.strc_elab.specs.Flattening.{nodes_of, codes_of, meaning_of, IsConnect
 use Rattle.strc_elab.specs.Flattening.{IsRefused}
 use Rattle.strc_elab.specs.Instances.{Stream}
 use Rattle.strc_graph.specs.Graphs.{Graph}
+use Rattle.strc_balance.specs.Balance.{count_at}
 use Rattle.strc_balance.specs.Verdicts as balancing
 use Rattle.strc_balance.specs.declared.error.BalanceError.{BalanceError}
 use Rattle.strc_balance.specs.declared.error.BalanceError.TheVariants as unbalanced
+use Rattle.strc_order.specs.Schedules.{PassesLimit}
+use Rattle.strc_order.specs.declared.error.ScheduleError.{ScheduleError}
+use Rattle.strc_order.specs.declared.error.ScheduleError.TheVariants as unscheduled
+use Rattle.strc_startup.specs.Rates.{rates_of}
+use Rattle.strc_startup.specs.declared.error.StartupError.{StartupError}
+use Rattle.strc_startup.specs.declared.error.StartupError.TheVariants as unprimed
 use Rattle.strc_scope.specs.declared.error.ElabError.{ElabError}
 use Rattle.strc_scope.specs.declared.error.ElabError.TheVariants as error
 use Rattle.strc_run.specs.declared.plan.Plan.{Plan}
@@ -20,6 +28,8 @@ use Rattle.strc_run.specs.Compiling.{Breaks, CanRun, IsCompiled, refusal_of, bal
 use Rattle.strc_run.specs.Compiling.{round_counts}
 use Rattle.strc_run.specs.Programs.{IsText, IsTrueOf, IsReadRefusal}
 use Rattle.strc_run.specs.Rates.{rates_checked}
+use Rattle.strc_run.specs.Scheduling.{HasStartup, IsUnbounded, IsDeadlocked}
+use Rattle.strc_run.specs.Scheduling.{startup_refusal_of, schedule_refusal_of}
 use Rattle.strc_run.specs.Planning.{HasPlan}
 use Rattle.strc_run.specs.Verdicts.{IsRefusal}
 
@@ -61,6 +71,41 @@ module _ (program : List Declaration) (main : Option (List ℕ)) where
         Breaks.InBalance stream graph elaborates runs rates flat e
     balance_refused graph unbalanced.NoMemory runs rates flat e = tt
 
+    module _ (graph : Graph) (counts : List ℕ) (runs : CanRun stream)
+        (rates : rates_checked 0 (nodes_of stream) ≡ Ok tt) (flat : IsFlat stream graph)
+        (balances : round_counts graph ≡ Ok counts) where
+      -- the start-up's
+      pub startup_refused : (broken : StartupError)
+          → (broken ≡ unprimed.Unbounded → IsUnbounded graph)
+          → IsCompiled program main (Err (startup_refusal_of broken))
+      startup_refused unprimed.Unbounded unbounded =
+          Breaks.InStartup stream graph counts elaborates runs rates flat balances (unbounded refl)
+      startup_refused unprimed.NoMemory unbounded = tt
+
+      -- the schedule's
+      pub schedule_refused : (startup : List ℕ) (broken : ScheduleError) → HasStartup graph startup
+          → ((in_startup : Bool) → broken ≡ unscheduled.Deadlock in_startup
+          → IsDeadlocked graph startup counts in_startup)
+          → ((channel : ℕ) → broken ≡ unscheduled.BufferLimit channel
+          → PassesLimit (rates_of graph) (count_at startup) (count_at counts) channel)
+          → IsCompiled program main (Err (schedule_refusal_of broken))
+      schedule_refused startup (unscheduled.Deadlock in_startup) starts deadlocked past =
+          Breaks.InSchedule stream graph counts startup elaborates runs rates flat balances starts
+          (deadlocked in_startup refl)
+      schedule_refused startup (unscheduled.BufferLimit channel) starts deadlocked past =
+          Breaks.InSchedule stream graph counts startup elaborates runs rates flat balances starts
+          (past channel refl)
+      schedule_refused startup unscheduled.NoMemory starts deadlocked past = tt
+
+-- a deadlock is one of start-up, or one of a round
+pub which_deadlock : (graph : Graph) (startup round : List ℕ) (broken : ScheduleError)
+    → (broken ≡ unscheduled.Deadlock true → IsDeadlocked graph startup round true)
+    → (broken ≡ unscheduled.Deadlock false → IsDeadlocked graph startup round false)
+    → (in_startup : Bool) → broken ≡ unscheduled.Deadlock in_startup
+    → IsDeadlocked graph startup round in_startup
+which_deadlock graph startup round broken first later true is = first is
+which_deadlock graph startup round broken first later false is = later is
+
 -- the refusal that is reported
 pub refusal_told : (program : List Declaration) (main : Option (List ℕ))
     (result : Result Plan Refusal) (refused : Refusal) → IsErrAnd result (λ found. found ≡ refused)
@@ -79,6 +124,8 @@ program_answered text main program (Ok plan) is_text planned = record {
   nodes = planned.nodes;
   graph = planned.graph;
   counts = planned.counts;
+  startup = planned.startup;
+  schedule = planned.schedule;
 }
 program_answered text main program (Err refusal.NoMemory) is_text broken = tt
 program_answered text main program (Err refused) is_text broken = inr (program, is_text, broken)

@@ -1,5 +1,5 @@
 -- Which stream a program runs, or the first rule that it breaks: in its elaboration, in its flat
--- graph, in its nodes' rates, in their balance.
+-- graph, in its nodes' rates, in their balance, in their start-up, in their schedule.
 use Rattle.std.specs.Prelude.{◌≡◌, ℕ, List, map, Option, Result, Ok, Err}
 use Rattle.strc_syntax.specs.Tree.{Declaration}
 use Rattle.strc_elab.specs.Elaboration.{elaborated}
@@ -12,12 +12,14 @@ use Rattle.strc_balance.specs.Rates.{equations_of, size_of}
 use Rattle.strc_balance.specs.Verdicts.{judged}
 use Rattle.strc_balance.specs.declared.error.BalanceError.{BalanceError}
 use Rattle.strc_balance.specs.declared.error.BalanceError.TheVariants as unbalanced
+use Rattle.strc_order.specs.Schedules.{ScheduleParts}
 use Rattle.strc_scope.specs.declared.error.ElabError.{ElabError}
 use Rattle.strc_scope.specs.declared.error.ElabError.TheVariants as error
 use Rattle.strc_run.specs.declared.plan.Plan.{Plan}
 use Rattle.strc_run.specs.declared.refusal.Refusal.{Refusal}
 use Rattle.strc_run.specs.declared.refusal.Refusal.TheVariants as refusal
 use Rattle.strc_run.specs.Rates.{rates_checked}
+use Rattle.strc_run.specs.Scheduling.{HasStartup, CannotStart, HasSchedule, CannotSchedule}
 
 -- how a refusal of an elaboration or of a flat graph is reported
 abbrev pub refusal_of : ElabError → Refusal
@@ -55,8 +57,8 @@ CannotRun stream refused = ⊥
 abbrev pub round_counts : Graph → Result (List ℕ) BalanceError
 round_counts graph = judged (size_of graph) (equations_of graph)
 
--- the program means this stream, whose flat graph can be run; the rates of its nodes hold, and its
--- nodes fire so often in a round
+-- the program means this stream, whose flat graph can be run; the rates of its nodes hold, its
+-- nodes fire so often in a round and so often before the first one, and this is its schedule
 pub record Compiles (program : List Declaration) (main : Option (List ℕ)) (stream : Stream) : Type 0
   where
     pub elaborates : elaborated program main ≡ Ok stream
@@ -66,6 +68,10 @@ pub record Compiles (program : List Declaration) (main : Option (List ℕ)) (str
     pub flat : IsFlat stream graph
     pub counts : List ℕ
     pub balances : round_counts graph ≡ Ok counts
+    pub startup : List ℕ
+    pub starts : HasStartup graph startup
+    pub schedule : ScheduleParts
+    pub scheduled : HasSchedule graph startup counts schedule
 
 -- a graph has no counts of a round, for this reason
 abbrev pub CannotBalance : Graph → Refusal → Type 0
@@ -94,6 +100,20 @@ pub data Breaks (program : List Declaration) (main : Option (List ℕ)) (refused
         → rates_checked 0 (nodes_of stream) ≡ Ok tt → IsFlat stream graph
         → CannotBalance graph refused
         → Breaks program main refused
+    InStartup : (stream : Stream) (graph : Graph) (counts : List ℕ)
+        → elaborated program main ≡ Ok stream
+        → CanRun stream
+        → rates_checked 0 (nodes_of stream) ≡ Ok tt → IsFlat stream graph
+        → round_counts graph ≡ Ok counts
+        → CannotStart graph refused
+        → Breaks program main refused
+    InSchedule : (stream : Stream) (graph : Graph) (counts startup : List ℕ)
+        → elaborated program main ≡ Ok stream
+        → CanRun stream
+        → rates_checked 0 (nodes_of stream) ≡ Ok tt → IsFlat stream graph
+        → round_counts graph ≡ Ok counts → HasStartup graph startup
+        → CannotSchedule graph startup counts refused
+        → Breaks program main refused
 
 -- a plan is that of the stream that a program means
 pub record Plans (program : List Declaration) (main : Option (List ℕ)) (plan : Plan) : Type 0 where
@@ -102,6 +122,8 @@ pub record Plans (program : List Declaration) (main : Option (List ℕ)) (plan :
   pub nodes : map node_view plan.graph.nodes ≡ nodes_of stream
   pub graph : compiles.graph ≡ graph_view plan.graph
   pub counts : compiles.counts ≡ plan.round_counts
+  pub startup : compiles.startup ≡ plan.startup_counts
+  pub schedule : compiles.schedule ≡ plan.schedule
 
 -- the answer for a program: its plan, or the first rule that it breaks; out of memory says nothing
 -- of it

@@ -6,4 +6,5 @@ pub mod Programs
 pub mod Rates
 pub mod Planning
 pub mod Running
+pub mod Scheduling
 pub mod Verdicts

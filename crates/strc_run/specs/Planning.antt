@@ -14,6 +14,8 @@ pub record IsPlanOf (text : List ℕ) (main : Option (List ℕ)) (plan : Plan) :
   pub nodes : map node_view plan.graph.nodes ≡ nodes_of stream
   pub graph : accepted.compiles.graph ≡ graph_view plan.graph
   pub counts : accepted.compiles.counts ≡ plan.round_counts
+  pub startup : accepted.compiles.startup ≡ plan.startup_counts
+  pub schedule : accepted.compiles.schedule ≡ plan.schedule
 
 -- an answer is the text's plan, or the refusal that holds
 abbrev pub HasPlan : List ℕ → Option (List ℕ) → Result Plan Refusal → Type 0

@@ -16,11 +16,14 @@ use strc_elab::elaborate::elaborate;
 use strc_elab::flatten::flatten;
 use strc_lex::error::LexError;
 use strc_lex::lexer::lex;
+use strc_order::planning::schedule;
 use strc_parse::{ParseError, parse};
+use strc_startup::startup::startup;
 use strc_syntax::tree::Program;
 
 /// The plan of the program's main stream. The first rule that is broken refuses the text: those of
-/// its tokens, its tree, its elaboration, its flat graph, its rates, and its balance.
+/// its tokens, its tree, its elaboration, its flat graph, its rates, its balance, its start-up, and
+/// its schedule.
 pub fn compile(alloc: Global, text: &[u8], main: Option<&str>) -> Result<Plan, Refusal>
     ensures { HasPlan text.now (option_map (λ n. n.now) main.entry) result }
 {
@@ -38,9 +41,13 @@ fn compile_program(alloc: Global, program: &Program, main: Option<&str>) -> Resu
     let graph = flatten(alloc, stream)?;
     check_rates(alloc, graph.nodes())?;
     let round_counts = balance(alloc, &graph)?;
+    let startup_counts = startup(alloc, &graph, &round_counts)?;
+    let schedule = schedule(alloc, &graph, &startup_counts, &round_counts)?;
     Ok(Plan {
         graph,
         round_counts,
+        startup_counts,
+        schedule,
     })
 }
 

@@ -2,6 +2,7 @@
 
 ghost use Rattle.std.specs.Prelude.{◌≡◌};
 ghost use Rattle.strc_run.specs.Compiling.{refusal_of, balance_refusal_of};
+ghost use Rattle.strc_run.specs.Scheduling.{startup_refusal_of, schedule_refusal_of};
 ghost use Rattle.strc_run.specs.declared.refusal.Refusal.TheVariants.{NoMemory};
 
 use std::alloc::{AllocError, AllocFailed};
@@ -9,7 +10,9 @@ use strc_balance::error::BalanceError;
 use strc_base::memory;
 use strc_elab::error::ElabError;
 use strc_lex::token::Name;
+use strc_order::error::ScheduleError;
 use strc_semantics::fault::Cause;
+use strc_startup::error::StartupError;
 
 /// Why a text is refused. Bytes, tokens, declarations and nodes are numbered from 0.
 #[derive(Debug, Drop)]
@@ -83,6 +86,17 @@ pub enum Refusal {
     Inconsistent {
         channel: usize,
     },
+    /// A node would fire more than 1,000,000 times before the first round.
+    StartupUnbounded,
+    /// The firings before the first round, or those of a round, have no order in which each finds
+    /// the items that it looks at.
+    Deadlock {
+        in_startup: bool,
+    },
+    /// A channel would hold more than 16,777,216 items; the lowest such channel.
+    BufferLimit {
+        channel: usize,
+    },
     /// Memory ran out before the run.
     NoMemory,
     /// A statement or an expression is nested deeper than 256.
@@ -121,6 +135,29 @@ impl From<BalanceError> for Refusal {
             BalanceError::CountsTooLarge => Refusal::CountsTooLarge,
             BalanceError::Inconsistent { channel } => Refusal::Inconsistent { channel },
             BalanceError::NoMemory => Refusal::NoMemory,
+        }
+    }
+}
+
+impl From<StartupError> for Refusal {
+    ghost from_gives = { λ e r. r ≡ startup_refusal_of e };
+
+    fn from(error: StartupError) -> Refusal {
+        match error {
+            StartupError::Unbounded => Refusal::StartupUnbounded,
+            StartupError::NoMemory => Refusal::NoMemory,
+        }
+    }
+}
+
+impl From<ScheduleError> for Refusal {
+    ghost from_gives = { λ e r. r ≡ schedule_refusal_of e };
+
+    fn from(error: ScheduleError) -> Refusal {
+        match error {
+            ScheduleError::Deadlock { in_startup } => Refusal::Deadlock { in_startup },
+            ScheduleError::BufferLimit { channel } => Refusal::BufferLimit { channel },
+            ScheduleError::NoMemory => Refusal::NoMemory,
         }
     }
 }

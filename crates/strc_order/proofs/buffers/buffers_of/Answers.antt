@@ -242,3 +242,9 @@ returns-clause-sizes c =
     (subst (λ k. AreRaised channels k (firings_of round) c.in_ok-copy_of.field-0.items sizes) counts
     again.raised)) in
     c.in_ok-narrowed-3.ensures ∙ c.deref-7.ensures.value ∙ are
+
+pub returns-clause-within : goal.returns-clause-within
+returns-clause-within c =
+    subst (All (λ size. size ≤ size_limit))
+    (c.deref-4.ensures.value ∙ sym (c.in_ok-narrowed-3.ensures ∙ c.deref-7.ensures.value))
+    c.in_default.ensures.within

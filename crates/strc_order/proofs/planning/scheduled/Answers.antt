@@ -1,7 +1,7 @@
-use Rattle.std.proofs.Common.{◌∙◌, sym, ap, subst, All, IfSome, Err, map, arith}
+use Rattle.std.proofs.Common.{◌∙◌, sym, ap, subst, All, ◌≤◌, IfSome, Err, map, arith}
 use Rattle.strc_order.specs.declared.error.ScheduleError.TheVariants as refused
 use Rattle.strc_balance.specs.Balance.{count_at}
-use Rattle.strc_order.specs.Buffers.{peak_fill, buffer_size}
+use Rattle.strc_order.specs.Buffers.{peak_fill, buffer_size, size_limit}
 use Rattle.strc_order.specs.Firings.{none_fired, fill}
 use Rattle.strc_order.specs.Greedy.{IsGreedyOrder, firings_of}
 use Rattle.strc_order.specs.Network.{size_of}
@@ -138,3 +138,7 @@ returns-clause-schedule c =
     c.deref.ensures.value
     ∙ ap (λ o. map (buffer_size (after none_fired (firings_of c.in-Some.first.items))
     c.in-Some.first.items o) channels) c.deref-2.ensures.value)
+
+pub returns-clause-within : goal.returns-clause-within
+returns-clause-within c =
+    subst (All (λ size. size ≤ size_limit)) (sym c.new.ensures.sizes) c.in-Ok.ensures.within

@@ -1,18 +1,16 @@
-use Rattle.std.proofs.Common.{List, map, option_map, refl, sym, ap, ◌∙◌, subst}
-use Rattle.std.specs.List.{AllByRecursion}
+use Rattle.std.proofs.Common.{List, map, option_map, refl, sym, ap, ◌∙◌, subst, Err}
 use Rattle.strc_syntax.specs.View.{program_view}
-use Rattle.strc_graph.proofs.Carriers.{carriers_are_joined}
 use Rattle.strc_graph.specs.Graphs.{NodeCode}
 use Rattle.strc_elab.specs.View.{stream_view}
 use Rattle.strc_graph.specs.NodeView.{node_view, graph_view}
-use Rattle.strc_elab.specs.Flattening.{IsFlat}
-use Rattle.strc_elab.specs.Sound.{IsInstance}
 use Rattle.strc_run.specs.Compiling.{refusal_of, balance_refusal_of}
 use Rattle.strc_run.specs.Rates.{rates_checked}
+use Rattle.strc_run.specs.Scheduling.{startup_refusal_of, schedule_refusal_of}
 use Rattle.strc_run.specs.Verdicts.{IsRefusal}
 use Rattle.strc_run.proofs.Refusals.{elaboration_refused, graph_refused, rates_refused}
-use Rattle.strc_run.proofs.Refusals.{balance_refused, refusal_told}
-use Rattle.strc_run.proofs.RatedGraphs.{graph_is_rated}
+use Rattle.strc_run.proofs.Refusals.{balance_refused, startup_refused, schedule_refused}
+use Rattle.strc_run.proofs.Refusals.{which_deadlock, refusal_told}
+use Rattle.strc_run.proofs.RatedGraphs.{flat_is_rated}
 use Rattle.strc_elab.proofs.Soundness.{elaborated_is_sound}
 use Rattle.strc_run.proofs.compile.compile_program.Goals as goal
 
@@ -47,17 +45,12 @@ returns-in_err-check_rates c =
 
 pub balance-requires-clause-rates : goal.balance-requires-clause-rates
 balance-requires-clause-rates c =
-    let sound = elaborated_is_sound (program_view c.args.program.now)
-    (option_map (λ n. n.now) c.args.main)
-    (stream_view c.in_ok-stream.stream) c.in_ok-stream.ensures.verdict in
-    let graph = graph_view c.in_ok-graph.graph in
-    let flat : IsFlat (stream_view c.in_ok-stream.stream) graph =
-    c.in_ok-graph.ensures.graph sound.typed in
-    let same = c.in_ok-graph.ensures.nodes in
-    let checks = ap (rates_checked 0) (sym (ap (map node_view) c.nodes.ensures))
-    ∙ c.in_ok-check_rates.ensures in
-    graph_is_rated graph (carriers_are_joined graph.nodes graph.channels flat.joined)
-    (subst (AllByRecursion IsInstance) (sym same) sound.instances) checks
+    flat_is_rated elaborated_is_sound (program_view c.args.program.now)
+    (option_map (λ n. n.now) c.args.main) (stream_view c.in_ok-stream.stream)
+    (graph_view c.in_ok-graph.graph)
+    c.in_ok-stream.ensures.verdict c.in_ok-graph.ensures.graph c.in_ok-graph.ensures.nodes
+    (ap (rates_checked 0) (sym (ap (map node_view) c.nodes.ensures))
+    ∙ c.in_ok-check_rates.ensures)
 
 pub balance-requires-clause-connected : goal.balance-requires-clause-connected
 balance-requires-clause-connected c =
@@ -82,6 +75,75 @@ returns-in_err-round_counts c =
     (c.in_ok-graph.ensures.verdict sound.typed) rates
     (c.in_ok-graph.ensures.graph sound.typed) c.in_err-round_counts.ensures.verdict)
 
+pub startup-requires : goal.startup-requires
+startup-requires c =
+    flat_is_rated elaborated_is_sound (program_view c.args.program.now)
+    (option_map (λ n. n.now) c.args.main) (stream_view c.in_ok-stream.stream)
+    (graph_view c.in_ok-graph.graph)
+    c.in_ok-stream.ensures.verdict c.in_ok-graph.ensures.graph c.in_ok-graph.ensures.nodes
+    (ap (rates_checked 0) (sym (ap (map node_view) c.nodes.ensures))
+    ∙ c.in_ok-check_rates.ensures)
+
+pub returns-in_err-startup_counts : goal.returns-in_err-startup_counts
+returns-in_err-startup_counts c =
+    let elaborates = c.in_ok-stream.ensures.verdict in
+    let sound = elaborated_is_sound (program_view c.args.program.now)
+    (option_map (λ n. n.now) c.args.main) (stream_view c.in_ok-stream.stream) elaborates in
+    let rates = ap (rates_checked 0) (sym
+    (ap (map node_view) c.nodes.ensures ∙ c.in_ok-graph.ensures.nodes))
+    ∙ c.in_ok-check_rates.ensures in
+    refusal_told _ _ c.from_residual-in_err-startup_counts.result
+    (startup_refusal_of c.in_err-startup_counts.field-0.0)
+    c.from_residual-in_err-startup_counts.ensures.1
+    (startup_refused _ _ (stream_view c.in_ok-stream.stream) elaborates
+    (graph_view c.in_ok-graph.graph) c.in_ok-round_counts.round_counts
+    (c.in_ok-graph.ensures.verdict sound.typed) rates
+    (c.in_ok-graph.ensures.graph sound.typed) c.in_ok-round_counts.ensures.verdict
+    c.in_err-startup_counts.field-0.0
+    (λ is. c.in_err-startup_counts.ensures.unbounded (ap Err is)))
+
+pub schedule-requires-clause-rated : goal.schedule-requires-clause-rated
+schedule-requires-clause-rated c =
+    flat_is_rated elaborated_is_sound (program_view c.args.program.now)
+    (option_map (λ n. n.now) c.args.main) (stream_view c.in_ok-stream.stream)
+    (graph_view c.in_ok-graph.graph)
+    c.in_ok-stream.ensures.verdict c.in_ok-graph.ensures.graph c.in_ok-graph.ensures.nodes
+    (ap (rates_checked 0) (sym (ap (map node_view) c.nodes.ensures))
+    ∙ c.in_ok-check_rates.ensures)
+
+pub schedule-requires-clause-connected : goal.schedule-requires-clause-connected
+schedule-requires-clause-connected c =
+    let sound = elaborated_is_sound (program_view c.args.program.now)
+    (option_map (λ n. n.now) c.args.main)
+    (stream_view c.in_ok-stream.stream) c.in_ok-stream.ensures.verdict in
+    c.in_ok-graph.ensures.connected sound.typed
+
+pub returns-in_err-schedule : goal.returns-in_err-schedule
+returns-in_err-schedule c =
+    let elaborates = c.in_ok-stream.ensures.verdict in
+    let sound = elaborated_is_sound (program_view c.args.program.now)
+    (option_map (λ n. n.now) c.args.main) (stream_view c.in_ok-stream.stream) elaborates in
+    let rates = ap (rates_checked 0) (sym
+    (ap (map node_view) c.nodes.ensures ∙ c.in_ok-graph.ensures.nodes))
+    ∙ c.in_ok-check_rates.ensures in
+    let graph = graph_view c.in_ok-graph.graph in
+    let counts = c.in_ok-round_counts.round_counts in
+    let startup = c.in_ok-startup_counts.startup_counts in
+    let broken = c.in_err-schedule.field-0.0 in
+    let told = c.in_err-schedule.ensures in
+    refusal_told _ _ c.from_residual-in_err-schedule.result (schedule_refusal_of broken)
+    c.from_residual-in_err-schedule.ensures.1
+    (schedule_refused _ _ (stream_view c.in_ok-stream.stream) elaborates graph counts
+    (c.in_ok-graph.ensures.verdict sound.typed) rates
+    (c.in_ok-graph.ensures.graph sound.typed) c.in_ok-round_counts.ensures.verdict startup broken
+    (record {
+      least = c.in_ok-startup_counts.ensures.least;
+      within = c.in_ok-startup_counts.ensures.within;
+    })
+    (which_deadlock graph startup counts broken (λ is. told.startup (ap Err is))
+    (λ is. (told.before (ap Err is), told.round (ap Err is))))
+    (λ channel is. told.limit channel (ap Err is)))
+
 pub returns : goal.returns
 returns c =
     let elaborates = c.in_ok-stream.ensures.verdict in
@@ -99,8 +161,20 @@ returns c =
         flat = c.in_ok-graph.ensures.graph sound.typed;
         counts = c.in_ok-round_counts.round_counts;
         balances = c.in_ok-round_counts.ensures.verdict;
+        startup = c.in_ok-startup_counts.startup_counts;
+        starts = record {
+          least = c.in_ok-startup_counts.ensures.least;
+          within = c.in_ok-startup_counts.ensures.within;
+        };
+        schedule = c.in_ok-schedule.schedule;
+        scheduled = record {
+          is = c.in_ok-schedule.ensures.schedule;
+          within = c.in_ok-schedule.ensures.within;
+        };
       };
       nodes = c.in_ok-graph.ensures.nodes;
       graph = refl;
       counts = refl;
+      startup = refl;
+      schedule = refl;
     }

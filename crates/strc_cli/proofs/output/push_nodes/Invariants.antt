@@ -1,7 +1,7 @@
 use Rattle.std.proofs.Common.{◌≡◌, ◌++◌, drop}
 use Rattle.strc_graph.specs.NodeView.{node_names}
 use Rattle.strc_cli.specs.Output.{node_lines}
-use Rattle.strc_cli.proofs.output.plan_text.Given as goal
+use Rattle.strc_cli.proofs.output.push_nodes.Given as goal
 
 -- the text so far and the lines of the nodes left are the whole
 abbrev pub invariant-loop-node : goal.invariant-loop-node
@@ -9,4 +9,4 @@ invariant-loop-node l =
     l.text.items
     ++ node_lines l.node (drop l.node (node_names l.plan.graph))
     (drop l.node l.plan.round_counts)
-    ≡ node_lines 0 (node_names l.plan.graph) l.plan.round_counts
+    ≡ l.fn.text.items ++ node_lines 0 (node_names l.plan.graph) l.plan.round_counts

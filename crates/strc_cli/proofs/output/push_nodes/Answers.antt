@@ -1,7 +1,7 @@
 use Rattle.std.proofs.Common.{◌<◌, length, rules}
 use Rattle.strc_graph.specs.NodeView.{node_names}
 use Rattle.strc_cli.proofs.PlanLines.{one_line_more}
-use Rattle.strc_cli.proofs.output.plan_text.Goals as goal
+use Rattle.strc_cli.proofs.output.push_nodes.Goals as goal
 
 pub loop-node-preserved : goal.loop-node-preserved
 loop-node-preserved c =

@@ -1,0 +1,42 @@
+use Rattle.std.proofs.Common.{sym, ap, subst, take, arith}
+use Rattle.strc_order.specs.Greedy.{firings_of}
+use Rattle.strc_order.specs.Order.{repeated}
+use Rattle.strc_order.specs.Network.{size_of}
+use Rattle.strc_order.specs.Peaks.{Raises, HasNodes}
+use Rattle.strc_order.proofs.Passing.{raises_none, raises_below, raises_then, units_more}
+use Rattle.strc_order.proofs.Passing.{units_within}
+use Rattle.strc_order.proofs.peaks.raise_units.Goals as goal
+
+pub loop-unit-init : goal.loop-unit-init
+loop-unit-init c =
+    raises_none c.args.network.now.channels c.args.counts.now c.args.peaks.now c.requires.known
+
+pub raise_unit-requires-clause-nodes : goal.raise_unit-requires-clause-nodes
+raise_unit-requires-clause-nodes c =
+    subst (HasNodes (size_of c.args.network.now)) (sym c.unit-item.is)
+    (c.requires.nodes c.loop-unit.unit-index c.unit-item.result c.loop-unit-test.true)
+
+pub raise_unit-requires-clause-few : goal.raise_unit-requires-clause-few
+raise_unit-requires-clause-few c node =
+    let e = ap (λ f. f node) c.loop-unit.invariant.counted in
+    let t = units_within c.args.units.now c.loop-unit.unit-index node c.unit-item.result
+    c.loop-unit-test.true c.unit-item.is in
+    omega (arith, e, t, c.requires.few node)
+
+pub raise_unit-requires-clause-known : goal.raise_unit-requires-clause-known
+raise_unit-requires-clause-known c =
+    raises_below c.args.network.now.channels
+    (firings_of (take c.loop-unit.unit-index c.args.units.now))
+    c.args.counts.now c.args.peaks.now c.loop-unit.counts c.loop-unit.peaks c.loop-unit.invariant
+
+pub loop-unit-preserved : goal.loop-unit-preserved
+loop-unit-preserved c =
+    let channels = c.args.network.now.channels in
+    let units = c.args.units.now in
+    let i = c.loop-unit.unit-index in
+    let unit = c.unit-item.result in
+    subst (λ l. Raises channels l c.args.counts.now c.args.peaks.now c.raise_unit.new.counts
+    c.raise_unit.new.peaks) (sym (units_more units i unit c.loop-unit-test.true c.unit-item.is))
+    (raises_then channels (firings_of (take i units)) (repeated unit.turns unit.nodes.items)
+    c.args.counts.now c.args.peaks.now c.loop-unit.counts c.loop-unit.peaks
+    c.raise_unit.new.counts c.raise_unit.new.peaks c.loop-unit.invariant c.raise_unit.ensures)

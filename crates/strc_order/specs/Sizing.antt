@@ -1,0 +1,48 @@
+-- Orders that go on from counts at which first firings are done or like all others (Lee and
+-- Messerschmitt 1987: a periodic schedule), and the numbers of items while they fire.
+use Rattle.std.specs.Prelude.{◌≡◌, ℕ, ◌≤◌, List, [], ◌∷◌, All, map, length}
+use Rattle.strc_startup.specs.Startup.{popped, supply}
+use Rattle.strc_startup.specs.declared.channel_rates.ChannelRates.{ChannelRates}
+use Rattle.strc_order.specs.Firings.{Firings, fill}
+use Rattle.strc_order.specs.Peaks.{AreRaised, IsFirstPast}
+use Rattle.strc_order.specs.Rounds.{IsSettled}
+
+-- the rates of a channel that has so many items, where all firings are by work
+abbrev pub rates_on : ChannelRates → (items : ℕ) → ChannelRates
+rates_on rates items = record {
+  source = rates.source;
+  enqueued = items;
+  first_push = rates.push;
+  push = rates.push;
+  target = rates.target;
+  prework_window = 0;
+  first_window = rates.window;
+  first_pop = rates.pop;
+  pop = rates.pop;
+  window = rates.window;
+}
+
+-- those of all channels
+abbrev pub all_rates_on : List ChannelRates → (fills : List ℕ) → List ChannelRates
+all_rates_on (rates ∷ channels) (items ∷ fills) = rates_on rates items ∷ all_rates_on channels fills
+all_rates_on channels fills = []
+
+-- no more items were popped from a channel than have come
+abbrev pub IsCovered : Firings → ChannelRates → Type 0
+IsCovered counts rates = popped rates (counts rates.target) ≤ supply rates (counts rates.source)
+
+-- at these counts the channels have so many items, and first firings are done or like all others
+pub record HasFills (channels : List ChannelRates) (counts : Firings) (fills : List ℕ) : Type 0
+  where
+    pub settled : All (IsSettled counts) channels
+    pub covered : All (IsCovered counts) channels
+    pub items : fills ≡ map (λ rates. fill rates counts) channels
+
+-- the greatest number of items on a channel passes the limit while an order fires, and of no lower
+-- channel
+pub record PassesOn (channels : List ChannelRates) (counts : Firings) (order before : List ℕ)
+    (channel : ℕ) : Type 0 where
+  pub sizes : List ℕ
+  pub each : length sizes ≡ length channels
+  pub raised : AreRaised channels counts order before sizes
+  pub past : IsFirstPast sizes channel
