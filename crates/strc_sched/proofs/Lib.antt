@@ -4,3 +4,5 @@ pub mod Ports
 pub mod Firsts
 pub mod CircuitPorts
 pub mod Starting
+pub mod Done
+pub mod Going
