@@ -10,3 +10,4 @@ pub mod Keeping
 pub mod Peaks
 pub mod Fired
 pub mod Filling
+pub mod Changes
