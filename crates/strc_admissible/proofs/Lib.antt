@@ -11,3 +11,5 @@ pub mod Peaks
 pub mod Fired
 pub mod Filling
 pub mod Changes
+pub mod ByPort
+pub mod Dealing
