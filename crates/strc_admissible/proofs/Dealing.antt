@@ -24,6 +24,19 @@ unfolding at_port_0
 list_elsewhere items zero other = absurd (other refl)
 list_elsewhere items (suc port) other = refl
 
+-- what a splitter that deals by weights gives at a port
+abbrev pub piece : (weights : List ℕ) → (items : List ℤ) → (port : ℕ) → List ℤ
+piece weights items port = take (slice_index weights port) (drop (span_start weights port) items)
+
+piece_later : (weight : ℕ) (weights : List ℕ) (items : List ℤ) (place : ℕ)
+    → piece (weight ∷ weights) items (suc place) ≡ piece weights (drop weight items) place
+unfolding span_start
+piece_later weight weights items place =
+    ap (λ (n : ℕ). take (slice_index weights place) (drop n items))
+    (sum_by-cons (λ x. x) weight (take place weights))
+    ∙ ap (take (slice_index weights place))
+    (sym (drop-drop (sum (take place weights)) weight items))
+
 module _ (inputs outputs : List (Option ℕ)) where
   -- ---- a duplicating splitter
 
@@ -70,18 +83,6 @@ module _ (inputs outputs : List (Option ℕ)) where
         (λ place. but_later [] first pushes place ∙ from (suc place))))
 
   -- ---- a splitter that deals by weights
-
-  abbrev pub piece : (weights : List ℕ) → (items : List ℤ) → (port : ℕ) → List ℤ
-  piece weights items port = take (slice_index weights port) (drop (span_start weights port) items)
-
-  piece_later : (weight : ℕ) (weights : List ℕ) (items : List ℤ) (place : ℕ)
-      → piece (weight ∷ weights) items (suc place) ≡ piece weights (drop weight items) place
-  unfolding span_start
-  piece_later weight weights items place =
-      ap (λ (n : ℕ). take (slice_index weights place) (drop n items))
-      (sum_by-cons (λ x. x) weight (take place weights))
-      ∙ ap (take (slice_index weights place))
-      (sym (drop-drop (sum (take place weights)) weight items))
 
   pub dealing_moves : (weights : List ℕ) (items : List ℤ) (first : ℕ) (rings : List Ring)
       (pushes : ByPort) → ArePlaced inputs outputs (length rings)

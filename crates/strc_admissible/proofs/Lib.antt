@@ -13,3 +13,4 @@ pub mod Filling
 pub mod Changes
 pub mod ByPort
 pub mod Dealing
+pub mod Stepping
