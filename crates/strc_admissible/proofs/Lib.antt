@@ -14,3 +14,4 @@ pub mod Changes
 pub mod ByPort
 pub mod Dealing
 pub mod Stepping
+pub mod NodeSteps

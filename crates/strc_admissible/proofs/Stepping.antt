@@ -61,14 +61,14 @@ module _ (inputs outputs : List (Option ℕ)) (pops : ℕ → ℕ) (rings : List
   if_matches false fired step matches = tt
 
   -- where the test of a step is that of the queues
-  tests_match : (found test : Bool) (fired : generic.Fired (List ℤ) Cause Word) (step : Step)
+  pub tests_match : (found test : Bool) (fired : generic.Fired (List ℤ) Cause Word) (step : Step)
       → found ≡ test → Matches true fired step → Matches found fired (if_found test step)
   tests_match found test fired step same matches =
       subst (λ (own : Bool). Matches found fired (if_found own step)) same
       (if_matches found fired step matches)
 
 -- a reader's next item is there
-reader_test : (number : ℕ) (input queue : List ℤ) → queue ≡ drop number input
+pub reader_test : (number : ℕ) (input queue : List ℤ) → queue ≡ drop number input
     → leb 1 (length queue) ≡ nat_lt number (length input)
 reader_test number input queue is =
     let rest : length queue ≡ length input - number = ap length is ∙ length-drop number input in
@@ -100,7 +100,7 @@ by_weight (suc w) items queue same =
     (ap (λ (l : List ℤ). leb (suc w) (length l)) is, ap (take (suc w)) (sym is))
 
 -- a splitter's piece lies within what it takes
-piece_within : (weights : List ℕ) (items : List ℤ) (port : ℕ)
+pub piece_within : (weights : List ℕ) (items : List ℤ) (port : ℕ)
     → piece weights (take (sum weights) items) port ≡ piece weights items port
 piece_within weights items port =
     let weight = slice_index weights port in
@@ -127,13 +127,8 @@ module _ (inputs outputs : List (Option ℕ)) (rings : List Ring)
   abbrev Alike : (pops : ℕ → ℕ) → (found : Bool) → generic.Fired (List ℤ) Cause Word → Step → Type 0
   Alike pops = Matches inputs outputs pops rings
 
-  abbrev Tests : (pops : ℕ → ℕ) (found test : Bool) (fired : generic.Fired (List ℤ) Cause Word)
-      (step : Step) → found ≡ test → Alike pops true fired step → Alike pops found fired
-      (if_found test step)
-  Tests pops = tests_match inputs outputs pops rings
-
   -- where a firing's window is at port 0
-  test_same : (window : ℕ) → items 0 ≡ queue 0
+  pub test_same : (window : ℕ) → items 0 ≡ queue 0
       → leb window (length (queue 0)) ≡ leb window (length (items 0))
   test_same window is = ap (λ (l : List ℤ). leb window (length l)) (sym is)
 
@@ -166,7 +161,7 @@ module _ (inputs outputs : List (Option ℕ)) (rings : List Ring)
     abbrev fired : List ℤ → Result firing.Fired Cause
     fired = firing.fired filter (body_at number) fields
 
-    side_matches : (side : ItemType) → (nat_lt 0 (ports_of side) ≡ true → items 0 ≡ queue 0)
+    pub side_matches : (side : ItemType) → (nat_lt 0 (ports_of side) ≡ true → items 0 ≡ queue 0)
         → (nat_lt 0 (ports_of side) ≡ false → at_port inputs 0 ≡ None)
         → Alike (rate_at_0 (filter_pops filter number))
         (all_below (ports_of side) (λ port. leb (rate_at_0 window port) (length (queue port))))
@@ -177,7 +172,7 @@ module _ (inputs outputs : List (Option ℕ)) (rings : List Ring)
     unfolding all_below
     side_matches item.Int shows none =
         let is = shows refl in
-        Tests (rate_at_0 (filter_pops filter number)) (leb window (length (queue 0)))
+        tests_match inputs outputs (rate_at_0 (filter_pops filter number)) rings (leb window (length (queue 0)))
         (nat_le window (length (items 0))) (as_fired (fired (take window (queue 0))))
         (filter_after (filter_pops filter number) (at_port inputs 0) (at_port outputs 0) rings
         (fired (items 0))) (test_same window is)
@@ -186,7 +181,7 @@ module _ (inputs outputs : List (Option ℕ)) (rings : List Ring)
         ∙ sym (fired_within_window filter (body_at number) fields (queue 0) window (omega arith))))
     side_matches item.Void shows none =
         let empty = ap (items_at rings) (none refl) in
-        Tests (rate_at_0 (filter_pops filter number)) true
+        tests_match inputs outputs (rate_at_0 (filter_pops filter number)) rings true
         (nat_le 0 (length (items 0))) (as_fired (fired []))
         (filter_after (filter_pops filter number) (at_port inputs 0) (at_port outputs 0) rings
         (fired (items 0))) (sym (le-leb 0 (length (items 0)) (omega arith)))
@@ -227,7 +222,7 @@ module _ (inputs outputs : List (Option ℕ)) (rings : List Ring)
     joiner_port port =
         by_weight (slice_index weights port) (items port) (queue port) (shows.holds port)
 
-    joiner_finds : finds_in (Joiner weights) number queue ≡ finds_weights weights inputs 0 rings
+    pub joiner_finds : finds_in (Joiner weights) number queue ≡ finds_weights weights inputs 0 rings
     joiner_finds =
         all_same (length weights) (λ port. leb (slice_index weights port) (length (queue port)))
         (λ port. leb (slice_index weights port) (length (items (0 + port))))
@@ -251,7 +246,7 @@ module _ (inputs outputs : List (Option ℕ)) (rings : List Ring)
         (ap (λ (test : Bool). cond test (take (slice_index weights place) (queue place)) [])
         (lt-ltb place (length weights) less) ∙ (joiner_port place).1)
 
-    joiner_moves : Moves inputs outputs (pops_at (Joiner weights) number)
+    pub joiner_moves : Moves inputs outputs (pops_at (Joiner weights) number)
         (at_port_0 (one_cycle weights 0 (sees_of (Joiner weights) number queue))) rings
         (gathered_in weights inputs (at_port outputs 0) 0 rings)
     joiner_moves =

@@ -1,4 +1,4 @@
-use Rattle.strc_admissible.proofs.Stepping.{finds_in}
+use Rattle.strc_admissible.proofs.NodeSteps.{node_matches}
 use Rattle.strc_admissible.proofs.ring_runs_answer.Goals as goal
 
 pub returns : goal.returns
