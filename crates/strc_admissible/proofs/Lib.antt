@@ -15,3 +15,4 @@ pub mod ByPort
 pub mod Dealing
 pub mod Stepping
 pub mod NodeSteps
+pub mod Apart
