@@ -27,7 +27,7 @@ take_append (suc n) (x ∷ a) b =
     ap (λ (l : List ℤ). x ∷ l) (take_append n a b)
     ∙ ap (λ (k : ℕ). x ∷ (take n a ++ take k b)) left
 
-extended_none : (ring : Ring) → extended [] ring ≡ ring
+pub extended_none : (ring : Ring) → extended [] ring ≡ ring
 extended_none ring =
     ap (λ (l : List ℤ). buffer (ring.items ++ l) ring.capacity)
     (take-nil (ring.capacity - length ring.items))

@@ -16,3 +16,5 @@ pub mod Dealing
 pub mod Stepping
 pub mod NodeSteps
 pub mod Apart
+pub mod Ends
+pub mod WordsBelow
