@@ -99,7 +99,7 @@ module _ (tree : Stream NodeCode) (graph : Graph) (program : IsProgram tree grap
           let port : a.source.port ≡ b.source.port = cc in
           ap (λ (n : ℕ). port_of n a.source.port) node ∙ ap (port_of b.source.node) port
 
-  apart : (number : ℕ) (channel : Channel) → IsAt number channel
+  pub apart : (number : ℕ) (channel : Channel) → IsAt number channel
       → channel.source.node ≡ channel.target.node → ⊥
   apart number channel there =
       no_own_source tree channel.target.node channel.target.port channel.source.node
@@ -131,7 +131,7 @@ module _ (tree : Stream NodeCode) (graph : Graph) (program : IsProgram tree grap
       → (channel : Channel) × IsAt number channel × (channel.target ≡ port_of node port)
   input_channel = ended (λ channel. channel.target) circuit.inputs is.inputs
 
-  output_channel : (node port number : ℕ)
+  pub output_channel : (node port number : ℕ)
       → at_port (ports_at circuit.outputs node) port ≡ Some number
       → (channel : Channel) × IsAt number channel × (channel.source ≡ port_of node port)
   output_channel = ended (λ channel. channel.source) circuit.outputs is.outputs
@@ -140,7 +140,7 @@ module _ (tree : Stream NodeCode) (graph : Graph) (program : IsProgram tree grap
       → at_port (ports_at circuit.inputs channel.target.node) channel.target.port ≡ Some number
   target_ring = stands (λ channel. channel.target) circuit.inputs is.inputs one_target
 
-  source_ring : (number : ℕ) (channel : Channel) → IsAt number channel
+  pub source_ring : (number : ℕ) (channel : Channel) → IsAt number channel
       → at_port (ports_at circuit.outputs channel.source.node) channel.source.port ≡ Some number
   source_ring = stands (λ channel. channel.source) circuit.outputs is.outputs one_source
 

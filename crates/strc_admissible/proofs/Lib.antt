@@ -18,3 +18,5 @@ pub mod NodeSteps
 pub mod Apart
 pub mod Ends
 pub mod WordsBelow
+pub mod Standing
+pub mod FiringAlike

@@ -51,17 +51,20 @@ words_one (suc count) node words within none = elim (cases_eq count node) [
 
 -- ---- at most one element passes a test
 
+abbrev one_if : Bool → ℕ
+one_if passes = cond passes 1 0
+
 module _ {A : Type 0} (test : A → Bool) where
   count_first : (x : A) (xs : List A)
-      → count_by test (x ∷ xs) ≡ cond (test x) 1 0 + count_by test xs
-  count_first x xs = sum_by-cons (λ own. cond (test own) 1 0) x xs
+      → count_by test (x ∷ xs) ≡ one_if (test x) + count_by test xs
+  count_first x xs = sum_by-cons (λ own. one_if (test own)) x xs
 
   some_pass : (xs : List A) (place : ℕ) (x : A) → slice_get xs place ≡ Some x → test x ≡ true
       → 0 < count_by test xs
   some_pass [] place x there passes = absurd (cc)
   some_pass (first ∷ xs) zero x there passes =
-      let own = ap (λ (y : A). cond (test y) 1 0) (same_Some first x there)
-      ∙ ap (λ (b : Bool). cond b 1 0) passes in
+      let own = ap (λ (y : A). one_if (test y)) (same_Some first x there)
+      ∙ ap one_if passes in
       omega (arith, count_first first xs, own)
   some_pass (first ∷ xs) (suc place) x there passes =
       omega (arith, count_first first xs, some_pass xs place x there passes)
@@ -71,12 +74,12 @@ module _ {A : Type 0} (test : A → Bool) where
   one_passes_test [] one a b x y is_x is_y passes too = absurd (cc)
   one_passes_test (first ∷ xs) one zero zero x y is_x is_y passes too = refl
   one_passes_test (first ∷ xs) one zero (suc b) x y is_x is_y passes too =
-      let own = ap (λ (z : A). cond (test z) 1 0) (same_Some first x is_x)
-      ∙ ap (λ (t : Bool). cond t 1 0) passes in
+      let own = ap (λ (z : A). one_if (test z)) (same_Some first x is_x)
+      ∙ ap one_if passes in
       absurd (omega (arith, count_first first xs, own, some_pass xs b y is_y too, one))
   one_passes_test (first ∷ xs) one (suc a) zero x y is_x is_y passes too =
-      let own = ap (λ (z : A). cond (test z) 1 0) (same_Some first y is_y)
-      ∙ ap (λ (t : Bool). cond t 1 0) too in
+      let own = ap (λ (z : A). one_if (test z)) (same_Some first y is_y)
+      ∙ ap one_if too in
       absurd (omega (arith, count_first first xs, own, some_pass xs a x is_x passes, one))
   one_passes_test (first ∷ xs) one (suc a) (suc b) x y is_x is_y passes too =
       ap suc (one_passes_test xs (omega (arith, count_first first xs, one)) a b x y is_x is_y passes
