@@ -12,7 +12,7 @@ use Rattle.strc_semantics.specs.declared.fault.Cause.{Cause}
 use Rattle.strc_semantics.specs.declared.word.Word.{Word}
 use Rattle.strc_dataflow.specs.Flat.{Source}
 use Rattle.strc_dataflow.specs.Histories.{Run, after_firing}
-use Rattle.strc_dataflow.specs.Machine.{put}
+use Rattle.strc_dataflow.specs.Machine.{Stop, put}
 use Rattle.strc_dataflow.specs.Node.{ByPort, Fired.Fires, Fired.Faults}
 use Rattle.strc_dataflow.specs.Node as generic
 use Rattle.strc_dataflow.specs.Queues.{FifoProgress, FifoProgress.FifoWent}
@@ -340,6 +340,17 @@ module _ (tree : Stream NodeCode) (graph : Graph) (program : IsProgram tree grap
   unfolding fifo_fire holds fronts
   fire_is = progress_is (finds_in code firing (now.queues node))
 
+  abbrev gone : (fields : List ℤ) → (rings : List Ring) → (words : List Word) → MachineView
+  gone fields rings words = record {
+    fields = slice_set machine.fields node fields;
+    fired = slice_set machine.fired node (one_more (slice_index machine.fired node));
+    rings = rings;
+    words = machine.words ++ words;
+  }
+
+  abbrev stop_of : ℕ → Cause → Stop Cause
+  stop_of number cause = record { node = node; firing = number; cause = cause }
+
   found_alike : (found : Bool) (fired : generic.Fired (List ℤ) Cause Word) (step : Step)
       → Matches inputs outputs (pops_at code firing) machine.rings found fired step
       → ((fields : List ℤ) (pushes : ByPort) (words : List Word) → fired ≡ Fires fields pushes words
@@ -349,6 +360,29 @@ module _ (tree : Stream NodeCode) (graph : Graph) (program : IsProgram tree grap
   unfolding fifo_after
   found_alike false fired steps.Stays matches quiet fit = stands
   found_alike true (Fires fields pushes words) (steps.Goes own after printed) matches quiet fit =
-      ?
-  found_alike true (Faults cause) (steps.Faults own) matches quiet fit = ?
+      let silent = quiet fields pushes words refl in
+      subst (λ (l : List ℤ). Stands graph sizes input
+      (next fields pushes words after matches.2 silent)
+      (gone l after printed)) (sym matches.0)
+      (subst (λ (l : List Word). Stands graph sizes input
+      (next fields pushes words after matches.2 silent)
+      (gone fields after l)) (sym matches.1)
+      (next_stands fields pushes words after matches.2 silent fit))
+  found_alike true (Faults cause) (steps.Faults own) matches quiet fit =
+      ap (λ (n : ℕ). stop_of n cause) (sym (stands.fired node within))
+      ∙ ap (stop_of (slice_index machine.fired node)) (sym matches)
   found_alike found fired step matches quiet fit = absurd matches
+
+  pub fire_alike : fires_by_rounds code ≡ false
+      → FitThen (FitNow graph.channels sizes) (fifo_fire node_meaning (flat tree) now node)
+      → IsAlike graph sizes input (fifo_fire node_meaning (flat tree) now node)
+      (after_step machine node (next_step circuit machine node))
+  fire_alike alone fit =
+      subst (λ (progress : FifoProgress (List ℤ) Cause Word). IsAlike graph sizes input progress
+      (after_step machine node (next_step circuit machine node))) (sym fire_is)
+      (found_alike (finds_in code firing (now.queues node))
+      (node_fired code firing state (sees_of code firing (now.queues node)))
+      (next_step circuit machine node) (step_matches alone)
+      (λ fields pushes words fires silent. node_quiet code firing state
+      (sees_of code firing (now.queues node)) fields pushes words silent fires)
+      (subst (FitThen (FitNow graph.channels sizes)) fire_is fit))
