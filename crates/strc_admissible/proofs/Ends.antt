@@ -72,7 +72,7 @@ module _ (tree : Stream NodeCode) (graph : Graph) (program : IsProgram tree grap
         ]
     ]
 
-  source_is : (number : ℕ) (channel : Channel) → IsAt number channel
+  pub source_is : (number : ℕ) (channel : Channel) → IsAt number channel
       → (flat tree).source channel.target.node channel.target.port ≡ source_of channel
   source_is number channel there =
       element (λ (own : Channel). (flat tree).source own.target.node own.target.port

@@ -20,3 +20,4 @@ pub mod Ends
 pub mod WordsBelow
 pub mod Standing
 pub mod FiringAlike
+pub mod RunAlike
