@@ -1,78 +1,19 @@
 -- In the flat graph of a tree no node gives to itself.
-use Rattle.std.proofs.Common.{◌≡◌, refl, sym, ap, ◌∙◌, subst, ℕ, zero, suc, ◌+◌, ◌-◌, ◌<◌, ◌≤◌, List}
-use Rattle.std.proofs.Common.{[], ◌∷◌, ◌++◌, length, get_or, Option, Some, None, ◌⊎◌, inl, inr, arith}
+use Rattle.std.proofs.Common.{◌≡◌, refl, ap, subst, ℕ, zero, suc, ◌+◌, ◌-◌, ◌<◌, ◌≤◌, List}
+use Rattle.std.proofs.Common.{[], ◌∷◌, ◌++◌, length, get_or, Option, Some, None, inl, inr, arith}
 use Rattle.std.proofs.Common.{length-append, ℤ}
-use Rattle.std.proofs.Math.ListN.{get_or-append}
-use Rattle.std.proofs.Math.Seq.{get_or-append_right}
 use Rattle.std.proofs.lemmas.Bool.{cases_lt}
 use Rattle.std.proofs.lemmas.List.{get_or_past}
-use Rattle.strc_dataflow.specs.Flat.{Origin.Nowhere, Origin.Input, Origin.Port, Source}
+use Rattle.strc_dataflow.specs.Flat.{Origin.Input, Origin.Port, Source}
 use Rattle.strc_dataflow.specs.Streams.{Stream, Stream.One, Stream.Reader, Stream.Pipeline}
 use Rattle.strc_dataflow.specs.Streams.{Stream.SplitJoin, Stream.FeedbackLoop, Streams}
-use Rattle.strc_dataflow.specs.Streams.{Streams.Last, Streams.More, Layout, nothing, source_at_0}
+use Rattle.strc_dataflow.specs.Streams.{Streams.Last, Streams.More, Layout, source_at_0}
 use Rattle.strc_dataflow.specs.Streams.{delayed, prepend, node_layout, maybe_layout, chained_layout}
 use Rattle.strc_dataflow.specs.Streams.{beside_layout, fed_back_layout, layout, pipeline_layout}
 use Rattle.strc_dataflow.specs.Streams.{branch_layout, flat}
-
--- a source that so many nodes from one on don't give
-abbrev IsOutside : (first count : ℕ) → Source → Type 0
-IsOutside first count source =
-    (node port : ℕ) → source.origin ≡ Port node port → (node < first) ⊎ (first + count ≤ node)
-
-nothing_outside : (first count : ℕ) → IsOutside first count nothing
-nothing_outside first count node port e = absurd (cc)
-
--- of fewer nodes
-outside_front : (first count more : ℕ) (source : Source) → IsOutside first (count + more) source
-    → IsOutside first count source
-outside_front first count more source outside node port e = elim (outside node port e) [
-    | inl less ↦ inl less
-    | inr past ↦ inr (omega (arith, past))
-  ]
-
-outside_back : (first count more : ℕ) (source : Source) → IsOutside first (count + more) source
-    → IsOutside (first + count) more source
-outside_back first count more source outside node port e = elim (outside node port e) [
-    | inl less ↦ inl (omega (arith, less))
-    | inr past ↦ inr (omega (arith, past))
-  ]
-
--- a source that is one of these nodes'
-abbrev IsWithin : (first count : ℕ) → Source → Type 0
-IsWithin first count source =
-    (node port : ℕ) → source.origin ≡ Port node port → (first ≤ node) × (node < first + count)
-
-before_outside : (first count more : ℕ) (source : Source) → IsWithin first count source
-    → IsOutside (first + count) more source
-before_outside first count more source within node port e = inl ((within node port e).1)
-
-after_outside : (first count more : ℕ) (source : Source) → IsWithin (first + count) more source
-    → IsOutside first count source
-after_outside first count more source within node port e = inr ((within node port e).0)
-
-at_0_all : (P : Source → Type 0) (source : Source) → P source → P nothing → (port : ℕ)
-    → P (source_at_0 source port)
-unfolding source_at_0
-at_0_all P source here none zero = here
-at_0_all P source here none (suc port) = none
-
-first_all : (P : Source → Type 0) (source : Source) (others : ℕ → Source) → P source
-    → ((port : ℕ) → P (others port)) → (port : ℕ) → P (prepend source others port)
-unfolding prepend
-first_all P source others here all zero = here
-first_all P source others here all (suc port) = all port
-
-abbrev none : ℕ → Source
-none port = nothing
-
-either_part : (P : (ℕ → Source) → Type 0) (xs ys : List (ℕ → Source)) (place : ℕ)
-    → (place < length xs → P (get_or xs place none))
-    → (length xs ≤ place → P (get_or ys (place - length xs) none))
-    → P (get_or (xs ++ ys) place none)
-either_part P xs ys place front back = elim (cases_lt place (length xs)) [
-    | inl less ↦ subst P (sym (get_or-append xs ys none place less)) (front less)
-    | inr past ↦ subst P (sym (get_or-append_right xs ys place none past)) (back past)
-  ]
+use Rattle.strc_admissible.proofs.Outside.{IsOutside, nothing_outside, outside_front, outside_back}
+use Rattle.strc_admissible.proofs.Outside.{IsWithin, before_outside, after_outside, at_0_all}
+use Rattle.strc_admissible.proofs.Outside.{first_all, none, either_part}
 
 module _ {Code : Type 0} where
   -- each node of a part has sources, and none of them is the node; what leaves the part is its
@@ -101,9 +42,9 @@ module _ {Code : Type 0} where
           → (place : ℕ) → place < 1 → (port : ℕ)
           → IsOutside (first + place) 1 (get_or (before ∷ []) place none port)
       one first before outside zero less port node other e = elim (outside port node other e) [
-          | inl below ↦ inl (omega (arith, below))
-          | inr past ↦ inr (omega (arith, past))
-        ]
+        | inl below ↦ inl (omega (arith, below))
+        | inr past ↦ inr (omega (arith, past))
+      ]
       one first before outside (suc place) less port node other e = absurd (omega (arith, less))
 
   maybe_apart : (code : Option Code) → IsApart (maybe_layout code)
@@ -293,18 +234,18 @@ module _ {Code : Type 0} where
       → ((flat tree).source node port).origin ≡ Port other out → other ≡ node → ⊥
   unfolding flat
   no_own_source tree node port other out e own = elim (cases_lt node (length codes)) [
-      | inl within ↦
-          elim ((stream_apart tree).nodes 0 none (λ p. nothing_outside 0 (length codes)) node within
-          port other out e) [
-            | inl less ↦ absurd (omega (arith, less, own))
-            | inr past ↦ absurd (omega (arith, past, own))
-          ]
-      | inr past ↦
-          let gone = get_or_past ((layout tree).sources 0 none) node none
-          (omega (arith, past, (stream_apart tree).each 0 none)) in
-          let at_port = ap (λ sources. (sources port).origin) gone in
-          absurd (cc)
-    ]
+    | inl within ↦
+        elim ((stream_apart tree).nodes 0 none (λ p. nothing_outside 0 (length codes)) node within
+        port other out e) [
+          | inl less ↦ absurd (omega (arith, less, own))
+          | inr past ↦ absurd (omega (arith, past, own))
+        ]
+    | inr past ↦
+        let gone = get_or_past ((layout tree).sources 0 none) node none
+        (omega (arith, past, (stream_apart tree).each 0 none)) in
+        let at_port = ap (λ sources. (sources port).origin) gone in
+        absurd (cc)
+  ]
     where
       codes : List Code
       codes = (layout tree).codes

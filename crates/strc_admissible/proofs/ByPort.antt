@@ -1,5 +1,5 @@
 -- Lists and numbers by port: those at one port, and those at the others.
-use Rattle.std.proofs.Common.{◌≡◌, refl, sym, ap, ◌∙◌, ℕ, zero, suc, ◌+◌, ◌-◌, ◌<◌, ◌≤◌, ℤ, Bool, true}
+use Rattle.std.proofs.Common.{◌≡◌, refl, sym, ap, ◌∙◌, ℕ, suc, ◌+◌, ◌-◌, ◌<◌, ℤ, Bool, true}
 use Rattle.std.proofs.Common.{false, cond, eqb, List, [], ◌++◌, inl, inr, arith, eqb-true}
 use Rattle.std.proofs.lemmas.Bool.{cases_lt, ne_eqb, eq-eqb, eqb-false}
 use Rattle.std.proofs.lemmas.List.{append-nil}
@@ -57,11 +57,11 @@ module _ {A : Type 0} (none : A) where
   pub all_none : (first : ℕ) (values : ℕ → A) → NoneBelow first values
       → ((place : ℕ) → values (first + place) ≡ none) → (port : ℕ) → values port ≡ none
   all_none first values below from port = elim (cases_lt port first) [
-      | inl less ↦ below port less
-      | inr past ↦
-          let is : port ≡ first + (port - first) = omega (arith, past) in
-          ap values is ∙ from (port - first)
-    ]
+    | inl less ↦ below port less
+    | inr past ↦
+        let is : port ≡ first + (port - first) = omega (arith, past) in
+        ap values is ∙ from (port - first)
+  ]
 
 pub only_none : (own port : ℕ) → only_at {A = List ℤ} [] own [] port ≡ []
 only_none own port = by_test (eqb port own)

@@ -10,8 +10,8 @@ use Rattle.std.proofs.lemmas.List.{append-nil, get_or-set_same, get_or-set_other
 use Rattle.std.proofs.lemmas.List.{length-set}
 use Rattle.circular_buffer.specs.Buffer.{buffer}
 use Rattle.strc_dataflow.specs.Node.{ByPort}
-use Rattle.strc_admissible.specs.Rings.{Ring, ring_at, at_port, items_at, shortened, extended, taken}
-use Rattle.strc_admissible.specs.Rings.{given, moved}
+use Rattle.strc_admissible.specs.Rings.{Ring, ring_at, at_port, items_at, shortened, extended}
+use Rattle.strc_admissible.specs.Rings.{taken, given}
 
 -- ---- one ring
 
@@ -33,7 +33,8 @@ extended_none ring =
     (take-nil (ring.capacity - length ring.items))
     ∙ ap (λ (l : List ℤ). buffer l ring.capacity) (append-nil ring.items)
 
-extended_twice : (a b : List ℤ) (ring : Ring) → extended b (extended a ring) ≡ extended (a ++ b) ring
+extended_twice : (a b : List ℤ) (ring : Ring)
+    → extended b (extended a ring) ≡ extended (a ++ b) ring
 extended_twice a b ring =
     let room = ring.capacity - length ring.items in
     let left : ring.capacity - length (ring.items ++ take room a) ≡ room - length a = omega (
@@ -129,7 +130,8 @@ module _ (inputs outputs : List (Option ℕ)) where
   -- what a node looks at after a change
   pub items_after : (pops : ℕ → ℕ) (pushes : ByPort) (rings after : List Ring)
       → Moves pops pushes rings after → (port : ℕ)
-      → items_at after (at_port inputs port) ≡ drop (pops port) (items_at rings (at_port inputs port))
+      → items_at after (at_port inputs port)
+      ≡ drop (pops port) (items_at rings (at_port inputs port))
   items_after pops pushes rings after moves port = by_port (at_port inputs port) refl
     where
       by_port : (found : Option ℕ) → at_port inputs port ≡ found
@@ -176,17 +178,17 @@ module _ (inputs outputs : List (Option ℕ)) where
     one_takes own count pops here others = record {
       each = taken_length rings (at_port inputs own) count;
       takes = λ port number is. elim (cases_eq port own) [
-          | inl same ↦
-              taken_here rings (at_port inputs own) count number
-              (ap (at_port inputs) (sym same) ∙ is) (placed.inner port number is)
-              ∙ ap (λ (n : ℕ). shortened n (ring_at rings number))
-              (sym (ap pops same ∙ here))
-          | inr differs ↦
-              taken_other rings (at_port inputs own) count number
-              (λ e. differs (placed.one_input port own number is e))
-              ∙ ap (λ (n : ℕ). shortened n (ring_at rings number))
-              (sym (others port differs))
-        ];
+        | inl same ↦
+            taken_here rings (at_port inputs own) count number
+            (ap (at_port inputs) (sym same) ∙ is) (placed.inner port number is)
+            ∙ ap (λ (n : ℕ). shortened n (ring_at rings number))
+            (sym (ap pops same ∙ here))
+        | inr differs ↦
+            taken_other rings (at_port inputs own) count number
+            (λ e. differs (placed.one_input port own number is e))
+            ∙ ap (λ (n : ℕ). shortened n (ring_at rings number))
+            (sym (others port differs))
+      ];
       gives = λ port number is.
           taken_other rings (at_port inputs own) count number
           (λ e. placed.apart own port number e is)
@@ -205,18 +207,18 @@ module _ (inputs outputs : List (Option ℕ)) where
           given_other rings (at_port outputs own) items number
           (λ e. placed.apart port own number is e);
       gives = λ port number is. elim (cases_eq port own) [
-          | inl same ↦
-              given_here rings (at_port outputs own) items number
-              (ap (at_port outputs) (sym same) ∙ is) (placed.outer port number is)
-              ∙ ap (λ (more : List ℤ). extended more (ring_at rings number))
-              (sym (ap pushes same ∙ here))
-          | inr differs ↦
-              given_other rings (at_port outputs own) items number
-              (λ e. differs (placed.one_output port own number is e))
-              ∙ sym (extended_none (ring_at rings number))
-              ∙ ap (λ (more : List ℤ). extended more (ring_at rings number))
-              (sym (others port differs))
-        ];
+        | inl same ↦
+            given_here rings (at_port outputs own) items number
+            (ap (at_port outputs) (sym same) ∙ is) (placed.outer port number is)
+            ∙ ap (λ (more : List ℤ). extended more (ring_at rings number))
+            (sym (ap pushes same ∙ here))
+        | inr differs ↦
+            given_other rings (at_port outputs own) items number
+            (λ e. differs (placed.one_output port own number is e))
+            ∙ sym (extended_none (ring_at rings number))
+            ∙ ap (λ (more : List ℤ). extended more (ring_at rings number))
+            (sym (others port differs))
+      ];
       stays = λ number none neither.
           given_other rings (at_port outputs own) items number (neither own);
     }

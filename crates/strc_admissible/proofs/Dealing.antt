@@ -1,15 +1,16 @@
 -- What splitters and joiners do to the rings at their ports, weight by weight.
 use Rattle.std.proofs.Common.{◌≡◌, refl, sym, ap, ◌∙◌, ℕ, zero, suc, ◌+◌, ◌<◌, ℤ, Bool, true, false}
-use Rattle.std.proofs.Common.{List, [], ◌∷◌, ◌++◌, length, take, drop, sum, Option, arith, drop-drop}
+use Rattle.std.proofs.Common.{List, [], ◌∷◌, ◌++◌, length, take, drop, sum, Option, arith}
+use Rattle.std.proofs.Common.{drop-drop}
 use Rattle.std.specs.Prelude.{if◌then◌else◌, slice_index, slice_index_or}
 use Rattle.std.proofs.lemmas.List.Sums.{sum_by-cons}
 use Rattle.strc_dataflow.specs.Node.{ByPort, at_port_0}
 use Rattle.strc_dataflow.specs.RoundRobin.{span_start, one_cycle}
 use Rattle.strc_graph.specs.Rates.{rate_at_0}
-use Rattle.strc_admissible.specs.Rings.{Ring, at_port, items_at, given, moved, dealt_out, copied_out}
-use Rattle.strc_admissible.specs.Rings.{gathered_in}
+use Rattle.strc_admissible.specs.Rings.{Ring, at_port, items_at, given, moved, dealt_out}
+use Rattle.strc_admissible.specs.Rings.{copied_out, gathered_in}
 use Rattle.strc_admissible.proofs.ByPort.{only_at, but_at, NoneBelow, only_here, only_other}
-use Rattle.strc_admissible.proofs.ByPort.{but_other, but_below, but_later, at_first, all_none}
+use Rattle.strc_admissible.proofs.ByPort.{but_below, but_later, at_first, all_none}
 use Rattle.strc_admissible.proofs.ByPort.{only_none, numbers_parted, lists_parted}
 use Rattle.strc_admissible.proofs.Changes.{ArePlaced, Moves, items_after, same_moves, no_moves}
 use Rattle.strc_admissible.proofs.Changes.{both_move, one_gives, still_placed, one_passes}

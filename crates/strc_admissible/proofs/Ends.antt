@@ -1,26 +1,24 @@
 -- The rings at the ports of a flat graph's nodes: each channel's ring stands at the channel's two
 -- ends, and at no other port.
-use Rattle.std.proofs.Common.{◌≡◌, refl, sym, ap, ◌∙◌, subst, ℕ, ◌+◌, ◌<◌, ℤ, Bool, true, false, cond}
-use Rattle.std.proofs.Common.{eqb, get_or, List, [], length, map, Option, Some, None, slice_get, inl, inr}
+use Rattle.std.proofs.Common.{◌≡◌, refl, sym, ap, ◌∙◌, subst, ℕ, ◌<◌, true, false}
+use Rattle.std.proofs.Common.{get_or, List, length, map, Option, Some, None, slice_get, inl, inr}
 use Rattle.std.proofs.Common.{arith, eqb-true}
 use Rattle.std.specs.Option.{option_map, option_map_or}
-use Rattle.std.proofs.lemmas.Bool.{cases_lt, cases_eq, true≢false, ne_eqb, eqb-false}
+use Rattle.std.proofs.lemmas.Bool.{cases_lt, cases_eq, true≢false}
 use Rattle.std.proofs.lemmas.Option.{same_Some, slice_get_within, get_or_from_slice_get}
 use Rattle.std.proofs.lemmas.Option.{slice_get-map}
-use Rattle.strc_dataflow.specs.Flat.{Origin, Origin.Port, Source}
-use Rattle.strc_dataflow.specs.Node.{ByPort}
-use Rattle.strc_dataflow.specs.Queues.{added}
+use Rattle.strc_dataflow.specs.Flat.{Origin.Port, Source}
 use Rattle.strc_dataflow.specs.Streams.{Stream, flat}
 use Rattle.strc_graph.specs.declared.graph.Port.{Port as End}
-use Rattle.strc_graph.specs.Graphs.{NodeCode, Channel, Graph, source_of, ends_at}
+use Rattle.strc_graph.specs.Graphs.{NodeCode, Channel, Graph, source_of}
 use Rattle.strc_graph.specs.Carriers.{carries_in, takes_at, JoinsCarriers}
-use Rattle.strc_graph.specs.FlatGraphs.{IsBefore, IsFed, IsProgram}
-use Rattle.strc_admissible.specs.Rings.{Ring, ring_at, at_port, shortened, extended}
+use Rattle.strc_graph.specs.FlatGraphs.{IsBefore, IsProgram}
+use Rattle.strc_admissible.specs.Rings.{at_port}
 use Rattle.strc_admissible.specs.Wiring.{IsWired, PortRings, ports_at}
 use Rattle.strc_admissible.specs.Machine.{CircuitView}
 use Rattle.strc_admissible.specs.Circuits.{IsCircuit}
 use Rattle.strc_admissible.proofs.Apart.{no_own_source}
-use Rattle.strc_admissible.proofs.Changes.{ArePlaced, Moves, extended_none}
+use Rattle.strc_admissible.proofs.Changes.{ArePlaced}
 use Rattle.strc_admissible.proofs.Supplies.{element}
 use Rattle.strc_admissible.proofs.Windows.{both_hold}
 
@@ -48,7 +46,8 @@ module _ (tree : Stream NodeCode) (graph : Graph) (program : IsProgram tree grap
   in_order first second a b is_a is_b less =
       subst (λ (own : Channel). IsBefore own b)
       (get_or_from_slice_get graph.channels first a a is_a)
-      (subst (IsBefore (get_or graph.channels first a)) (get_or_from_slice_get graph.channels second b a is_b)
+      (subst (IsBefore (get_or graph.channels first a))
+      (get_or_from_slice_get graph.channels second b a is_b)
       (program.flat.ordered first second a less
       (slice_get_within graph.channels second b is_b)))
 
@@ -64,13 +63,13 @@ module _ (tree : Stream NodeCode) (graph : Graph) (program : IsProgram tree grap
   one_source : (first second : ℕ) (a b : Channel) → IsAt first a → IsAt second b
       → a.source ≡ b.source → first ≡ second
   one_source first second a b is_a is_b same = elim (cases_eq first second) [
-      | inl e ↦ e
-      | inr differs ↦ elim (cases_lt first second) [
-          | inl less ↦ absurd (not_before a b same (in_order first second a b is_a is_b less))
-          | inr past ↦ absurd (not_before b a (sym same)
-              (in_order second first b a is_b is_a (omega (arith, past, differs))))
-        ]
+    | inl e ↦ e
+    | inr differs ↦ elim (cases_lt first second) [
+      | inl less ↦ absurd (not_before a b same (in_order first second a b is_a is_b less))
+      | inr past ↦ absurd (not_before b a (sym same)
+          (in_order second first b a is_b is_a (omega (arith, past, differs))))
     ]
+  ]
 
   pub source_is : (number : ℕ) (channel : Channel) → IsAt number channel
       → (flat tree).source channel.target.node channel.target.port ≡ source_of channel

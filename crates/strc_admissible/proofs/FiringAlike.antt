@@ -1,26 +1,17 @@
 -- A firing over rings comes to what the firing over queues comes to.
-use Rattle.std.proofs.Common.{◌≡◌, refl, sym, ap, ◌∙◌, subst, ℕ, zero, suc, ◌+◌, ◌-◌, ◌<◌, ◌≤◌, ◌^◌}
-use Rattle.std.proofs.Common.{ℤ, Bool, true, false, cond, eqb, List, [], ◌++◌, length, drop, Option}
-use Rattle.std.proofs.Common.{Some, slice_get, slice_index, slice_index_or, inl, inr, arith}
-use Rattle.std.specs.Prelude.{slice_set, nat_lt, if◌then◌else◌}
-use Rattle.std.proofs.Common.{eqb-true, get_or}
-use Rattle.std.proofs.lemmas.Bool.{cases_eq, ne_eqb, eq-eqb, eqb-false, lt-ltb}
-use Rattle.std.proofs.lemmas.Option.{same_Some, slice_get-get_or}
-use Rattle.std.proofs.lemmas.List.{append-nil, get_or-set_same, get_or-set_other, length-set}
-use Rattle.std.proofs.lemmas.List.{drop-drop}
+use Rattle.std.proofs.Common.{◌≡◌, refl, sym, ap, ◌∙◌, subst, ℕ, ◌<◌}
+use Rattle.std.proofs.Common.{ℤ, Bool, true, false, List, [], length, Option}
+use Rattle.std.proofs.Common.{Some, slice_get, slice_index}
 use Rattle.strc_semantics.specs.declared.fault.Cause.{Cause}
 use Rattle.strc_semantics.specs.declared.word.Word.{Word}
-use Rattle.strc_dataflow.specs.Flat.{Source}
-use Rattle.strc_dataflow.specs.Histories.{Run, after_firing}
-use Rattle.strc_dataflow.specs.Machine.{Stop, put}
+use Rattle.strc_dataflow.specs.Machine.{Stop}
 use Rattle.strc_dataflow.specs.Node.{ByPort, Fired.Fires, Fired.Faults}
 use Rattle.strc_dataflow.specs.Node as generic
 use Rattle.strc_dataflow.specs.Queues.{FifoProgress, FifoProgress.FifoWent}
-use Rattle.strc_dataflow.specs.Queues.{FifoProgress.FifoStopped, added, holds, fronts, moved}
+use Rattle.strc_dataflow.specs.Queues.{FifoProgress.FifoStopped, holds, fronts}
 use Rattle.strc_dataflow.specs.Queues.{fifo_after, fifo_if, fifo_fire}
 use Rattle.strc_dataflow.specs.Streams.{Stream, flat}
-use Rattle.strc_graph.specs.Graphs.{NodeCode, FileReader, Channel, Graph, gives_words, reads_input}
-use Rattle.strc_graph.specs.Carriers.{carries_in}
+use Rattle.strc_graph.specs.Graphs.{NodeCode, Graph, gives_words}
 use Rattle.strc_graph.specs.FlatGraphs.{IsProgram}
 use Rattle.strc_graph.specs.Meaning.{node_meaning, node_fired}
 use Rattle.strc_graph.specs.Rates.{fires_by_rounds, pops_at}
@@ -30,32 +21,17 @@ use Rattle.strc_admissible.specs.Fits.{Queues, FitNow, FitThen}
 use Rattle.strc_admissible.specs.Machine as machines
 use Rattle.strc_admissible.specs.Machine.{CircuitView, MachineView, step_at, next_step, one_more}
 use Rattle.strc_admissible.specs.Machine.{after_step}
-use Rattle.strc_admissible.specs.Rings.{Ring, ring_at, at_port, items_at}
+use Rattle.strc_admissible.specs.Rings.{Ring, items_at}
 use Rattle.strc_admissible.specs.Steps as steps
 use Rattle.strc_admissible.specs.Steps.{Step, maybe_step, node_step}
-use Rattle.strc_admissible.specs.Told.{words_below}
 use Rattle.strc_admissible.specs.Wiring.{ports_at}
-use Rattle.strc_admissible.proofs.Changes.{ArePlaced, Moves}
+use Rattle.strc_admissible.proofs.Changes.{ArePlaced}
 use Rattle.strc_admissible.proofs.Ends.{are_placed, idle_empty, carrier_fed}
 use Rattle.strc_admissible.proofs.NodeSteps.{node_matches}
 use Rattle.strc_admissible.proofs.Orders.{is_reader}
-use Rattle.strc_admissible.proofs.Standing.{Stands, ring_holds}
+use Rattle.strc_admissible.proofs.Standing.{Stands}
 use Rattle.strc_admissible.proofs.Stepping.{finds_in, sees_of, Matches, Shows}
-use Rattle.strc_admissible.proofs.WordsBelow.{words_same, words_one, one_passes_test}
-
--- what has been put is there, and what stood elsewhere still is
-
-put_here : {A : Type 0} (now : ℕ → A) (node : ℕ) (run : A) (other : ℕ) → other ≡ node
-    → put now node run other ≡ run
-unfolding put
-put_here now node run other same =
-    ap (λ (test : Bool). cond test run (now other)) (eq-eqb other node same)
-
-put_other : {A : Type 0} (now : ℕ → A) (node : ℕ) (run : A) (other : ℕ) → (other ≡ node → ⊥)
-    → put now node run other ≡ now other
-unfolding put
-put_other now node run other differs =
-    ap (λ (test : Bool). cond test run (now other)) (ne_eqb other node differs)
+use Rattle.strc_admissible.proofs.Advancing.{next_queues, next_machine, next_stands}
 
 -- both went on alike, or both stopped at the same fault
 abbrev pub IsAlike : Graph → (sizes : List ℕ) → (input : List ℤ)
@@ -131,196 +107,6 @@ module _ (tree : Stream NodeCode) (graph : Graph) (program : IsProgram tree grap
       input shows
       (λ reader. stands.reads node (there ∙ ap Some (is_reader code reader))))
 
-  -- ---- the machines after it
-
-  module _ (fields : List ℤ) (pushes : ByPort) (words : List Word) (after : List Ring)
-      (moves : Moves inputs outputs (pops_at code firing) pushes machine.rings after)
-      (quiet : gives_words code ≡ false → words ≡ []) where
-    abbrev run : Run (List ℤ) Cause Word
-    run = after_firing node_meaning code (now.runs node) (Fires fields pushes words)
-
-    abbrev next : Queues
-    next = record {
-      runs = put now.runs node run;
-      queues = moved node_meaning (flat tree) node firing now.queues pushes;
-    }
-
-    abbrev later : MachineView
-    later = record {
-      fields = slice_set machine.fields node fields;
-      fired = slice_set machine.fired node (one_more (slice_index machine.fired node));
-      rings = after;
-      words = machine.words ++ words;
-    }
-
-    run_here : (other : ℕ) → other ≡ node → next.runs other ≡ run
-    run_here = put_here now.runs node run
-
-    run_other : (other : ℕ) → (other ≡ node → ⊥) → next.runs other ≡ now.runs other
-    run_other = put_other now.runs node run
-
-    next_fields : (other : ℕ) → other < count
-        → slice_index_or later.fields other [] ≡ (next.runs other).state
-    unfolding after_firing
-    next_fields other less = elim (cases_eq other node) [
-        | inl same ↦
-            ap (λ (place : ℕ). slice_index_or later.fields place []) same
-            ∙ get_or-set_same machine.fields node fields []
-            (omega (arith, within, stands.each_fields))
-            ∙ sym (ap (λ (own : Run (List ℤ) Cause Word). own.state) (run_here other same))
-        | inr differs ↦
-            get_or-set_other machine.fields node other fields [] differs
-            ∙ stands.fields other less
-            ∙ sym (ap (λ (own : Run (List ℤ) Cause Word). own.state) (run_other other differs))
-      ]
-
-    -- firings are counted
-    counts_one : (next.runs node).fired < 2 ^ 64
-        → one_more (slice_index machine.fired node) ≡ suc firing
-    unfolding after_firing
-    counts_one few =
-        let counted = ap (λ (own : Run (List ℤ) Cause Word). own.fired) (run_here node refl) in
-        ap one_more (stands.fired node within)
-        ∙ ap (λ (test : Bool). if test then suc firing else firing)
-        (lt-ltb firing (2 ^ 64 - 1) (omega (arith, few, counted)))
-
-    next_fired : (next.runs node).fired < 2 ^ 64 → (other : ℕ) → other < count
-        → slice_index later.fired other ≡ (next.runs other).fired
-    unfolding after_firing
-    next_fired few other less = elim (cases_eq other node) [
-        | inl same ↦
-            ap (slice_index later.fired) same
-            ∙ get_or-set_same machine.fired node (one_more (slice_index machine.fired node)) 0
-            (omega (arith, within, stands.each_fired))
-            ∙ counts_one few
-            ∙ sym (ap (λ (own : Run (List ℤ) Cause Word). own.fired) (run_here other same))
-        | inr differs ↦
-            get_or-set_other machine.fired node other
-            (one_more (slice_index machine.fired node)) 0 differs
-            ∙ stands.fired other less
-            ∙ sym (ap (λ (own : Run (List ℤ) Cause Word). own.fired) (run_other other differs))
-      ]
-
-    -- ---- the program's input
-
-    -- from a reader's port its firing takes an item
-    rest_read : (other : ℕ) → slice_get graph.nodes other ≡ Some FileReader
-        → (same : Bool) → eqb other node ≡ same
-        → drop (cond same (pops_at code firing 0) 0) (now.queues other 0)
-        ≡ drop (next.runs other).fired input
-    unfolding after_firing
-    rest_read other reader true e =
-        let here = eqb-true other node e in
-        let is_reader : code ≡ FileReader = same_Some code FileReader
-        (sym there ∙ ap (slice_get graph.nodes) (sym here) ∙ reader) in
-        let one : (now.runs other).fired + 1 ≡ suc firing = omega (
-          arith,
-          ap (λ (n : ℕ). (now.runs n).fired) here,
-        ) in
-        ap (λ (own : NodeCode). drop (pops_at own firing 0) (now.queues other 0)) is_reader
-        ∙ ap (drop 1) (stands.reads other reader)
-        ∙ drop-drop 1 (now.runs other).fired input
-        ∙ ap (λ (n : ℕ). drop n input) one
-        ∙ sym (ap (λ (own : Run (List ℤ) Cause Word). drop own.fired input) (run_here other here))
-    rest_read other reader false e =
-        stands.reads other reader
-        ∙ sym (ap (λ (own : Run (List ℤ) Cause Word). drop own.fired input)
-        (run_other other (eqb-false other node e)))
-
-    next_reads : (other : ℕ) → slice_get graph.nodes other ≡ Some FileReader
-        → next.queues other 0 ≡ drop (next.runs other).fired input
-    unfolding moved added
-    next_reads other reader =
-        ap (λ (source : Source). drop (cond (eqb other node) (pops_at code firing 0) 0)
-        (now.queues other 0) ++ added node pushes source.origin) (program.inputs other reader)
-        ∙ append-nil (drop (cond (eqb other node) (pops_at code firing 0) 0) (now.queues other 0))
-        ∙ rest_read other reader (eqb other node) refl
-
-    -- ---- words
-
-    abbrev old_words : ℕ → List Word
-    old_words other = (now.runs other).words
-
-    abbrev new_words : ℕ → List Word
-    new_words other = (next.runs other).words
-
-    words_here : new_words node ≡ old_words node ++ words
-    unfolding after_firing
-    words_here = ap (λ (own : Run (List ℤ) Cause Word). own.words) (run_here node refl)
-
-    words_other : (other : ℕ) → (other ≡ node → ⊥) → new_words other ≡ old_words other
-    words_other other differs =
-        ap (λ (own : Run (List ℤ) Cause Word). own.words) (run_other other differs)
-
-    next_silent : (other : ℕ) (own : NodeCode) → slice_get graph.nodes other ≡ Some own
-        → gives_words own ≡ false → new_words other ≡ []
-    next_silent other own listed silent = elim (cases_eq other node) [
-        | inl same ↦
-            let mine : code ≡ own = same_Some code own
-            (sym there ∙ ap (slice_get graph.nodes) (sym same) ∙ listed) in
-            ap new_words same ∙ words_here
-            ∙ ap (λ (l : List Word). l ++ words) (ap old_words (sym same)
-            ∙ stands.silent other own listed silent)
-            ∙ quiet (ap gives_words mine ∙ silent)
-        | inr differs ↦ words_other other differs ∙ stands.silent other own listed silent
-      ]
-
-    others_silent : gives_words code ≡ true → (other : ℕ) → other < count
-        → (other ≡ node → ⊥) → old_words other ≡ []
-    others_silent prints other less differs =
-        let own = get_or graph.nodes other code in
-        let listed = slice_get-get_or graph.nodes other code less in
-        by_code own listed (gives_words own) refl
-      where
-        by_code : (own : NodeCode) → slice_get graph.nodes other ≡ Some own → (test : Bool)
-            → gives_words own ≡ test → old_words other ≡ []
-        by_code own listed true e =
-            absurd (differs (one_passes_test gives_words graph.nodes program.one_output other node
-            own code listed there e prints))
-        by_code own listed false e = stands.silent other own listed e
-
-    next_words : (prints : Bool) → gives_words code ≡ prints
-        → machine.words ++ words ≡ words_below count new_words
-    next_words true e =
-        ap (λ (l : List Word). l ++ words) (stands.words
-        ∙ words_one count node old_words within (others_silent e))
-        ∙ sym words_here
-        ∙ sym (words_one count node new_words within
-        (λ other less differs. words_other other differs ∙ others_silent e other less differs))
-    next_words false e =
-        ap (λ (l : List Word). machine.words ++ l) (quiet e)
-        ∙ append-nil machine.words
-        ∙ stands.words
-        ∙ words_same count old_words new_words (λ other less. same other)
-      where
-        same : (other : ℕ) → old_words other ≡ new_words other
-        same other = elim (cases_eq other node) [
-            | inl here ↦
-                sym (ap new_words here ∙ words_here
-                ∙ ap (λ (l : List Word). old_words node ++ l) (quiet e)
-                ∙ append-nil (old_words node) ∙ ap old_words (sym here))
-            | inr differs ↦ sym (words_other other differs)
-          ]
-
-    -- ---- both machines
-
-    next_stands : FitNow graph.channels sizes next → Stands graph sizes input next later
-    next_stands fit = record {
-      each_fields = length-set machine.fields node fields ∙ stands.each_fields;
-      each_fired = length-set machine.fired node (one_more (slice_index machine.fired node))
-          ∙ stands.each_fired;
-      each_ring = moves.each ∙ stands.each_ring;
-      fields = next_fields;
-      fired = next_fired (fit.firings node);
-      rings = λ number channel listed.
-          ring_holds tree graph program circuit is node (pops_at code firing) pushes machine.rings
-          after moves number channel listed now firing (slice_index sizes number) refl
-          (stands.rings number channel listed) (fit.items number channel listed);
-      reads = next_reads;
-      words = next_words (gives_words code) refl;
-      silent = next_silent;
-    }
-
   -- a firing that finds its windows or doesn't
   abbrev found_progress : Bool → generic.Fired (List ℤ) Cause Word
       → FifoProgress (List ℤ) Cause Word
@@ -340,14 +126,6 @@ module _ (tree : Stream NodeCode) (graph : Graph) (program : IsProgram tree grap
   unfolding fifo_fire holds fronts
   fire_is = progress_is (finds_in code firing (now.queues node))
 
-  abbrev gone : (fields : List ℤ) → (rings : List Ring) → (words : List Word) → MachineView
-  gone fields rings words = record {
-    fields = slice_set machine.fields node fields;
-    fired = slice_set machine.fired node (one_more (slice_index machine.fired node));
-    rings = rings;
-    words = machine.words ++ words;
-  }
-
   abbrev stop_of : ℕ → Cause → Stop Cause
   stop_of number cause = record { node = node; firing = number; cause = cause }
 
@@ -362,12 +140,13 @@ module _ (tree : Stream NodeCode) (graph : Graph) (program : IsProgram tree grap
   found_alike true (Fires fields pushes words) (steps.Goes own after printed) matches quiet fit =
       let silent = quiet fields pushes words refl in
       subst (λ (l : List ℤ). Stands graph sizes input
-      (next fields pushes words after matches.2 silent)
-      (gone l after printed)) (sym matches.0)
+      (next_queues tree now node fields pushes words)
+      (next_machine machine node l after printed)) (sym matches.0)
       (subst (λ (l : List Word). Stands graph sizes input
-      (next fields pushes words after matches.2 silent)
-      (gone fields after l)) (sym matches.1)
-      (next_stands fields pushes words after matches.2 silent fit))
+      (next_queues tree now node fields pushes words)
+      (next_machine machine node fields after l)) (sym matches.1)
+      (next_stands tree graph program circuit is sizes input now machine stands node within there
+      fields pushes words after matches.2 silent fit))
   found_alike true (Faults cause) (steps.Faults own) matches quiet fit =
       ap (λ (n : ℕ). stop_of n cause) (sym (stands.fired node within))
       ∙ ap (stop_of (slice_index machine.fired node)) (sym matches)

@@ -15,9 +15,11 @@ pub mod ByPort
 pub mod Dealing
 pub mod Stepping
 pub mod NodeSteps
+pub mod Outside
 pub mod Apart
 pub mod Ends
 pub mod WordsBelow
 pub mod Standing
+pub mod Advancing
 pub mod FiringAlike
 pub mod RunAlike

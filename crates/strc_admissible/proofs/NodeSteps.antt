@@ -1,16 +1,17 @@
 -- A firing of any node over rings is its firing over queues.
-use Rattle.std.proofs.Common.{◌≡◌, refl, sym, ap, ◌∙◌, ℕ, zero, suc, ◌+◌, ◌<◌, ℤ, Bool, true, false}
-use Rattle.std.proofs.Common.{leb, List, [], ◌∷◌, ◌++◌, length, map, take, drop, sum, Option, None, arith, subst}
-use Rattle.std.specs.Prelude.{if◌then◌else◌, slice_index, slice_index_or, nat_lt, nat_le}
+use Rattle.std.proofs.Common.{◌≡◌, refl, sym, ap, ◌∙◌, ℕ, ◌+◌, ℤ, Bool, true, false}
+use Rattle.std.proofs.Common.{leb, List, [], ◌++◌, length, map, take, drop, sum, Option, None}
+use Rattle.std.proofs.Common.{arith, subst}
+use Rattle.std.specs.Prelude.{if◌then◌else◌, slice_index_or, nat_lt, nat_le}
 use Rattle.strc_semantics.specs.declared.fault.Cause.{Cause}
 use Rattle.strc_semantics.specs.declared.word.Word.{Word}
 use Rattle.strc_dataflow.specs.Node.{ByPort, at_port_0}
 use Rattle.strc_dataflow.specs.Node as generic
 use Rattle.strc_dataflow.specs.Histories.{all_below}
-use Rattle.strc_dataflow.specs.RoundRobin.{span_start, one_cycle}
+use Rattle.strc_dataflow.specs.RoundRobin.{one_cycle}
 use Rattle.strc_graph.specs.Graphs.{NodeCode, Filter, Identity, FileReader, FileWriter, Splitter}
-use Rattle.strc_graph.specs.Graphs.{Joiner, Scatter, Copy, Gather, SplitterCode, Duplicate, Roundrobin}
-use Rattle.strc_graph.specs.Graphs.{reads_input}
+use Rattle.strc_graph.specs.Graphs.{Joiner, Scatter, Copy, Gather, SplitterCode, Duplicate}
+use Rattle.strc_graph.specs.Graphs.{Roundrobin, reads_input}
 use Rattle.strc_graph.specs.Meaning.{node_fired, split, line_of}
 use Rattle.strc_graph.specs.Rates.{fires_by_rounds, rate_at_0, pops_at, splitter_pops}
 use Rattle.strc_admissible.specs.Rings.{Ring, at_port, items_at, given, taken, moved, dealt_out}
@@ -158,8 +159,7 @@ module _ (inputs outputs : List (Option ℕ)) (rings : List Ring)
       (nat_le 1 (length (at 0)))
       (generic.Fired.Fires [] (λ port. []) (map line_of (take 1 (queue 0))))
       (steps.Goes [] (taken (at_port inputs 0) 1 rings) (map line_of (take 1 (at 0))))
-      (test_same inputs outputs rings placed queue 1 (shows.holds 0 refl))
-      (
+      (test_same inputs outputs rings placed queue 1 (shows.holds 0 refl)) (
         refl,
         ap (λ (l : List ℤ). map line_of (take 1 l)) (shows.holds 0 refl),
         one_takes inputs outputs rings placed 0 1 (rate_at_0 1) refl (rate_elsewhere 1),

@@ -1,6 +1,6 @@
 -- The run over rings ends as the run over queues does: order by order, and round by round.
-use Rattle.std.proofs.Common.{◌≡◌, refl, sym, ap, ◌∙◌, subst, ℕ, zero, suc, ◌+◌, ◌<◌, ◌≤◌, ℤ, List, []}
-use Rattle.std.proofs.Common.{◌∷◌, ◌++◌, length, map, get_or, replicate, Some, slice_get, arith}
+use Rattle.std.proofs.Common.{◌≡◌, refl, sym, ap, ◌∙◌, subst, ℕ, zero, suc, ◌<◌, ◌≤◌, ℤ, List, []}
+use Rattle.std.proofs.Common.{◌∷◌, ◌++◌, length, get_or, Some, slice_get, arith}
 use Rattle.std.proofs.Common.{slice_index, slice_index_or, false}
 use Rattle.std.proofs.lemmas.List.{append-nil, get_or-map, get_or-replicate, length-map}
 use Rattle.std.proofs.lemmas.List.{length-replicate}
@@ -16,11 +16,11 @@ use Rattle.strc_dataflow.specs.Queues.{FifoProgress.FifoStopped, fifo_fire, fifo
 use Rattle.strc_dataflow.specs.Queues.{fifo_at_first, fifo_round_outcome, fifo_rounds}
 use Rattle.strc_dataflow.specs.Queues.{fifo_startup_outcome, fifo_run}
 use Rattle.strc_dataflow.specs.Streams.{Stream, flat}
-use Rattle.strc_graph.specs.Graphs.{NodeCode, Identity, FileReader, Channel, Graph}
+use Rattle.strc_graph.specs.Graphs.{NodeCode, Identity, Graph}
 use Rattle.strc_graph.specs.FlatGraphs.{IsProgram}
 use Rattle.strc_graph.specs.Meaning.{node_meaning, node_fields}
 use Rattle.strc_graph.specs.Rates.{fires_by_rounds}
-use Rattle.strc_order.specs.Order.{tally, repeated}
+use Rattle.strc_order.specs.Order.{repeated}
 use Rattle.strc_order.proofs.Tallies.{turns_same}
 use Rattle.strc_admissible.specs.Circuits.{IsCircuit, IsFirst}
 use Rattle.strc_admissible.specs.Fits.{Queues, FitNow, FitThen, Fit}
@@ -73,7 +73,8 @@ module _ (tree : Stream NodeCode) (graph : Graph) (program : IsProgram tree grap
   then_alike : (order : List ℕ) (progress : FifoProgress (List ℤ) Cause Word)
       (own : machines.Progress) → Alike progress own → FitThen (FitsFor order) progress
       → ((now : Queues) (machine : MachineView) → FitsFor order now
-      → Stands graph sizes input now machine → Alike (go order now) (order_run circuit order machine))
+      → Stands graph sizes input now machine
+      → Alike (go order now) (order_run circuit order machine))
       → Alike (fifo_then (go order) progress) (then_go (order_run circuit order) own)
   unfolding fifo_then
   then_alike order (FifoWent next) (machines.Went machine) alike fit later =
@@ -111,7 +112,8 @@ module _ (tree : Stream NodeCode) (graph : Graph) (program : IsProgram tree grap
         → Alike progress own → FitThen (FitsFor (repeated left round)) progress
         → ((now : Queues) (machine : MachineView) → FitsFor (repeated left round) now
         → Stands graph sizes input now machine
-        → Tells count (rounds_left left (suc q) now) (rounds_run circuit round left (suc q) machine))
+        → Tells count (rounds_left left (suc q) now)
+        (rounds_run circuit round left (suc q) machine))
         → Tells count
         (fifo_round_outcome node_meaning (flat tree) input round q words progress
         (rounds_left left (suc q)))

@@ -1,9 +1,9 @@
 -- A firing over rings is the firing over queues, node by node.
-use Rattle.std.proofs.Common.{◌≡◌, refl, sym, ap, ◌∙◌, subst, ℕ, zero, suc, ◌+◌, ◌-◌, ◌<◌, ◌≤◌, ℤ}
-use Rattle.std.proofs.Common.{Bool, true, false, cond, ◌&&◌, leb, ltb, List, [], ◌∷◌, length, map}
-use Rattle.std.proofs.Common.{take, drop, sum, Option, Some, None, Result, Ok, Err, inl, inr, arith, le-leb}
-use Rattle.std.proofs.Common.{length-drop, ltb-true, ltb-false}
-use Rattle.std.specs.Prelude.{if◌then◌else◌, slice_index, slice_index_or, nat_lt, nat_le}
+use Rattle.std.proofs.Common.{◌≡◌, refl, sym, ap, ◌∙◌, subst, ℕ, zero, suc, ◌+◌, ◌-◌, ◌<◌, ℤ}
+use Rattle.std.proofs.Common.{Bool, true, false, cond, ◌&&◌, leb, ltb, List, [], ◌∷◌, length}
+use Rattle.std.proofs.Common.{take, drop, sum, Option, None, Result, Ok, Err, inl, inr, arith}
+use Rattle.std.proofs.Common.{le-leb, length-drop}
+use Rattle.std.specs.Prelude.{slice_index, nat_lt, nat_le}
 use Rattle.std.proofs.Math.Bool.{and-true, and_assoc}
 use Rattle.std.proofs.lemmas.Bool.{lt-leb, cases_lt, lt-ltb, le-ltb}
 use Rattle.std.proofs.lemmas.List.{take-take, drop-take}
@@ -19,23 +19,21 @@ use Rattle.strc_dataflow.specs.Histories.{all_below}
 use Rattle.strc_dataflow.specs.RoundRobin.{span_start, one_cycle}
 use Rattle.strc_dataflow.proofs.Queued.{all_same}
 use Rattle.strc_dataflow.proofs.RoundRobin.{span_within}
-use Rattle.strc_graph.specs.Graphs.{NodeCode, Filter, Identity, FileReader, FileWriter, Splitter}
-use Rattle.strc_graph.specs.Graphs.{Joiner, Duplicate, Roundrobin, ports_of}
-use Rattle.strc_graph.specs.Graphs as graphs
+use Rattle.strc_graph.specs.Graphs.{NodeCode}
+use Rattle.strc_graph.specs.Graphs.{Joiner, ports_of}
 use Rattle.strc_graph.specs.Carriers.{carries_in}
-use Rattle.strc_graph.specs.Meaning.{node_fired, ports_in, as_fired, split, line_of}
-use Rattle.strc_graph.specs.Rates.{fires_by_rounds, rate_at_0, body_at, window_at, pops_at}
+use Rattle.strc_graph.specs.Meaning.{ports_in, as_fired}
+use Rattle.strc_graph.specs.Rates.{rate_at_0, body_at, window_at, pops_at}
 use Rattle.strc_graph.specs.Rates.{filter_window, filter_pops}
 use Rattle.strc_graph.proofs.Firings.{fired_within_window}
-use Rattle.strc_admissible.specs.Rings.{Ring, at_port, items_at, given, taken, gathered_in}
+use Rattle.strc_admissible.specs.Rings.{Ring, at_port, items_at, gathered_in}
 use Rattle.strc_admissible.specs.Steps as steps
 use Rattle.strc_admissible.specs.Steps.{Step, if_found, filter_after, look_by, finds_weights}
 use Rattle.strc_admissible.specs.Steps.{node_step}
-use Rattle.strc_admissible.proofs.ByPort.{NoneBelow}
-use Rattle.strc_admissible.proofs.Changes.{ArePlaced, Moves, same_moves, both_move, one_takes}
-use Rattle.strc_admissible.proofs.Changes.{still_placed, one_passes, one_gives}
-use Rattle.strc_admissible.proofs.Dealing.{rate_elsewhere, list_elsewhere, copies_move, piece}
-use Rattle.strc_admissible.proofs.Dealing.{dealing_moves, gathering_moves}
+use Rattle.strc_admissible.proofs.Changes.{ArePlaced, Moves}
+use Rattle.strc_admissible.proofs.Changes.{one_passes}
+use Rattle.strc_admissible.proofs.Dealing.{rate_elsewhere, list_elsewhere, piece}
+use Rattle.strc_admissible.proofs.Dealing.{gathering_moves}
 
 -- whether queues hold a firing's windows, and what it sees of them
 abbrev pub finds_in : NodeCode → (number : ℕ) → (queue : ByPort) → Bool
@@ -47,7 +45,7 @@ sees_of code number queue port = cond (ltb port (ports_in code))
     (take (window_at code number port) (queue port)) []
 
 module _ (inputs outputs : List (Option ℕ)) (pops : ℕ → ℕ) (rings : List Ring) where
-  -- a firing that finds its windows or doesn't, as the firing of a step
+  -- a firing over queues, where it finds its windows, is a step over rings; else the step stays
   abbrev pub Matches : (found : Bool) → generic.Fired (List ℤ) Cause Word → Step → Type 0
   Matches false fired steps.Stays = Unit {0}
   Matches true (generic.Fired.Fires state pushes words) (steps.Goes fields after printed) =
@@ -79,7 +77,7 @@ reader_test number input queue is =
           ∙ sym (le-ltb number (length input) past)
     ]
 
--- all numbers below one more are the first, and those after it
+-- a test of all numbers below one more is that of the first, and of those after it
 below_first : (n : ℕ) (test : ℕ → Bool)
     → all_below (suc n) test ≡ (test 0 && all_below n (λ i. test (suc i)))
 unfolding all_below
@@ -172,7 +170,8 @@ module _ (inputs outputs : List (Option ℕ)) (rings : List Ring)
     unfolding all_below
     side_matches item.Int shows none =
         let is = shows refl in
-        tests_match inputs outputs (rate_at_0 (filter_pops filter number)) rings (leb window (length (queue 0)))
+        tests_match inputs outputs (rate_at_0 (filter_pops filter number)) rings
+        (leb window (length (queue 0)))
         (nat_le window (length (items 0))) (as_fired (fired (take window (queue 0))))
         (filter_after (filter_pops filter number) (at_port inputs 0) (at_port outputs 0) rings
         (fired (items 0))) (test_same window is)

@@ -1,5 +1,5 @@
 -- The words of all nodes, where one node alone has any.
-use Rattle.std.proofs.Common.{◌≡◌, refl, sym, ap, ◌∙◌, ℕ, zero, suc, ◌+◌, ◌<◌, ◌≤◌, Bool, true, cond}
+use Rattle.std.proofs.Common.{◌≡◌, refl, ap, ◌∙◌, ℕ, zero, suc, ◌+◌, ◌<◌, ◌≤◌, Bool, true, cond}
 use Rattle.std.proofs.Common.{List, [], ◌∷◌, ◌++◌, Some, slice_get, inl, inr, arith}
 use Rattle.std.specs.Prelude.{count_by}
 use Rattle.std.proofs.lemmas.Bool.{cases_eq}
@@ -35,16 +35,16 @@ pub words_one : (count node : ℕ) (words : ByNode) → node < count
     → words_below count words ≡ words node
 words_one zero node words within none = absurd (omega (arith, within))
 words_one (suc count) node words within none = elim (cases_eq count node) [
-    | inl same ↦
-        ap (λ (l : List Word). l ++ words count) (words_none count words
-        (λ other less. none other (omega (arith, less)) (λ e. omega (arith, less, e, same))))
-        ∙ ap words same
-    | inr differs ↦
-        ap (λ (l : List Word). l ++ words count) (words_one count node words
-        (before differs) (λ other less. none other (omega (arith, less))))
-        ∙ ap (λ (l : List Word). words node ++ l) (none count (omega arith) differs)
-        ∙ append-nil (words node)
-  ]
+  | inl same ↦
+      ap (λ (l : List Word). l ++ words count) (words_none count words
+      (λ other less. none other (omega (arith, less)) (λ e. omega (arith, less, e, same))))
+      ∙ ap words same
+  | inr differs ↦
+      ap (λ (l : List Word). l ++ words count) (words_one count node words
+      (before differs) (λ other less. none other (omega (arith, less))))
+      ∙ ap (λ (l : List Word). words node ++ l) (none count (omega arith) differs)
+      ∙ append-nil (words node)
+]
   where
     before : (count ≡ node → ⊥) → node < count
     before differs = omega (arith, within, differs)

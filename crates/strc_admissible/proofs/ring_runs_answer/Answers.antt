@@ -1,4 +1,3 @@
-use Rattle.std.proofs.Common.{length}
 use Rattle.strc_dataflow.proofs.Theorem.{stream_queue_run}
 use Rattle.strc_dataflow.specs.Queues.{fifo_run}
 use Rattle.strc_dataflow.specs.Streams.{flat}
