@@ -23,3 +23,4 @@ pub mod Standing
 pub mod Advancing
 pub mod FiringAlike
 pub mod RunAlike
+pub mod RingRuns

@@ -1,6 +1,7 @@
 -- An order that the machine goes through, piece by piece.
 use Rattle.std.proofs.Common.{◌≡◌, refl, sym, ap, ◌∙◌, ℕ, zero, suc, ◌+◌, ◌-◌, ◌<◌, ◌≤◌, List, []}
-use Rattle.std.proofs.Common.{◌∷◌, ◌++◌, length, drop, get_or, arith, add-one, append_assoc}
+use Rattle.std.proofs.Common.{◌∷◌, ◌++◌, length, drop, get_or, arith, append_assoc}
+use Rattle.std.proofs.Common.{append-nil, subst, Ok, Err}
 use Rattle.strc_semantics.specs.declared.fault.Cause.{Cause}
 use Rattle.strc_semantics.specs.declared.word.Word.{Word}
 use Rattle.strc_inst.specs.Running.{MoreWords}
@@ -9,6 +10,9 @@ use Rattle.strc_order.specs.Greedy.{firings_of}
 use Rattle.strc_order.specs.Order.{repeated}
 use Rattle.strc_admissible.specs.Machine.{CircuitView, MachineView, Progress, Went, Stopped}
 use Rattle.strc_admissible.specs.Machine.{then_go, order_run, after_step, next_step}
+use Rattle.strc_sched.specs.Running.{HasGone}
+use Rattle.strc_sched.specs.declared.machine.Stop.{Stop}
+use Rattle.strc_sched.specs.declared.machine.Stop.TheVariants as stop
 
 pub more_then : (first second third : List Word) → MoreWords first second → MoreWords second third
     → MoreWords first third
@@ -18,18 +22,21 @@ more_then first second third h k = record {
 }
 
 module _ (circuit : CircuitView) where
+  then_append : (order more : List ℕ)
+      → ((machine : MachineView) → order_run circuit (order ++ more) machine
+      ≡ then_go (order_run circuit more) (order_run circuit order machine))
+      → (progress : Progress)
+      → then_go (order_run circuit (order ++ more)) progress
+      ≡ then_go (order_run circuit more) (then_go (order_run circuit order) progress)
+  then_append order more rest (Went next) = rest next
+  then_append order more rest (Stopped node firing cause) = refl
+
   run_append : (order more : List ℕ) (machine : MachineView)
       → order_run circuit (order ++ more) machine
       ≡ then_go (order_run circuit more) (order_run circuit order machine)
   run_append [] more machine = refl
-  run_append (node ∷ order) more machine = by_progress
+  run_append (node ∷ order) more machine = then_append order more (run_append order more)
       (after_step machine node (next_step circuit machine node))
-    where
-      by_progress : (progress : Progress)
-          → then_go (order_run circuit (order ++ more)) progress
-          ≡ then_go (order_run circuit more) (then_go (order_run circuit order) progress)
-      by_progress (Went next) = run_append order more next
-      by_progress (Stopped node firing cause) = refl
 
   -- how far an order has come: what is left of it from now on is what is left of the whole
   pub record Goes (whole left : List ℕ) (before now : MachineView) : Type 0 where
@@ -94,3 +101,34 @@ none_left [] zero past = refl
 none_left [] (suc place) past = refl
 none_left (x ∷ xs) zero past = absurd (omega arith)
 none_left (x ∷ xs) (suc place) past = none_left xs place (omega arith)
+
+-- what is left may be told otherwise
+pub goes_so : (circuit : CircuitView) (whole left other : List ℕ) (before now : MachineView)
+    → left ≡ other → Goes circuit whole left before now → Goes circuit whole other before now
+goes_so circuit whole left other before now same h =
+    subst (λ l. Goes circuit whole l before now) same h
+
+-- an answer to a piece that stops is one to the whole
+pub stops_so : (circuit : CircuitView) (whole piece left : List ℕ)
+    (before now after : MachineView) (why : Stop) → Goes circuit whole (piece ++ left) before now
+    → HasGone (order_run circuit piece now) (Err why) now.words after
+    → HasGone (order_run circuit whole before) (Err why) before.words after
+stops_so circuit whole piece left before now after (stop.Fault node firing cause) h gone = (
+  stops circuit whole piece left before now node firing cause h gone.0,
+  more_then before.words now.words after.words h.words gone.1,
+)
+stops_so circuit whole piece left before now after stop.NoMemory h gone = tt
+
+-- and at the end
+pub ends_so : (circuit : CircuitView) (whole left : List ℕ) (before now : MachineView)
+    → left ≡ [] → Goes circuit whole left before now
+    → HasGone (order_run circuit whole before) (Ok tt) before.words now
+ends_so circuit whole left before now none h =
+    (h.rest ∙ ap (λ l. order_run circuit l now) none, h.words)
+
+pub starts_so : (circuit : CircuitView) (whole left : List ℕ) (machine : MachineView)
+    → left ≡ whole → Goes circuit whole left machine machine
+starts_so circuit whole left machine same = record {
+  rest = ap (λ l. order_run circuit l machine) (sym same);
+  words = record { more = []; is = sym (append-nil machine.words) };
+}

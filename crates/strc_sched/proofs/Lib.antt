@@ -6,3 +6,5 @@ pub mod CircuitPorts
 pub mod Starting
 pub mod Done
 pub mod Going
+pub mod Counting
+pub mod Endings

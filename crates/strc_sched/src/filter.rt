@@ -95,7 +95,11 @@ pub(crate) fn fire_filter(
         actor.old.state.fields input output rings.old) result actor.old.state.fields
         actor.new.state.fields rings.old rings.new words.old.items words.new.items }
 {
-    let taking = if firing == 0 { actor.first } else { actor.later };
+    let taking = if firing == 0 {
+        actor.first
+    } else {
+        actor.later
+    };
     if count_at(rings, input) < taking.window as usize {
         return Ok(false);
     }

@@ -9,6 +9,6 @@ abbrev pub invariant-loop-turn : goal.invariant-loop-turn
 invariant-loop-turn l = record {
   machine : IsMachine (circuit_view l.circuit) l.self;
   goes : Goes (circuit_view l.circuit) (repeated l.unit.turns l.unit.nodes.items)
-      (repeated (l.unit.turns - l.turn) l.unit.nodes.items)
+      (repeated (l.unit.turns - l._turn) l.unit.nodes.items)
       (machine_view l.fn.self) (machine_view l.self);
 }

@@ -84,17 +84,16 @@ returns-in-Filter-index_mut-clause-step c =
 
 pub returns-in_default : goal.returns-in_default
 returns-in_default c =
-    let passive = c.in_default.passive in
+    let passive = get_or c.args.circuit.now.nodes.now c.args.node c.index-circuit-node.result in
     let actors = c.args.self.now.actors.items in
     let number = c.args.node in
     let rings = c.args.self.now.rings in
     let circuit = circuit_view c.args.circuit.now in
     let before = machine_view c.args.self.now in
     let here = code_at c.args.circuit.now.nodes.now number c.index-circuit-node.result passive
-    c.requires.node c.in_default.passive-is in
+    c.requires.node refl in
     let none = passive_kept circuit.codes actors c.requires.machine.actors number
-    (node_view passive) here (passive_of passive
-    (λ x e. c.in_default.not-Filter x (c.in_default.passive-is ∙ e))) in
+    (node_view passive) here (passive_of passive c.in_default.not-Filter) in
     let left = with_items_is rings c.fire_passive.new.rings
     (c.fire_passive.ensures.rings ∙ ap length c.deref_mut-in_default.ensures.value
     ∙ sym rings.ok.0) in
