@@ -1,32 +1,15 @@
--- Which texts are accepted, with which stream, and which are refused, with which refusal.
+-- Which texts are refused, and with which refusal.
 use Rattle.std.specs.Prelude.{ℕ, ◌<◌, ◌≤◌, ◌⊎◌, List, length, Option}
-use Rattle.strc_lex.specs.Text.{Lexes, StopsAt, text_limit}
+use Rattle.strc_lex.specs.Text.{StopsAt, text_limit}
 use Rattle.strc_lex.specs.declared.token.Token.{Token}
 use Rattle.strc_syntax.specs.Tree.{Declaration}
 use Rattle.strc_grammar.specs.Grammar as grammar
 use Rattle.strc_grammar.specs.declared.error.ParseError.{ParseError}
 use Rattle.strc_grammar.specs.declared.error.ParseError.TheVariants as parsing
-use Rattle.strc_elab.specs.Instances.{Stream}
 use Rattle.strc_run.specs.declared.refusal.Refusal.{Refusal}
 use Rattle.strc_run.specs.declared.refusal.Refusal.TheVariants as refusal
-use Rattle.strc_run.specs.Compiling.{Compiles, Breaks}
-
--- the tokens of a text that isn't too long
-pub record HasTokens (text : List ℕ) (tokens : List Token) : Type 0 where
-  pub short : length text ≤ text_limit
-  pub lexes : Lexes text tokens
-
--- the text spells this program
-pub record IsText (text : List ℕ) (program : List Declaration) : Type 0 where
-  pub tokens : List Token
-  pub has_tokens : HasTokens text tokens
-  pub parses : grammar.Parses (grammar.kinds tokens) program
-
--- the text is accepted, with this stream
-pub record Accepts (text : List ℕ) (main : Option (List ℕ)) (stream : Stream) : Type 0 where
-  pub program : List Declaration
-  pub is_text : IsText text program
-  pub compiles : Compiles program main stream
+use Rattle.strc_run.specs.Accepts.{HasTokens, IsText}
+use Rattle.strc_run.specs.Compiling.{Breaks}
 
 -- the text's tokens are refused so by the grammar
 abbrev pub IsNoProgram : List ℕ → ParseError → Type 0
@@ -59,8 +42,3 @@ IsTrueOf text main refused = Refuses text main refused
 abbrev pub IsReadRefusal : List ℕ → Refusal → Type 0
 IsReadRefusal text refusal.NoMemory = Unit {0}
 IsReadRefusal text refused = IsUnreadable text refused
-
--- no text is both accepted and refused
-abbrev pub AcceptedOrRefused : Type 0
-AcceptedOrRefused = (text : List ℕ) (main : Option (List ℕ)) (stream : Stream) (refused : Refusal)
-    → Accepts text main stream → Refuses text main refused → ⊥
