@@ -1,5 +1,5 @@
--- What is written for an answer, and how a call of `execute` went.
-use Rattle.std.specs.Prelude.{◌≡◌, ℕ, List, ◌++◌, Option, Result, Ok, Err, Bool, true, codes}
+-- What is written for a text and a command, and how a call of `execute` went.
+use Rattle.std.specs.Prelude.{◌≡◌, ℕ, List, ◌++◌, Option, Result, Ok, Err, Bool, true}
 use Rattle.std.specs.Io.KnownBytes.{Appends, Keeps}
 use Rattle.strc_cli.specs.declared.execute.CliError.{CliError}
 use Rattle.strc_cli.specs.declared.execute.CliError.TheVariants as error
@@ -10,11 +10,14 @@ use Rattle.strc_cli.specs.declared.answer.Answer.TheVariants as answer
 use Rattle.strc_cli.specs.declared.answer.Stop.{Stop}
 use Rattle.strc_cli.specs.declared.answer.Stop.TheVariants as stop
 use Rattle.strc_cli.specs.declared.line.Command.{Command}
-use Rattle.strc_run.specs.declared.outcome.Outcome.TheVariants as outcome
+use Rattle.strc_sched.specs.declared.outcome.Outcome.TheVariants as outcome
+use Rattle.strc_sched.specs.declared.refusal.RunRefusal.{RunRefusal}
+use Rattle.strc_sched.specs.declared.refusal.RunRefusal.TheVariants as unrun
 use Rattle.strc_run.specs.declared.refusal.Refusal.{Refusal}
 use Rattle.strc_run.specs.declared.refusal.Refusal.TheVariants as refusal
 use Rattle.strc_cli.specs.Answering.{IsAnswered}
-use Rattle.strc_cli.specs.Output.{check_line, outcome_text, plan_text, refusal_line, line_end}
+use Rattle.strc_cli.specs.Output.{check_line, outcome_text, plan_text, refusal_line}
+use Rattle.strc_cli.specs.Output.{run_refusal_line}
 
 -- all that is written: what the run printed, the lines of a plan, or one line
 abbrev pub answer_text : Result Answer Stop → List ℕ
@@ -22,20 +25,25 @@ answer_text (Ok (answer.Ran outcome)) = outcome_text outcome
 answer_text (Ok (answer.Checked nodes channels)) = check_line nodes channels
 answer_text (Ok (answer.Planned plan)) = plan_text plan
 answer_text (Err (stop.Refused refused)) = refusal_line refused
-answer_text (Err stop.NoMemory) = codes "refused S3 NoMemory" ++ line_end
+answer_text (Err (stop.NotRun refused)) = run_refusal_line refused
 
 abbrev pub refusal_status : Refusal → Status
 refusal_status refusal.NoMemory = status.NoMemory
 refusal_status refused = status.Refused
 
+abbrev pub run_refusal_status : RunRefusal → Status
+run_refusal_status unrun.NoMemory = status.NoMemory
+run_refusal_status unrun.NoWorker = status.NoMemory
+run_refusal_status refused = status.Refused
+
 -- the status that belongs to what is written
 abbrev pub answer_status : Result Answer Stop → Status
 answer_status (Ok (answer.Ran (outcome.Done words))) = status.Done
-answer_status (Ok (answer.Ran (outcome.Fault fault words))) = status.Fault
+answer_status (Ok (answer.Ran (outcome.Fault node firing round cause words))) = status.Fault
 answer_status (Ok (answer.Checked nodes channels)) = status.Done
 answer_status (Ok (answer.Planned plan)) = status.Done
 answer_status (Err (stop.Refused refused)) = refusal_status refused
-answer_status (Err stop.NoMemory) = status.NoMemory
+answer_status (Err (stop.NotRun refused)) = run_refusal_status refused
 
 -- a device from before to after: what it has taken, and whether it has failed
 pub record Device : Type 0 where
