@@ -1,5 +1,5 @@
 -- What a text's plan says of the text: its size, and how its rounds end.
-use Rattle.std.proofs.Common.{◌≡◌, ◌∙◌, refl, ℕ, ◌<◌, List, [], Option, Some, length, sym, ap, subst}
+use Rattle.std.proofs.Common.{◌∙◌, refl, ℕ, ◌<◌, List, [], Option, Some, length, sym, ap, subst}
 use Rattle.std.proofs.Common.{Result, Ok, Err}
 use Rattle.std.specs.Prelude.{IfOk, IfErr}
 use Rattle.std.proofs.lemmas.List.{length-map}
