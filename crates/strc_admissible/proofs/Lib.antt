@@ -10,3 +10,17 @@ pub mod Keeping
 pub mod Peaks
 pub mod Fired
 pub mod Filling
+pub mod Changes
+pub mod ByPort
+pub mod Dealing
+pub mod Stepping
+pub mod NodeSteps
+pub mod Outside
+pub mod Apart
+pub mod Ends
+pub mod WordsBelow
+pub mod Standing
+pub mod Advancing
+pub mod FiringAlike
+pub mod RunAlike
+pub mod RingRuns

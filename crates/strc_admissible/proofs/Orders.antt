@@ -45,7 +45,7 @@ pub counted_is : (counts : Firings) (order : List ℕ)
 counted_is counts order = fun_ext (λ node. counted-tally order counts node
     ∙ ap (λ (n : ℕ). counts node + n) (tally_is order node))
 
-is_reader : (code : NodeCode) → reads_input code ≡ true → code ≡ FileReader
+pub is_reader : (code : NodeCode) → reads_input code ≡ true → code ≡ FileReader
 is_reader FileReader reads = refl
 is_reader code reads = absurd (true≢false (sym reads))
 

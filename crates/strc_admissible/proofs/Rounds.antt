@@ -97,7 +97,7 @@ module _ (graph : Graph) (schedule : ScheduleParts) (planned : IsPlanned graph s
       order_repeats (rates_of graph) at_startup in_round q (round_order schedule) settled balances
       (is_an_order (rates_of graph) at_startup in_round schedule.round planned.schedule.round_order)
 
-  startup_nodes : AreNodes graph (startup_order schedule)
+  pub startup_nodes : AreNodes graph (startup_order schedule)
   startup_nodes node some =
       let within = counted_within planned.startup node
       (omega (arith, some, planned.schedule.startup_order.all node)) in
@@ -108,7 +108,7 @@ module _ (graph : Graph) (schedule : ScheduleParts) (planned : IsPlanned graph s
         length-map graph.nodes first_count,
       )
 
-  round_nodes : AreNodes graph (round_order schedule)
+  pub round_nodes : AreNodes graph (round_order schedule)
   round_nodes node some =
       let within = counted_within planned.round node
       (omega (arith, some, planned.schedule.round_order.all node)) in

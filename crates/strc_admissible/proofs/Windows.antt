@@ -35,7 +35,7 @@ unfolding total
 reader_total zero = refl
 reader_total (suc n) = omega (arith, reader_total n)
 
-both_hold : (a b : Bool) → a && b ≡ true → (a ≡ true) × (b ≡ true)
+pub both_hold : (a b : Bool) → a && b ≡ true → (a ≡ true) × (b ≡ true)
 both_hold true b e = (refl, e)
 both_hold false b e = absurd (true≢false (sym e))
 

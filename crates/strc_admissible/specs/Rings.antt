@@ -1,6 +1,7 @@
 -- The rings of a graph's channels: a queue of bounded size each.
-use Rattle.std.specs.Prelude.{ℕ, suc, ◌-◌, ◌+◌, ℤ, List, [], ◌∷◌, length, take, drop, Option, Some, None}
-use Rattle.std.specs.Prelude.{◌≡◌, ◌++◌, slice_get, slice_set, slice_index, slice_index_or, Bool, false, if◌then◌else◌}
+use Rattle.std.specs.Prelude.{◌≡◌, ℕ, suc, ◌-◌, Bool, if◌then◌else◌, ℤ, List, [], ◌∷◌, ◌++◌, length}
+use Rattle.std.specs.Prelude.{take, drop, Option, Some, None, slice_get, slice_set, slice_index}
+use Rattle.std.specs.Prelude.{slice_index_or}
 use Rattle.circular_buffer.specs.Buffer.{Buffer, buffer}
 use Rattle.strc_graph.specs.Graphs.{Channel}
 

@@ -1,5 +1,5 @@
 -- One firing of a node over the rings at its ports (Lee and Messerschmitt 1987: static buffers).
-use Rattle.std.specs.Prelude.{ℕ, suc, ◌+◌, ℤ, List, [], ◌∷◌, ◌++◌, length, map, take, drop, sum}
+use Rattle.std.specs.Prelude.{ℕ, suc, ℤ, List, [], ◌∷◌, length, map, take, drop, sum}
 use Rattle.std.specs.Prelude.{Bool, true, false, ◌&&◌, nat_le, nat_lt, Option, Some, None}
 use Rattle.std.specs.Prelude.{Result, Ok, Err}
 use Rattle.strc_syntax.specs.declared.tree.ItemType.{ItemType}
@@ -61,7 +61,8 @@ abbrev pub duplicate_step : (carried : List Bool) → (input : Option ℕ)
     → (outputs : List (Option ℕ)) → List Ring → Step
 duplicate_step carried input outputs rings =
     if_found (nat_le 1 (length (items_at rings input)))
-    (Goes [] (copied_out carried outputs (take 1 (items_at rings input)) 0 (taken input 1 rings)) [])
+    (Goes []
+    (copied_out carried outputs (take 1 (items_at rings input)) 0 (taken input 1 rings)) [])
 
 abbrev pub roundrobin_step : (weights : List ℕ) → (input : Option ℕ)
     → (outputs : List (Option ℕ)) → List Ring → Step

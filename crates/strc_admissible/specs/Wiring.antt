@@ -28,4 +28,3 @@ pub record IsWired (ends : List Port) (rings : PortRings) : Type 0 where
       → slice_get ends number ≡ Some (record { node = node; port = port })
   pub complete : (number : ℕ) (end : Port) → slice_get ends number ≡ Some end
       → (other : ℕ) × (at_port (ports_at rings end.node) end.port ≡ Some other)
-

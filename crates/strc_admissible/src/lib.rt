@@ -1,8 +1,8 @@
 // Takes a flat graph that a whole program has, with its schedule.
-// Gives no code but a law: the schedule is admissible.
-// The theorem to rely on: `schedules_are_admissible`: in start-up and in each round each firing
+// Gives no code but two laws: the schedule is admissible, and its run over rings is right.
+// The theorems to rely on: `schedules_are_admissible`: in start-up and in each round each firing
 // finds what it looks at, no buffer holds more than its size, and the run over queues gives the
-// answer of the stream equations.
+// answer of the stream equations; `ring_runs_answer`: so does the run over rings of those sizes.
 // Stands on strc_dataflow, whose theorem of the run it applies, on strc_graph, whose nodes it runs,
 // on strc_order, strc_startup and strc_balance, whose orders and counts it speaks of, on strc_rate,
 // whose filters keep their rates, and on strc_semantics, whose filters these are.

@@ -1,5 +1,5 @@
 // Takes a flat graph, and how often its nodes fire in start-up and in a round.
-// Gives orders of these firings, and the sizes of all buffers.
+// Gives orders of these firings, and the sizes of all buffers, also for orders that are given.
 // The theorem to rely on: `schedule` gives greedy orders in which each firing finds its windows,
 // and buffers of just the sizes that they need; where it says Deadlock, no order exists.
 // Stands on strc_startup, whose rates by channel it reads, on strc_balance, whose counts it takes,

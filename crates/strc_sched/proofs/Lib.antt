@@ -4,3 +4,7 @@ pub mod Ports
 pub mod Firsts
 pub mod CircuitPorts
 pub mod Starting
+pub mod Done
+pub mod Going
+pub mod Counting
+pub mod Endings

@@ -2,4 +2,6 @@ pub mod Answers
 pub mod Actors
 pub mod Circuits
 pub mod Running
+pub mod Reading
+pub mod Plain
 pub mod Sentences

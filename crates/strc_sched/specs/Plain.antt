@@ -1,6 +1,9 @@
 -- What a run on one thread answers.
 use Rattle.std.specs.Prelude.{◌≡◌, ℕ, ◌<◌, ◌≤◌, ℤ, List, [], length}
+use Rattle.std.specs.declared.vec.Vec.{Vec}
+use Rattle.std.specs.declared.alloc.Global.{Global}
 use Rattle.strc_dataflow.specs.Streams as trees
+use Rattle.strc_semantics.specs.declared.word.Word.{Word}
 use Rattle.strc_graph.specs.Graphs.{NodeCode, Graph}
 use Rattle.strc_graph.specs.FlatGraphs.{IsProgram}
 use Rattle.strc_order.specs.Schedules.{ScheduleParts}
@@ -10,7 +13,10 @@ use Rattle.strc_admissible.specs.Planned.{items_read}
 use Rattle.strc_admissible.specs.Told.{IsAnswered}
 use Rattle.strc_sched.specs.declared.outcome.Outcome.{Outcome}
 use Rattle.strc_sched.specs.declared.outcome.Outcome.TheVariants as outcome
+use Rattle.strc_sched.specs.declared.outcome.Round.{Round}
 use Rattle.strc_sched.specs.declared.outcome.Round.TheVariants as round
+use Rattle.strc_sched.specs.declared.machine.Stop.{Stop}
+use Rattle.strc_sched.specs.declared.machine.Stop.TheVariants as stop
 use Rattle.strc_sched.specs.declared.refusal.RunRefusal.{RunRefusal}
 use Rattle.strc_sched.specs.declared.refusal.RunRefusal.TheVariants as refused
 
@@ -46,3 +52,10 @@ IsPlainRefusal need got (refused.InputShort needed had) =
     (needed ≡ need) × (had ≡ got) × (got < need)
 IsPlainRefusal need got refused.NoMemory = Unit {0}
 IsPlainRefusal need got _ = ⊥
+
+-- an outcome tells of a run that was stopped, and its words before
+abbrev pub IsStopped : Stop → Round → (before : List Word) → Outcome → Type 0
+IsStopped (stop.Fault node firing cause) when before result =
+    (words : Vec Word Global) × (result ≡ outcome.Fault node firing when cause words)
+    × (words.items ≡ before)
+IsStopped stop.NoMemory when before result = ⊥

@@ -90,11 +90,16 @@ pub(crate) fn fire_filter(
     requires input { IfSome input (λ number. number < length rings.old) }
     requires output { IfSome output (λ number. number < length rings.old) }
     ensures actor { IsFilterActor (filter_of code.now) actor.new }
+    ensures rings { length rings.new ≡ length rings.old }
     ensures step { HasStepped (steps.filter_step (filter_of code.now) firing
         actor.old.state.fields input output rings.old) result actor.old.state.fields
         actor.new.state.fields rings.old rings.new words.old.items words.new.items }
 {
-    let taking = if firing == 0 { actor.first } else { actor.later };
+    let taking = if firing == 0 {
+        actor.first
+    } else {
+        actor.later
+    };
     if count_at(rings, input) < taking.window as usize {
         return Ok(false);
     }

@@ -18,7 +18,11 @@ use strc_semantics::word::Word;
 pub(crate) fn ring_of(ports: &[Option<usize>], port: usize) -> Option<usize>
     ensures { result ≡ at_port ports.now port }
 {
-    if port < ports.len() { ports[port] } else { None }
+    if port < ports.len() {
+        ports[port]
+    } else {
+        None
+    }
 }
 
 /// One firing of an identity.

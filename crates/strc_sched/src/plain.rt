@@ -1,15 +1,26 @@
 // A run on one thread.
 
-ghost use Rattle.std.specs.Prelude.{◌≤◌, IfOk, IfErr, length};
+ghost use Rattle.std.specs.Prelude.{◌≡◌, ◌≤◌, take, length, IfOk, IfErr};
 ghost use Rattle.strc_graph.specs.NodeView.{graph_view};
+ghost use Rattle.strc_order.specs.Greedy.{firings_of};
+ghost use Rattle.strc_admissible.specs.Laws.{startup_order, round_order};
+ghost use Rattle.strc_admissible.specs.Machine as spec;
 ghost use Rattle.strc_admissible.specs.Planned.{IsPlanned};
-ghost use Rattle.strc_sched.specs.Plain.{AnswersGraph, IsPlainRefusal, need_of};
+ghost use Rattle.strc_sched.specs.Circuits.{circuit_view};
+ghost use Rattle.strc_sched.specs.Plain.{AnswersGraph, IsEnding, IsPlainRefusal, IsStopped, need_of};
+ghost use Rattle.strc_sched.specs.Running.{IsMachine, machine_view};
+ghost use Rattle.strc_sched.specs.declared.refusal.RunRefusal.TheVariants as refused;
 
-use crate::outcome::Outcome;
+use crate::circuit::Circuit;
+use crate::machine::{Machine, Stop};
+use crate::outcome::{Outcome, Round};
+use crate::reading::items_needed;
 use crate::refusal::RunRefusal;
 use std::alloc::Global;
 use strc_graph::graph::Graph;
 use strc_order::parts::Schedule;
+use strc_order::unit::Unit;
+use strc_semantics::word::Word;
 
 /// Start-up and so many rounds of a schedule, on one thread: each channel is a ring as large as the
 /// schedule says, and nodes fire over them in the order of the schedule.
@@ -33,5 +44,82 @@ pub fn run_plain(
     ensures refused { IfErr result (IsPlainRefusal
         (need_of (graph_view graph.now) schedule.now rounds) (length input.now)) }
 {
-    Err(RunRefusal::NoMemory)
+    let need = items_needed(graph.nodes(), schedule, rounds);
+    let got = input.len() as u64;
+    if got < need {
+        return Err(RunRefusal::InputShort { need, got });
+    }
+    let Ok(circuit) = Circuit::new(alloc, graph, input) else {
+        return Err(RunRefusal::NoMemory);
+    };
+    let Ok(machine) = Machine::new(alloc, graph, &circuit, schedule.sizes()) else {
+        return Err(RunRefusal::NoMemory);
+    };
+    run_machine(machine, &circuit, schedule, rounds)
+}
+
+/// Start-up and so many rounds.
+fn run_machine(
+    machine: Machine,
+    circuit: &Circuit,
+    schedule: &Schedule,
+    rounds: u32,
+) -> Result<Outcome, RunRefusal>
+    requires machine { IsMachine (circuit_view circuit.now) machine }
+    ensures ending { IfOk result (λ outcome. IsEnding outcome (spec.whole_run
+        (circuit_view circuit.now) (startup_order schedule.now) (round_order schedule.now) rounds
+        (machine_view machine))) }
+    ensures memory { IfErr result (λ refusal. refusal ≡ refused.NoMemory) }
+{
+    let mut started = machine;
+    match started.fire_units(circuit, schedule.startup()) {
+        Ok(()) => run_rounds(started, circuit, schedule.round(), rounds),
+        Err(stop) => stopped(started.into_words(), 0, Round::Startup, stop),
+    }
+}
+
+/// So many rounds.
+fn run_rounds(
+    machine: Machine,
+    circuit: &Circuit,
+    order: &[Unit],
+    rounds: u32,
+) -> Result<Outcome, RunRefusal>
+    requires machine { IsMachine (circuit_view circuit.now) machine }
+    ensures ending { IfOk result (λ outcome. IsEnding outcome (spec.rounds_run
+        (circuit_view circuit.now) (firings_of order.now) rounds 0 (machine_view machine))) }
+    ensures memory { IfErr result (λ refusal. refusal ≡ refused.NoMemory) }
+{
+    let mut running = machine;
+    for round in 0..rounds {
+        let before = running.word_count();
+        match running.fire_units(circuit, order) {
+            Ok(()) => {}
+            Err(stop) => return stopped(running.into_words(), before, Round::At(round), stop),
+        }
+    }
+    Ok(Outcome::Done(running.into_words()))
+}
+
+/// The outcome of a run that was stopped, with the first so many words.
+fn stopped(words: Vec<Word>, kept: usize, round: Round, stop: Stop) -> Result<Outcome, RunRefusal>
+    ensures outcome { IfOk result (IsStopped stop round (take kept words.items)) }
+    ensures memory { IfErr result (λ refusal. (refusal ≡ refused.NoMemory)) }
+{
+    let mut words = words;
+    words.truncate(kept);
+    match stop {
+        Stop::Fault {
+            node,
+            firing,
+            cause,
+        } => Ok(Outcome::Fault {
+            node,
+            firing,
+            round,
+            cause,
+            words,
+        }),
+        Stop::NoMemory => Err(RunRefusal::NoMemory),
+    }
 }

@@ -24,7 +24,11 @@ pub(crate) fn first_rings(
 {
     let mut rings = Vec::with_capacity(alloc, channels.len())?;
     for number in 0..channels.len() {
-        let size = if number < sizes.len() { sizes[number] } else { 0 };
+        let size = if number < sizes.len() {
+            sizes[number]
+        } else {
+            0
+        };
         rings.push(first_ring(alloc, &channels[number], size)?)?;
     }
     Ok(rings)

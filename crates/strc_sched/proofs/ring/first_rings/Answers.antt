@@ -14,9 +14,9 @@ loop-number-preserved c =
     let channel = c.index-channels-number.result in
     let size : c.if-number-sizes.size ≡ get_or sizes number 0 =
     elim c.if-number-sizes.branch [
-      then-number-sizes w ↦ w.size-is
-    | else-number-sizes w ↦ w.size-is
-      ∙ sym (get_or_past sizes number 0 (let h = w.if-number-sizes in omega arith))
+      | then-number-sizes w ↦ w.size-is
+      | else-number-sizes w ↦ w.size-is
+          ∙ sym (get_or_past sizes number 0 (let h = w.if-number-sizes in omega arith))
     ] in
     subst (AreFirstSo (map channel_view channels) sizes (number + 1))
     (sym c.in_ok-push.ensures.items)

@@ -15,30 +15,32 @@ pub wired-requires : goal.wired-requires
 wired-requires c =
     let nodes : List Node = c.args.graph.now.nodes in
     let channels : List Channel = c.args.graph.now.channels in
-    record { ends =
-        subst (λ counts. All (HasPort counts) c.deref-2.result.now)
-        (sym (c.deref.ensures.value ∙ c.in_ok-input_counts.ensures
-        ∙ ap (map (λ (n : Node). graphs.input_ports (node_view n))) c.nodes-nodes.ensures))
-        (subst (All (HasPort (map (λ (n : Node). graphs.input_ports (node_view n)) nodes)))
-        (sym (c.deref-2.ensures.value ∙ c.in_ok-targets.ensures
-        ∙ ap (map target_of) c.channels-channels.ensures.channels))
-        (ends_there graphs.input_ports nodes target_of channels (λ channel joins. joins.target)
-        c.channels-channels.ensures.ports.channels));
+    record {
+      ends =
+          subst (λ counts. All (HasPort counts) c.deref-2.result.now)
+          (sym (c.deref.ensures.value ∙ c.in_ok-input_counts.ensures
+          ∙ ap (map (λ (n : Node). graphs.input_ports (node_view n))) c.nodes-nodes.ensures))
+          (subst (All (HasPort (map (λ (n : Node). graphs.input_ports (node_view n)) nodes)))
+          (sym (c.deref-2.ensures.value ∙ c.in_ok-targets.ensures
+          ∙ ap (map target_of) c.channels-channels.ensures.channels))
+          (ends_there graphs.input_ports nodes target_of channels (λ channel joins. joins.target)
+          c.channels-channels.ensures.ports.channels));
     }
 
 pub wired-requires-2 : goal.wired-requires-2
 wired-requires-2 c =
     let nodes : List Node = c.args.graph.now.nodes in
     let channels : List Channel = c.args.graph.now.channels in
-    record { ends =
-        subst (λ counts. All (HasPort counts) c.deref-4.result.now)
-        (sym (c.deref-3.ensures.value ∙ c.in_ok-output_counts.ensures
-        ∙ ap (map (λ (n : Node). graphs.output_ports (node_view n))) c.nodes-nodes.ensures))
-        (subst (All (HasPort (map (λ (n : Node). graphs.output_ports (node_view n)) nodes)))
-        (sym (c.deref-4.ensures.value ∙ c.in_ok-sources.ensures
-        ∙ ap (map source_of) c.channels-channels.ensures.channels))
-        (ends_there graphs.output_ports nodes source_of channels (λ channel joins. joins.source)
-        c.channels-channels.ensures.ports.channels));
+    record {
+      ends =
+          subst (λ counts. All (HasPort counts) c.deref-4.result.now)
+          (sym (c.deref-3.ensures.value ∙ c.in_ok-output_counts.ensures
+          ∙ ap (map (λ (n : Node). graphs.output_ports (node_view n))) c.nodes-nodes.ensures))
+          (subst (All (HasPort (map (λ (n : Node). graphs.output_ports (node_view n)) nodes)))
+          (sym (c.deref-4.ensures.value ∙ c.in_ok-sources.ensures
+          ∙ ap (map source_of) c.channels-channels.ensures.channels))
+          (ends_there graphs.output_ports nodes source_of channels (λ channel joins. joins.source)
+          c.channels-channels.ensures.ports.channels));
     }
 
 pub returns-clause-circuit : goal.returns-clause-circuit

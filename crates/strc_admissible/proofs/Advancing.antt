@@ -1,0 +1,267 @@
+-- After a firing that finds its windows the machine over rings stands as the one over queues.
+use Rattle.std.proofs.Common.{◌≡◌, refl, sym, ap, ◌∙◌, ℕ, suc, ◌+◌, ◌-◌, ◌<◌, ◌^◌}
+use Rattle.std.proofs.Common.{ℤ, Bool, true, false, cond, eqb, List, [], ◌++◌, length, drop, Option}
+use Rattle.std.proofs.Common.{Some, slice_get, slice_index, slice_index_or, inl, inr, arith}
+use Rattle.std.specs.Prelude.{slice_set, if◌then◌else◌}
+use Rattle.std.proofs.Common.{eqb-true, get_or}
+use Rattle.std.proofs.lemmas.Bool.{cases_eq, ne_eqb, eq-eqb, eqb-false, lt-ltb}
+use Rattle.std.proofs.lemmas.Option.{same_Some, slice_get-get_or}
+use Rattle.std.proofs.lemmas.List.{append-nil, get_or-set_same, get_or-set_other, length-set}
+use Rattle.std.proofs.lemmas.List.{drop-drop}
+use Rattle.strc_semantics.specs.declared.fault.Cause.{Cause}
+use Rattle.strc_semantics.specs.declared.word.Word.{Word}
+use Rattle.strc_dataflow.specs.Flat.{Source}
+use Rattle.strc_dataflow.specs.Histories.{Run, after_firing}
+use Rattle.strc_dataflow.specs.Machine.{put}
+use Rattle.strc_dataflow.specs.Node.{ByPort, Fired.Fires}
+use Rattle.strc_dataflow.specs.Queues.{added, moved}
+use Rattle.strc_dataflow.specs.Streams.{Stream, flat}
+use Rattle.strc_graph.specs.Graphs.{NodeCode, FileReader, Graph, gives_words}
+use Rattle.strc_graph.specs.FlatGraphs.{IsProgram}
+use Rattle.strc_graph.specs.Meaning.{node_meaning}
+use Rattle.strc_graph.specs.Rates.{pops_at}
+use Rattle.strc_admissible.specs.Circuits.{IsCircuit}
+use Rattle.strc_admissible.specs.Fits.{Queues, FitNow}
+use Rattle.strc_admissible.specs.Machine.{CircuitView, MachineView, one_more}
+use Rattle.strc_admissible.specs.Rings.{Ring}
+use Rattle.strc_admissible.specs.Told.{words_below}
+use Rattle.strc_admissible.specs.Wiring.{ports_at}
+use Rattle.strc_admissible.proofs.Changes.{Moves}
+use Rattle.strc_admissible.proofs.Standing.{Stands, ring_holds}
+use Rattle.strc_admissible.proofs.WordsBelow.{words_same, words_one, one_passes_test}
+
+-- what has been put is there, and what stood elsewhere still is
+
+put_here : {A : Type 0} (now : ℕ → A) (node : ℕ) (run : A) (other : ℕ) → other ≡ node
+    → put now node run other ≡ run
+unfolding put
+put_here now node run other same =
+    ap (λ (test : Bool). cond test run (now other)) (eq-eqb other node same)
+
+put_other : {A : Type 0} (now : ℕ → A) (node : ℕ) (run : A) (other : ℕ) → (other ≡ node → ⊥)
+    → put now node run other ≡ now other
+unfolding put
+put_other now node run other differs =
+    ap (λ (test : Bool). cond test run (now other)) (ne_eqb other node differs)
+
+-- the queues after a firing of a node, and the machine
+
+module _ (tree : Stream NodeCode) (now : Queues) (node : ℕ) where
+  abbrev pub next_queues : (fields : List ℤ) → (pushes : ByPort) → (words : List Word) → Queues
+  next_queues fields pushes words = record {
+    runs = put now.runs node (after_firing node_meaning ((flat tree).code node) (now.runs node)
+        (Fires fields pushes words));
+    queues = moved node_meaning (flat tree) node (now.runs node).fired now.queues pushes;
+  }
+
+abbrev pub next_machine : MachineView → (node : ℕ) → (fields : List ℤ) → (rings : List Ring)
+    → (words : List Word) → MachineView
+next_machine machine node fields rings words = record {
+  fields = slice_set machine.fields node fields;
+  fired = slice_set machine.fired node (one_more (slice_index machine.fired node));
+  rings = rings;
+  words = machine.words ++ words;
+}
+
+module _ (tree : Stream NodeCode) (graph : Graph) (program : IsProgram tree graph)
+    (circuit : CircuitView) (is : IsCircuit graph circuit) (sizes : List ℕ) (input : List ℤ)
+    (now : Queues) (machine : MachineView)
+    (stands : Stands graph sizes input now machine) (node : ℕ) (within : node < length graph.nodes)
+    (there : slice_get graph.nodes node ≡ Some ((flat tree).code node)) where
+  abbrev code : NodeCode
+  code = (flat tree).code node
+
+  abbrev firing : ℕ
+  firing = (now.runs node).fired
+
+  abbrev state : List ℤ
+  state = (now.runs node).state
+
+  abbrev inputs : List (Option ℕ)
+  inputs = ports_at circuit.inputs node
+
+  abbrev outputs : List (Option ℕ)
+  outputs = ports_at circuit.outputs node
+
+  abbrev count : ℕ
+  count = length graph.nodes
+
+  module _ (fields : List ℤ) (pushes : ByPort) (words : List Word) (after : List Ring)
+      (moves : Moves inputs outputs (pops_at code firing) pushes machine.rings after)
+      (quiet : gives_words code ≡ false → words ≡ []) where
+    abbrev run : Run (List ℤ) Cause Word
+    run = after_firing node_meaning code (now.runs node) (Fires fields pushes words)
+
+    abbrev next : Queues
+    next = next_queues tree now node fields pushes words
+
+    abbrev later : MachineView
+    later = next_machine machine node fields after words
+
+    run_here : (other : ℕ) → other ≡ node → next.runs other ≡ run
+    run_here = put_here now.runs node run
+
+    run_other : (other : ℕ) → (other ≡ node → ⊥) → next.runs other ≡ now.runs other
+    run_other = put_other now.runs node run
+
+    next_fields : (other : ℕ) → other < count
+        → slice_index_or later.fields other [] ≡ (next.runs other).state
+    unfolding after_firing
+    next_fields other less = elim (cases_eq other node) [
+      | inl same ↦
+          ap (λ (place : ℕ). slice_index_or later.fields place []) same
+          ∙ get_or-set_same machine.fields node fields []
+          (omega (arith, within, stands.each_fields))
+          ∙ sym (ap (λ (own : Run (List ℤ) Cause Word). own.state) (run_here other same))
+      | inr differs ↦
+          get_or-set_other machine.fields node other fields [] differs
+          ∙ stands.fields other less
+          ∙ sym (ap (λ (own : Run (List ℤ) Cause Word). own.state) (run_other other differs))
+    ]
+
+    -- firings are counted
+    counts_one : (next.runs node).fired < 2 ^ 64
+        → one_more (slice_index machine.fired node) ≡ suc firing
+    unfolding after_firing
+    counts_one few =
+        let counted = ap (λ (own : Run (List ℤ) Cause Word). own.fired) (run_here node refl) in
+        ap one_more (stands.fired node within)
+        ∙ ap (λ (test : Bool). if test then suc firing else firing)
+        (lt-ltb firing (2 ^ 64 - 1) (omega (arith, few, counted)))
+
+    next_fired : (next.runs node).fired < 2 ^ 64 → (other : ℕ) → other < count
+        → slice_index later.fired other ≡ (next.runs other).fired
+    unfolding after_firing
+    next_fired few other less = elim (cases_eq other node) [
+      | inl same ↦
+          ap (slice_index later.fired) same
+          ∙ get_or-set_same machine.fired node (one_more (slice_index machine.fired node)) 0
+          (omega (arith, within, stands.each_fired))
+          ∙ counts_one few
+          ∙ sym (ap (λ (own : Run (List ℤ) Cause Word). own.fired) (run_here other same))
+      | inr differs ↦
+          get_or-set_other machine.fired node other
+          (one_more (slice_index machine.fired node)) 0 differs
+          ∙ stands.fired other less
+          ∙ sym (ap (λ (own : Run (List ℤ) Cause Word). own.fired) (run_other other differs))
+    ]
+
+    -- ---- the program's input
+
+    -- from a reader's port its firing takes an item
+    rest_read : (other : ℕ) → slice_get graph.nodes other ≡ Some FileReader
+        → (same : Bool) → eqb other node ≡ same
+        → drop (cond same (pops_at code firing 0) 0) (now.queues other 0)
+        ≡ drop (next.runs other).fired input
+    unfolding after_firing
+    rest_read other reader true e =
+        let here = eqb-true other node e in
+        let is_reader : code ≡ FileReader = same_Some code FileReader
+        (sym there ∙ ap (slice_get graph.nodes) (sym here) ∙ reader) in
+        let one : (now.runs other).fired + 1 ≡ suc firing = omega (
+          arith,
+          ap (λ (n : ℕ). (now.runs n).fired) here,
+        ) in
+        ap (λ (own : NodeCode). drop (pops_at own firing 0) (now.queues other 0)) is_reader
+        ∙ ap (drop 1) (stands.reads other reader)
+        ∙ drop-drop 1 (now.runs other).fired input
+        ∙ ap (λ (n : ℕ). drop n input) one
+        ∙ sym (ap (λ (own : Run (List ℤ) Cause Word). drop own.fired input) (run_here other here))
+    rest_read other reader false e =
+        stands.reads other reader
+        ∙ sym (ap (λ (own : Run (List ℤ) Cause Word). drop own.fired input)
+        (run_other other (eqb-false other node e)))
+
+    next_reads : (other : ℕ) → slice_get graph.nodes other ≡ Some FileReader
+        → next.queues other 0 ≡ drop (next.runs other).fired input
+    unfolding moved added
+    next_reads other reader =
+        ap (λ (source : Source). drop (cond (eqb other node) (pops_at code firing 0) 0)
+        (now.queues other 0) ++ added node pushes source.origin) (program.inputs other reader)
+        ∙ append-nil (drop (cond (eqb other node) (pops_at code firing 0) 0) (now.queues other 0))
+        ∙ rest_read other reader (eqb other node) refl
+
+    -- ---- words
+
+    abbrev old_words : ℕ → List Word
+    old_words other = (now.runs other).words
+
+    abbrev new_words : ℕ → List Word
+    new_words other = (next.runs other).words
+
+    words_here : new_words node ≡ old_words node ++ words
+    unfolding after_firing
+    words_here = ap (λ (own : Run (List ℤ) Cause Word). own.words) (run_here node refl)
+
+    words_other : (other : ℕ) → (other ≡ node → ⊥) → new_words other ≡ old_words other
+    words_other other differs =
+        ap (λ (own : Run (List ℤ) Cause Word). own.words) (run_other other differs)
+
+    next_silent : (other : ℕ) (own : NodeCode) → slice_get graph.nodes other ≡ Some own
+        → gives_words own ≡ false → new_words other ≡ []
+    next_silent other own listed silent = elim (cases_eq other node) [
+      | inl same ↦
+          let mine : code ≡ own = same_Some code own
+          (sym there ∙ ap (slice_get graph.nodes) (sym same) ∙ listed) in
+          ap new_words same ∙ words_here
+          ∙ ap (λ (l : List Word). l ++ words) (ap old_words (sym same)
+          ∙ stands.silent other own listed silent)
+          ∙ quiet (ap gives_words mine ∙ silent)
+      | inr differs ↦ words_other other differs ∙ stands.silent other own listed silent
+    ]
+
+    others_silent : gives_words code ≡ true → (other : ℕ) → other < count
+        → (other ≡ node → ⊥) → old_words other ≡ []
+    others_silent prints other less differs =
+        let own = get_or graph.nodes other code in
+        let listed = slice_get-get_or graph.nodes other code less in
+        by_code own listed (gives_words own) refl
+      where
+        by_code : (own : NodeCode) → slice_get graph.nodes other ≡ Some own → (test : Bool)
+            → gives_words own ≡ test → old_words other ≡ []
+        by_code own listed true e =
+            absurd (differs (one_passes_test gives_words graph.nodes program.one_output other node
+            own code listed there e prints))
+        by_code own listed false e = stands.silent other own listed e
+
+    next_words : (prints : Bool) → gives_words code ≡ prints
+        → machine.words ++ words ≡ words_below count new_words
+    next_words true e =
+        ap (λ (l : List Word). l ++ words) (stands.words
+        ∙ words_one count node old_words within (others_silent e))
+        ∙ sym words_here
+        ∙ sym (words_one count node new_words within
+        (λ other less differs. words_other other differs ∙ others_silent e other less differs))
+    next_words false e =
+        ap (λ (l : List Word). machine.words ++ l) (quiet e)
+        ∙ append-nil machine.words
+        ∙ stands.words
+        ∙ words_same count old_words new_words (λ other less. same other)
+      where
+        same : (other : ℕ) → old_words other ≡ new_words other
+        same other = elim (cases_eq other node) [
+          | inl here ↦
+              sym (ap new_words here ∙ words_here
+              ∙ ap (λ (l : List Word). old_words node ++ l) (quiet e)
+              ∙ append-nil (old_words node) ∙ ap old_words (sym here))
+          | inr differs ↦ sym (words_other other differs)
+        ]
+
+    -- ---- both machines
+
+    pub next_stands : FitNow graph.channels sizes next → Stands graph sizes input next later
+    next_stands fit = record {
+      each_fields = length-set machine.fields node fields ∙ stands.each_fields;
+      each_fired = length-set machine.fired node (one_more (slice_index machine.fired node))
+          ∙ stands.each_fired;
+      each_ring = moves.each ∙ stands.each_ring;
+      fields = next_fields;
+      fired = next_fired (fit.firings node);
+      rings = λ number channel listed.
+          ring_holds tree graph program circuit is node (pops_at code firing) pushes machine.rings
+          after moves number channel listed now firing (slice_index sizes number) refl
+          (stands.rings number channel listed) (fit.items number channel listed);
+      reads = next_reads;
+      words = next_words (gives_words code) refl;
+      silent = next_silent;
+    }

@@ -1,0 +1,167 @@
+-- A firing over rings comes to what the firing over queues comes to.
+use Rattle.std.proofs.Common.{◌≡◌, refl, sym, ap, ◌∙◌, subst, ℕ, ◌<◌}
+use Rattle.std.proofs.Common.{ℤ, Bool, true, false, List, [], length, Option}
+use Rattle.std.proofs.Common.{Some, slice_get, slice_index}
+use Rattle.strc_semantics.specs.declared.fault.Cause.{Cause}
+use Rattle.strc_semantics.specs.declared.word.Word.{Word}
+use Rattle.strc_dataflow.specs.Machine.{Stop}
+use Rattle.strc_dataflow.specs.Node.{ByPort, Fired.Fires, Fired.Faults}
+use Rattle.strc_dataflow.specs.Node as generic
+use Rattle.strc_dataflow.specs.Queues.{FifoProgress, FifoProgress.FifoWent}
+use Rattle.strc_dataflow.specs.Queues.{FifoProgress.FifoStopped, holds, fronts}
+use Rattle.strc_dataflow.specs.Queues.{fifo_after, fifo_if, fifo_fire}
+use Rattle.strc_dataflow.specs.Streams.{Stream, flat}
+use Rattle.strc_graph.specs.Graphs.{NodeCode, Graph, gives_words}
+use Rattle.strc_graph.specs.FlatGraphs.{IsProgram}
+use Rattle.strc_graph.specs.Meaning.{node_meaning, node_fired}
+use Rattle.strc_graph.specs.Rates.{fires_by_rounds, pops_at}
+use Rattle.strc_graph.proofs.Quiet.{node_quiet}
+use Rattle.strc_admissible.specs.Circuits.{IsCircuit}
+use Rattle.strc_admissible.specs.Fits.{Queues, FitNow, FitThen}
+use Rattle.strc_admissible.specs.Machine as machines
+use Rattle.strc_admissible.specs.Machine.{CircuitView, MachineView, step_at, next_step, one_more}
+use Rattle.strc_admissible.specs.Machine.{after_step}
+use Rattle.strc_admissible.specs.Rings.{Ring, items_at}
+use Rattle.strc_admissible.specs.Steps as steps
+use Rattle.strc_admissible.specs.Steps.{Step, maybe_step, node_step}
+use Rattle.strc_admissible.specs.Wiring.{ports_at}
+use Rattle.strc_admissible.proofs.Changes.{ArePlaced}
+use Rattle.strc_admissible.proofs.Ends.{are_placed, idle_empty, carrier_fed}
+use Rattle.strc_admissible.proofs.NodeSteps.{node_matches}
+use Rattle.strc_admissible.proofs.Orders.{is_reader}
+use Rattle.strc_admissible.proofs.Standing.{Stands}
+use Rattle.strc_admissible.proofs.Stepping.{finds_in, sees_of, Matches, Shows}
+use Rattle.strc_admissible.proofs.Advancing.{next_queues, next_machine, next_stands}
+
+-- both went on alike, or both stopped at the same fault
+abbrev pub IsAlike : Graph → (sizes : List ℕ) → (input : List ℤ)
+    → FifoProgress (List ℤ) Cause Word → machines.Progress → Type 0
+IsAlike graph sizes input (FifoWent now) (machines.Went machine) =
+    Stands graph sizes input now machine
+IsAlike graph sizes input (FifoStopped stop) (machines.Stopped node firing cause) =
+    stop ≡ record { node = node; firing = firing; cause = cause }
+IsAlike _ _ _ _ _ = ⊥
+
+module _ (tree : Stream NodeCode) (graph : Graph) (program : IsProgram tree graph)
+    (circuit : CircuitView) (is : IsCircuit graph circuit) (sizes : List ℕ) (input : List ℤ)
+    (reads_it : circuit.input ≡ input) (now : Queues) (machine : MachineView)
+    (stands : Stands graph sizes input now machine) (node : ℕ) (within : node < length graph.nodes)
+    (there : slice_get graph.nodes node ≡ Some ((flat tree).code node)) where
+  abbrev code : NodeCode
+  code = (flat tree).code node
+
+  abbrev firing : ℕ
+  firing = (now.runs node).fired
+
+  abbrev state : List ℤ
+  state = (now.runs node).state
+
+  abbrev inputs : List (Option ℕ)
+  inputs = ports_at circuit.inputs node
+
+  abbrev outputs : List (Option ℕ)
+  outputs = ports_at circuit.outputs node
+
+  abbrev count : ℕ
+  count = length graph.nodes
+
+  -- ---- what the step is
+
+  step_is : next_step circuit machine node
+      ≡ node_step code firing state inputs outputs input machine.rings
+  step_is =
+      ap (λ (own : ℕ). step_at circuit machine node own) (stands.fired node within)
+      ∙ ap (λ (own : List ℤ). maybe_step (slice_get circuit.codes node) firing own inputs outputs
+      circuit.input machine.rings) (stands.fields node within)
+      ∙ ap (λ (found : Option NodeCode). maybe_step found firing state inputs outputs
+      circuit.input machine.rings)
+      (ap (λ (codes : List NodeCode). slice_get codes node) is.codes ∙ there)
+      ∙ ap (λ (own : List ℤ). node_step code firing state inputs outputs own machine.rings)
+      reads_it
+
+  placed : ArePlaced inputs outputs (length machine.rings)
+  placed = subst (λ (own : ℕ). ArePlaced inputs outputs own) (sym stands.each_ring)
+      (are_placed tree graph program circuit is node)
+
+  shows : Shows inputs outputs machine.rings placed (now.queues node) code
+  shows = record {
+    holds = λ port carries.
+        let (number, channel, listed, ends, ring) =
+        carrier_fed tree graph program circuit is node code there port carries in
+        ap (items_at machine.rings) ring
+        ∙ ap (λ (own : Ring). own.items) (stands.rings number channel listed)
+        ∙ ap (λ end. now.queues end.node end.port) ends;
+    empty = idle_empty tree graph program circuit is node code there;
+  }
+
+  step_matches : fires_by_rounds code ≡ false
+      → Matches inputs outputs (pops_at code firing) machine.rings
+      (finds_in code firing (now.queues node))
+      (node_fired code firing state (sees_of code firing (now.queues node)))
+      (next_step circuit machine node)
+  step_matches alone =
+      subst (Matches inputs outputs (pops_at code firing) machine.rings
+      (finds_in code firing (now.queues node))
+      (node_fired code firing state (sees_of code firing (now.queues node)))) (sym step_is)
+      (node_matches inputs outputs machine.rings placed (now.queues node) code alone firing state
+      input shows
+      (λ reader. stands.reads node (there ∙ ap Some (is_reader code reader))))
+
+  -- a firing that finds its windows or doesn't
+  abbrev found_progress : Bool → generic.Fired (List ℤ) Cause Word
+      → FifoProgress (List ℤ) Cause Word
+  found_progress true fired = fifo_after node_meaning (flat tree) now node fired
+  found_progress false fired = FifoWent now
+
+  progress_is : (found : Bool) → fifo_if node_meaning (flat tree) now node found
+      ≡ found_progress found (node_meaning.fire code firing state
+      (fronts node_meaning (flat tree) node firing (now.queues node)))
+  unfolding fifo_if
+  progress_is true = refl
+  progress_is false = refl
+
+  fire_is : fifo_fire node_meaning (flat tree) now node
+      ≡ found_progress (finds_in code firing (now.queues node))
+      (node_fired code firing state (sees_of code firing (now.queues node)))
+  unfolding fifo_fire holds fronts
+  fire_is = progress_is (finds_in code firing (now.queues node))
+
+  abbrev stop_of : ℕ → Cause → Stop Cause
+  stop_of number cause = record { node = node; firing = number; cause = cause }
+
+  found_alike : (found : Bool) (fired : generic.Fired (List ℤ) Cause Word) (step : Step)
+      → Matches inputs outputs (pops_at code firing) machine.rings found fired step
+      → ((fields : List ℤ) (pushes : ByPort) (words : List Word) → fired ≡ Fires fields pushes words
+      → gives_words code ≡ false → words ≡ [])
+      → FitThen (FitNow graph.channels sizes) (found_progress found fired)
+      → IsAlike graph sizes input (found_progress found fired) (after_step machine node step)
+  unfolding fifo_after
+  found_alike false fired steps.Stays matches quiet fit = stands
+  found_alike true (Fires fields pushes words) (steps.Goes own after printed) matches quiet fit =
+      let silent = quiet fields pushes words refl in
+      subst (λ (l : List ℤ). Stands graph sizes input
+      (next_queues tree now node fields pushes words)
+      (next_machine machine node l after printed)) (sym matches.0)
+      (subst (λ (l : List Word). Stands graph sizes input
+      (next_queues tree now node fields pushes words)
+      (next_machine machine node fields after l)) (sym matches.1)
+      (next_stands tree graph program circuit is sizes input now machine stands node within there
+      fields pushes words after matches.2 silent fit))
+  found_alike true (Faults cause) (steps.Faults own) matches quiet fit =
+      ap (λ (n : ℕ). stop_of n cause) (sym (stands.fired node within))
+      ∙ ap (stop_of (slice_index machine.fired node)) (sym matches)
+  found_alike found fired step matches quiet fit = absurd matches
+
+  pub fire_alike : fires_by_rounds code ≡ false
+      → FitThen (FitNow graph.channels sizes) (fifo_fire node_meaning (flat tree) now node)
+      → IsAlike graph sizes input (fifo_fire node_meaning (flat tree) now node)
+      (after_step machine node (next_step circuit machine node))
+  fire_alike alone fit =
+      subst (λ (progress : FifoProgress (List ℤ) Cause Word). IsAlike graph sizes input progress
+      (after_step machine node (next_step circuit machine node))) (sym fire_is)
+      (found_alike (finds_in code firing (now.queues node))
+      (node_fired code firing state (sees_of code firing (now.queues node)))
+      (next_step circuit machine node) (step_matches alone)
+      (λ fields pushes words fires silent. node_quiet code firing state
+      (sees_of code firing (now.queues node)) fields pushes words silent fires)
+      (subst (FitThen (FitNow graph.channels sizes)) fire_is fit))

@@ -1,0 +1,143 @@
+-- The machine over rings stands as the one over queues: its rings hold the queues of the channels.
+use Rattle.std.proofs.Common.{◌≡◌, refl, sym, ap, ◌∙◌, subst, ℕ, ◌<◌, ◌≤◌, ℤ}
+use Rattle.std.proofs.Common.{Bool, true, false, cond, eqb, List, [], ◌++◌, length, drop, Some}
+use Rattle.std.proofs.Common.{slice_get, slice_index, slice_index_or, eqb-true}
+use Rattle.std.proofs.lemmas.Bool.{ne_eqb, eqb-false}
+use Rattle.circular_buffer.specs.Buffer.{buffer}
+use Rattle.strc_dataflow.specs.Flat.{Origin}
+use Rattle.strc_dataflow.specs.Node.{ByPort}
+use Rattle.strc_dataflow.specs.Queues.{added, moved}
+use Rattle.strc_dataflow.specs.Streams.{Stream, flat}
+use Rattle.strc_graph.specs.declared.graph.Port.{Port as End}
+use Rattle.strc_graph.specs.Graphs.{NodeCode, FileReader, Channel, Graph, gives_words}
+use Rattle.strc_graph.specs.FlatGraphs.{IsProgram}
+use Rattle.strc_graph.specs.Meaning.{node_meaning}
+use Rattle.strc_graph.specs.Rates.{pops_at}
+use Rattle.strc_admissible.specs.Circuits.{IsCircuit}
+use Rattle.strc_admissible.specs.Fits.{Queues}
+use Rattle.strc_admissible.specs.Machine.{CircuitView, MachineView}
+use Rattle.strc_admissible.specs.Rings.{Ring, ring_at, at_port, shortened, extended}
+use Rattle.strc_admissible.specs.Told.{words_below}
+use Rattle.strc_admissible.specs.Wiring.{ports_at}
+use Rattle.strc_admissible.proofs.Changes.{Moves, extended_none, extended_all}
+use Rattle.strc_admissible.proofs.Ends.{origin_is, apart, input_channel, output_channel}
+use Rattle.strc_admissible.proofs.Ends.{target_ring, source_ring}
+
+-- each ring holds the queue of its channel and has its room; the program's input is read as far as
+-- its reader has fired; and the words are those of all nodes
+pub record Stands (graph : Graph) (sizes : List ℕ) (input : List ℤ) (now : Queues)
+    (machine : MachineView) : Type 0 where
+  pub each_fields : length machine.fields ≡ length graph.nodes
+  pub each_fired : length machine.fired ≡ length graph.nodes
+  pub each_ring : length machine.rings ≡ length graph.channels
+  pub fields : (node : ℕ) → node < length graph.nodes
+      → slice_index_or machine.fields node [] ≡ (now.runs node).state
+  pub fired : (node : ℕ) → node < length graph.nodes
+      → slice_index machine.fired node ≡ (now.runs node).fired
+  pub rings : (number : ℕ) (channel : Channel) → slice_get graph.channels number ≡ Some channel
+      → ring_at machine.rings number
+      ≡ buffer (now.queues channel.target.node channel.target.port) (slice_index sizes number)
+  pub reads : (node : ℕ) → slice_get graph.nodes node ≡ Some FileReader
+      → now.queues node 0 ≡ drop (now.runs node).fired input
+  pub words : machine.words ≡ words_below (length graph.nodes) (λ node. (now.runs node).words)
+  pub silent : (node : ℕ) (code : NodeCode) → slice_get graph.nodes node ≡ Some code
+      → gives_words code ≡ false → (now.runs node).words ≡ []
+
+module _ (tree : Stream NodeCode) (graph : Graph) (program : IsProgram tree graph)
+    (circuit : CircuitView) (is : IsCircuit graph circuit) where
+  -- what a firing of a node takes from a channel and gives to it
+  abbrev took : (node : ℕ) → (pops : ℕ → ℕ) → Channel → ℕ
+  took node pops channel = cond (eqb channel.target.node node) (pops channel.target.port) 0
+
+  abbrev gave : (node : ℕ) → ByPort → Channel → List ℤ
+  gave node pushes channel =
+      cond (eqb channel.source.node node) (pushes channel.source.port) []
+
+  module _ (node : ℕ) (pops : ℕ → ℕ) (pushes : ByPort) (rings after : List Ring)
+      (moves : Moves (ports_at circuit.inputs node) (ports_at circuit.outputs node) pops pushes
+      rings after)
+      (number : ℕ) (channel : Channel) (there : slice_get graph.channels number ≡ Some channel)
+    where
+      abbrev ring : Ring
+      ring = ring_at rings number
+
+      at_target : channel.target.node ≡ node → eqb channel.source.node node ≡ false
+      at_target same =
+          ne_eqb channel.source.node node
+          (λ e. apart tree graph program circuit is number channel there (e ∙ sym same))
+
+      no_target : (channel.target.node ≡ node → ⊥) → (port : ℕ)
+          → at_port (ports_at circuit.inputs node) port ≡ Some number → ⊥
+      no_target differs port e =
+          let (own, listed, ends) = input_channel tree graph program circuit is node port number e
+          in
+          let same : own ≡ channel = cc in
+          differs (ap (λ (c : Channel). c.target.node) (sym same)
+          ∙ ap (λ (end : End). end.node) ends)
+
+      no_source : (channel.source.node ≡ node → ⊥) → (port : ℕ)
+          → at_port (ports_at circuit.outputs node) port ≡ Some number → ⊥
+      no_source differs port e =
+          let (own, listed, ends) = output_channel tree graph program circuit is node port number e
+          in
+          let same : own ≡ channel = cc in
+          differs (ap (λ (c : Channel). c.source.node) (sym same)
+          ∙ ap (λ (end : End). end.node) ends)
+
+      ring_moved : (target source : Bool) → eqb channel.target.node node ≡ target
+          → eqb channel.source.node node ≡ source
+          → ring_at after number
+          ≡ extended (cond source (pushes channel.source.port) [])
+          (shortened (cond target (pops channel.target.port) 0) ring)
+      ring_moved true true e f =
+          absurd (eqb-false channel.source.node node
+          (at_target (eqb-true channel.target.node node e)) (eqb-true channel.source.node node f))
+      ring_moved true false e f =
+          moves.takes channel.target.port number
+          (subst (λ (own : ℕ). at_port (ports_at circuit.inputs own) channel.target.port
+          ≡ Some number) (eqb-true channel.target.node node e)
+          (target_ring tree graph program circuit is number channel there))
+          ∙ sym (extended_none (shortened (pops channel.target.port) ring))
+      ring_moved false true e f =
+          moves.gives channel.source.port number
+          (subst (λ (own : ℕ). at_port (ports_at circuit.outputs own) channel.source.port
+          ≡ Some number) (eqb-true channel.source.node node f)
+          (source_ring tree graph program circuit is number channel there))
+      ring_moved false false e f =
+          moves.stays number (no_target (eqb-false channel.target.node node e))
+          (no_source (eqb-false channel.source.node node f))
+          ∙ sym (extended_none ring)
+
+      -- the queue of a channel after a firing of a node
+      queue_moved : (now : Queues) → (firing : ℕ)
+          → moved node_meaning (flat tree) node firing now.queues pushes channel.target.node
+          channel.target.port
+          ≡ drop (took node (pops_at ((flat tree).code node) firing) channel)
+          (now.queues channel.target.node channel.target.port) ++ gave node pushes channel
+      unfolding moved added
+      queue_moved now firing =
+          ap (λ (origin : Origin).
+          drop (took node (pops_at ((flat tree).code node) firing) channel)
+          (now.queues channel.target.node channel.target.port) ++ added node pushes origin)
+          (origin_is tree graph program circuit is number channel there)
+
+      -- where the queue fits, the ring holds it
+      pub ring_holds : (now : Queues) (firing size : ℕ)
+          → pops ≡ pops_at ((flat tree).code node) firing
+          → ring ≡ buffer (now.queues channel.target.node channel.target.port) size
+          → length (moved node_meaning (flat tree) node firing now.queues pushes channel.target.node
+          channel.target.port) ≤ size
+          → ring_at after number
+          ≡ buffer (moved node_meaning (flat tree) node firing now.queues pushes channel.target.node
+          channel.target.port) size
+      ring_holds now firing size rates held fits =
+          let left = took node pops channel in
+          let more = gave node pushes channel in
+          let queue = now.queues channel.target.node channel.target.port in
+          let own = ap (λ (rate : ℕ → ℕ). drop (took node rate channel) queue ++ more) rates
+          ∙ sym (queue_moved now firing) in
+          ring_moved (eqb channel.target.node node) (eqb channel.source.node node) refl refl
+          ∙ ap (λ (r : Ring). extended more (shortened left r)) held
+          ∙ extended_all more (buffer (drop left queue) size)
+          (subst (λ (l : List ℤ). length l ≤ size) (sym own) fits)
+          ∙ ap (λ (l : List ℤ). buffer l size) own

@@ -1,0 +1,42 @@
+use Rattle.std.proofs.Common.{◌∙◌, ap, sym, ◌-◌, ◌+◌, ◌++◌}
+use Rattle.strc_order.specs.Order.{repeated}
+use Rattle.strc_sched.specs.Circuits.{circuit_view}
+use Rattle.strc_sched.specs.Running.{machine_view}
+use Rattle.strc_sched.proofs.Going.{goes_on, goes_so, stops_so, turns_left}
+use Rattle.strc_sched.proofs.machine.Machine.fire_unit.Goals as goal
+
+pub returns-in-Err-clause-gone : goal.returns-in-Err-clause-gone
+returns-in-Err-clause-gone c =
+    let circuit = circuit_view c.args.circuit.now in
+    let turns = c.args.unit.now.turns in
+    let nodes = c.args.unit.now.nodes.items in
+    let turn = c.loop-turn._turn in
+    let left = repeated (turns - (turn + 1)) nodes in
+    stops_so circuit (repeated turns nodes) c.deref.result.now left
+    (machine_view c.args.self.now) (machine_view c.loop-turn.self)
+    (machine_view c.fire_nodes.new.self) c.in-Err.stop
+    (goes_so circuit (repeated turns nodes) (repeated (turns - turn) nodes)
+    (c.deref.result.now ++ left) (machine_view c.args.self.now) (machine_view c.loop-turn.self)
+    (turns_left turns turn nodes c.loop-turn-test.true
+    ∙ ap (λ l. l ++ left) (sym c.deref.ensures.value)) c.loop-turn.invariant.goes)
+    c.in-Err.ensures.gone
+
+pub loop-turn-preserved : goal.loop-turn-preserved
+loop-turn-preserved c =
+    let circuit = circuit_view c.args.circuit.now in
+    let turns = c.args.unit.now.turns in
+    let nodes = c.args.unit.now.nodes.items in
+    let turn = c.loop-turn._turn in
+    let left = repeated (turns - (turn + 1)) nodes in
+    record {
+      machine = c.fire_nodes.ensures.machine;
+      goes = goes_on circuit (repeated turns nodes) c.deref.result.now left
+          (machine_view c.args.self.now) (machine_view c.loop-turn.self)
+          (machine_view c.fire_nodes.new.self)
+          (goes_so circuit (repeated turns nodes) (repeated (turns - turn) nodes)
+          (c.deref.result.now ++ left) (machine_view c.args.self.now)
+          (machine_view c.loop-turn.self)
+          (turns_left turns turn nodes c.loop-turn-test.true
+          ∙ ap (λ l. l ++ left) (sym c.deref.ensures.value)) c.loop-turn.invariant.goes)
+          c.in-Ok.ensures.gone.0 c.in-Ok.ensures.gone.1;
+    }

@@ -1,0 +1,12 @@
+-- How many items of the program's input a run reads.
+use Rattle.std.specs.Prelude.{ℕ, ◌≤◌, ◌^◌, List, Option, Some, None}
+use Rattle.strc_order.specs.Order.{tally}
+
+-- the count of a node, where there is one
+abbrev pub count_of : Option ℕ → (counts : ℕ → ℕ) → ℕ
+count_of None counts = 0
+count_of (Some node) counts = counts node
+
+-- no node fires more than about a million times
+abbrev pub FiresFew : (order : List ℕ) → Type 0
+FiresFew order = (node : ℕ) → tally order node ≤ 2 ^ 20
