@@ -1,14 +1,9 @@
--- The lines of a plan, one node after another, and its size.
-use Rattle.std.proofs.Common.{◌≡◌, ◌∙◌, ◌<◌, ◌+◌, refl, ℕ, List, ◌∷◌, ◌++◌, Option, Some, length}
+-- The lines of a plan, one node after another.
+use Rattle.std.proofs.Common.{◌≡◌, ◌∙◌, ◌<◌, ◌+◌, refl, ℕ, List, ◌∷◌, ◌++◌, Some, length}
 use Rattle.std.proofs.Common.{drop, sym, ap, append_assoc, slice_get, slice_index, get_or}
-use Rattle.std.proofs.lemmas.List.{drop_more, length-map}
+use Rattle.std.proofs.lemmas.List.{drop_more}
 use Rattle.std.proofs.lemmas.Option.{get_or_from_slice_get, slice_get_within}
-use Rattle.strc_graph.specs.Graphs.{Graph}
-use Rattle.strc_graph.specs.NodeView.{channel_view, node_view}
 use Rattle.strc_graph.specs.declared.graph.Channel.{Channel}
-use Rattle.strc_run.specs.declared.plan.Plan.{Plan}
-use Rattle.strc_run.specs.Planning.{IsPlanOf}
-use Rattle.strc_cli.specs.Answering.{HasSize}
 use Rattle.strc_cli.specs.Output.{node_line, node_lines, start_line, start_lines}
 use Rattle.strc_cli.specs.Output.{channel_line, channel_lines}
 
@@ -71,17 +66,3 @@ one_channel_more number channels sizes channel size text more whole there same s
     rw (own, next) refl in
     ap (λ (l : List ℕ). l ++ rest) written ∙ append_assoc text line rest
     ∙ ap (λ (l : List ℕ). text ++ l) (sym first) ∙ before
-
--- the size of a plan is that of its text's graph
-pub plan_size : (text : List ℕ) (main : Option (List ℕ)) (plan : Plan) → IsPlanOf text main plan
-    → HasSize text main (length plan.graph.nodes) (length plan.graph.channels)
-plan_size text main plan is = record {
-  stream = is.stream;
-  accepted = is.accepted;
-  nodes =
-      sym (length-map plan.graph.nodes node_view)
-      ∙ sym (ap (λ (graph : Graph). length graph.nodes) is.graph);
-  channels =
-      sym (length-map plan.graph.channels channel_view)
-      ∙ sym (ap (λ (graph : Graph). length graph.channels) is.graph);
-}

@@ -5,7 +5,7 @@ use Rattle.std.proofs.Common.{drop_of_length-le}
 use Rattle.std.proofs.KnownBytes.{Appends-trans, Appends-nil, Appends-kept}
 use Rattle.std.proofs.lemmas.List.{take_rest}
 use Rattle.std.specs.Io.KnownBytes.{Appends, Keeps}
-use Rattle.strc_cli.specs.Telling.{Device, Wrote, FailedIn}
+use Rattle.strc_cli.specs.Executes.{Device, Wrote, FailedIn}
 
 -- some of these bytes are written, and the rest is left
 pub record Gone (all rest : List ℕ) (before after : Device) : Type 0 where

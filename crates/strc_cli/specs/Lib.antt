@@ -1,5 +1,5 @@
 pub mod Answering
+pub mod Executes
 pub mod Lines
 pub mod Output
 pub mod Statuses
-pub mod Telling

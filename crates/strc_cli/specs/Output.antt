@@ -9,9 +9,12 @@ use Rattle.strc_semantics.specs.declared.fault.Cause.TheVariants as cause
 use Rattle.strc_graph.specs.NodeView.{node_names}
 use Rattle.strc_graph.specs.declared.graph.Channel.{Channel}
 use Rattle.strc_run.specs.declared.plan.Plan.{Plan}
-use Rattle.strc_run.specs.declared.outcome.Outcome.{Outcome}
-use Rattle.strc_run.specs.declared.outcome.Outcome.TheVariants as outcome
-use Rattle.strc_run.specs.declared.outcome.Fault.{Fault}
+use Rattle.strc_sched.specs.declared.outcome.Outcome.{Outcome}
+use Rattle.strc_sched.specs.declared.outcome.Outcome.TheVariants as outcome
+use Rattle.strc_sched.specs.declared.outcome.Round.{Round}
+use Rattle.strc_sched.specs.declared.outcome.Round.TheVariants as round
+use Rattle.strc_sched.specs.declared.refusal.RunRefusal.{RunRefusal}
+use Rattle.strc_sched.specs.declared.refusal.RunRefusal.TheVariants as unrun
 use Rattle.strc_run.specs.declared.refusal.Refusal.{Refusal}
 use Rattle.strc_run.specs.declared.refusal.Refusal.TheVariants as refusal
 
@@ -45,18 +48,21 @@ cause_name cause.Index = codes "Index"
 cause_name cause.PeekRange = codes "PeekRange"
 cause_name cause.Turns = codes "Turns"
 
--- `fault DivZero node 1 firing 1 round 1`
-abbrev pub fault_line : Fault → List ℕ
-fault_line fault =
-    codes "fault " ++ cause_name fault.cause ++ codes " node " ++ decimal fault.node
-    ++ codes " firing " ++ decimal fault.firing
-    ++ codes " round " ++ decimal fault.round ++ line_end
+abbrev pub round_words : Round → List ℕ
+round_words round.Startup = codes " startup"
+round_words (round.At q) = codes " round " ++ decimal q
+
+-- `fault DivZero node 1 firing 1 round 1`, or `fault DivZero node 1 firing 0 startup`
+abbrev pub fault_line : (node firing : ℕ) → Round → Cause → List ℕ
+fault_line node firing round cause =
+    codes "fault " ++ cause_name cause ++ codes " node " ++ decimal node
+    ++ codes " firing " ++ decimal firing ++ round_words round ++ line_end
 
 -- all that a run writes
 abbrev pub outcome_text : Outcome → List ℕ
 outcome_text (outcome.Done words) = words_text words.items
-outcome_text (outcome.Fault fault words) =
-    words_text words.items ++ closing words.items ++ fault_line fault
+outcome_text (outcome.Fault node firing round cause words) =
+    words_text words.items ++ closing words.items ++ fault_line node firing round cause
 
 -- `ok nodes 6 channels 6`
 abbrev pub check_line : ℕ → ℕ → List ℕ
@@ -141,8 +147,20 @@ refusal_words (refusal.BufferLimit channel) =
     codes "E24 BufferLimit" ++ codes " channel " ++ decimal channel
 refusal_words refusal.NoMemory = codes "E25 NoMemory"
 refusal_words refusal.Nesting = codes "E26 Nesting"
-refusal_words refusal.RoundsNeeded = codes "S5 RoundsNeeded"
 
 -- `refused E1 Lex at 12`
 abbrev pub refusal_line : Refusal → List ℕ
 refusal_line refused = codes "refused " ++ refusal_words refused ++ line_end
+
+-- the same of a refusal of a run
+abbrev pub run_refusal_words : RunRefusal → List ℕ
+run_refusal_words (unrun.InputShort need got) =
+    codes "S1 InputShort" ++ (codes " need " ++ decimal need ++ codes " got " ++ decimal got)
+run_refusal_words unrun.BadWorkers = codes "S2 BadWorkers"
+run_refusal_words unrun.NoMemory = codes "S3 NoMemory"
+run_refusal_words unrun.NoWorker = codes "S4 NoWorker"
+run_refusal_words unrun.RoundsNeeded = codes "S5 RoundsNeeded"
+
+-- `refused S1 InputShort need 6 got 5`
+abbrev pub run_refusal_line : RunRefusal → List ℕ
+run_refusal_line refused = codes "refused " ++ run_refusal_words refused ++ line_end

@@ -1,20 +1,18 @@
 // What a command is answered for a text, before anything is written.
 
-ghost use Rattle.std.specs.Prelude.{◌≡◌, map};
-ghost use Rattle.std.specs.List.{AllByRecursion};
+ghost use Rattle.std.specs.Prelude.{◌≡◌, ℕ, List, Option};
 ghost use Rattle.std.specs.Option.{option_map};
-ghost use Rattle.strc_graph.specs.NodeView.{node_view};
-ghost use Rattle.strc_run.specs.Loading.{CanStart};
+ghost use Rattle.strc_graph.specs.NodeView.{graph_view};
+ghost use Rattle.strc_admissible.specs.Planned.{IsPlanned};
+ghost use Rattle.strc_run.specs.Planning.{IsPlanOf};
 ghost use Rattle.strc_cli.specs.Answering.{IsAnswered, IsRun, main_of};
 
 use crate::line::Command;
 use std::alloc::Global;
 use strc_run::compile::compile;
-use strc_run::outcome::Outcome;
 use strc_run::plan::Plan;
 use strc_run::refusal::Refusal;
-use strc_run::runnable::are_runnable;
-use strc_run::runner::run;
+use strc_run::run::{Outcome, RunRefusal, run};
 
 /// What a command asks of an accepted text.
 #[derive(Drop)]
@@ -27,11 +25,13 @@ pub(crate) enum Answer {
     Planned(Plan),
 }
 
-/// Why there is no answer: a refusal, or out of memory in the run.
+/// Why there is no answer.
 #[derive(Drop)]
 pub(crate) enum Stop {
+    /// The text is refused.
     Refused(Refusal),
-    NoMemory,
+    /// The text is accepted, and isn't run.
+    NotRun(RunRefusal),
 }
 
 /// The answer to a command. A refusal of the text comes before one of the run.
@@ -43,9 +43,9 @@ pub(crate) fn answer_to(alloc: Global, text: &[u8], command: &Command) -> Result
         Err(refusal) => return Err(Stop::Refused(refusal)),
     };
     match command {
-        Command::Run { rounds, main: _ } => match run_plan(alloc, plan, *rounds) {
+        Command::Run { rounds, main: _ } => match run_plan(alloc, &plan, *rounds) {
             Ok(outcome) => Ok(Answer::Ran(outcome)),
-            Err(stop) => Err(stop),
+            Err(refusal) => Err(Stop::NotRun(refusal)),
         },
         Command::Check { main: _ } => Ok(Answer::Checked {
             nodes: plan.graph.nodes().len(),
@@ -55,20 +55,15 @@ pub(crate) fn answer_to(alloc: Global, text: &[u8], command: &Command) -> Result
     }
 }
 
-// The outcome of so many rounds.
-fn run_plan(alloc: Global, plan: Plan, rounds: Option<u32>) -> Result<Outcome, Stop>
-    requires { AllByRecursion CanStart (map node_view plan.graph.nodes) }
-    ensures { IsRun (map node_view plan.graph.nodes) rounds result }
+// The outcome of so many rounds of a plan, for whatever text's plan this is.
+fn run_plan(alloc: Global, plan: &Plan, rounds: Option<u32>) -> Result<Outcome, RunRefusal>
+    requires { IsPlanned (graph_view plan.now.graph) plan.now.schedule }
+    ensures { (text : List ℕ) (main : Option (List ℕ)) → IsPlanOf text main plan.now
+        → IsRun text main rounds result }
 {
-    let Some(rounds) = rounds else {
-        return Err(Stop::Refused(Refusal::RoundsNeeded));
-    };
-    if !are_runnable(plan.graph.nodes()) {
-        return Err(Stop::Refused(Refusal::NotYet));
-    }
-    match run(alloc, plan, rounds) {
-        Ok(outcome) => Ok(outcome),
-        Err(_) => Err(Stop::NoMemory),
+    match rounds {
+        Some(count) => run(alloc, plan, &[], count),
+        None => Err(RunRefusal::RoundsNeeded),
     }
 }
 

@@ -2,27 +2,27 @@
 
 ghost use Rattle.std.specs.Prelude.{◌≡◌, IfOk, IfSome};
 ghost use Rattle.strc_cli.specs.Statuses.{status_number};
-ghost use Rattle.strc_cli.specs.Telling as spec;
-ghost use Rattle.strc_cli.specs.Telling.{Executes, TellsAnswer, Writes, device_of};
+ghost use Rattle.strc_cli.specs.Executes as spec;
+ghost use Rattle.strc_cli.specs.Executes.{Executes, TellsAnswer, Writes, device_of};
 
 use crate::answer::{Answer, Stop, answer_to};
 use crate::device::{Sink, Source};
 use crate::line::Command;
-use crate::output::{check_text, outcome_text, plan_text, refusal_text};
+use crate::output::{check_text, outcome_text, plan_text, refusal_text, run_refusal_text};
 use std::alloc::{AllocError, Global};
-use strc_run::outcome::Outcome;
 use strc_run::refusal::Refusal;
+use strc_run::run::{Outcome, RunRefusal};
 
 /// How a call of `execute` went: what the program's exit status tells.
 #[derive(Clone, Copy, Debug, PartialEq, Eq)]
 pub enum Status {
     /// All rounds were run, or what was asked of the text was written.
     Done,
-    /// The text, or the command for it, was refused.
+    /// The text, or a run of it, was refused.
     Refused,
     /// A firing faulted.
     Fault,
-    /// Memory ran out.
+    /// Memory ran out, or a thread was refused.
     NoMemory,
 }
 
@@ -98,7 +98,7 @@ fn memory_line(answered: &Result<Answer, Stop>) -> Option<&'static [u8]>
 {
     match answered {
         Err(Stop::Refused(Refusal::NoMemory)) => Some(b"refused E25 NoMemory\n"),
-        Err(Stop::NoMemory) => Some(b"refused S3 NoMemory\n"),
+        Err(Stop::NotRun(RunRefusal::NoMemory)) => Some(b"refused S3 NoMemory\n"),
         _ => None,
     }
 }
@@ -112,7 +112,7 @@ fn answer_text(alloc: Global, answered: &Result<Answer, Stop>) -> Result<Vec<u8>
         Ok(Answer::Checked { nodes, channels }) => check_text(alloc, *nodes, *channels),
         Ok(Answer::Planned(plan)) => plan_text(alloc, plan),
         Err(Stop::Refused(refusal)) => refusal_text(alloc, refusal),
-        Err(Stop::NoMemory) => Ok(b"refused S3 NoMemory\n".to_vec(alloc)?),
+        Err(Stop::NotRun(refusal)) => run_refusal_text(alloc, *refusal),
     }
 }
 
@@ -127,7 +127,9 @@ fn answer_status(answered: &Result<Answer, Stop>) -> Status
         Ok(Answer::Planned(_)) => Status::Done,
         Err(Stop::Refused(Refusal::NoMemory)) => Status::NoMemory,
         Err(Stop::Refused(_)) => Status::Refused,
-        Err(Stop::NoMemory) => Status::NoMemory,
+        Err(Stop::NotRun(RunRefusal::NoMemory)) => Status::NoMemory,
+        Err(Stop::NotRun(RunRefusal::NoWorker)) => Status::NoMemory,
+        Err(Stop::NotRun(_)) => Status::Refused,
     }
 }
 

@@ -8,9 +8,9 @@ ghost use Rattle.strc_cli.specs.Output as spec;
 use crate::text::{push_bytes, push_integer, push_number};
 use std::alloc::{AllocError, Global};
 use strc_graph::graph::Channel;
-use strc_run::outcome::{Fault, Outcome};
 use strc_run::plan::Plan;
 use strc_run::refusal::Refusal;
+use strc_run::run::{Outcome, Round, RunRefusal};
 use strc_semantics::fault::Cause;
 use strc_semantics::word::Word;
 
@@ -21,12 +21,18 @@ pub(crate) fn outcome_text(alloc: Global, outcome: &Outcome) -> Result<Vec<u8>, 
     let mut text = Vec::new(alloc);
     match outcome {
         Outcome::Done(words) => push_words(&mut text, words)?,
-        Outcome::Fault { fault, words } => {
+        Outcome::Fault {
+            node,
+            firing,
+            round,
+            cause,
+            words,
+        } => {
             push_words(&mut text, words)?;
             if leaves_line_open(words) {
                 push_bytes(&mut text, b"\n")?;
             }
-            push_fault(&mut text, fault)?;
+            push_fault(&mut text, *node, *firing, *round, *cause)?;
         }
     }
     Ok(text)
@@ -54,18 +60,38 @@ fn leaves_line_open(words: &[Word]) -> bool
     }
 }
 
-fn push_fault(text: &mut Vec<u8>, fault: &Fault) -> Result<(), AllocError>
-    ensures { OnOk result (text.new.items ≡ text.old.items ++ spec.fault_line fault.now) }
+// The line of a fault: its cause, the node, how often it had fired before, and when.
+fn push_fault(
+    text: &mut Vec<u8>,
+    node: u32,
+    firing: u64,
+    round: Round,
+    cause: Cause,
+) -> Result<(), AllocError>
+    ensures { OnOk result (text.new.items ≡ text.old.items
+        ++ spec.fault_line node firing round cause) }
 {
     push_bytes(text, b"fault ")?;
-    push_bytes(text, cause_name(fault.cause))?;
+    push_bytes(text, cause_name(cause))?;
     push_bytes(text, b" node ")?;
-    push_number(text, fault.node as u64)?;
+    push_number(text, u64::from(node))?;
     push_bytes(text, b" firing ")?;
-    push_number(text, fault.firing)?;
-    push_bytes(text, b" round ")?;
-    push_number(text, u64::from(fault.round))?;
+    push_number(text, firing)?;
+    push_round(text, round)?;
     push_bytes(text, b"\n")
+}
+
+// When a firing faulted.
+fn push_round(text: &mut Vec<u8>, round: Round) -> Result<(), AllocError>
+    ensures { OnOk result (text.new.items ≡ text.old.items ++ spec.round_words round) }
+{
+    match round {
+        Round::Startup => push_bytes(text, b" startup"),
+        Round::At(number) => {
+            push_bytes(text, b" round ")?;
+            push_number(text, u64::from(number))
+        }
+    }
 }
 
 fn cause_name(cause: Cause) -> &'static [u8]
@@ -257,7 +283,6 @@ fn push_refusal(text: &mut Vec<u8>, refusal: &Refusal) -> Result<(), AllocError>
         }
         Refusal::NoMemory => push_bytes(text, b"E25 NoMemory"),
         Refusal::Nesting => push_bytes(text, b"E26 Nesting"),
-        Refusal::RoundsNeeded => push_bytes(text, b"S5 RoundsNeeded"),
     }
 }
 
@@ -313,4 +338,46 @@ fn push_counts(text: &mut Vec<u8>, declared: u32, counted: u32) -> Result<(), Al
     push_number(text, u64::from(declared))?;
     push_bytes(text, b" counted ")?;
     push_number(text, u64::from(counted))
+}
+
+/// The line that tells why there is no run.
+pub(crate) fn run_refusal_text(alloc: Global, refusal: RunRefusal) -> Result<Vec<u8>, AllocError>
+    ensures { IfOk result (λ text. text.items ≡ spec.run_refusal_line refusal) }
+{
+    let mut text = Vec::new(alloc);
+    push_bytes(&mut text, b"refused ")?;
+    push_run_refusal(&mut text, refusal)?;
+    push_bytes(&mut text, b"\n")?;
+    Ok(text)
+}
+
+fn push_run_refusal(text: &mut Vec<u8>, refusal: RunRefusal) -> Result<(), AllocError>
+    ensures { OnOk result (text.new.items ≡ text.old.items ++ spec.run_refusal_words refusal) }
+{
+    match refusal {
+        RunRefusal::InputShort { need, got } => push_short(text, need, got),
+        RunRefusal::BadWorkers => push_bytes(text, b"S2 BadWorkers"),
+        RunRefusal::NoMemory => push_bytes(text, b"S3 NoMemory"),
+        RunRefusal::NoWorker => push_bytes(text, b"S4 NoWorker"),
+        RunRefusal::RoundsNeeded => push_bytes(text, b"S5 RoundsNeeded"),
+    }
+}
+
+fn push_short(text: &mut Vec<u8>, need: u64, got: u64) -> Result<(), AllocError>
+    ensures { OnOk result (text.new.items ≡ text.old.items
+        ++ (codes "S1 InputShort" ++ (codes " need " ++ decimal need
+        ++ codes " got " ++ decimal got))) }
+{
+    push_bytes(text, b"S1 InputShort")?;
+    push_items(text, need, got)
+}
+
+fn push_items(text: &mut Vec<u8>, need: u64, got: u64) -> Result<(), AllocError>
+    ensures { OnOk result (text.new.items ≡ text.old.items
+        ++ (codes " need " ++ decimal need ++ codes " got " ++ decimal got)) }
+{
+    push_bytes(text, b" need ")?;
+    push_number(text, need)?;
+    push_bytes(text, b" got ")?;
+    push_number(text, got)
 }

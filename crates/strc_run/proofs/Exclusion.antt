@@ -1,4 +1,5 @@
--- No text is both accepted and refused: its tokens and its tree are the only ones.
+-- No text is both accepted and refused, or accepted with two streams: its tokens and its tree are
+-- the only ones.
 use Rattle.std.proofs.Common.{◌≡◌, ℕ, List, length, map, Option, Result, Ok, Err, ap, ◌∙◌, sym}
 use Rattle.std.proofs.Common.{subst, arith, inl, inr}
 use Rattle.std.specs.Prelude.{Bool, true, false}
@@ -32,8 +33,9 @@ use Rattle.strc_run.specs.Compiling.{round_counts}
 use Rattle.strc_run.specs.Rates.{rates_checked}
 use Rattle.strc_run.specs.Scheduling.{HasStartup, CannotStart, HasSchedule, CannotSchedule}
 use Rattle.strc_run.specs.Scheduling.{IsDeadlocked}
-use Rattle.strc_run.specs.Programs.{HasTokens, IsText, Accepts, BreaksRule, IsUnreadable}
-use Rattle.strc_run.specs.Programs.{AcceptedOrRefused}
+use Rattle.strc_run.specs.Accepts.{HasTokens, IsText, Accepts}
+use Rattle.strc_run.specs.Refuses.{BreaksRule, IsUnreadable}
+use Rattle.strc_run.specs.Laws.{AcceptedOrRefused, OneStream}
 
 -- one text has one token list
 same_tokens : (text : List ℕ) (one other : List Token) → HasTokens text one → HasTokens text other
@@ -238,3 +240,11 @@ excluded text main stream refused accepted (inl unreadable) =
     readable text main stream refused accepted unreadable
 excluded text main stream refused accepted (inr broken) =
     breaks_none text main stream refused accepted broken
+
+-- the elaboration of the one program of a text is the only one
+pub only_stream : OneStream
+only_stream text main one other accepted again =
+    let same = same_program text accepted.program again.program accepted.is_text again.is_text in
+    same_stream (elaborated again.program main) one other
+    (subst (λ (program : List Declaration). elaborated program main ≡ Ok one) same
+    accepted.compiles.elaborates) again.compiles.elaborates

@@ -1,13 +1,6 @@
-pub mod AcceptedRuns
-pub mod ExactRates
+pub mod CheckedRates
 pub mod Exclusion
 pub mod Instances
-pub mod NodeFirings
-pub mod PipelineAnswer
-pub mod Readiness
-pub mod Refusals
-pub mod Laps
-pub mod Rounds
-pub mod StreamNodes
+pub mod PlannedGraphs
 pub mod RatedGraphs
-pub mod Starts
+pub mod Refusals

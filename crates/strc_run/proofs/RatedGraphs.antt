@@ -17,15 +17,13 @@ use Rattle.strc_graph.specs.Graphs.{NodeCode, Channel, Graph, JoinsPorts, ports_
 use Rattle.strc_graph.specs.Graphs.{output_ports, inputs_at, outputs_at}
 use Rattle.strc_balance.specs.Rates.{IsRated, equation_of, equations_of, pops_by_work}
 use Rattle.strc_balance.specs.Rates.{pushes_by_work}
-use Rattle.strc_syntax.specs.Tree.{Declaration}
 use Rattle.strc_graph.proofs.Carriers.{carriers_are_joined}
-use Rattle.strc_elab.specs.Elaboration.{elaborated}
 use Rattle.strc_elab.specs.Flattening.{nodes_of, IsFlat}
 use Rattle.strc_elab.specs.Instances.{Stream}
-use Rattle.strc_elab.specs.Sound.{IsInstance, ElaboratedIsSound}
+use Rattle.strc_elab.specs.Sound.{IsElaborated, IsInstance}
 use Rattle.strc_elab.specs.Types.{IsWellTyped}
 use Rattle.strc_run.specs.Rates.{node_checked, rates_checked}
-use Rattle.strc_run.proofs.ExactRates.{neither, node_ok, filter_ok, work_ok, lacks_none}
+use Rattle.strc_run.proofs.CheckedRates.{neither, node_ok, filter_ok, work_ok, lacks_none}
 
 -- a side that has a port and lacks no rate
 side_rate : (side : ItemType) (rate : ℤ) (port : ℕ) → rates.lacks_rate side rate ≡ false
@@ -75,12 +73,12 @@ code_pops number graphs.Identity port is e lt =
 code_pops number code port is e lt = absurd is
 
 -- each node is an instance, and checked
-record IsChecked (code : NodeCode) : Type 0 where
+pub record IsChecked (code : NodeCode) : Type 0 where
   pub number : ℕ
   pub instance : IsInstance code
   pub checks : node_checked number code ≡ Ok tt
 
-all_checked : (number : ℕ) (codes : List NodeCode) → AllByRecursion IsInstance codes
+pub all_checked : (number : ℕ) (codes : List NodeCode) → AllByRecursion IsInstance codes
     → rates_checked number codes ≡ Ok tt → AllByRecursion IsChecked codes
 all_checked number [] all e = tt
 all_checked number (code ∷ codes) all e =
@@ -89,7 +87,7 @@ all_checked number (code ∷ codes) all e =
       all_checked (number + 1) codes all.1 here.1,
     )
 
-checked_at : (codes : List NodeCode) (node : ℕ) (code : NodeCode) → AllByRecursion IsChecked codes
+pub checked_at : (codes : List NodeCode) (node : ℕ) (code : NodeCode) → AllByRecursion IsChecked codes
     → slice_get codes node ≡ Some code → IsChecked code
 checked_at [] node code all is = absurd (cc)
 checked_at (first ∷ rest) zero code all is = let same : first ≡ code = cc in
@@ -144,12 +142,10 @@ graph_is_rated graph joined instances e k d within =
     })
 
 -- the flat graph of an elaborated stream whose rates hold is rated
-pub flat_is_rated : ElaboratedIsSound → (program : List Declaration) (main : Option (List ℕ))
-    (stream : Stream) (graph : Graph) → elaborated program main ≡ Ok stream
+pub flat_is_rated : (stream : Stream) (graph : Graph) → IsElaborated stream
     → (IsWellTyped stream → IsFlat stream graph) → graph.nodes ≡ nodes_of stream
     → rates_checked 0 graph.nodes ≡ Ok tt → All IsRated (equations_of graph)
-flat_is_rated elaborated_is_sound program main stream graph elaborates flat same checks =
-    let sound = elaborated_is_sound program main stream elaborates in
+flat_is_rated stream graph sound flat same checks =
     let is = flat sound.typed in
     graph_is_rated graph (carriers_are_joined graph.nodes graph.channels is.joined)
     (subst (AllByRecursion IsInstance) (sym same) sound.instances) checks

@@ -26,7 +26,8 @@ use Rattle.strc_run.specs.declared.refusal.Refusal.{Refusal}
 use Rattle.strc_run.specs.declared.refusal.Refusal.TheVariants as refusal
 use Rattle.strc_run.specs.Compiling.{Breaks, CanRun, IsCompiled, refusal_of, balance_refusal_of}
 use Rattle.strc_run.specs.Compiling.{round_counts}
-use Rattle.strc_run.specs.Programs.{IsText, IsTrueOf, IsReadRefusal}
+use Rattle.strc_run.specs.Accepts.{IsText}
+use Rattle.strc_run.specs.Refuses.{IsTrueOf, IsReadRefusal}
 use Rattle.strc_run.specs.Rates.{rates_checked}
 use Rattle.strc_run.specs.Scheduling.{HasStartup, IsUnbounded, IsDeadlocked}
 use Rattle.strc_run.specs.Scheduling.{startup_refusal_of, schedule_refusal_of}
@@ -123,6 +124,8 @@ program_answered text main program (Ok plan) is_text planned = record {
   accepted = record { program = program; is_text = is_text; compiles = planned.compiles };
   nodes = planned.nodes;
   graph = planned.graph;
+  whole = planned.whole;
+  planned = planned.planned;
   counts = planned.counts;
   startup = planned.startup;
   schedule = planned.schedule;

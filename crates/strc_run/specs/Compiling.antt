@@ -3,9 +3,10 @@
 use Rattle.std.specs.Prelude.{◌≡◌, ℕ, List, map, Option, Result, Ok, Err}
 use Rattle.strc_syntax.specs.Tree.{Declaration}
 use Rattle.strc_elab.specs.Elaboration.{elaborated}
-use Rattle.strc_elab.specs.Flattening.{nodes_of, codes_of, meaning_of, IsConnected, IsFlat}
-use Rattle.strc_elab.specs.Flattening.{IsAccepted, IsRefused}
+use Rattle.strc_elab.specs.Flattening.{tree_of, nodes_of, codes_of, meaning_of, IsConnected}
+use Rattle.strc_elab.specs.Flattening.{IsFlat, IsAccepted, IsRefused}
 use Rattle.strc_elab.specs.Instances.{Stream}
+use Rattle.strc_graph.specs.FlatGraphs.{IsProgram}
 use Rattle.strc_graph.specs.Graphs.{Graph}
 use Rattle.strc_graph.specs.NodeView.{node_view, graph_view}
 use Rattle.strc_balance.specs.Rates.{equations_of, size_of}
@@ -13,6 +14,7 @@ use Rattle.strc_balance.specs.Verdicts.{judged}
 use Rattle.strc_balance.specs.declared.error.BalanceError.{BalanceError}
 use Rattle.strc_balance.specs.declared.error.BalanceError.TheVariants as unbalanced
 use Rattle.strc_order.specs.Schedules.{ScheduleParts}
+use Rattle.strc_admissible.specs.Planned.{IsPlanned}
 use Rattle.strc_scope.specs.declared.error.ElabError.{ElabError}
 use Rattle.strc_scope.specs.declared.error.ElabError.TheVariants as error
 use Rattle.strc_run.specs.declared.plan.Plan.{Plan}
@@ -115,12 +117,15 @@ pub data Breaks (program : List Declaration) (main : Option (List ℕ)) (refused
         → CannotSchedule graph startup counts refused
         → Breaks program main refused
 
--- a plan is that of the stream that a program means
+-- a plan is that of the stream that a program means: its graph is the whole program's, and can be
+-- run by its schedule
 pub record Plans (program : List Declaration) (main : Option (List ℕ)) (plan : Plan) : Type 0 where
   pub stream : Stream
   pub compiles : Compiles program main stream
   pub nodes : map node_view plan.graph.nodes ≡ nodes_of stream
   pub graph : compiles.graph ≡ graph_view plan.graph
+  pub whole : IsProgram (tree_of stream) (graph_view plan.graph)
+  pub planned : IsPlanned (graph_view plan.graph) plan.schedule
   pub counts : compiles.counts ≡ plan.round_counts
   pub startup : compiles.startup ≡ plan.startup_counts
   pub schedule : compiles.schedule ≡ plan.schedule

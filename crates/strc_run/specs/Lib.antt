@@ -1,10 +1,8 @@
-pub mod Answers
+pub mod Accepts
 pub mod Compiling
-pub mod Loading
-pub mod Pipeline
-pub mod Programs
-pub mod Rates
+pub mod Laws
 pub mod Planning
-pub mod Running
+pub mod Rates
+pub mod Refuses
 pub mod Scheduling
 pub mod Verdicts

@@ -4,7 +4,8 @@ ghost use Rattle.std.specs.Prelude.{IfOk, IfErr};
 ghost use Rattle.std.specs.Option.{option_map};
 ghost use Rattle.strc_syntax.specs.View.{program_view};
 ghost use Rattle.strc_run.specs.Compiling.{IsCompiled};
-ghost use Rattle.strc_run.specs.Programs.{IsText, IsReadRefusal};
+ghost use Rattle.strc_run.specs.Accepts.{IsText};
+ghost use Rattle.strc_run.specs.Refuses.{IsReadRefusal};
 ghost use Rattle.strc_run.specs.Planning.{HasPlan};
 
 use crate::plan::Plan;
@@ -38,7 +39,7 @@ fn compile_program(alloc: Global, program: &Program, main: Option<&str>) -> Resu
     ensures { IsCompiled (program_view program.now) (option_map (λ n. n.now) main.entry) result }
 {
     let stream = elaborate(alloc, program, main)?;
-    let graph = flatten(alloc, stream)?;
+    let graph = flatten(alloc, &stream)?;
     check_rates(alloc, graph.nodes())?;
     let round_counts = balance(alloc, &graph)?;
     let startup_counts = startup(alloc, &graph, &round_counts)?;

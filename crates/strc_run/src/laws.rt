@@ -1,20 +1,13 @@
-// What the meaning of a program stands on, as laws about all streams.
+// What the meaning of a text stands on, as laws about all texts.
 
-ghost use Rattle.strc_run.specs.Answers.{LapsAreAnswers, AcceptedRunsAreAnswers};
-ghost use Rattle.strc_run.specs.Programs.{AcceptedOrRefused};
-
-/// The rounds of a stream whose nodes are runnable and stand in a chain end as the answer of its
-/// equations says: the same words, or the same fault in the same round.
-pub fn laps_are_answers()
-    ensures { LapsAreAnswers }
-{}
+ghost use Rattle.strc_run.specs.Laws.{AcceptedOrRefused, OneStream};
 
 /// No text is both accepted and refused.
 pub fn accepted_or_refused()
     ensures { AcceptedOrRefused }
 {}
 
-/// The rounds of an accepted text whose nodes are runnable end as the answer of its stream says.
-pub fn accepted_runs_are_answers()
-    ensures { AcceptedRunsAreAnswers }
+/// A text is accepted with one stream.
+pub fn one_stream()
+    ensures { OneStream }
 {}

@@ -1,7 +1,6 @@
 // The rates of the nodes of a program, one by one.
 
 ghost use Rattle.std.specs.Prelude.{◌≡◌, map};
-ghost use Rattle.strc_semantics.specs.Filters as filters;
 ghost use Rattle.strc_graph.specs.NodeView.{node_view};
 ghost use Rattle.strc_run.specs.Rates as spec;
 ghost use Rattle.strc_run.specs.Verdicts.{IsVerdict};
@@ -60,11 +59,4 @@ fn told_of_node(node: usize, error: RateError) -> Refusal
         RateError::PeekOutside => Refusal::PeekOutside { node },
         RateError::NoMemory => Refusal::NoMemory,
     }
-}
-
-/// A rate as a number of items: none where it is below 0.
-pub fn item_count(rate: i32) -> u32
-    ensures { result ≡ filters.item_count rate }
-{
-    if rate < 0 { 0 } else { rate as u32 }
 }

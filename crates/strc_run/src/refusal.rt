@@ -1,4 +1,4 @@
-// Why a program isn't run.
+// Why a text is refused.
 
 ghost use Rattle.std.specs.Prelude.{◌≡◌};
 ghost use Rattle.strc_run.specs.Compiling.{refusal_of, balance_refusal_of};
@@ -97,12 +97,10 @@ pub enum Refusal {
     BufferLimit {
         channel: usize,
     },
-    /// Memory ran out before the run.
+    /// Memory ran out before there was a plan.
     NoMemory,
     /// A statement or an expression is nested deeper than 256.
     Nesting,
-    /// No number of rounds is given, and no input bounds it.
-    RoundsNeeded,
 }
 
 impl From<ElabError> for Refusal {

@@ -1,5 +1,5 @@
 use Rattle.std.proofs.Common.{length}
-use Rattle.strc_cli.specs.Telling.{device_of}
+use Rattle.strc_cli.specs.Executes.{device_of}
 use Rattle.strc_cli.proofs.Telling.{Gone}
 use Rattle.strc_cli.proofs.execute.write_all.Given as goal
 

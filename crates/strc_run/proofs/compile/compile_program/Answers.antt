@@ -1,6 +1,7 @@
-use Rattle.std.proofs.Common.{List, map, option_map, refl, sym, ap, ◌∙◌, subst, Err}
-use Rattle.strc_syntax.specs.View.{program_view}
+use Rattle.std.proofs.Common.{List, map, refl, sym, ap, ◌∙◌, subst, Err}
+use Rattle.std.specs.List.{AllByRecursion}
 use Rattle.strc_graph.specs.Graphs.{NodeCode}
+use Rattle.strc_elab.specs.Sound.{IsInstance}
 use Rattle.strc_elab.specs.View.{stream_view}
 use Rattle.strc_graph.specs.NodeView.{node_view, graph_view}
 use Rattle.strc_run.specs.Compiling.{refusal_of, balance_refusal_of}
@@ -11,7 +12,7 @@ use Rattle.strc_run.proofs.Refusals.{elaboration_refused, graph_refused, rates_r
 use Rattle.strc_run.proofs.Refusals.{balance_refused, startup_refused, schedule_refused}
 use Rattle.strc_run.proofs.Refusals.{which_deadlock, refusal_told}
 use Rattle.strc_run.proofs.RatedGraphs.{flat_is_rated}
-use Rattle.strc_elab.proofs.Soundness.{elaborated_is_sound}
+use Rattle.strc_run.proofs.PlannedGraphs.{graph_is_planned}
 use Rattle.strc_run.proofs.compile.compile_program.Goals as goal
 
 pub returns-in_err-stream : goal.returns-in_err-stream
@@ -23,8 +24,7 @@ returns-in_err-stream c =
 pub returns-in_err-graph : goal.returns-in_err-graph
 returns-in_err-graph c =
     let elaborates = c.in_ok-stream.ensures.verdict in
-    let sound = elaborated_is_sound (program_view c.args.program.now)
-    (option_map (λ n. n.now) c.args.main) (stream_view c.in_ok-stream.stream) elaborates in
+    let sound = c.in_ok-stream.ensures.sound in
     refusal_told _ _ c.from_residual-in_err-graph.result
     (refusal_of c.in_err-graph.field-0.0) c.from_residual-in_err-graph.ensures.1
     (graph_refused _ _ _ elaborates c.in_err-graph.field-0.0
@@ -33,8 +33,7 @@ returns-in_err-graph c =
 pub returns-in_err-check_rates : goal.returns-in_err-check_rates
 returns-in_err-check_rates c =
     let elaborates = c.in_ok-stream.ensures.verdict in
-    let sound = elaborated_is_sound (program_view c.args.program.now)
-    (option_map (λ n. n.now) c.args.main) (stream_view c.in_ok-stream.stream) elaborates in
+    let sound = c.in_ok-stream.ensures.sound in
     let same = ap (map node_view) c.nodes.ensures ∙ c.in_ok-graph.ensures.nodes in
     refusal_told _ _ c.from_residual-in_err-check_rates.result c.in_err-check_rates.field-0.0
     c.from_residual-in_err-check_rates.ensures.1
@@ -45,25 +44,20 @@ returns-in_err-check_rates c =
 
 pub balance-requires-clause-rates : goal.balance-requires-clause-rates
 balance-requires-clause-rates c =
-    flat_is_rated elaborated_is_sound (program_view c.args.program.now)
-    (option_map (λ n. n.now) c.args.main) (stream_view c.in_ok-stream.stream)
-    (graph_view c.in_ok-graph.graph)
-    c.in_ok-stream.ensures.verdict c.in_ok-graph.ensures.graph c.in_ok-graph.ensures.nodes
+    flat_is_rated (stream_view c.in_ok-stream.stream) (graph_view c.in_ok-graph.graph)
+    c.in_ok-stream.ensures.sound c.in_ok-graph.ensures.graph c.in_ok-graph.ensures.nodes
     (ap (rates_checked 0) (sym (ap (map node_view) c.nodes.ensures))
     ∙ c.in_ok-check_rates.ensures)
 
 pub balance-requires-clause-connected : goal.balance-requires-clause-connected
 balance-requires-clause-connected c =
-    let sound = elaborated_is_sound (program_view c.args.program.now)
-    (option_map (λ n. n.now) c.args.main)
-    (stream_view c.in_ok-stream.stream) c.in_ok-stream.ensures.verdict in
+    let sound = c.in_ok-stream.ensures.sound in
     c.in_ok-graph.ensures.connected sound.typed
 
 pub returns-in_err-round_counts : goal.returns-in_err-round_counts
 returns-in_err-round_counts c =
     let elaborates = c.in_ok-stream.ensures.verdict in
-    let sound = elaborated_is_sound (program_view c.args.program.now)
-    (option_map (λ n. n.now) c.args.main) (stream_view c.in_ok-stream.stream) elaborates in
+    let sound = c.in_ok-stream.ensures.sound in
     let rates = ap (rates_checked 0) (sym
     (ap (map node_view) c.nodes.ensures ∙ c.in_ok-graph.ensures.nodes))
     ∙ c.in_ok-check_rates.ensures in
@@ -77,18 +71,15 @@ returns-in_err-round_counts c =
 
 pub startup-requires : goal.startup-requires
 startup-requires c =
-    flat_is_rated elaborated_is_sound (program_view c.args.program.now)
-    (option_map (λ n. n.now) c.args.main) (stream_view c.in_ok-stream.stream)
-    (graph_view c.in_ok-graph.graph)
-    c.in_ok-stream.ensures.verdict c.in_ok-graph.ensures.graph c.in_ok-graph.ensures.nodes
+    flat_is_rated (stream_view c.in_ok-stream.stream) (graph_view c.in_ok-graph.graph)
+    c.in_ok-stream.ensures.sound c.in_ok-graph.ensures.graph c.in_ok-graph.ensures.nodes
     (ap (rates_checked 0) (sym (ap (map node_view) c.nodes.ensures))
     ∙ c.in_ok-check_rates.ensures)
 
 pub returns-in_err-startup_counts : goal.returns-in_err-startup_counts
 returns-in_err-startup_counts c =
     let elaborates = c.in_ok-stream.ensures.verdict in
-    let sound = elaborated_is_sound (program_view c.args.program.now)
-    (option_map (λ n. n.now) c.args.main) (stream_view c.in_ok-stream.stream) elaborates in
+    let sound = c.in_ok-stream.ensures.sound in
     let rates = ap (rates_checked 0) (sym
     (ap (map node_view) c.nodes.ensures ∙ c.in_ok-graph.ensures.nodes))
     ∙ c.in_ok-check_rates.ensures in
@@ -104,25 +95,20 @@ returns-in_err-startup_counts c =
 
 pub schedule-requires-clause-rated : goal.schedule-requires-clause-rated
 schedule-requires-clause-rated c =
-    flat_is_rated elaborated_is_sound (program_view c.args.program.now)
-    (option_map (λ n. n.now) c.args.main) (stream_view c.in_ok-stream.stream)
-    (graph_view c.in_ok-graph.graph)
-    c.in_ok-stream.ensures.verdict c.in_ok-graph.ensures.graph c.in_ok-graph.ensures.nodes
+    flat_is_rated (stream_view c.in_ok-stream.stream) (graph_view c.in_ok-graph.graph)
+    c.in_ok-stream.ensures.sound c.in_ok-graph.ensures.graph c.in_ok-graph.ensures.nodes
     (ap (rates_checked 0) (sym (ap (map node_view) c.nodes.ensures))
     ∙ c.in_ok-check_rates.ensures)
 
 pub schedule-requires-clause-connected : goal.schedule-requires-clause-connected
 schedule-requires-clause-connected c =
-    let sound = elaborated_is_sound (program_view c.args.program.now)
-    (option_map (λ n. n.now) c.args.main)
-    (stream_view c.in_ok-stream.stream) c.in_ok-stream.ensures.verdict in
+    let sound = c.in_ok-stream.ensures.sound in
     c.in_ok-graph.ensures.connected sound.typed
 
 pub returns-in_err-schedule : goal.returns-in_err-schedule
 returns-in_err-schedule c =
     let elaborates = c.in_ok-stream.ensures.verdict in
-    let sound = elaborated_is_sound (program_view c.args.program.now)
-    (option_map (λ n. n.now) c.args.main) (stream_view c.in_ok-stream.stream) elaborates in
+    let sound = c.in_ok-stream.ensures.sound in
     let rates = ap (rates_checked 0) (sym
     (ap (map node_view) c.nodes.ensures ∙ c.in_ok-graph.ensures.nodes))
     ∙ c.in_ok-check_rates.ensures in
@@ -147,21 +133,24 @@ returns-in_err-schedule c =
 pub returns : goal.returns
 returns c =
     let elaborates = c.in_ok-stream.ensures.verdict in
-    let sound = elaborated_is_sound (program_view c.args.program.now)
-    (option_map (λ n. n.now) c.args.main) (stream_view c.in_ok-stream.stream) elaborates in
+    let sound = c.in_ok-stream.ensures.sound in
+    let graph = graph_view c.in_ok-graph.graph in
+    let startup = c.in_ok-startup_counts.startup_counts in
+    let round = c.in_ok-round_counts.round_counts in
+    let nodes = c.in_ok-graph.ensures.nodes in
+    let checks = ap (rates_checked 0) (sym (ap (map node_view) c.nodes.ensures))
+    ∙ c.in_ok-check_rates.ensures in
     record {
       stream = stream_view c.in_ok-stream.stream;
       compiles = record {
         elaborates = elaborates;
         runs = c.in_ok-graph.ensures.verdict sound.typed;
-        rates = ap (rates_checked 0) (sym
-            (ap (map node_view) c.nodes.ensures ∙ c.in_ok-graph.ensures.nodes))
-            ∙ c.in_ok-check_rates.ensures;
-        graph = graph_view c.in_ok-graph.graph;
+        rates = ap (rates_checked 0) (sym nodes) ∙ checks;
+        graph = graph;
         flat = c.in_ok-graph.ensures.graph sound.typed;
-        counts = c.in_ok-round_counts.round_counts;
+        counts = round;
         balances = c.in_ok-round_counts.ensures.verdict;
-        startup = c.in_ok-startup_counts.startup_counts;
+        startup = startup;
         starts = record {
           least = c.in_ok-startup_counts.ensures.least;
           within = c.in_ok-startup_counts.ensures.within;
@@ -172,8 +161,17 @@ returns c =
           within = c.in_ok-schedule.ensures.within;
         };
       };
-      nodes = c.in_ok-graph.ensures.nodes;
+      nodes = nodes;
       graph = refl;
+      whole = c.in_ok-graph.ensures.program sound;
+      planned = graph_is_planned graph
+          (subst (AllByRecursion IsInstance) (sym nodes) sound.instances) checks
+          c.in_ok-schedule.schedule startup round
+          (flat_is_rated (stream_view c.in_ok-stream.stream) graph sound
+          c.in_ok-graph.ensures.graph nodes checks)
+          c.in_ok-startup_counts.ensures.least c.in_ok-startup_counts.ensures.within
+          c.in_ok-round_counts.ensures.least c.in_ok-round_counts.ensures.within
+          c.in_ok-schedule.ensures.schedule;
       counts = refl;
       startup = refl;
       schedule = refl;

@@ -1,0 +1,94 @@
+-- What is written for a text and a command, and how a call of `execute` went.
+use Rattle.std.specs.Prelude.{◌≡◌, ℕ, List, ◌++◌, Option, Result, Ok, Err, Bool, true}
+use Rattle.std.specs.Io.KnownBytes.{Appends, Keeps}
+use Rattle.strc_cli.specs.declared.execute.CliError.{CliError}
+use Rattle.strc_cli.specs.declared.execute.CliError.TheVariants as error
+use Rattle.strc_cli.specs.declared.execute.Status.{Status}
+use Rattle.strc_cli.specs.declared.execute.Status.TheVariants as status
+use Rattle.strc_cli.specs.declared.answer.Answer.{Answer}
+use Rattle.strc_cli.specs.declared.answer.Answer.TheVariants as answer
+use Rattle.strc_cli.specs.declared.answer.Stop.{Stop}
+use Rattle.strc_cli.specs.declared.answer.Stop.TheVariants as stop
+use Rattle.strc_cli.specs.declared.line.Command.{Command}
+use Rattle.strc_sched.specs.declared.outcome.Outcome.TheVariants as outcome
+use Rattle.strc_sched.specs.declared.refusal.RunRefusal.{RunRefusal}
+use Rattle.strc_sched.specs.declared.refusal.RunRefusal.TheVariants as unrun
+use Rattle.strc_run.specs.declared.refusal.Refusal.{Refusal}
+use Rattle.strc_run.specs.declared.refusal.Refusal.TheVariants as refusal
+use Rattle.strc_cli.specs.Answering.{IsAnswered}
+use Rattle.strc_cli.specs.Output.{check_line, outcome_text, plan_text, refusal_line}
+use Rattle.strc_cli.specs.Output.{run_refusal_line}
+
+-- all that is written: what the run printed, the lines of a plan, or one line
+abbrev pub answer_text : Result Answer Stop → List ℕ
+answer_text (Ok (answer.Ran outcome)) = outcome_text outcome
+answer_text (Ok (answer.Checked nodes channels)) = check_line nodes channels
+answer_text (Ok (answer.Planned plan)) = plan_text plan
+answer_text (Err (stop.Refused refused)) = refusal_line refused
+answer_text (Err (stop.NotRun refused)) = run_refusal_line refused
+
+abbrev pub refusal_status : Refusal → Status
+refusal_status refusal.NoMemory = status.NoMemory
+refusal_status refused = status.Refused
+
+abbrev pub run_refusal_status : RunRefusal → Status
+run_refusal_status unrun.NoMemory = status.NoMemory
+run_refusal_status unrun.NoWorker = status.NoMemory
+run_refusal_status refused = status.Refused
+
+-- the status that belongs to what is written
+abbrev pub answer_status : Result Answer Stop → Status
+answer_status (Ok (answer.Ran (outcome.Done words))) = status.Done
+answer_status (Ok (answer.Ran (outcome.Fault node firing round cause words))) = status.Fault
+answer_status (Ok (answer.Checked nodes channels)) = status.Done
+answer_status (Ok (answer.Planned plan)) = status.Done
+answer_status (Err (stop.Refused refused)) = refusal_status refused
+answer_status (Err (stop.NotRun refused)) = run_refusal_status refused
+
+-- a device from before to after: what it has taken, and whether it has failed
+pub record Device : Type 0 where
+  pub taken : Option (List ℕ)
+  pub has_failed : Bool
+
+abbrev pub device_of : Option (List ℕ) → Bool → Device
+device_of taken has_failed = record { taken = taken; has_failed = has_failed }
+
+-- these bytes were written whole
+pub record Wrote (bytes : List ℕ) (before after : Device) : Type 0 where
+  pub taken : Appends before.taken after.taken bytes
+  pub steady : after.has_failed ≡ before.has_failed
+
+-- the device failed after a beginning of these bytes
+pub record FailedIn (bytes : List ℕ) (before after : Device) : Type 0 where
+  pub beginning : List ℕ
+  pub rest : List ℕ
+  pub is : bytes ≡ beginning ++ rest
+  pub taken : Appends before.taken after.taken beginning
+  pub failed : after.has_failed ≡ true
+
+-- nothing was written
+pub record WroteNothing (before after : Device) : Type 0 where
+  pub taken : Keeps before.taken after.taken
+  pub steady : after.has_failed ≡ before.has_failed
+
+-- how writing these bytes went
+abbrev pub Writes : List ℕ → Result (Unit {0}) CliError → Device → Device → Type 0
+Writes bytes (Ok done) before after = Wrote bytes before after
+Writes bytes (Err error.Write) before after = FailedIn bytes before after
+Writes bytes (Err error.Read) before after = ⊥
+Writes bytes (Err error.Memory) before after = ⊥
+
+-- how telling an answer went: written whole, with its status; or in part, for a failure of the
+-- device; or not at all
+abbrev pub TellsAnswer : Result Answer Stop → Result Status CliError → Device → Device → Type 0
+TellsAnswer answer (Ok status) before after =
+    (status ≡ answer_status answer) × Wrote (answer_text answer) before after
+TellsAnswer answer (Err error.Write) before after = FailedIn (answer_text answer) before after
+TellsAnswer answer (Err error.Read) before after = ⊥
+TellsAnswer answer (Err error.Memory) before after = WroteNothing before after
+
+-- what is reported is the answer for this text and command
+abbrev pub Executes : List ℕ → Command → Result Status CliError → Device → Device → Type 0
+Executes text command result before after =
+    (answer : Result Answer Stop) × IsAnswered text command answer
+    × TellsAnswer answer result before after
