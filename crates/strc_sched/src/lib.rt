@@ -1,7 +1,7 @@
 // Takes a flat graph with its schedule, and the program's input.
 // Gives the outcome of start-up and so many rounds on one thread.
-// The theorem to rely on: `run_plain` gives the answer of the stream equations, for whatever stream's
-// flat graph this is.
+// The theorem to rely on: `run_plain` gives the answer of the stream equations, for whatever
+// stream's flat graph this is.
 // Stands on strc_admissible, whose laws say that a schedule is admissible and that a run over rings
 // gives the answer, on strc_order, whose schedules it runs and passes on, on strc_work, whose codes
 // it fires, and on circular_buffer, whose rings hold the items.

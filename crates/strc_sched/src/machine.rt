@@ -153,8 +153,8 @@ impl Machine {
         }
     }
 
-    /// One firing of a node, by its number. Whether it found its windows; if not, it leaves all as it
-    /// was.
+    /// One firing of a node, by its number. Whether it found its windows; if not, it leaves all as
+    /// it was.
     fn step(&mut self, circuit: &Circuit, node: usize, firing: u64) -> Result<bool, Halt>
         requires machine { IsMachine (circuit_view circuit.now) self.old }
         requires node { node < length circuit.now.nodes.now }

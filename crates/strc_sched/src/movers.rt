@@ -35,7 +35,8 @@ pub(crate) fn fire_identity(
     requires input { IfSome input (λ number. number < length rings.old) }
     requires output { IfSome output (λ number. number < length rings.old) }
     ensures rings { length rings.new ≡ length rings.old }
-    ensures step { HasMoved (steps.identity_step input output rings.old) result rings.old rings.new }
+    ensures step { HasMoved (steps.identity_step input output rings.old) result rings.old
+        rings.new }
 {
     if count_at(rings, input) == 0 {
         return Ok(false);
@@ -198,8 +199,8 @@ pub(crate) fn fire_joiner(
     requires inputs { AreRings (length rings.old) inputs.now }
     requires output { IfSome output (λ number. number < length rings.old) }
     ensures rings { length rings.new ≡ length rings.old }
-    ensures step { HasMoved (steps.joiner_step weights.now inputs.now output rings.old) result rings.old
-        rings.new }
+    ensures step { HasMoved (steps.joiner_step weights.now inputs.now output rings.old) result
+        rings.old rings.new }
 {
     if !have_weights(rings, weights, inputs) {
         return Ok(false);

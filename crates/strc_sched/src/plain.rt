@@ -7,7 +7,8 @@ ghost use Rattle.strc_admissible.specs.Laws.{startup_order, round_order};
 ghost use Rattle.strc_admissible.specs.Machine as spec;
 ghost use Rattle.strc_admissible.specs.Planned.{IsPlanned};
 ghost use Rattle.strc_sched.specs.Circuits.{circuit_view};
-ghost use Rattle.strc_sched.specs.Plain.{AnswersGraph, IsEnding, IsPlainRefusal, IsStopped, need_of};
+ghost use Rattle.strc_sched.specs.Plain.{AnswersGraph, IsEnding, IsPlainRefusal, IsStopped};
+ghost use Rattle.strc_sched.specs.Plain.{need_of};
 ghost use Rattle.strc_sched.specs.Running.{IsMachine, machine_view};
 ghost use Rattle.strc_sched.specs.declared.refusal.RunRefusal.TheVariants as refused;
 
@@ -23,13 +24,14 @@ use strc_order::unit::Unit;
 use strc_semantics::word::Word;
 
 /// Start-up and so many rounds of a schedule, on one thread: each channel is a ring as large as the
-/// schedule says, and nodes fire over them in the order of the schedule.
+/// schedule says, and nodes fire over them in the order of the schedule (Lee and Messerschmitt 1987:
+/// a periodic admissible sequential schedule; StreamIt specification 2.1, "Filters", "Split-joins").
 ///
-/// The graph's filters start without a fault, `check` is Ok for each, and the schedule is that of the
-/// graph's least counts; there are no scatters, copies or gathers. For whatever stream's flat graph
-/// this is, the outcome is the answer of the stream equations at the schedule's counts. `InputShort`
-/// comes exactly where the input has fewer items than these rounds read, `NoMemory` where memory runs
-/// out.
+/// The graph's filters start without a fault, `check` is Ok for each, and the schedule is that of
+/// the graph's least counts; there are no scatters, copies or gathers. For whatever stream's flat
+/// graph this is, the outcome is the answer of the stream equations at the schedule's counts.
+/// `InputShort` comes exactly where the input has fewer items than these rounds read, `NoMemory`
+/// where memory runs out.
 pub fn run_plain(
     alloc: Global,
     graph: &Graph,
@@ -38,7 +40,8 @@ pub fn run_plain(
     rounds: u32,
 ) -> Result<Outcome, RunRefusal>
     requires planned { IsPlanned (graph_view graph.now) schedule.now }
-    ensures answer { IfOk result (AnswersGraph (graph_view graph.now) schedule.now input.now rounds) }
+    ensures answer { IfOk result (AnswersGraph (graph_view graph.now) schedule.now input.now
+        rounds) }
     ensures enough { IfOk result (λ _. need_of (graph_view graph.now) schedule.now rounds
         ≤ length input.now) }
     ensures refused { IfErr result (IsPlainRefusal
@@ -104,7 +107,7 @@ fn run_rounds(
 /// The outcome of a run that was stopped, with the first so many words.
 fn stopped(words: Vec<Word>, kept: usize, round: Round, stop: Stop) -> Result<Outcome, RunRefusal>
     ensures outcome { IfOk result (IsStopped stop round (take kept words.items)) }
-    ensures memory { IfErr result (λ refusal. (refusal ≡ refused.NoMemory)) }
+    ensures memory { IfErr result (λ refusal. refusal ≡ refused.NoMemory) }
 {
     let mut words = words;
     words.truncate(kept);
