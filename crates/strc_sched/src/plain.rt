@@ -23,9 +23,9 @@ use strc_order::parts::Schedule;
 use strc_order::unit::Unit;
 use strc_semantics::word::Word;
 
-/// Start-up and so many rounds of a schedule, on one thread: each channel is a ring as large as the
-/// schedule says, and nodes fire over them in the order of the schedule (Lee and Messerschmitt 1987:
-/// a periodic admissible sequential schedule; StreamIt specification 2.1, "Filters", "Split-joins").
+/// Start-up and so many rounds of a schedule, on one thread: each channel is a ring as large as
+/// the schedule says, and nodes fire over them in its order (Lee and Messerschmitt 1987: a periodic
+/// admissible sequential schedule; StreamIt specification 2.1, "Filters" and "Split-joins").
 ///
 /// The graph's filters start without a fault, `check` is Ok for each, and the schedule is that of
 /// the graph's least counts; there are no scatters, copies or gathers. For whatever stream's flat
