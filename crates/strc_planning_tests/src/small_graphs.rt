@@ -62,8 +62,8 @@ fn duplicate(alloc: Global) -> Result<Node, AllocError> {
     Ok(Node::Splitter(Splitter::Duplicate(carried)))
 }
 
-/// A channel with so many enqueued items.
-fn channel_of(alloc: Global, ends: Ends, items: usize) -> Result<Channel, AllocError> {
+/// A channel with these enqueued items.
+fn channel_of(alloc: Global, ends: Ends, enqueued: &[i32]) -> Result<Channel, AllocError> {
     Ok(Channel {
         source: Port {
             node: ends.0,
@@ -73,11 +73,34 @@ fn channel_of(alloc: Global, ends: Ends, items: usize) -> Result<Channel, AllocE
             node: ends.2,
             port: ends.3,
         },
-        enqueued: Vec::from_elem(alloc, 0, items)?,
+        enqueued: Vec::from_slice(alloc, enqueued)?,
     })
 }
 
-/// The graph of these nodes and channels, with so many items on the last channel.
+/// The graph of these nodes and channels, with these items on the last channel.
+pub(crate) fn graph_with(
+    rt: &impl Abort,
+    alloc: Global,
+    nodes: Vec<Node>,
+    ends: &[Ends],
+    enqueued: &[i32],
+) -> Result<Graph, AllocError> {
+    let mut channels = Vec::new(alloc);
+    for channel in 0..ends.len() {
+        let items: &[i32] = if channel + 1 == ends.len() {
+            enqueued
+        } else {
+            &[]
+        };
+        channels.push(channel_of(alloc, ends[channel], items)?)?;
+    }
+    let outer_loops = Vec::from_elem(alloc, None, nodes.len())?;
+    let joined = is_graph(&nodes, &channels, &outer_loops);
+    assert!(rt; joined, "a channel without a port");
+    Ok(Graph::new(nodes, channels, outer_loops))
+}
+
+/// The same with so many items on the last channel.
 pub(crate) fn graph_of(
     rt: &impl Abort,
     alloc: Global,
@@ -85,15 +108,8 @@ pub(crate) fn graph_of(
     ends: &[Ends],
     items: usize,
 ) -> Result<Graph, AllocError> {
-    let mut channels = Vec::new(alloc);
-    for channel in 0..ends.len() {
-        let items = if channel + 1 == ends.len() { items } else { 0 };
-        channels.push(channel_of(alloc, ends[channel], items)?)?;
-    }
-    let outer_loops = Vec::from_elem(alloc, None, nodes.len())?;
-    let joined = is_graph(&nodes, &channels, &outer_loops);
-    assert!(rt; joined, "a channel without a port");
-    Ok(Graph::new(nodes, channels, outer_loops))
+    let enqueued = Vec::from_elem(alloc, 0, items)?;
+    graph_with(rt, alloc, nodes, ends, &enqueued)
 }
 
 /// The counts of a graph, or why there are none.
