@@ -19,12 +19,14 @@ pub trait Source {
     /// How many reads are still allowed.
     ghost reads_left: { Self → ℕ };
 
-    /// Reads some bytes, 0 only at the end. With no reads left it is an error.
+    /// Reads some bytes, 0 only at the end. With no reads left it is an error; else one fewer is
+    /// left, whatever comes of it.
     fn read(&mut self, buffer: &mut [u8]) -> io::Result<usize>
         ensures bound { ReadsAtMost result buffer.new }
         ensures bytes { ReadConsumes (remaining self.old) (remaining self.new) result buffer.new }
+        ensures left { reads_left self.new ≡ reads_left self.old - 1 }
         ensures ok { OnOk result ((has_failed self.new ≡ has_failed self.old)
-            × (reads_left self.new < reads_left self.old)) }
+            × (0 < reads_left self.old)) }
         ensures err { OnErr result (has_failed self.new ≡ true) };
 
     /// Whether a read has failed: true from the first error on.
