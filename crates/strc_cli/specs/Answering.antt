@@ -88,8 +88,8 @@ IsNotRun text (command.Run rounds main) refused =
     IsRunRefusal text (option_map string_bytes main) rounds refused
 IsNotRun text _ refused = ⊥
 
--- what the command asks of the text, or why there is no such answer; out of memory while the plan is
--- made is one of the text's refusals
+-- what the command asks of the text, or why there is no such answer; out of memory while the plan
+-- is made is one of the text's refusals
 abbrev pub IsAnswered : List ℕ → Command → Result Answer Stop → Type 0
 IsAnswered text command (Ok answer) = IsAsked text command answer
 IsAnswered text command (Err (stop.Refused refused)) = IsTrueOf text (main_of command) refused

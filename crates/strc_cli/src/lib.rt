@@ -6,8 +6,8 @@
 // of its rounds that is the answer of its stream's equations, the size of its graph, its plan, or a
 // refusal that holds.
 // Stands on strc_run, which compiles and runs a text, on strc_sched, whose outcomes it writes, on
-// strc_graph, strc_balance and strc_order, whose graph, counts and buffers it writes, and on clap for
-// the command line.
+// strc_graph, strc_balance and strc_order, whose graph, counts and buffers it writes, and on clap
+// for the command line.
 #![tactic(auto)]
 
 mod answer;

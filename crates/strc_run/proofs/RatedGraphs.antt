@@ -87,8 +87,8 @@ all_checked number (code ∷ codes) all e =
       all_checked (number + 1) codes all.1 here.1,
     )
 
-pub checked_at : (codes : List NodeCode) (node : ℕ) (code : NodeCode) → AllByRecursion IsChecked codes
-    → slice_get codes node ≡ Some code → IsChecked code
+pub checked_at : (codes : List NodeCode) (node : ℕ) (code : NodeCode)
+    → AllByRecursion IsChecked codes → slice_get codes node ≡ Some code → IsChecked code
 checked_at [] node code all is = absurd (cc)
 checked_at (first ∷ rest) zero code all is = let same : first ≡ code = cc in
     subst IsChecked same all.0
