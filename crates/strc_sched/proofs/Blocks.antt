@@ -1,7 +1,7 @@
 -- Firings of an identity in a row come to one move of all their items.
-use Rattle.std.proofs.Common.{◌≡◌, ◌≢◌, refl, sym, ap, ◌∙◌, ℕ, zero, suc, ◌+◌, ◌-◌, ◌^◌, ◌<◌, ◌≤◌, ℤ}
+use Rattle.std.proofs.Common.{◌≡◌, ◌≢◌, refl, sym, ap, ◌∙◌, ℕ, zero, suc, ◌+◌, ◌-◌, ◌^◌, ◌<◌, ◌≤◌}
 use Rattle.std.proofs.Common.{List, [], ◌∷◌, ◌++◌, length, get_or, set, take, drop, min, arith}
-use Rattle.std.proofs.Common.{append-nil, append_assoc, Bool, true, false, ltb}
+use Rattle.std.proofs.Common.{ℤ, append-nil, append_assoc, Bool, true, false, ltb}
 use Rattle.std.specs.Prelude.{Some, slice_get, if◌then◌else◌}
 use Rattle.std.proofs.Math.Seq.{take-nil}
 use Rattle.std.proofs.lemmas.Bool.{le-leb, ltb-true, ltb-false}
@@ -12,7 +12,8 @@ use Rattle.strc_graph.specs.Graphs as graphs
 use Rattle.strc_order.specs.Order.{repeated}
 use Rattle.strc_admissible.specs.Machine.{CircuitView, MachineView, Went, after_step}
 use Rattle.strc_admissible.specs.Machine.{next_step, order_run, then_go, one_more}
-use Rattle.strc_admissible.specs.Rings.{Ring, ring_at, at_port, items_at, shortened, extended, moved}
+use Rattle.strc_admissible.specs.Rings.{Ring, ring_at, at_port, items_at, shortened, extended}
+use Rattle.strc_admissible.specs.Rings.{moved}
 use Rattle.strc_admissible.specs.Steps.{Goes, if_found, identity_step}
 use Rattle.strc_admissible.specs.Wiring.{ports_at}
 use Rattle.strc_sched.proofs.Done.{fields_kept, step_of}
@@ -145,7 +146,7 @@ holds_items (ring ∷ rings) (suc number) some =
     let less = holds_items rings number some in omega arith
 
 -- so many more firings, numbered within 64 bits
-abbrev pub counted : (count firing : ℕ) → ℕ
+abbrev counted : (count firing : ℕ) → ℕ
 counted count firing = min (firing + count) (2 ^ 64 - 1)
 
 counted_more : (count firing : ℕ) → firing < 2 ^ 64
@@ -167,7 +168,7 @@ one_more_fits firing fits = by_test (ltb firing (2 ^ 64 - 1)) refl
     by_test false is = fits
 
 -- the machine after so many firings of an identity
-abbrev pub moved_on : (count node from to : ℕ) → MachineView → MachineView
+abbrev moved_on : (count node from to : ℕ) → MachineView → MachineView
 moved_on count node from to machine = record {
   fields = machine.fields;
   fired = set machine.fired node (counted count (get_or machine.fired node 0));
@@ -200,10 +201,18 @@ module _ (circuit : CircuitView) (node from to : ℕ) (apart : from ≢ to)
       ∙ ap (λ found. if_found found (Goes [] rings []))
       (le-leb 1 (length (items_at machine.rings (Some from))) (omega arith)))
       ∙ ap (λ fields. Went (record {
-        fields = fields; fired = fired; rings = rings; words = machine.words ++ []; }))
+        fields = fields;
+        fired = fired;
+        rings = rings;
+        words = machine.words ++ [];
+      }))
       (sym (fields_kept machine.fields node none))
       ∙ ap (λ words. Went (record {
-        fields = machine.fields; fired = fired; rings = rings; words = words; }))
+        fields = machine.fields;
+        fired = fired;
+        rings = rings;
+        words = words;
+      }))
       (append-nil machine.words)
 
   -- so many
@@ -217,18 +226,28 @@ module _ (circuit : CircuitView) (node from to : ℕ) (apart : from ≢ to)
       let firing = get_or machine.fired node 0 in
       let same : counted 0 firing ≡ firing = omega arith in
       ap (λ fired. Went (record {
-        fields = machine.fields; fired = fired; rings = machine.rings; words = machine.words; }))
+        fields = machine.fields;
+        fired = fired;
+        rings = machine.rings;
+        words = machine.words;
+      }))
       (sym (ap (set machine.fired node) same ∙ set-get_or machine.fired node 0))
       ∙ ap (λ rings. Went (record {
-        fields = machine.fields; fired = set machine.fired node (counted 0 firing);
-        rings = rings; words = machine.words; }))
+        fields = machine.fields;
+        fired = set machine.fired node (counted 0 firing);
+        rings = rings;
+        words = machine.words;
+      }))
       (sym (moved_none from to machine.rings))
   block_run (suc count) machine none there fits given enough =
       let firing = get_or machine.fired node 0 in
       let rings = moved (Some from) (Some to) 1 machine.rings in
       let next : MachineView = record {
-        fields = machine.fields; fired = set machine.fired node (one_more firing);
-        rings = rings; words = machine.words; } in
+        fields = machine.fields;
+        fired = set machine.fired node (one_more firing);
+        rings = rings;
+        words = machine.words;
+      } in
       let some : 0 < length (items_at machine.rings (Some from)) = omega arith in
       let from_there = holds_items machine.rings from some in
       let now = get_or-set_same machine.fired node (one_more firing) 0 there in
@@ -243,12 +262,18 @@ module _ (circuit : CircuitView) (node from to : ℕ) (apart : from ≢ to)
       ∙ block_run count next none (omega (arith, there, fired_many))
       (omega (arith, now, more)) (omega (arith, given, rings_many)) (omega (arith, left, enough))
       ∙ ap (λ fired. Went (record {
-        fields = machine.fields; fired = fired;
-        rings = moved (Some from) (Some to) count rings; words = machine.words; }))
+        fields = machine.fields;
+        fired = fired;
+        rings = moved (Some from) (Some to) count rings;
+        words = machine.words;
+      }))
       (ap (λ n. set next.fired node (counted count n)) now
       ∙ set-set machine.fired node (one_more firing) (counted count (one_more firing))
       ∙ ap (set machine.fired node) (counted_more count firing fits))
       ∙ ap (λ l. Went (record {
-        fields = machine.fields; fired = set machine.fired node (counted (suc count) firing);
-        rings = l; words = machine.words; }))
+        fields = machine.fields;
+        fired = set machine.fired node (counted (suc count) firing);
+        rings = l;
+        words = machine.words;
+      }))
       (moved_more from to apart count machine.rings from_there given some)

@@ -1,5 +1,5 @@
 -- Firings of an identity that move their items in one block.
-use Rattle.std.specs.Prelude.{◌≡◌, ◌≢◌, ℕ, ◌≤◌, List, length, slice_get, Some}
+use Rattle.std.specs.Prelude.{◌≡◌, ◌≢◌, ◌≤◌, List, length, slice_get, Some}
 use Rattle.strc_graph.specs.Graphs as graphs
 use Rattle.strc_admissible.specs.Machine.{CircuitView}
 use Rattle.strc_admissible.specs.Rings.{Ring, at_port, items_at}

@@ -34,19 +34,24 @@ returns-in-Ok-clause-gone c =
     ∙ sym c.args.self.now.rings.ok.0)
     ∙ c.in-Ok.ensures
     ∙ ap (moved (Some block.from) (Some block.to) block.count) c.deref_mut.ensures.value in
-    let fired : List ℕ = set before.fired node c.saturating_add.result in
-    (
+    let fired : List ℕ = set before.fired node c.saturating_add.result in (
       block_run circuit node block.from block.to is.apart is.code is.input is.output block.count
           before none there (omega arith) given is.enough
-      ∙ ap (λ l. Went (record {
-        fields = before.fields; fired = l;
-        rings = moved (Some block.from) (Some block.to) block.count before.rings;
-        words = before.words; }))
-      (ap (λ n. set before.fired node (min (n + block.count) (2 ^ 64 - 1))) (sym same)
-      ∙ ap (set before.fired node) (sym c.saturating_add.ensures))
-      ∙ ap (λ l. Went (record {
-        fields = before.fields; fired = fired; rings = l; words = before.words; }))
-      (sym rings),
+          ∙ ap (λ l. Went (record {
+            fields = before.fields;
+            fired = l;
+            rings = moved (Some block.from) (Some block.to) block.count before.rings;
+            words = before.words;
+          }))
+          (ap (λ n. set before.fired node (min (n + block.count) (2 ^ 64 - 1))) (sym same)
+          ∙ ap (set before.fired node) (sym c.saturating_add.ensures))
+          ∙ ap (λ l. Went (record {
+            fields = before.fields;
+            fired = fired;
+            rings = l;
+            words = before.words;
+          }))
+          (sym rings),
       more_refl before.words,
     )
 
