@@ -8,3 +8,4 @@ pub mod Done
 pub mod Going
 pub mod Counting
 pub mod Endings
+pub mod Blocks

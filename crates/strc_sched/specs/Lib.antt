@@ -5,3 +5,4 @@ pub mod Running
 pub mod Reading
 pub mod Plain
 pub mod Sentences
+pub mod Blocks

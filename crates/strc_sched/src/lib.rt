@@ -8,6 +8,7 @@
 #![tactic(auto)]
 
 mod actor;
+mod block;
 mod circuit;
 mod filter;
 mod machine;

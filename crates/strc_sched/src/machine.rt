@@ -1,21 +1,23 @@
 // The machine that fires a graph's nodes over rings.
 
-ghost use Rattle.std.specs.Prelude.{◌≡◌, ◌<◌, IfOk, length};
+ghost use Rattle.std.specs.Prelude.{◌≡◌, ◌<◌, [], ◌∷◌, IfOk, length};
 ghost use Rattle.strc_graph.specs.NodeView.{graph_view};
 ghost use Rattle.strc_order.specs.Greedy.{firings_of};
 ghost use Rattle.strc_order.specs.Order.{repeated};
 ghost use Rattle.strc_sched.specs.Actors.{AreActors, AreStartable, AreClosed};
+ghost use Rattle.strc_sched.specs.Blocks.{IsBlock};
 ghost use Rattle.strc_admissible.specs.Circuits.{IsCircuit, IsFirst};
 ghost use Rattle.strc_sched.specs.Circuits.{circuit_view};
 ghost use Rattle.strc_admissible.specs.Machine as spec;
 ghost use Rattle.strc_sched.specs.Running.{HasDone, HasGone, IsMachine, machine_view};
 
 use crate::actor::{Actor, start_actors};
+use crate::block::{Block, block_of};
 use crate::circuit::Circuit;
 use crate::filter::fire_filter;
 use crate::movers::ring_of;
 use crate::passing::fire_passive;
-use crate::ring::{Ring, first_rings};
+use crate::ring::{Ring, first_rings, move_items};
 use std::alloc::Global;
 use strc_base::memory::NoMemory;
 use strc_graph::graph::{Graph, Node};
@@ -92,8 +94,41 @@ impl Machine {
         Ok(())
     }
 
-    /// Fires a unit's nodes in turn, and the whole list a number of times.
+    /// Fires a unit's nodes in turn, and the whole list a number of times; in one block where the
+    /// unit is one.
     fn fire_unit(&mut self, circuit: &Circuit, unit: &Unit) -> Result<(), Stop>
+        requires machine { IsMachine (circuit_view circuit.now) self.old }
+        ensures machine { IsMachine (circuit_view circuit.now) self.new }
+        ensures gone { HasGone (spec.order_run (circuit_view circuit.now)
+            (repeated unit.now.turns unit.now.nodes.items) (machine_view self.old)) result
+            (machine_view self.old).words (machine_view self.new) }
+    {
+        match block_of(circuit, unit, &self.rings) {
+            Some(block) => self.fire_block(circuit, block),
+            None => self.fire_turns(circuit, unit),
+        }
+    }
+
+    /// Fires an identity some times at once.
+    fn fire_block(&mut self, circuit: &Circuit, block: Block) -> Result<(), Stop>
+        requires machine { IsMachine (circuit_view circuit.now) self.old }
+        requires block { IsBlock (circuit_view circuit.now) self.old.rings.items block }
+        ensures machine { IsMachine (circuit_view circuit.now) self.new }
+        ensures gone { HasGone (spec.order_run (circuit_view circuit.now)
+            (repeated block.count (block.node ∷ [])) (machine_view self.old)) result
+            (machine_view self.old).words (machine_view self.new) }
+    {
+        let firing = self.fired[block.node];
+        self.fired[block.node] = firing.saturating_add(block.count as u64);
+        let (from, to) = (Some(block.from), Some(block.to));
+        match move_items(&mut self.rings, from, to, block.count, &mut self.items) {
+            Ok(()) => Ok(()),
+            Err(_) => Err(Stop::NoMemory),
+        }
+    }
+
+    /// Fires a unit's nodes one by one.
+    fn fire_turns(&mut self, circuit: &Circuit, unit: &Unit) -> Result<(), Stop>
         requires machine { IsMachine (circuit_view circuit.now) self.old }
         ensures machine { IsMachine (circuit_view circuit.now) self.new }
         ensures gone { HasGone (spec.order_run (circuit_view circuit.now)

@@ -3,7 +3,7 @@ use Rattle.strc_order.specs.Order.{repeated}
 use Rattle.strc_sched.specs.Circuits.{circuit_view}
 use Rattle.strc_sched.specs.Running.{machine_view}
 use Rattle.strc_sched.proofs.Going.{goes_on, goes_so, stops_so, turns_left}
-use Rattle.strc_sched.proofs.machine.Machine.fire_unit.Goals as goal
+use Rattle.strc_sched.proofs.machine.Machine.fire_turns.Goals as goal
 
 pub returns-in-Err-clause-gone : goal.returns-in-Err-clause-gone
 returns-in-Err-clause-gone c =

@@ -3,7 +3,7 @@ use Rattle.strc_order.specs.Order.{repeated}
 use Rattle.strc_sched.specs.Circuits.{circuit_view}
 use Rattle.strc_sched.specs.Running.{IsMachine, machine_view}
 use Rattle.strc_sched.proofs.Going.{Goes}
-use Rattle.strc_sched.proofs.machine.Machine.fire_unit.Given as goal
+use Rattle.strc_sched.proofs.machine.Machine.fire_turns.Given as goal
 
 abbrev pub invariant-loop-turn : goal.invariant-loop-turn
 invariant-loop-turn l = record {
