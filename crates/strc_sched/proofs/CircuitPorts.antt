@@ -46,4 +46,5 @@ pub ends_of_views : (channels : List Channel)
 ends_of_views [] = (refl, refl)
 ends_of_views (channel ∷ channels) =
     let rest = ends_of_views channels in
-    (ap (λ (l : List Port). channel.target ∷ l) rest.0, ap (λ (l : List Port). channel.source ∷ l) rest.1)
+    (ap (λ (l : List Port). channel.target ∷ l) rest.0,
+      ap (λ (l : List Port). channel.source ∷ l) rest.1)

@@ -1,5 +1,6 @@
 -- What one firing leaves of the machine.
-use Rattle.std.proofs.Common.{◌≡◌, refl, sym, ap, ◌∙◌, subst, ℕ, zero, suc, ◌<◌, ◌≤◌, ℤ, Bool, true, false}
+use Rattle.std.proofs.Common.{◌≡◌, refl, sym, ap, ◌∙◌, subst, ℕ}
+use Rattle.std.proofs.Common.{zero, suc, ◌<◌, ◌≤◌, ℤ, Bool, true, false}
 use Rattle.std.proofs.Common.{List, [], ◌∷◌, ◌++◌, length, get_or, set, map, arith, Result, Ok, Err}
 use Rattle.std.proofs.Common.{append-nil, ◌≢◌, ◌⊎◌, inl, inr}
 use Rattle.std.specs.Prelude.{Option, Some, None, slice_get}
@@ -236,7 +237,8 @@ passive_of (nodes.Copy instance fission) never = tt
 passive_of (nodes.Gather fission) never = tt
 
 -- a step's answer, where what it speaks of has other names
-module _ (result : Result Bool Halt) (words after_words : List Word) (rings named after left : List Ring)
+module _ (result : Result Bool Halt) (words after_words : List Word)
+    (rings named after left : List Ring)
     (same_rings : named ≡ rings) (same_left : left ≡ after) where
   pub stepped_filter : (filter : filters.Filter) (firing : ℕ) (old named_old fields : List ℤ)
       (input named_input output named_output : Option ℕ) → named_old ≡ old

@@ -1,5 +1,6 @@
 -- How rounds end.
-use Rattle.std.proofs.Common.{◌≡◌, refl, sym, ap, ◌∙◌, subst, ℕ, zero, suc, ◌+◌, ◌-◌, ◌<◌, ◌≤◌, List}
+use Rattle.std.proofs.Common.{◌≡◌, refl, sym, ap, ◌∙◌, subst, ℕ}
+use Rattle.std.proofs.Common.{zero, suc, ◌+◌, ◌-◌, ◌<◌, ◌≤◌, List}
 use Rattle.std.proofs.Common.{[], ◌++◌, length, take, get_or, arith, add-one, Result, Ok, Err}
 use Rattle.std.specs.Prelude.{IfOk, Some, slice_get}
 use Rattle.std.proofs.Math.Seq.{take-append_seam}

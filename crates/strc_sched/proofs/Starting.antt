@@ -1,5 +1,6 @@
 -- Nodes start one after another.
-use Rattle.std.proofs.Common.{◌≡◌, refl, sym, ap, ◌∙◌, subst, ℕ, zero, suc, ◌+◌, ◌<◌, ◌≤◌, ℤ, List, [], ◌∷◌}
+use Rattle.std.proofs.Common.{◌≡◌, refl, sym, ap, ◌∙◌, subst, ℕ, zero}
+use Rattle.std.proofs.Common.{suc, ◌+◌, ◌<◌, ◌≤◌, ℤ, List, [], ◌∷◌}
 use Rattle.std.proofs.Common.{◌++◌, length, map, take, get_or, arith}
 use Rattle.std.specs.Prelude.{Some, slice_get, All}
 use Rattle.std.proofs.lemmas.Grind.{take_at_read}
