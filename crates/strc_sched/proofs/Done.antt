@@ -1,9 +1,9 @@
 -- What one firing leaves of the machine.
 use Rattle.std.proofs.Common.{◌≡◌, refl, sym, ap, ◌∙◌, subst, ℕ}
 use Rattle.std.proofs.Common.{zero, suc, ◌<◌, ◌≤◌, ℤ, Bool, true, false}
-use Rattle.std.proofs.Common.{List, [], ◌∷◌, ◌++◌, length, get_or, set, map, arith, Result, Ok, Err}
+use Rattle.std.proofs.Common.{List, [], ◌∷◌, length, get_or, set, map, arith, Result, Ok, Err}
 use Rattle.std.proofs.Common.{append-nil, ◌≢◌, ◌⊎◌, inl, inr}
-use Rattle.std.specs.Prelude.{Option, Some, None, slice_get}
+use Rattle.std.specs.Prelude.{Option, Some, slice_get}
 use Rattle.std.proofs.lemmas.List.{map-set, get_or-map, length-map, length-set, set-get_or}
 use Rattle.std.proofs.lemmas.Option.{slice_get-get_or, slice_get_within, slice_get_past}
 use Rattle.std.proofs.lemmas.Option.{slice_get-map}

@@ -1,20 +1,18 @@
 -- How rounds end.
 use Rattle.std.proofs.Common.{◌≡◌, refl, sym, ap, ◌∙◌, subst, ℕ}
-use Rattle.std.proofs.Common.{zero, suc, ◌+◌, ◌-◌, ◌<◌, ◌≤◌, List}
-use Rattle.std.proofs.Common.{[], ◌++◌, length, take, get_or, arith, add-one, Result, Ok, Err}
-use Rattle.std.specs.Prelude.{IfOk, Some, slice_get}
+use Rattle.std.proofs.Common.{suc, ◌+◌, ◌-◌, ◌<◌, ◌≤◌, List}
+use Rattle.std.proofs.Common.{length, take, arith, add-one, Result, Ok, Err}
+use Rattle.std.specs.Prelude.{IfOk}
 use Rattle.std.proofs.Math.Seq.{take-append_seam}
 use Rattle.std.proofs.lemmas.Option.{slice_get_within, get_or_from_slice_get}
-use Rattle.strc_semantics.specs.Closed.{IsClosedFilter}
-use Rattle.strc_semantics.specs.Filters as filters
 use Rattle.strc_semantics.specs.declared.fault.Cause.{Cause}
 use Rattle.strc_semantics.specs.declared.word.Word.{Word}
 use Rattle.strc_inst.specs.Running.{MoreWords}
 use Rattle.strc_graph.specs.Graphs as graphs
 use Rattle.strc_graph.specs.Graphs.{NodeCode, Graph}
 use Rattle.strc_admissible.specs.Machine.{CircuitView, MachineView, Progress, Went, Stopped}
-use Rattle.strc_admissible.specs.Machine.{Ending, FaultedAtFirst, FaultedIn, order_run, after_round}
-use Rattle.strc_admissible.specs.Machine.{rounds_run, after_startup, whole_run}
+use Rattle.strc_admissible.specs.Machine.{Ending, FaultedIn, order_run, after_round}
+use Rattle.strc_admissible.specs.Machine.{rounds_run}
 use Rattle.strc_admissible.specs.Planned.{AreKnown}
 use Rattle.strc_sched.specs.Actors.{AreClosed, IsClosedNode}
 use Rattle.strc_sched.specs.Plain.{IsEnding, IsStopped}

@@ -1,7 +1,7 @@
 -- Rings are put at ports one after another.
-use Rattle.std.proofs.Common.{◌≡◌, refl, sym, ap, ◌∙◌, subst, ℕ, zero, suc, ◌+◌, ◌<◌, ◌≤◌, List, []}
+use Rattle.std.proofs.Common.{◌≡◌, refl, sym, ap, ◌∙◌, subst, ℕ, zero, suc, ◌<◌, List, []}
 use Rattle.std.proofs.Common.{◌∷◌, length, get_or, set, take, map, arith, ◌≢◌, ◌⊎◌, inl, inr}
-use Rattle.std.specs.Prelude.{Option, Some, None, slice_get, replicate, All}
+use Rattle.std.specs.Prelude.{Option, Some, None, slice_get, replicate}
 use Rattle.std.specs.Vec.{with_item}
 use Rattle.std.specs.declared.vec.Vec.{Vec}
 use Rattle.std.proofs.lemmas.List.{map-set, get_or-map, length-map, get_or-set_same}

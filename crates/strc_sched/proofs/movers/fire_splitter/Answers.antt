@@ -1,4 +1,4 @@
-use Rattle.std.proofs.Common.{◌≡◌, ◌∙◌, sym, ap, subst}
+use Rattle.std.proofs.Common.{◌∙◌, sym, ap, subst}
 use Rattle.strc_graph.specs.NodeView.{splitter_view}
 use Rattle.strc_admissible.specs.Steps.{splitter_step, roundrobin_step}
 use Rattle.strc_sched.specs.Answers.{HasMoved}

@@ -1,4 +1,4 @@
-use Rattle.std.proofs.Common.{◌≡◌, ◌∙◌, ap, sym, subst, map, length, arith, ◌≤◌}
+use Rattle.std.proofs.Common.{◌∙◌, ap, subst, map, length, arith, ◌≤◌}
 use Rattle.strc_graph.specs.NodeView.{graph_view, node_view}
 use Rattle.strc_admissible.specs.Circuits.{IsFirst}
 use Rattle.strc_admissible.specs.Laws.{counts_at, startup_order, round_order}

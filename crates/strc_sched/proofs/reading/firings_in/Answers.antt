@@ -1,4 +1,4 @@
-use Rattle.std.proofs.Common.{◌≡◌, ◌∙◌, ap, sym, ◌*◌, arith}
+use Rattle.std.proofs.Common.{◌≡◌, ◌∙◌, ap, ◌*◌, arith}
 use Rattle.strc_order.specs.Order.{tally, repeated}
 use Rattle.strc_sched.proofs.Counting.{tally_times}
 use Rattle.strc_sched.proofs.reading.firings_in.Goals as goal

@@ -1,4 +1,4 @@
-use Rattle.std.proofs.Common.{◌≡◌, ◌∙◌, ap, sym, ◌+◌, arith}
+use Rattle.std.proofs.Common.{arith}
 use Rattle.strc_sched.proofs.Counting.{unit_next, unit_within}
 use Rattle.strc_sched.proofs.reading.firings_of.Goals as goal
 

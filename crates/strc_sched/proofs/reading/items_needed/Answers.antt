@@ -1,7 +1,7 @@
-use Rattle.std.proofs.Common.{◌≡◌, ◌∙◌, ap, sym, ◌+◌, ◌*◌}
+use Rattle.std.proofs.Common.{◌∙◌, ap, sym, ◌+◌, ◌*◌}
 use Rattle.strc_order.specs.Greedy.{firings_of}
 use Rattle.strc_order.specs.Order.{tally}
-use Rattle.strc_admissible.specs.Laws.{counts_at, startup_order, round_order}
+use Rattle.strc_admissible.specs.Laws.{counts_at, startup_order}
 use Rattle.strc_sched.specs.Reading.{count_of}
 use Rattle.strc_sched.proofs.Counting.{counts_are}
 use Rattle.strc_sched.proofs.reading.items_needed.Goals as goal

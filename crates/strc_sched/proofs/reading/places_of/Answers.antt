@@ -1,4 +1,4 @@
-use Rattle.std.proofs.Common.{◌∙◌, ap, sym, ◌+◌, arith}
+use Rattle.std.proofs.Common.{◌∙◌, ap, ◌+◌, arith}
 use Rattle.strc_sched.proofs.Counting.{place_here, place_not}
 use Rattle.strc_sched.proofs.reading.places_of.Goals as goal
 use Rattle.strc_sched.proofs.reading.places_of.Goals.{then-other-node, else-other-node}

@@ -1,4 +1,4 @@
-use Rattle.std.proofs.Common.{◌≡◌, ap, ◌∙◌, ℤ, List, ◌++◌, take}
+use Rattle.std.proofs.Common.{ap, ◌∙◌, ℤ, List, ◌++◌, take}
 use Rattle.strc_sched.proofs.Fronts.{pieces}
 use Rattle.strc_sched.proofs.ring.copy_front.Goals as goal
 

@@ -1,4 +1,4 @@
-use Rattle.std.proofs.Common.{take, map}
+use Rattle.std.proofs.Common.{map}
 use Rattle.strc_graph.specs.NodeView.{channel_view}
 use Rattle.strc_sched.proofs.Firsts.{AreFirstSo}
 use Rattle.strc_sched.proofs.ring.first_rings.Given as goal

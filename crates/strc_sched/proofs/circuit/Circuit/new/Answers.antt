@@ -1,11 +1,10 @@
-use Rattle.std.proofs.Common.{◌≡◌, ◌∙◌, sym, ap, subst, List, length, map}
+use Rattle.std.proofs.Common.{◌∙◌, sym, ap, subst, List, length, map}
 use Rattle.std.specs.Prelude.{All}
 use Rattle.std.proofs.lemmas.List.{length-map}
 use Rattle.strc_graph.specs.Graphs as graphs
-use Rattle.strc_graph.specs.NodeView.{node_view, channel_view}
+use Rattle.strc_graph.specs.NodeView.{node_view}
 use Rattle.strc_graph.specs.declared.graph.Node.{Node}
 use Rattle.strc_graph.specs.declared.graph.Channel.{Channel}
-use Rattle.strc_graph.specs.declared.graph.Port.{Port}
 use Rattle.strc_admissible.specs.Wiring.{HasPort, IsWired}
 use Rattle.strc_sched.specs.Circuits.{source_of, target_of}
 use Rattle.strc_sched.proofs.CircuitPorts.{ends_there, ends_of_views}

@@ -1,4 +1,4 @@
-use Rattle.std.proofs.Common.{◌≡◌, ◌∙◌, refl, sym, ap, subst, ◌<◌, [], length, get_or, arith}
+use Rattle.std.proofs.Common.{◌∙◌, refl, sym, ap, subst, ◌<◌, [], length, get_or, arith}
 use Rattle.std.specs.Vec.{with_items}
 use Rattle.std.proofs.lemmas.List.{with_items_is, length-map}
 use Rattle.strc_semantics.specs.Filters.{filter_of}

@@ -1,4 +1,4 @@
-use Rattle.std.proofs.Common.{◌≡◌, ◌∙◌, sym, subst, suc, get_or, add-one}
+use Rattle.std.proofs.Common.{sym, subst, suc, get_or, add-one}
 use Rattle.std.proofs.lemmas.Option.{slice_get-get_or}
 use Rattle.strc_graph.specs.declared.graph.Port.{Port}
 use Rattle.strc_sched.proofs.Wirings.{Wires, wires_start, wires_next}
