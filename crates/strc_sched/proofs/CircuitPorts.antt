@@ -45,6 +45,7 @@ pub ends_of_views : (channels : List Channel)
     ≡ map (λ (channel : graphs.Channel). channel.source) (map channel_view channels))
 ends_of_views [] = (refl, refl)
 ends_of_views (channel ∷ channels) =
-    let rest = ends_of_views channels in
-    (ap (λ (l : List Port). channel.target ∷ l) rest.0,
-      ap (λ (l : List Port). channel.source ∷ l) rest.1)
+    let rest = ends_of_views channels in (
+      ap (λ (l : List Port). channel.target ∷ l) rest.0,
+      ap (λ (l : List Port). channel.source ∷ l) rest.1,
+    )

@@ -19,7 +19,7 @@ returns-clause-machine c =
       input_nodes = wired.input_nodes ∙ sym (ap length wired.codes);
       output_nodes = wired.output_nodes ∙ sym (ap length wired.codes);
       inputs = hold_rings _ c.args.circuit.now.inputs _ wired.inputs
-        (length-map _ _ ∙ sym channels);
+          (length-map _ _ ∙ sym channels);
       outputs = hold_rings _ c.args.circuit.now.outputs _ wired.outputs
           (length-map _ _ ∙ sym channels);
     }
