@@ -1,4 +1,4 @@
--- What is written for a text and a command, and how a call of `execute` went.
+-- What is written for a text, a command and an input, and how a call of `execute` went.
 use Rattle.std.specs.Prelude.{◌≡◌, ℕ, List, ◌++◌, Option, Result, Ok, Err, Bool, true}
 use Rattle.std.specs.Io.KnownBytes.{Appends, Keeps}
 use Rattle.strc_cli.specs.declared.execute.CliError.{CliError}
@@ -17,7 +17,7 @@ use Rattle.strc_run.specs.declared.refusal.Refusal.{Refusal}
 use Rattle.strc_run.specs.declared.refusal.Refusal.TheVariants as refusal
 use Rattle.strc_cli.specs.Answering.{IsAnswered}
 use Rattle.strc_cli.specs.Output.{check_line, outcome_text, plan_text, refusal_line}
-use Rattle.strc_cli.specs.Output.{run_refusal_line}
+use Rattle.strc_cli.specs.Output.{run_refusal_line, bad_input_line}
 
 -- all that is written: what the run printed, the lines of a plan, or one line
 abbrev pub answer_text : Result Answer Stop → List ℕ
@@ -25,6 +25,7 @@ answer_text (Ok (answer.Ran outcome)) = outcome_text outcome
 answer_text (Ok (answer.Checked nodes channels)) = check_line nodes channels
 answer_text (Ok (answer.Planned plan)) = plan_text plan
 answer_text (Err (stop.Refused refused)) = refusal_line refused
+answer_text (Err (stop.BadInput word)) = bad_input_line word
 answer_text (Err (stop.NotRun refused)) = run_refusal_line refused
 
 abbrev pub refusal_status : Refusal → Status
@@ -43,6 +44,7 @@ answer_status (Ok (answer.Ran (outcome.Fault node firing round cause words))) = 
 answer_status (Ok (answer.Checked nodes channels)) = status.Done
 answer_status (Ok (answer.Planned plan)) = status.Done
 answer_status (Err (stop.Refused refused)) = refusal_status refused
+answer_status (Err (stop.BadInput word)) = status.Refused
 answer_status (Err (stop.NotRun refused)) = run_refusal_status refused
 
 -- a device from before to after: what it has taken, and whether it has failed
@@ -87,8 +89,16 @@ TellsAnswer answer (Err error.Write) before after = FailedIn (answer_text answer
 TellsAnswer answer (Err error.Read) before after = ⊥
 TellsAnswer answer (Err error.Memory) before after = WroteNothing before after
 
--- what is reported is the answer for this text and command
-abbrev pub Executes : List ℕ → Command → Result Status CliError → Device → Device → Type 0
-Executes text command result before after =
-    (answer : Result Answer Stop) × IsAnswered text command answer
-    × TellsAnswer answer result before after
+-- an answer is told, or nothing is written where there is none
+abbrev pub IsTold : Result (Result Answer Stop) CliError → Result Status CliError → Device → Device
+    → Type 0
+IsTold (Ok answer) result before after = TellsAnswer answer result before after
+IsTold (Err failure) result before after = (result ≡ Err failure) × WroteNothing before after
+
+-- what is reported is the answer for this text, command and input, of which the bytes are given
+-- where they are known
+abbrev pub Executes : List ℕ → Command → (bytes : Option (List ℕ)) → Result Status CliError
+    → Device → Device → Type 0
+Executes text command bytes result before after =
+    (answer : Result (Result Answer Stop) CliError) × IsAnswered text command bytes answer
+    × IsTold answer result before after

@@ -1,5 +1,6 @@
 pub mod Answering
 pub mod Executes
+pub mod Input
 pub mod Lines
 pub mod Output
 pub mod Statuses

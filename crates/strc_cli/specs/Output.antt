@@ -113,7 +113,6 @@ plan_text plan =
 
 -- the number and the name of a refusal, with its fields, each after its name
 abbrev pub refusal_words : Refusal → List ℕ
-refusal_words refusal.NotYet = codes "E0 NotYet"
 refusal_words (refusal.Lex at) = codes "E1 Lex" ++ codes " at " ++ decimal at
 refusal_words (refusal.Parse token) = codes "E2 Parse" ++ codes " token " ++ decimal token
 refusal_words refusal.TextTooLong = codes "E3 TextTooLong"
@@ -126,6 +125,8 @@ refusal_words refusal.DepthLimit = codes "E8 DepthLimit"
 refusal_words refusal.NodeLimit = codes "E9 NodeLimit"
 refusal_words (refusal.BadArguments stream) =
     codes "E10 BadArguments" ++ codes " stream " ++ decimal stream
+refusal_words (refusal.BadWeights stream) =
+    codes "E11 BadWeights" ++ codes " stream " ++ decimal stream
 refusal_words (refusal.ConstFault cause) =
     codes "E12 ConstFault" ++ codes " cause " ++ cause_name cause
 refusal_words (refusal.RateUnknown node) = codes "E13 RateUnknown" ++ codes " node " ++ decimal node
@@ -164,3 +165,8 @@ run_refusal_words unrun.RoundsNeeded = codes "S5 RoundsNeeded"
 -- `refused S1 InputShort need 6 got 5`
 abbrev pub run_refusal_line : RunRefusal → List ℕ
 run_refusal_line refused = codes "refused " ++ run_refusal_words refused ++ line_end
+
+-- `refused S6 BadInput word 2`
+abbrev pub bad_input_line : (word : ℕ) → List ℕ
+bad_input_line word = codes "refused " ++ (codes "S6 BadInput" ++ codes " word " ++ decimal word)
+    ++ line_end

@@ -1,18 +1,25 @@
 // What a command is answered for a text, before anything is written.
 
-ghost use Rattle.std.specs.Prelude.{◌≡◌, ℕ, List, Option};
+ghost use Rattle.std.specs.Prelude.{◌≡◌, ◌≢◌, ◌⊎◌, true, ℕ, List, Option, Err};
+ghost use Rattle.std.specs.List.{list_any};
 ghost use Rattle.std.specs.Option.{option_map};
+ghost use Rattle.strc_graph.specs.Graphs as graphs;
 ghost use Rattle.strc_graph.specs.NodeView.{graph_view};
 ghost use Rattle.strc_admissible.specs.Planned.{IsPlanned};
 ghost use Rattle.strc_run.specs.Planning.{IsPlanOf};
-ghost use Rattle.strc_cli.specs.Answering.{IsAnswered, IsRun, main_of};
+ghost use Rattle.strc_cli.specs.Answering.{IsAnswered, IsRun, ReadsInput, main_of};
+ghost use Rattle.strc_cli.specs.Input as spec;
+ghost use Rattle.strc_cli.specs.Input.{IsInputOf, IsRunAnswer};
 
+use crate::device::Source;
+use crate::execute::CliError;
+use crate::input::{ReadStop, read_numbers};
 use crate::line::Command;
 use std::alloc::Global;
 use strc_run::compile::compile;
 use strc_run::plan::Plan;
 use strc_run::refusal::Refusal;
-use strc_run::run::{Outcome, RunRefusal, run};
+use strc_run::run::{Outcome, RunRefusal, reads_input, run};
 
 /// What a command asks of an accepted text.
 #[derive(Drop)]
@@ -30,40 +37,100 @@ pub(crate) enum Answer {
 pub(crate) enum Stop {
     /// The text is refused.
     Refused(Refusal),
+    /// The text is accepted, and a word of its input writes no number; its number, from 0.
+    BadInput { word: u64 },
     /// The text is accepted, and isn't run.
     NotRun(RunRefusal),
 }
 
-/// The answer to a command. A refusal of the text comes before one of the run.
-pub(crate) fn answer_to(alloc: Global, text: &[u8], command: &Command) -> Result<Answer, Stop>
-    ensures { IsAnswered text.now command.now result }
+/// The answer to a command. A refusal of the text comes before the input is read, and one of the
+/// input before one of the run. The input is read where the text is run and its graph has a reader.
+pub(crate) fn answer_to<I: Source>(
+    alloc: Global,
+    text: &[u8],
+    command: &Command,
+    input: &mut I,
+) -> Result<Result<Answer, Stop>, CliError>
+    ensures answered { IsAnswered text.now command.now (I.remaining input.old) result }
+    ensures failed { result ≡ Err CliError.Read → I.has_failed input.new ≡ true }
+    ensures steady { result ≢ Err CliError.Read → I.has_failed input.new ≡ I.has_failed input.old }
+    ensures unread { (input.new ≡ input.old) ⊎ ReadsInput text.now command.now }
 {
     let plan = match compile(alloc, text, main_name(command)) {
         Ok(plan) => plan,
-        Err(refusal) => return Err(Stop::Refused(refusal)),
+        Err(refusal) => return Ok(Err(Stop::Refused(refusal))),
     };
     match command {
-        Command::Run { rounds, main: _ } => match run_plan(alloc, &plan, *rounds) {
-            Ok(outcome) => Ok(Answer::Ran(outcome)),
-            Err(refusal) => Err(Stop::NotRun(refusal)),
-        },
-        Command::Check { main: _ } => Ok(Answer::Checked {
+        Command::Run { rounds, main: _ } => run_plan(alloc, &plan, *rounds, input),
+        Command::Check { main: _ } => Ok(Ok(Answer::Checked {
             nodes: plan.graph.nodes().len(),
             channels: plan.graph.channels().len(),
-        }),
-        Command::Plan { main: _ } => Ok(Answer::Planned(plan)),
+        })),
+        Command::Plan { main: _ } => Ok(Ok(Answer::Planned(plan))),
     }
 }
 
 // The outcome of so many rounds of a plan, for whatever text's plan this is.
-fn run_plan(alloc: Global, plan: &Plan, rounds: Option<u32>) -> Result<Outcome, RunRefusal>
+fn run_plan<I: Source>(
+    alloc: Global,
+    plan: &Plan,
+    rounds: Option<u32>,
+    input: &mut I,
+) -> Result<Result<Answer, Stop>, CliError>
     requires { IsPlanned (graph_view plan.now.graph) plan.now.schedule }
-    ensures { (text : List ℕ) (main : Option (List ℕ)) → IsPlanOf text main plan.now
-        → IsRun text main rounds result }
+    ensures run { (text : List ℕ) (main : Option (List ℕ)) → IsPlanOf text main plan.now
+        → IsRun text main rounds (I.remaining input.old) result }
+    ensures failed { result ≡ Err CliError.Read → I.has_failed input.new ≡ true }
+    ensures steady { result ≢ Err CliError.Read → I.has_failed input.new ≡ I.has_failed input.old }
+    ensures unread { (input.new ≡ input.old)
+        ⊎ (list_any graphs.reads_input (graph_view plan.now.graph).nodes ≡ true) }
 {
-    match rounds {
-        Some(count) => run(alloc, plan, &[], count),
-        None => Err(RunRefusal::RoundsNeeded),
+    match input_of(alloc, plan, input) {
+        Ok(numbers) => Ok(run_numbers(alloc, plan, rounds, &numbers)),
+        Err(stop) => unread(stop),
+    }
+}
+
+// What comes of an input that gives no numbers.
+fn unread(stop: ReadStop) -> Result<Result<Answer, Stop>, CliError>
+    ensures { result ≡ spec.unread stop }
+{
+    match stop {
+        ReadStop::BadInput { word } => Ok(Err(Stop::BadInput { word })),
+        ReadStop::Failed => Err(CliError::Read),
+        ReadStop::NoMemory => Err(CliError::Memory),
+    }
+}
+
+// The numbers of the input, where the plan's graph has a reader.
+fn input_of<I: Source>(alloc: Global, plan: &Plan, input: &mut I) -> Result<Vec<i32>, ReadStop>
+    ensures numbers { IsInputOf (list_any graphs.reads_input (graph_view plan.now.graph).nodes)
+        (I.remaining input.old) result }
+    ensures failed { result ≡ Err ReadStop.Failed → I.has_failed input.new ≡ true }
+    ensures steady { result ≢ Err ReadStop.Failed → I.has_failed input.new ≡ I.has_failed input.old }
+    ensures unread { (input.new ≡ input.old)
+        ⊎ (list_any graphs.reads_input (graph_view plan.now.graph).nodes ≡ true) }
+{
+    if reads_input(&plan.graph) {
+        read_numbers(alloc, input)
+    } else {
+        Ok(Vec::new(alloc))
+    }
+}
+
+// The outcome of rounds over this input.
+fn run_numbers(
+    alloc: Global,
+    plan: &Plan,
+    rounds: Option<u32>,
+    input: &[i32],
+) -> Result<Answer, Stop>
+    requires { IsPlanned (graph_view plan.now.graph) plan.now.schedule }
+    ensures { IsRunAnswer (graph_view plan.now.graph) plan.now.schedule input.now rounds result }
+{
+    match run(alloc, plan, input, rounds) {
+        Ok(outcome) => Ok(Answer::Ran(outcome)),
+        Err(refusal) => Err(Stop::NotRun(refusal)),
     }
 }
 

@@ -1,6 +1,7 @@
 // From the bytes of a text to the bytes of the output.
 
-ghost use Rattle.std.specs.Prelude.{◌≡◌, IfOk, IfSome};
+ghost use Rattle.std.specs.Prelude.{◌≡◌, ◌≢◌, ◌⊎◌, true, Err, IfOk, IfSome};
+ghost use Rattle.strc_cli.specs.Answering.{ReadsInput};
 ghost use Rattle.strc_cli.specs.Statuses.{status_number};
 ghost use Rattle.strc_cli.specs.Executes as spec;
 ghost use Rattle.strc_cli.specs.Executes.{Executes, TellsAnswer, Writes, device_of};
@@ -8,7 +9,9 @@ ghost use Rattle.strc_cli.specs.Executes.{Executes, TellsAnswer, Writes, device_
 use crate::answer::{Answer, Stop, answer_to};
 use crate::device::{Sink, Source};
 use crate::line::Command;
-use crate::output::{check_text, outcome_text, plan_text, refusal_text, run_refusal_text};
+use crate::output::{
+    bad_input_text, check_text, outcome_text, plan_text, refusal_text, run_refusal_text,
+};
 use std::alloc::{AllocError, Global};
 use strc_run::refusal::Refusal;
 use strc_run::run::{Outcome, RunRefusal};
@@ -51,23 +54,28 @@ pub enum CliError {
     Memory,
 }
 
-/// Runs a program's text, and writes what it prints; or writes how large its graph is, or how often
-/// its nodes fire; or one line that names a refusal.
+/// Runs a program's text over the input, and writes what it prints; or writes how large its graph is,
+/// or how often its nodes fire; or one line that names a refusal.
 pub fn execute<I: Source, O: Sink>(
     alloc: Global,
     text: &[u8],
     command: &Command,
-    _input: &mut I,
+    input: &mut I,
     output: &mut O,
 ) -> Result<Status, CliError>
-    ensures told { Executes text.now command.now result
+    ensures told { Executes text.now command.now (I.remaining input.old) result
         (device_of (O.contents output.old) (O.has_failed output.old))
         (device_of (O.contents output.new) (O.has_failed output.new)) }
-    // The input isn't read.
-    ensures input { _input.new ≡ _input.old }
+    // Reading fails only where the input did so in this call.
+    ensures failed { result ≡ Err CliError.Read → I.has_failed input.new ≡ true }
+    ensures steady { result ≢ Err CliError.Read → I.has_failed input.new ≡ I.has_failed input.old }
+    // The input is read only for a run of a text whose stream has a reader.
+    ensures unread { (input.new ≡ input.old) ⊎ ReadsInput text.now command.now }
 {
-    let answered = answer_to(alloc, text, command);
-    tell(alloc, &answered, output)
+    match answer_to(alloc, text, command, input) {
+        Ok(answered) => tell(alloc, &answered, output),
+        Err(failure) => Err(failure),
+    }
 }
 
 // Writes what is reported of an answer.
@@ -112,6 +120,7 @@ fn answer_text(alloc: Global, answered: &Result<Answer, Stop>) -> Result<Vec<u8>
         Ok(Answer::Checked { nodes, channels }) => check_text(alloc, *nodes, *channels),
         Ok(Answer::Planned(plan)) => plan_text(alloc, plan),
         Err(Stop::Refused(refusal)) => refusal_text(alloc, refusal),
+        Err(Stop::BadInput { word }) => bad_input_text(alloc, *word),
         Err(Stop::NotRun(refusal)) => run_refusal_text(alloc, *refusal),
     }
 }
@@ -127,6 +136,7 @@ fn answer_status(answered: &Result<Answer, Stop>) -> Status
         Ok(Answer::Planned(_)) => Status::Done,
         Err(Stop::Refused(Refusal::NoMemory)) => Status::NoMemory,
         Err(Stop::Refused(_)) => Status::Refused,
+        Err(Stop::BadInput { .. }) => Status::Refused,
         Err(Stop::NotRun(RunRefusal::NoMemory)) => Status::NoMemory,
         Err(Stop::NotRun(RunRefusal::NoWorker)) => Status::NoMemory,
         Err(Stop::NotRun(_)) => Status::Refused,

@@ -233,7 +233,6 @@ fn push_refusal(text: &mut Vec<u8>, refusal: &Refusal) -> Result<(), AllocError>
     ensures { OnOk result (text.new.items ≡ text.old.items ++ spec.refusal_words refusal.now) }
 {
     match refusal {
-        Refusal::NotYet => push_bytes(text, b"E0 NotYet"),
         Refusal::Lex { at } => push_field(text, b"E1 Lex", b" at ", *at as u64),
         Refusal::Parse { token } => push_field(text, b"E2 Parse", b" token ", *token as u64),
         Refusal::TextTooLong => push_bytes(text, b"E3 TextTooLong"),
@@ -252,6 +251,9 @@ fn push_refusal(text: &mut Vec<u8>, refusal: &Refusal) -> Result<(), AllocError>
         Refusal::NodeLimit => push_bytes(text, b"E9 NodeLimit"),
         Refusal::BadArguments { stream } => {
             push_field(text, b"E10 BadArguments", b" stream ", *stream as u64)
+        }
+        Refusal::BadWeights { stream } => {
+            push_field(text, b"E11 BadWeights", b" stream ", *stream as u64)
         }
         Refusal::ConstFault { cause } => {
             push_named(text, b"E12 ConstFault", b" cause ", cause_name(*cause))
@@ -347,6 +349,17 @@ pub(crate) fn run_refusal_text(alloc: Global, refusal: RunRefusal) -> Result<Vec
     let mut text = Vec::new(alloc);
     push_bytes(&mut text, b"refused ")?;
     push_run_refusal(&mut text, refusal)?;
+    push_bytes(&mut text, b"\n")?;
+    Ok(text)
+}
+
+/// The line that tells which word of the input writes no number.
+pub(crate) fn bad_input_text(alloc: Global, word: u64) -> Result<Vec<u8>, AllocError>
+    ensures { IfOk result (λ text. text.items ≡ spec.bad_input_line word) }
+{
+    let mut text = Vec::new(alloc);
+    push_bytes(&mut text, b"refused ")?;
+    push_field(&mut text, b"S6 BadInput", b" word ", word)?;
     push_bytes(&mut text, b"\n")?;
     Ok(text)
 }

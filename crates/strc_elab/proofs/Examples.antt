@@ -5,14 +5,15 @@ use Rattle.std.specs.Int.{int_wrap}
 use Rattle.strc_base.specs.Results.{result_and_then}
 use Rattle.strc_syntax.specs.Tree as tree
 use Rattle.strc_syntax.specs.declared.tree.ItemType.TheVariants.{Void}
+use Rattle.strc_syntax.specs.declared.tree.CompositeKind.TheVariants.{Pipeline}
 use Rattle.strc_semantics.specs.Firing.{turn_limit}
 use Rattle.strc_check.specs.Typing.{TypedNames}
 use Rattle.strc_semantics.specs.declared.fault.Cause.TheVariants.{Turns}
 use Rattle.strc_scope.specs.Statements.{computed}
 use Rattle.strc_elab.specs.Elaboration.{Setting, Progress, condition_evaluated, inside, looped}
 use Rattle.strc_elab.specs.Elaboration.{stmt_run, stmts_run, stream_elaborated, initial_progress}
-use Rattle.strc_elab.specs.Elaboration.{pipeline_elaborated, level_limit, filter_limit}
-use Rattle.strc_elab.specs.Instances.{Stream}
+use Rattle.strc_elab.specs.Elaboration.{composite_made, level_limit, filter_limit}
+use Rattle.strc_stream.specs.Instances.{Stream}
 use Rattle.strc_elab.specs.Examples.{RecursionRow, EndlessRow, LoopRow, EndlessLoopRow}
 use Rattle.strc_elab.specs.Examples.{endless_loop, both_added, block}
 use Rattle.strc_scope.specs.declared.error.ElabError.{ElabError}
@@ -71,11 +72,11 @@ abbrev main_after : Result Progress ElabError → Result Stream ElabError
 main_after first =
     result_and_then (result_and_then (result_and_then first
     (stmts_run main_setting [] 0 (block both_added)))
-    (λ progress. pipeline_elaborated 4
-    (Some (record { input = Void; output = Void })) progress.types progress))
+    (λ progress. composite_made Pipeline 4
+    (Some (record { input = Void; output = Void })) progress))
     (λ made. Ok made.stream)
 
 pub endless_loop_is : EndlessLoopRow
 unfolding level_limit
 endless_loop_is = ap main_after (turns_run_out (suc turn_limit) main_setting []
-    (initial_progress (record { turns = 0; filters = 0 })))
+    (initial_progress Pipeline (record { turns = 0; filters = 0 })))

@@ -1,14 +1,14 @@
 -- Refusals of steps go through to what the steps are part of.
-use Rattle.std.proofs.Common.{◌≡◌, Result, Ok, Err, ap, ◌∙◌}
+use Rattle.std.proofs.Common.{◌≡◌, ℕ, Option, Some, None, option_map, Result, Ok, Err, ap, ◌∙◌}
 use Rattle.strc_base.specs.Results.{result_and_then}
 use Rattle.strc_scope.specs.Answers.{IsRefusal}
 use Rattle.strc_scope.specs.declared.error.ElabError.{ElabError}
 use Rattle.strc_scope.specs.declared.error.ElabError.TheVariants as refused
+use Rattle.strc_elab.specs.Weights.{weighted}
 
 -- where one judgement refuses as another does, a refusal of the other is one of it
 pub refused_as : {A B : Type 0} (r : Result A ElabError) (s : Result B ElabError) (e : ElabError)
     → (r ≡ Err e → s ≡ Err e) → IsRefusal r e → IsRefusal s e
-refused_as r s refused.NotYet carry h = carry h
 refused_as r s (refused.UnknownName name) carry h = carry h
 refused_as r s (refused.TypeMismatch stream) carry h = carry h
 refused_as r s refused.NoMain carry h = carry h
@@ -16,6 +16,7 @@ refused_as r s refused.ManyMains carry h = carry h
 refused_as r s refused.DepthLimit carry h = carry h
 refused_as r s refused.NodeLimit carry h = carry h
 refused_as r s (refused.BadArguments stream) carry h = carry h
+refused_as r s (refused.BadWeights stream) carry h = carry h
 refused_as r s (refused.ConstFault cause) carry h = carry h
 refused_as r s refused.TwoInputs carry h = carry h
 refused_as r s refused.TwoOutputs carry h = carry h
@@ -43,3 +44,23 @@ second_refused r go x e is h = refused_same (go x) (result_and_then r go) e
 pub both_done : {A B : Type 0} (r : Result A ElabError) (go : A → Result B ElabError) (x : A)
     (y : B) → r ≡ Ok x → go x ≡ Ok y → result_and_then r go ≡ Ok y
 both_done r go x y is next = ap (λ z. result_and_then z go) is ∙ next
+
+-- the first of two steps is done
+pub then_done : {A B : Type 0} (r : Result A ElabError) (go : A → Result B ElabError) (x : A)
+    (next : Result B ElabError) → r ≡ Ok x → go x ≡ next → result_and_then r go ≡ next
+then_done r go x next is same = ap (λ z. result_and_then z go) is ∙ same
+
+refusal_same : {A : Type 0} (e e' : ElabError)
+    → ◌≡◌ {A = Result A ElabError} (Err e) (Err e') → e ≡ e'
+refusal_same e e' is = cc
+
+-- weights that aren't allowed, whatever is made of them
+pub mapped_refused : {A B : Type 0} (declaration : ℕ) (f : A → B) (dealt : Option A)
+    (e : ElabError) → IsRefusal (weighted declaration dealt) e
+    → IsRefusal (weighted declaration (option_map f dealt)) e
+mapped_refused {A} {B} declaration f None e h =
+    refused_as (weighted {A = A} declaration None) (weighted {A = B} declaration None) e
+    (λ is. ap (λ x. Err x) (refusal_same {A = A} (refused.BadWeights declaration) e is)) h
+mapped_refused {A} {B} declaration f (Some x) e h =
+    refused_as (weighted {A = A} declaration (Some x)) (weighted {A = B} declaration (Some (f x))) e
+    (λ is. absurd (cc)) h

@@ -1,22 +1,60 @@
 -- How code that elaborates answers.
-use Rattle.std.specs.Prelude.{◌≡◌, ℤ, map, Result, Ok, Err}
+use Rattle.std.specs.Prelude.{◌≡◌, ℤ, List, map, Option, Result, Ok, Err, Vec, Box}
+use Rattle.std.specs.Option.{option_map}
+use Rattle.std.specs.declared.alloc.Global.{Global}
 use Rattle.strc_semantics.specs.Firing as firing
 use Rattle.strc_elab.specs.Elaboration as spec
+use Rattle.strc_elab.specs.Weights as weights
 use Rattle.strc_scope.specs.Saying.{store_of}
 use Rattle.strc_scope.specs.Texts.{Constants}
-use Rattle.strc_elab.specs.View.{stream_view}
+use Rattle.strc_stream.specs.Instances as instances
+use Rattle.strc_stream.specs.View.{stream_view}
+use Rattle.strc_stream.specs.declared.stream.Stream.{Stream}
 use Rattle.strc_scope.specs.declared.error.ElabError.{ElabError}
 use Rattle.strc_elab.specs.declared.progress.Progress.{Progress}
+use Rattle.strc_elab.specs.declared.weights.Split.{Split}
+use Rattle.strc_elab.specs.declared.weights.Split.TheVariants as split
 use Rattle.strc_scope.specs.Answers.{IsRefusal}
+
+-- a `split` whose weights are evaluated
+abbrev pub split_view : Split → weights.Split
+split_view split.ToEach = weights.ToEach
+split_view (split.InTurn written) = weights.InTurn written.items
+
+-- the weights of a `join`
+abbrev pub join_view : Option (Vec ℤ Global) → Option (List ℤ)
+join_view join = option_map (λ w. w.items) join
+
+-- body or loop of a feedback loop
+abbrev pub part_view : Option (Box Stream Global) → Option instances.Stream
+part_view part = option_map (λ b. stream_view b.value) part
 
 -- a body as far as it has run
 abbrev pub progress_of : Progress → spec.Progress
 progress_of progress = record {
+  kind = progress.kind;
   store = store_of progress.store;
   children = map stream_view progress.children.items;
-  types = progress.types;
+  types = progress.types.items;
+  split = option_map split_view progress.split;
+  join = join_view progress.join;
+  body = part_view progress.body;
+  loop = part_view progress.looped;
+  enqueued = progress.enqueued.items;
   filters = progress.filters;
 }
+
+-- an answer is the weights, with the store after it
+abbrev pub Lists : Result (List ℤ × firing.Store) ElabError → Result (Vec ℤ Global) ElabError
+    → firing.Store → Type 0
+Lists expected (Ok values) after = expected ≡ Ok (values.items, after)
+Lists expected (Err refusal) after = IsRefusal expected refusal
+
+-- an answer is the `split`, with the store after it
+abbrev pub Splits : Result (weights.Split × firing.Store) ElabError → Result Split ElabError
+    → firing.Store → Type 0
+Splits expected (Ok split) after = expected ≡ Ok (split_view split, after)
+Splits expected (Err refusal) after = IsRefusal expected refusal
 
 -- an answer is the condition's value, with the body as far as it has run after it
 abbrev pub Tests : Result (ℤ × spec.Progress) ElabError → Result ℤ ElabError → spec.Progress

@@ -1,7 +1,9 @@
 -- Which stream of instances a program means: composite streams' bodies run, in order of execution,
--- up to the first rule that is broken (StreamIt specification 2.1, "Streams", "Pipelines").
+-- up to the first rule that is broken (StreamIt specification 2.1, "Streams", "Pipelines",
+-- "Split-joins", "Feedback loops").
 use Rattle.std.specs.Prelude.{ℕ, zero, suc, ◌+◌, ℤ, pos, Bool, true, false, ◌&&◌, not, nat_lt}
-use Rattle.std.specs.Prelude.{nat_eq, List, [], ◌∷◌, ◌++◌, length, Option, Some, None, unwrap_or}
+use Rattle.std.specs.Prelude.{nat_eq, List, [], ◌∷◌, ◌++◌, length, map, Option, Some, None}
+use Rattle.std.specs.Prelude.{unwrap_or}
 use Rattle.std.specs.Prelude.{Result, Ok, Err, if◌then◌else◌}
 use Rattle.std.specs.List.{list_any}
 use Rattle.std.specs.Cmp.Lexicographic.{pointwise}
@@ -13,6 +15,7 @@ use Rattle.strc_syntax.specs.declared.tree.ItemType.TheVariants as item
 use Rattle.strc_syntax.specs.declared.tree.StreamType.{StreamType}
 use Rattle.strc_syntax.specs.declared.tree.CompositeKind.{CompositeKind}
 use Rattle.strc_syntax.specs.declared.tree.CompositeKind.TheVariants as composite
+use Rattle.strc_syntax.specs.declared.tree.Role.{Role}
 use Rattle.strc_syntax.specs.declared.tree.Role.TheVariants as role
 use Rattle.strc_elab.specs.declared.text.TheConstants.{FILTER_LIMIT}
 use Rattle.strc_elab.specs.declared.elaborate.TheConstants.{LEVEL_LIMIT}
@@ -25,8 +28,11 @@ use Rattle.strc_check.specs.Typing.{TypedNames, names_after}
 use Rattle.strc_semantics.specs.declared.fault.Cause.{Cause}
 use Rattle.strc_semantics.specs.declared.fault.Cause.TheVariants as causes
 use Rattle.strc_check.specs.declared.types.ValueType.TheVariants as kind
-use Rattle.strc_elab.specs.Instances.{Stream, in_a_row}
-use Rattle.strc_elab.specs.Instances as instance
+use Rattle.strc_elab.specs.Weights.{Split, ToEach, InTurn, weighted, split_dealt, join_dealt}
+use Rattle.strc_elab.specs.Weights.{input_written, output_written, loop_weights, loop_splitter}
+use Rattle.strc_stream.specs.Instances.{Stream, in_a_row}
+use Rattle.strc_stream.specs.Instances as instance
+use Rattle.strc_stream.specs.Types.{side, is_int, input_of, output_of}
 use Rattle.strc_scope.specs.Texts.{Constants, Place, Text, FilterText, CompositeText, IdentityText}
 use Rattle.strc_scope.specs.Texts.{ReaderText, WriterText, anonymous, text_of, parameters_of}
 use Rattle.strc_scope.specs.Texts.{is_doubled, declared_from, captures}
@@ -58,12 +64,20 @@ pub record Setting : Type 0 where
   pub place : Place
   pub elaborate : Place → Text → Tally → Result Elaborated ElabError
 
--- how far a body has run: its variables and the turns so far, its children with their type in a
--- row, and how many filters there are
+-- how far the body of a composite stream has run: its variables and the turns so far, what its
+-- stream statements have said, and how many filters there are
 pub record Progress : Type 0 where
+  pub kind : CompositeKind
   pub store : Store
+  -- the children of `add`, with their types
   pub children : List Stream
-  pub types : Option StreamType
+  pub types : List StreamType
+  pub split : Option Split
+  -- the weights of `join`
+  pub join : Option (List ℤ)
+  pub body : Option Stream
+  pub loop : Option Stream
+  pub enqueued : List ℤ
   pub filters : ℕ
 
 -- a step of a body that works on its variables alone
@@ -165,6 +179,15 @@ child_found setting names (tree.AnonymousFilter types members) store =
 child_found setting names (tree.AnonymousComposite written kind block) store =
     Ok (unnamed_found setting names (CompositeText written kind block) store)
 
+-- what kind of composite stream it is
+abbrev pub is_pipeline : CompositeKind → Bool
+is_pipeline composite.Pipeline = true
+is_pipeline _ = false
+
+abbrev pub is_loop : CompositeKind → Bool
+is_loop composite.Feedbackloop = true
+is_loop _ = false
+
 -- one type is the other
 abbrev pub same_item : ItemType → ItemType → Bool
 same_item item.Int item.Int = true
@@ -172,49 +195,115 @@ same_item item.Void item.Void = true
 same_item item.Int item.Void = false
 same_item item.Void item.Int = false
 
--- the type of a pipeline so far with one more child, which takes what the last one gives
-abbrev pub types_joined : (declaration : ℕ) → Option StreamType → StreamType
-    → Result StreamType ElabError
-types_joined declaration None next = Ok next
-types_joined declaration (Some before) next =
-    where_kept (same_item before.output next.input) (refused.TypeMismatch declaration)
-    (Ok (record { input = before.input; output = next.output }))
+-- what one more child of a pipeline takes is what the last one gives
+abbrev pub follows : List StreamType → StreamType → Bool
+follows [] next = true
+follows (last ∷ []) next = same_item last.output next.input
+follows (first ∷ second ∷ rest) next = follows (second ∷ rest) next
 
--- a pipeline with one more child
-abbrev pub child_added : Setting → Progress → Store → Elaborated → Result Progress ElabError
-child_added setting progress store made =
-    result_and_then (types_joined setting.place.declaration progress.types made.types) (λ types.
-    Ok (record {
-      store = record store { traffic = record store.traffic { turns = made.tally.turns } };
+-- whether a child of `add` may have this type
+abbrev pub may_add : CompositeKind → List StreamType → StreamType → Bool
+may_add composite.Pipeline types next = follows types next
+may_add _ types next = true
+
+-- items come in and go out
+abbrev pub passes_items : StreamType → Bool
+passes_items types = is_int types.input && is_int types.output
+
+-- the store and the tally after a child
+abbrev pub tallied : Progress → Store → Tally → Progress
+tallied progress store tally = record progress {
+  store = record store { traffic = record store.traffic { turns = tally.turns } };
+  filters = tally.filters;
+}
+
+-- a composite stream with one more child
+abbrev pub child_added : Setting → Role → Progress → Store → Elaborated
+    → Result Progress ElabError
+child_added setting role.Add progress store made =
+    where_kept (may_add progress.kind progress.types made.types)
+    (refused.TypeMismatch setting.place.declaration)
+    (Ok (record (tallied progress store made.tally) {
       children = progress.children ++ made.stream ∷ [];
-      types = Some types;
-      filters = made.tally.filters;
+      types = progress.types ++ made.types ∷ [];
     }))
+child_added setting role.Body progress store made =
+    where_kept (passes_items made.types) (refused.TypeMismatch setting.place.declaration)
+    (Ok (record (tallied progress store made.tally) { body = Some made.stream }))
+child_added setting role.Loop progress store made =
+    where_kept (passes_items made.types) (refused.TypeMismatch setting.place.declaration)
+    (Ok (record (tallied progress store made.tally) { loop = Some made.stream }))
 
--- a child of a pipeline that was found is elaborated and added
-abbrev pub found_run : Setting → Result Found ElabError → Progress → Result Progress ElabError
-found_run setting outcome progress =
+-- a child that was found is elaborated and added
+abbrev pub found_run : Setting → Role → Result Found ElabError → Progress
+    → Result Progress ElabError
+found_run setting role outcome progress =
     result_and_then outcome (λ found.
     result_and_then (setting.elaborate found.place found.text
     (record { turns = found.store.traffic.turns; filters = progress.filters })) (λ made.
-    child_added setting progress found.store made))
+    child_added setting role progress found.store made))
 
--- a child of a pipeline, elaborated at the moment that its statement runs
-abbrev pub child_run : Setting → TypedNames → tree.Child → Progress → Result Progress ElabError
-child_run setting names child progress = found_run setting
+-- a child, elaborated at the moment that its statement runs
+abbrev pub child_run : Setting → TypedNames → Role → tree.Child → Progress
+    → Result Progress ElabError
+child_run setting names role child progress = found_run setting role
     (child_found setting names child progress.store) progress
 
--- a stream statement in a pipeline, which has no other than `add`
+-- weights, from left to right
+abbrev pub values_evaluated : Setting → TypedNames → List tree.Expr → (before : List ℤ) → Store
+    → Result (List ℤ × Store) ElabError
+values_evaluated setting names [] before store = Ok (before, store)
+values_evaluated setting names (first ∷ rest) before store =
+    result_and_then (eval_checked setting.place names kind.Int first store) (λ value.
+    values_evaluated setting names rest (before ++ value.0 ∷ []) value.1)
+
+abbrev pub splitter_evaluated : Setting → TypedNames → tree.Splitter → Store
+    → Result (Split × Store) ElabError
+splitter_evaluated setting names (tree.Duplicate brackets) store = Ok (ToEach, store)
+splitter_evaluated setting names (tree.Roundrobin weights) store =
+    result_and_then (values_evaluated setting names (unwrap_or weights []) [] store) (λ values.
+    Ok (InTurn values.0, values.1))
+
+-- which stream statements a composite stream has: any number of `add`, or of `enqueue`, and each
+-- other one once
+abbrev pub is_absent : {A : Type 0} → Option A → Bool
+is_absent None = true
+is_absent (Some value) = false
+
+abbrev pub may_have : Role → Progress → Bool
+may_have role.Add progress = not (is_loop progress.kind)
+may_have role.Body progress = is_loop progress.kind && is_absent progress.body
+may_have role.Loop progress = is_loop progress.kind && is_absent progress.loop
+
+abbrev pub may_split : Progress → Bool
+may_split progress = not (is_pipeline progress.kind) && is_absent progress.split
+
+abbrev pub may_join : Progress → Bool
+may_join progress = not (is_pipeline progress.kind) && is_absent progress.join
+
+-- a stream statement
 abbrev pub composed : Setting → TypedNames → tree.Composition → Progress → Result Progress ElabError
-composed setting names (tree.ChildOf role.Add child) progress =
-    child_run setting names child progress
-composed setting names _ progress = Err (refused.TypeMismatch setting.place.declaration)
+composed setting names (tree.ChildOf role child) progress =
+    where_kept (may_have role progress) (refused.TypeMismatch setting.place.declaration)
+    (child_run setting names role child progress)
+composed setting names (tree.Split splitter) progress =
+    where_kept (may_split progress) (refused.TypeMismatch setting.place.declaration)
+    (result_and_then (splitter_evaluated setting names splitter progress.store) (λ split.
+    Ok (record progress { split = Some split.0; store = split.1 })))
+composed setting names (tree.Join weights) progress =
+    where_kept (may_join progress) (refused.TypeMismatch setting.place.declaration)
+    (result_and_then (values_evaluated setting names (unwrap_or weights []) [] progress.store)
+    (λ join. Ok (record progress { join = Some join.0; store = join.1 })))
+composed setting names (tree.Enqueue value) progress =
+    where_kept (is_loop progress.kind) (refused.TypeMismatch setting.place.declaration)
+    (result_and_then (eval_checked setting.place names kind.Int value progress.store) (λ item.
+    Ok (record progress { enqueued = progress.enqueued ++ item.0 ∷ []; store = item.1 })))
 
 -- bodies
 
 abbrev mutual
-  -- a statement of a pipeline's body, among the names that can be seen, of which so many stand
-  -- outside its block
+  -- a statement of a composite stream's body, among the names that can be seen, of which so many
+  -- stand outside its block
   pub stmt_run : Setting → TypedNames → (outer : ℕ) → tree.Stmt → Progress
       → Result Progress ElabError
   stmt_run setting names outer tree.Empty progress = Ok progress
@@ -305,34 +394,106 @@ is_as_written (Some written) found = same_item written.input found.input
     && same_item written.output found.output
 
 -- a body before it runs
-abbrev pub initial_progress : Tally → Progress
-initial_progress tally = record {
+abbrev pub initial_progress : CompositeKind → Tally → Progress
+initial_progress kind tally = record {
+  kind = kind;
   store = record { variables = []; traffic = record no_traffic { turns = tally.turns } };
   children = [];
-  types = None;
+  types = [];
+  split = None;
+  join = None;
+  body = None;
+  loop = None;
+  enqueued = [];
   filters = tally.filters;
 }
 
--- a pipeline whose body has run: it has a child, and its type is the written one
-abbrev pub pipeline_elaborated : (declaration : ℕ) → Option StreamType → Option StreamType
-    → Progress → Result Elaborated ElabError
-pipeline_elaborated declaration written None progress = Err (refused.TypeMismatch declaration)
-pipeline_elaborated declaration written (Some found) progress =
+-- what is made of a body that has run, where its type is the written one
+abbrev pub as_written : (declaration : ℕ) → Option StreamType → StreamType → Stream → Progress
+    → Result Elaborated ElabError
+as_written declaration written found stream progress =
     where_kept (is_as_written written found) (refused.TypeMismatch declaration)
     (Ok (record {
-      stream = instance.Pipeline (in_a_row progress.children);
+      stream = stream;
       types = found;
       tally = record { turns = progress.store.traffic.turns; filters = progress.filters };
     }))
 
--- a composite stream; split-joins and feedback loops aren't elaborated yet
+-- what streams in a row give, behind one that gives this
+abbrev pub last_given : ItemType → List StreamType → ItemType
+last_given given [] = given
+last_given given (next ∷ rest) = last_given next.output rest
+
+-- a pipeline has a child
+abbrev pub pipeline_made : (declaration : ℕ) → Option StreamType → List StreamType → Progress
+    → Result Elaborated ElabError
+pipeline_made declaration written [] progress = Err (refused.TypeMismatch declaration)
+pipeline_made declaration written (first ∷ rest) progress =
+    as_written declaration written
+    (record { input = first.input; output = last_given first.output rest })
+    (instance.Pipeline (in_a_row progress.children)) progress
+
+-- what streams side by side take, and what they give: items where one of them does
+abbrev pub inputs_in : List StreamType → List ItemType
+inputs_in types = map (λ (t : StreamType). t.input) types
+
+abbrev pub outputs_in : List StreamType → List ItemType
+outputs_in types = map (λ (t : StreamType). t.output) types
+
+abbrev pub any_side : List ItemType → ItemType
+any_side sides = side (list_any is_int sides)
+
+-- a split-join has a child, a splitter and a joiner, whose weights are allowed
+abbrev pub splitjoin_made : (declaration : ℕ) → Option StreamType → List StreamType → Option Split
+    → Option (List ℤ) → Progress → Result Elaborated ElabError
+splitjoin_made declaration written (first ∷ rest) (Some split) (Some join) progress =
+    result_and_then (split_dealt declaration split (inputs_in progress.types)) (λ splitter.
+    result_and_then (join_dealt declaration join (outputs_in progress.types)) (λ joiner.
+    as_written declaration written (record {
+      input = any_side (inputs_in progress.types);
+      output = any_side (outputs_in progress.types);
+    }) (instance.SplitJoin splitter (in_a_row progress.children) joiner) progress))
+splitjoin_made declaration written types split join progress =
+    Err (refused.TypeMismatch declaration)
+
+-- a feedback loop has each of its parts, and its weights are allowed
+abbrev pub loop_made : (declaration : ℕ) → Option StreamType → Option (List ℤ) → Option Stream
+    → Option Split → Option Stream → Progress → Result Elaborated ElabError
+loop_made declaration written (Some join) (Some body) (Some split) (Some loop) progress =
+    result_and_then (weighted declaration (loop_weights (input_written written) join)) (λ joiner.
+    result_and_then (weighted declaration (loop_splitter (output_written written) split))
+    (λ splitter.
+    let stream = instance.FeedbackLoop joiner body splitter loop progress.enqueued in
+    as_written declaration written
+    (record { input = input_of stream; output = output_of stream }) stream progress))
+loop_made declaration written join body split loop progress =
+    Err (refused.TypeMismatch declaration)
+
+abbrev pub composite_made : CompositeKind → (declaration : ℕ) → Option StreamType → Progress
+    → Result Elaborated ElabError
+composite_made composite.Pipeline declaration written progress =
+    pipeline_made declaration written progress.types progress
+composite_made composite.Splitjoin declaration written progress =
+    splitjoin_made declaration written progress.types progress.split progress.join progress
+composite_made composite.Feedbackloop declaration written progress =
+    loop_made declaration written progress.join progress.body progress.split progress.loop progress
+
+-- a composite stream: its body runs
 abbrev pub composite_elaborated : Setting → Option StreamType → CompositeKind → tree.Stmts → Tally
     → Result Elaborated ElabError
-composite_elaborated setting written composite.Pipeline block tally =
-    result_and_then (stmts_run setting [] 0 block (initial_progress tally)) (λ progress.
-    pipeline_elaborated setting.place.declaration written progress.types progress)
-composite_elaborated setting written composite.Splitjoin block tally = Err refused.NotYet
-composite_elaborated setting written composite.Feedbackloop block tally = Err refused.NotYet
+composite_elaborated setting written kind block tally =
+    result_and_then (stmts_run setting [] 0 block (initial_progress kind tally)) (λ progress.
+    composite_made kind setting.place.declaration written progress)
+
+-- a filter that the language has
+abbrev pub given_elaborated : Stream → Tally → Result Elaborated ElabError
+given_elaborated stream tally =
+    one_more tally (λ tally'.
+    Ok (record {
+      stream = stream;
+      types = record { input = input_of stream; output = output_of stream };
+      tally = tally';
+    }))
 
 -- a stream of this text
 abbrev pub text_elaborated : Setting → Text → Tally → Result Elaborated ElabError
@@ -347,16 +508,9 @@ text_elaborated setting (FilterText name filter) tally =
     })))
 text_elaborated setting (CompositeText written kind block) tally =
     composite_elaborated setting written kind block tally
-text_elaborated setting IdentityText tally =
-    one_more tally (λ tally'.
-    Ok (record {
-      stream = instance.Identity;
-      types =
-          record { input = item.Int; output = item.Int };
-      tally = tally';
-    }))
-text_elaborated setting ReaderText tally = Err refused.NotYet
-text_elaborated setting WriterText tally = Err refused.NotYet
+text_elaborated setting IdentityText tally = given_elaborated instance.Identity tally
+text_elaborated setting ReaderText tally = given_elaborated instance.FileReader tally
+text_elaborated setting WriterText tally = given_elaborated instance.FileWriter tally
 
 -- a stream that may have so many levels, its own among them
 abbrev pub stream_elaborated : List Declaration → (levels : ℕ) → Place → Text → Tally

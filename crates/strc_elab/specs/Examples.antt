@@ -11,8 +11,8 @@ use Rattle.strc_syntax.specs.declared.tree.BinaryOperator.TheVariants as binary
 use Rattle.strc_syntax.specs.declared.tree.StepOperator.TheVariants as step
 use Rattle.strc_semantics.specs.declared.fault.Cause.TheVariants.{Turns}
 use Rattle.strc_elab.specs.Elaboration.{elaborated}
-use Rattle.strc_elab.specs.Instances as instance
-use Rattle.strc_elab.specs.Instances.{Stream, in_a_row}
+use Rattle.strc_stream.specs.Instances as instance
+use Rattle.strc_stream.specs.Instances.{Stream, in_a_row}
 use Rattle.strc_scope.specs.declared.error.ElabError.TheVariants.{DepthLimit, ConstFault}
 
 -- names of a letter: S, P, A, R, M, i, n and x

@@ -1,5 +1,4 @@
-pub mod Instances
-pub mod Types
+pub mod Weights
 pub mod Elaboration
 pub mod Examples
 pub mod Tasks
@@ -7,8 +6,6 @@ pub mod Tallies
 pub mod Loops
 pub mod Names
 pub mod Answering
-pub mod View
-pub mod Flattening
-pub mod Rows
+pub mod TypeRows
+pub mod Making
 pub mod Sound
-pub mod OneGraph

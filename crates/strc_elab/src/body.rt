@@ -5,7 +5,7 @@
 ghost use Rattle.std.specs.Prelude.{◌≡◌, ◌-◌, suc, OnOk, length};
 ghost use Rattle.std.specs.Option.{option_map};
 ghost use Rattle.strc_syntax.specs.Tree as tree;
-ghost use Rattle.strc_syntax.specs.View.{expr_view, stmt_view, block_view, composition_view};
+ghost use Rattle.strc_syntax.specs.View.{expr_view, stmt_view, block_view};
 ghost use Rattle.strc_semantics.specs.Firing as firing;
 ghost use Rattle.strc_semantics.specs.Firing.{turn_limit};
 ghost use Rattle.strc_check.specs.Typing as typing;
@@ -26,7 +26,7 @@ use strc_scope::steps::Place;
 use strc_scope::store::Store;
 use strc_semantics::evaluation::is_true;
 use strc_semantics::fault::{Cause, TURN_LIMIT};
-use strc_syntax::tree::{Composition, Expr, Role, Stmt};
+use strc_syntax::tree::{Expr, Stmt};
 
 /// What a body's statements stand in: the task whose text it is, and what elaborates the streams
 /// one level below.
@@ -277,25 +277,5 @@ impl<F: Fn(Task) -> Result<Elaborated, ElabError>> Body<'_, F> {
         Err(ElabError::ConstFault {
             cause: Cause::Turns,
         })
-    }
-
-    /// Does a stream statement of a pipeline, which has no other than `add`.
-    fn compose(&self, composition: &Composition, progress: &mut Progress) -> Result<(), ElabError>
-        requires { IsReady self.now.task (F.pre self.now.elaborate) (F.post self.now.elaborate) }
-        ensures runs { Runs (spec.composed (setting_of self.now.task)
-            progress.old.store.variables.names (composition_view composition.now)
-            (progress_of progress.old)) result (progress_of progress.new) }
-        ensures names { OnOk result (progress.new.store.variables.names
-            ≡ progress.old.store.variables.names) }
-    {
-        match composition {
-            Composition::Child(Role::Add, child) => self.child(child, progress),
-            Composition::Child(Role::Body | Role::Loop, _)
-            | Composition::Split(_)
-            | Composition::Join(_)
-            | Composition::Enqueue(_) => Err(ElabError::TypeMismatch {
-                stream: self.task.declaration,
-            }),
-        }
     }
 }

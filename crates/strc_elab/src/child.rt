@@ -1,19 +1,21 @@
-// Children of a pipeline, elaborated at the moment that their statement runs.
+// Children of a composite stream, elaborated at the moment that their statement runs.
 
 ghost use Rattle.std.specs.Prelude.{◌≡◌, [], map, length, IfOk, OnOk, Ok, Some};
 ghost use Rattle.strc_syntax.specs.View.{child_view, declaration_view, expr_view};
+ghost use Rattle.strc_syntax.specs.declared.tree.Role.TheVariants as roles;
 ghost use Rattle.strc_elab.specs.Elaboration as spec;
 ghost use Rattle.strc_scope.specs.Texts as texts;
 ghost use Rattle.strc_scope.specs.Saying.{store_of};
 ghost use Rattle.strc_elab.specs.Answering.{progress_of, Binds, Runs};
-ghost use Rattle.strc_elab.specs.Tasks.{IsReady, setting_of, program_of, elaborated_view};
+ghost use Rattle.strc_elab.specs.Making.{made_by};
+ghost use Rattle.strc_elab.specs.Tasks.{IsReady, setting_of, program_of};
 ghost use Rattle.strc_elab.specs.Tasks.{text_view};
 
 use crate::body::Body;
 use crate::declared::{declared, text_of};
 use crate::progress::Progress;
-use crate::task::{Elaborated, Tally, Task, Text};
-use crate::types::same_item;
+use crate::task::{Elaborated, Task, Text};
+use crate::types::passes_items;
 use std::alloc::Global;
 use strc_base::memory::NoMemory;
 use strc_check::constants::Constants;
@@ -23,29 +25,35 @@ use strc_lex::token::Name;
 use strc_scope::captures::captures;
 use strc_scope::error::ElabError;
 use strc_scope::store::Store;
-use strc_syntax::tree::{Child, Decl, Expr, StreamType};
+use strc_stream::stream::Stream;
+use strc_syntax::tree::{Child, Decl, Expr, Role, StreamType};
 
 impl<F: Fn(Task) -> Result<Elaborated, ElabError>> Body<'_, F> {
-    /// Elaborates a child of a pipeline.
-    pub(crate) fn child(&self, child: &Child, progress: &mut Progress) -> Result<(), ElabError>
+    /// Elaborates a child.
+    pub(crate) fn child(
+        &self,
+        role: Role,
+        child: &Child,
+        progress: &mut Progress,
+    ) -> Result<(), ElabError>
         requires { IsReady self.now.task (F.pre self.now.elaborate) (F.post self.now.elaborate) }
         ensures runs { Runs (spec.child_run (setting_of self.now.task)
-            progress.old.store.variables.names (child_view child.now)
+            progress.old.store.variables.names role (child_view child.now)
             (progress_of progress.old)) result (progress_of progress.new) }
         ensures names { OnOk result (progress.new.store.variables.names
             ≡ progress.old.store.variables.names) }
     {
         match child {
-            Child::Named(name, Some(arguments)) => self.named(name, arguments, progress),
-            Child::Named(name, None) => self.named(name, &[], progress),
-            Child::Identity(_) => self.unnamed(Text::Identity, progress),
-            Child::FileReader(_) => self.unnamed(Text::Reader, progress),
-            Child::FileWriter(_) => self.unnamed(Text::Writer, progress),
+            Child::Named(name, Some(arguments)) => self.named(role, name, arguments, progress),
+            Child::Named(name, None) => self.named(role, name, &[], progress),
+            Child::Identity(_) => self.unnamed(role, Text::Identity, progress),
+            Child::FileReader(_) => self.unnamed(role, Text::Reader, progress),
+            Child::FileWriter(_) => self.unnamed(role, Text::Writer, progress),
             Child::Filter(types, members) => {
-                self.unnamed(Text::Filter(None, *types, members), progress)
+                self.unnamed(role, Text::Filter(None, *types, members), progress)
             }
             Child::Composite(written, kind, block) => {
-                self.unnamed(Text::Composite(*written, *kind, block), progress)
+                self.unnamed(role, Text::Composite(*written, *kind, block), progress)
             }
         }
     }
@@ -55,12 +63,13 @@ impl<F: Fn(Task) -> Result<Elaborated, ElabError>> Body<'_, F> {
     #[tactic(auto, unfolding(crate::specs::Tasks::IsReady))]
     fn named(
         &self,
+        role: Role,
         name: &Name,
         arguments: &[Expr],
         progress: &mut Progress,
     ) -> Result<(), ElabError>
         requires { IsReady self.now.task (F.pre self.now.elaborate) (F.post self.now.elaborate) }
-        ensures runs { Runs (spec.found_run (setting_of self.now.task)
+        ensures runs { Runs (spec.found_run (setting_of self.now.task) role
             (spec.named_found (setting_of self.now.task) progress.old.store.variables.names name.now
             (texts.declared_from 0 (program_of self.now.task) name.now)
             (map expr_view arguments.now) (store_of progress.old.store))
@@ -69,7 +78,13 @@ impl<F: Fn(Task) -> Result<Elaborated, ElabError>> Body<'_, F> {
             ≡ progress.old.store.variables.names) }
     {
         match declared(self.task.declarations, self.task.numbers, name.as_bytes()) {
-            Some((number, declaration)) => self.call(number, declaration, arguments, progress),
+            Some((number, declaration)) => self.call(
+                role,
+                number,
+                declaration,
+                arguments,
+                progress,
+            ),
             None => Err(ElabError::UnknownName { name: name.copy()? }),
         }
     }
@@ -77,13 +92,14 @@ impl<F: Fn(Task) -> Result<Elaborated, ElabError>> Body<'_, F> {
     /// Elaborates a child that is a declared stream, with arguments.
     fn call(
         &self,
+        role: Role,
         number: usize,
         declaration: &Decl,
         arguments: &[Expr],
         progress: &mut Progress,
     ) -> Result<(), ElabError>
         requires { IsReady self.now.task (F.pre self.now.elaborate) (F.post self.now.elaborate) }
-        ensures runs { Runs (spec.found_run (setting_of self.now.task)
+        ensures runs { Runs (spec.found_run (setting_of self.now.task) role
             (spec.named_found (setting_of self.now.task) progress.old.store.variables.names []
             (Some (number, declaration_view declaration.now)) (map expr_view arguments.now)
             (store_of progress.old.store)) (progress_of progress.old)) result
@@ -101,7 +117,7 @@ impl<F: Fn(Task) -> Result<Elaborated, ElabError>> Body<'_, F> {
         if is_doubled(self.task.alloc, parameters)? {
             return Err(ElabError::TypeMismatch { stream: number });
         }
-        self.elaborated(number, &constants, text_of(declaration), progress)
+        self.elaborated(role, number, &constants, text_of(declaration), progress)
     }
 
     /// The arguments of a child, from left to right, bound to its parameters.
@@ -129,9 +145,9 @@ impl<F: Fn(Task) -> Result<Elaborated, ElabError>> Body<'_, F> {
 
     /// Elaborates a child without a name: it stands in the same declaration, and sees the numbers
     /// of its surroundings.
-    fn unnamed(&self, text: Text, progress: &mut Progress) -> Result<(), ElabError>
+    fn unnamed(&self, role: Role, text: Text, progress: &mut Progress) -> Result<(), ElabError>
         requires { IsReady self.now.task (F.pre self.now.elaborate) (F.post self.now.elaborate) }
-        ensures runs { Runs (spec.found_run (setting_of self.now.task)
+        ensures runs { Runs (spec.found_run (setting_of self.now.task) role
             (Ok (spec.unnamed_found (setting_of self.now.task) progress.old.store.variables.names
             (text_view text.entry) (store_of progress.old.store)))
             (progress_of progress.old)) result (progress_of progress.new) }
@@ -143,20 +159,21 @@ impl<F: Fn(Task) -> Result<Elaborated, ElabError>> Body<'_, F> {
             &progress.store.variables,
             self.task.constants,
         )?;
-        self.elaborated(self.task.declaration, &constants, text, progress)
+        self.elaborated(role, self.task.declaration, &constants, text, progress)
     }
 
-    /// Elaborates a text one level below, and adds what is made to the pipeline.
+    /// Elaborates a text one level below, and adds what is made.
     #[tactic(auto, unfolding(crate::specs::Tasks::IsReady))]
     fn elaborated(
         &self,
+        role: Role,
         declaration: usize,
         constants: &Constants,
         text: Text,
         progress: &mut Progress,
     ) -> Result<(), ElabError>
         requires { IsReady self.now.task (F.pre self.now.elaborate) (F.post self.now.elaborate) }
-        ensures runs { Runs (spec.found_run (setting_of self.now.task)
+        ensures runs { Runs (spec.found_run (setting_of self.now.task) role
             (Ok (record {
               place = record { declaration = declaration; constants = constants.now };
               text =
@@ -175,43 +192,75 @@ impl<F: Fn(Task) -> Result<Elaborated, ElabError>> Body<'_, F> {
             declaration,
             constants,
             text,
-            tally: Tally {
-                turns: progress.store.turns,
-                filters: progress.filters,
-            },
+            tally: progress.tally(),
         })?;
-        self.add(made, progress)
+        progress.store.turns = made.tally.turns;
+        progress.filters = made.tally.filters;
+        match role {
+            Role::Add => self.add(made.stream, made.types, progress),
+            Role::Body => self.set_body(made.stream, made.types, progress),
+            Role::Loop => self.set_loop(made.stream, made.types, progress),
+        }
     }
 
-    /// A pipeline with one more child, which takes what the last one gives.
-    fn add(&self, made: Elaborated, progress: &mut Progress) -> Result<(), ElabError>
-        ensures runs { Runs (spec.child_added (setting_of self.now.task) (progress_of progress.old)
-            (store_of progress.old.store) (elaborated_view made)) result
-            (progress_of progress.new) }
+    /// One more child, which in a pipeline takes what the last one gives.
+    fn add(
+        &self,
+        stream: Stream,
+        types: StreamType,
+        progress: &mut Progress,
+    ) -> Result<(), ElabError>
+        ensures runs { Runs (spec.child_added (setting_of self.now.task) roles.Add
+            (progress_of progress.old) (store_of progress.old.store)
+            (made_by progress.old stream types)) result (progress_of progress.new) }
         ensures names { OnOk result (progress.new.store.variables.names
             ≡ progress.old.store.variables.names) }
     {
-        let Elaborated {
-            stream,
-            types,
-            tally,
-        } = made;
-        let input = match progress.types {
-            Some(before) if !same_item(before.output, types.input) => {
-                return Err(ElabError::TypeMismatch {
-                    stream: self.task.declaration,
-                });
-            }
-            Some(before) => before.input,
-            None => types.input,
-        };
+        if !progress.may_add(types) {
+            return self.mismatch();
+        }
         progress.children.push(stream)?;
-        progress.types = Some(StreamType {
-            input,
-            output: types.output,
-        });
-        progress.store.turns = tally.turns;
-        progress.filters = tally.filters;
+        progress.types.push(types)?;
+        Ok(())
+    }
+
+    /// The body of a feedback loop, which takes and gives items.
+    fn set_body(
+        &self,
+        stream: Stream,
+        types: StreamType,
+        progress: &mut Progress,
+    ) -> Result<(), ElabError>
+        ensures runs { Runs (spec.child_added (setting_of self.now.task) roles.Body
+            (progress_of progress.old) (store_of progress.old.store)
+            (made_by progress.old stream types)) result (progress_of progress.new) }
+        ensures names { OnOk result (progress.new.store.variables.names
+            ≡ progress.old.store.variables.names) }
+    {
+        if !passes_items(types) {
+            return self.mismatch();
+        }
+        progress.body = Some(Box::new(self.task.alloc, stream)?);
+        Ok(())
+    }
+
+    /// The way back of a feedback loop, which takes and gives items.
+    fn set_loop(
+        &self,
+        stream: Stream,
+        types: StreamType,
+        progress: &mut Progress,
+    ) -> Result<(), ElabError>
+        ensures runs { Runs (spec.child_added (setting_of self.now.task) roles.Loop
+            (progress_of progress.old) (store_of progress.old.store)
+            (made_by progress.old stream types)) result (progress_of progress.new) }
+        ensures names { OnOk result (progress.new.store.variables.names
+            ≡ progress.old.store.variables.names) }
+    {
+        if !passes_items(types) {
+            return self.mismatch();
+        }
+        progress.looped = Some(Box::new(self.task.alloc, stream)?);
         Ok(())
     }
 }

@@ -10,18 +10,18 @@ ghost use Rattle.strc_scope.specs.Answers.{IsVerdict};
 ghost use Rattle.strc_elab.specs.Names.{place_from};
 ghost use Rattle.strc_elab.specs.Sound.{IsElaborated};
 ghost use Rattle.strc_elab.specs.Tasks.{elaborated_view};
-ghost use Rattle.strc_elab.specs.View.{stream_view};
+ghost use Rattle.strc_stream.specs.View.{stream_view};
 
 use crate::declared::text_of;
 use crate::index::index_of;
 use crate::level::elaborate_text;
 use crate::main_stream::main_of;
-use crate::stream::Stream;
 use crate::task::{Elaborated, Tally, Task};
 use indexmap::IndexMap;
 use std::alloc::Global;
 use strc_check::constants::Constants;
 use strc_scope::error::ElabError;
+use strc_stream::stream::Stream;
 use strc_syntax::tree::{Decl, Program};
 
 /// How many levels streams may stand in one another, the main one being the first.

@@ -1,7 +1,6 @@
 // What small programs mean, as laws about the definitions.
 
 ghost use Rattle.strc_elab.specs.Examples.{RecursionRow, EndlessRow, LoopRow, EndlessLoopRow};
-ghost use Rattle.strc_elab.specs.OneGraph.{HasOneGraph};
 
 /// A stream whose text adds itself stands in itself as often as its argument says.
 pub fn recursion()
@@ -21,9 +20,4 @@ pub fn anonymous_in_a_loop()
 /// A loop that never ends makes too many turns.
 pub fn endless_loop()
     ensures { EndlessLoopRow }
-{}
-
-/// The flat graph of a stream is one: its nodes and its channels follow from the stream.
-pub fn one_flat_graph()
-    ensures { HasOneGraph }
 {}

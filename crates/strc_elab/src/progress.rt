@@ -1,15 +1,112 @@
-// How far a composite stream's body has run.
+// How far a composite stream's body has run, and which stream statements it may have yet.
 
-use crate::stream::Stream;
+ghost use Rattle.std.specs.Prelude.{◌≡◌};
+ghost use Rattle.strc_elab.specs.Elaboration as spec;
+ghost use Rattle.strc_elab.specs.Answering.{progress_of};
+
+use crate::task::Tally;
+use crate::types::same_item;
+use crate::weights::Split;
 use strc_scope::store::Store;
-use strc_syntax::tree::StreamType;
+use strc_stream::stream::Stream;
+use strc_syntax::tree::{CompositeKind, Role, StreamType};
 
-/// The variables and the turns so far, the children with their type in a row, and how many filters
-/// there are.
+/// What its stream statements have said so far: the children of `add` with their types, the weights
+/// of `split` and `join`, body and loop, and the enqueued items; its variables and the turns so
+/// far, and how many filters there are.
 #[derive(Drop)]
 pub(crate) struct Progress {
+    pub(crate) kind: CompositeKind,
     pub(crate) store: Store,
     pub(crate) children: Vec<Stream>,
-    pub(crate) types: Option<StreamType>,
+    pub(crate) types: Vec<StreamType>,
+    pub(crate) split: Option<Split>,
+    pub(crate) join: Option<Vec<i32>>,
+    pub(crate) body: Option<Box<Stream>>,
+    pub(crate) looped: Option<Box<Stream>>,
+    pub(crate) enqueued: Vec<i32>,
     pub(crate) filters: u32,
+}
+
+fn is_pipeline(kind: CompositeKind) -> bool
+    ensures { result ≡ spec.is_pipeline kind }
+{
+    match kind {
+        CompositeKind::Pipeline => true,
+        CompositeKind::Splitjoin | CompositeKind::Feedbackloop => false,
+    }
+}
+
+fn is_loop(kind: CompositeKind) -> bool
+    ensures { result ≡ spec.is_loop kind }
+{
+    match kind {
+        CompositeKind::Feedbackloop => true,
+        CompositeKind::Pipeline | CompositeKind::Splitjoin => false,
+    }
+}
+
+/// Whether one more child of a pipeline takes what the last one gives.
+fn follows(types: &[StreamType], next: StreamType) -> bool
+    ensures { result ≡ spec.follows types.now next }
+{
+    match types {
+        [] => true,
+        [.., last] => same_item(last.output, next.input),
+    }
+}
+
+impl Progress {
+    /// Whether there may be one more child for this.
+    pub(crate) fn may_have(&self, role: Role) -> bool
+        ensures { result ≡ spec.may_have role (progress_of self.now) }
+    {
+        match role {
+            Role::Add => !is_loop(self.kind),
+            Role::Body => is_loop(self.kind) && self.body.is_none(),
+            Role::Loop => is_loop(self.kind) && self.looped.is_none(),
+        }
+    }
+
+    /// Whether there may be a `split`.
+    pub(crate) fn may_split(&self) -> bool
+        ensures { result ≡ spec.may_split (progress_of self.now) }
+    {
+        !is_pipeline(self.kind) && self.split.is_none()
+    }
+
+    /// Whether there may be a `join`.
+    pub(crate) fn may_join(&self) -> bool
+        ensures { result ≡ spec.may_join (progress_of self.now) }
+    {
+        !is_pipeline(self.kind) && self.join.is_none()
+    }
+
+    /// Whether there may be an `enqueue`.
+    pub(crate) fn may_enqueue(&self) -> bool
+        ensures { result ≡ spec.is_loop self.now.kind }
+    {
+        is_loop(self.kind)
+    }
+
+    /// Whether a child of `add` may have this type.
+    pub(crate) fn may_add(&self, next: StreamType) -> bool
+        ensures { result ≡ spec.may_add self.now.kind self.now.types.items next }
+    {
+        match self.kind {
+            CompositeKind::Pipeline => follows(&self.types, next),
+            CompositeKind::Splitjoin | CompositeKind::Feedbackloop => true,
+        }
+    }
+
+    /// The tally so far.
+    pub(crate) fn tally(&self) -> Tally
+        ensures turns { result.turns ≡ self.now.store.turns }
+        ensures filters { result.filters ≡ self.now.filters }
+    {
+        Tally {
+            turns: self.store.turns,
+            filters: self.filters,
+        }
+    }
 }

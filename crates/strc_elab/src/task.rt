@@ -1,10 +1,10 @@
 // What is to be elaborated, and what comes of it.
 
-use crate::stream::Stream;
 use indexmap::IndexMap;
 use std::alloc::Global;
 use strc_check::constants::Constants;
 use strc_lex::token::Name;
+use strc_stream::stream::Stream;
 use strc_syntax::tree::{CompositeKind, Decl, ItemType, Member, Stmt, StreamType};
 
 /// The text of a stream.

@@ -3,7 +3,6 @@
 ghost use Rattle.std.specs.Prelude.{◌≡◌, [], IfOk, Ok};
 ghost use Rattle.std.specs.Option.{option_map};
 ghost use Rattle.strc_syntax.specs.View.{block_view};
-ghost use Rattle.strc_syntax.specs.declared.tree.CompositeKind.TheVariants as composite;
 ghost use Rattle.strc_semantics.specs.Filters.{filter_of, filter_parts};
 ghost use Rattle.strc_semantics.specs.Firing as firing;
 ghost use Rattle.strc_elab.specs.Elaboration as spec;
@@ -16,9 +15,7 @@ ghost use Rattle.strc_scope.specs.Texts as texts;
 
 use crate::body::Body;
 use crate::progress::Progress;
-use crate::stream::Stream;
 use crate::task::{Elaborated, Tally, Task, Text};
-use crate::types::is_as_written;
 use std::alloc::{AllocError, Global};
 use strc_graph::instance::Instance;
 use strc_lex::token::Name;
@@ -26,6 +23,7 @@ use strc_scope::error::ElabError;
 use strc_scope::steps::at_declaration;
 use strc_scope::store::Store;
 use strc_scope::variables::Variables;
+use strc_stream::stream::Stream;
 use strc_syntax::tree::{CompositeKind, ItemType, Member, Stmt, StreamType};
 use strc_work::code::{Code, StartError};
 use strc_work::lowering::lower_parts;
@@ -134,43 +132,59 @@ impl Task<'_> {
         })
     }
 
+    /// What gives the program's input.
+    fn reader(&self) -> Result<Elaborated, ElabError>
+        ensures { IsVerdict elaborated_view
+            (spec.text_elaborated (setting_of self.now) texts.ReaderText
+            (tally_of self.now)) result }
+    {
+        let tally = self.tally.one_more()?;
+        Ok(Elaborated {
+            stream: Stream::FileReader,
+            types: StreamType {
+                input: ItemType::Void,
+                output: ItemType::Int,
+            },
+            tally,
+        })
+    }
+
+    /// What writes each item.
+    fn writer(&self) -> Result<Elaborated, ElabError>
+        ensures { IsVerdict elaborated_view
+            (spec.text_elaborated (setting_of self.now) texts.WriterText
+            (tally_of self.now)) result }
+    {
+        let tally = self.tally.one_more()?;
+        Ok(Elaborated {
+            stream: Stream::FileWriter,
+            types: StreamType {
+                input: ItemType::Int,
+                output: ItemType::Void,
+            },
+            tally,
+        })
+    }
+
     /// A body before it runs.
-    fn initial_progress(&self) -> Progress
-        ensures progress { progress_of result ≡ spec.initial_progress (tally_of self.now) }
+    fn initial_progress(&self, kind: CompositeKind) -> Progress
+        ensures progress { progress_of result ≡ spec.initial_progress kind (tally_of self.now) }
         ensures names { result.store.variables.names ≡ [] }
     {
         Progress {
+            kind,
             store: Store {
                 variables: Variables::new(self.alloc),
                 turns: self.tally.turns,
             },
             children: Vec::new(self.alloc),
-            types: None,
+            types: Vec::new(self.alloc),
+            split: None,
+            join: None,
+            body: None,
+            looped: None,
+            enqueued: Vec::new(self.alloc),
             filters: self.tally.filters,
-        }
-    }
-
-    /// A pipeline whose body has run: it has a child, and its type is the written one.
-    fn pipeline(
-        &self,
-        written: Option<StreamType>,
-        progress: Progress,
-    ) -> Result<Elaborated, ElabError>
-        ensures { IsVerdict elaborated_view (spec.pipeline_elaborated self.now.declaration written
-            progress.types (progress_of progress)) result }
-    {
-        match progress.types {
-            Some(types) if is_as_written(written, types) => Ok(Elaborated {
-                stream: Stream::Pipeline(progress.children),
-                types,
-                tally: Tally {
-                    turns: progress.store.turns,
-                    filters: progress.filters,
-                },
-            }),
-            _ => Err(ElabError::TypeMismatch {
-                stream: self.declaration,
-            }),
         }
     }
 }
@@ -186,17 +200,18 @@ impl<F: Fn(Task) -> Result<Elaborated, ElabError>> Body<'_, F> {
             Text::Filter(name, types, members) => self.task.filter(name, types, members),
             Text::Composite(written, kind, block) => self.composite(written, kind, block),
             Text::Identity => self.task.identity(),
-            Text::Reader | Text::Writer => Err(ElabError::NotYet),
+            Text::Reader => self.task.reader(),
+            Text::Writer => self.task.writer(),
         }
     }
 
     /// Runs the body of the task's text from the beginning.
-    fn run(&self, block: &[Stmt]) -> Result<Progress, ElabError>
+    fn run(&self, kind: CompositeKind, block: &[Stmt]) -> Result<Progress, ElabError>
         requires { IsReady self.now.task (F.pre self.now.elaborate) (F.post self.now.elaborate) }
         ensures { IsVerdict progress_of (spec.stmts_run (setting_of self.now.task) [] 0
-            (block_view block.now) (spec.initial_progress (tally_of self.now.task))) result }
+            (block_view block.now) (spec.initial_progress kind (tally_of self.now.task))) result }
     {
-        let mut progress = self.task.initial_progress();
+        let mut progress = self.task.initial_progress(kind);
         self.statements(0, block, &mut progress)?;
         Ok(progress)
     }
@@ -213,9 +228,7 @@ impl<F: Fn(Task) -> Result<Elaborated, ElabError>> Body<'_, F> {
             (spec.composite_elaborated (setting_of self.now.task) written
             kind (block_view block.now) (tally_of self.now.task)) result }
     {
-        match kind {
-            CompositeKind::Pipeline => self.task.pipeline(written, self.run(block)?),
-            CompositeKind::Splitjoin | CompositeKind::Feedbackloop => Err(ElabError::NotYet),
-        }
+        let mut progress = self.run(kind, block)?;
+        self.task.composite_made(kind, written, &mut progress)
     }
 }

@@ -1,9 +1,67 @@
 // What streams take and give.
 
-ghost use Rattle.std.specs.Prelude.{◌≡◌};
+ghost use Rattle.std.specs.Prelude.{◌≡◌, IfOk};
+ghost use Rattle.std.specs.List.{list_any};
 ghost use Rattle.strc_elab.specs.Elaboration as spec;
+ghost use Rattle.strc_elab.specs.TypeRows.{row_types};
+ghost use Rattle.strc_stream.specs.Types as stream_types;
 
+use std::alloc::{AllocError, Global};
 use strc_syntax::tree::{ItemType, StreamType};
+
+/// Whether there are items.
+pub(crate) fn is_int(side: ItemType) -> bool
+    ensures { result ≡ stream_types.is_int side }
+{
+    match side {
+        ItemType::Int => true,
+        ItemType::Void => false,
+    }
+}
+
+/// A side with items, or without.
+pub(crate) fn side(is_int: bool) -> ItemType
+    ensures { result ≡ stream_types.side is_int }
+{
+    if is_int {
+        ItemType::Int
+    } else {
+        ItemType::Void
+    }
+}
+
+/// Whether one of these streams has items.
+pub(crate) fn has_items(sides: &[ItemType]) -> bool
+    ensures { result ≡ list_any stream_types.is_int sides.now }
+{
+    for side in sides {
+        if is_int(*side) {
+            return true;
+        }
+    }
+    false
+}
+
+/// What streams side by side have: items where one of them does.
+pub(crate) fn any_side(sides: &[ItemType]) -> ItemType
+    ensures { result ≡ spec.any_side sides.now }
+{
+    side(has_items(sides))
+}
+
+/// What streams side by side take.
+pub(crate) fn inputs_in(alloc: Global, types: &[StreamType]) -> Result<Vec<ItemType>, AllocError>
+    ensures { IfOk result (λ sides. sides.items ≡ spec.inputs_in types.now) }
+{
+    types.iter().map(|found| found.input).collect(alloc)
+}
+
+/// What streams side by side give.
+pub(crate) fn outputs_in(alloc: Global, types: &[StreamType]) -> Result<Vec<ItemType>, AllocError>
+    ensures { IfOk result (λ sides. sides.items ≡ spec.outputs_in types.now) }
+{
+    types.iter().map(|found| found.output).collect(alloc)
+}
 
 /// One type is the other.
 pub(crate) fn same_item(side: ItemType, other: ItemType) -> bool
@@ -24,5 +82,26 @@ pub(crate) fn is_as_written(written: Option<StreamType>, found: StreamType) -> b
         Some(written) => {
             same_item(written.input, found.input) && same_item(written.output, found.output)
         }
+    }
+}
+
+/// Items come in and go out.
+pub(crate) fn passes_items(found: StreamType) -> bool
+    ensures { result ≡ spec.passes_items found }
+{
+    is_int(found.input) && is_int(found.output)
+}
+
+/// What streams in a row take and give, where there is one.
+pub(crate) fn types_in_a_row(types: &[StreamType]) -> Option<StreamType>
+    ensures { result ≡ row_types types.now }
+{
+    match types {
+        [] => None,
+        [only] => Some(*only),
+        [first, .., last] => Some(StreamType {
+            input: first.input,
+            output: last.output,
+        }),
     }
 }

@@ -10,8 +10,8 @@ use Rattle.strc_syntax.specs.Tree.{Declaration}
 use Rattle.strc_grammar.specs.Grammar as grammar
 use Rattle.strc_grammar.proofs.Exact.{unambiguous}
 use Rattle.strc_elab.specs.Elaboration.{elaborated}
-use Rattle.strc_elab.specs.Flattening.{nodes_of, IsFlat}
-use Rattle.strc_elab.proofs.OneGraph.{one_graph}
+use Rattle.strc_stream.specs.Flattening.{nodes_of, IsFlat}
+use Rattle.strc_stream.proofs.OneGraph.{one_graph}
 use Rattle.strc_graph.specs.Graphs.{Graph}
 use Rattle.strc_balance.specs.Balance.{count_at}
 use Rattle.strc_balance.specs.Rates.{equation_of}
@@ -24,7 +24,7 @@ use Rattle.strc_order.specs.Firings.{none_fired}
 use Rattle.strc_order.specs.Schedules.{ScheduleParts, IsSchedule}
 use Rattle.strc_order.proofs.Scheduling.{some_order}
 use Rattle.strc_order.proofs.Limiting.{within_limit}
-use Rattle.strc_elab.specs.Instances.{Stream}
+use Rattle.strc_stream.specs.Instances.{Stream}
 use Rattle.strc_scope.specs.declared.error.ElabError.{ElabError}
 use Rattle.strc_run.specs.declared.refusal.Refusal.{Refusal}
 use Rattle.strc_run.specs.declared.refusal.Refusal.TheVariants as refusal

@@ -4,3 +4,4 @@ pub mod Instances
 pub mod PlannedGraphs
 pub mod RatedGraphs
 pub mod Refusals
+pub mod Rounds

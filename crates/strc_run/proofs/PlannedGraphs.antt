@@ -15,23 +15,24 @@ use Rattle.strc_startup.specs.Rates.{rates_of, first_counts}
 use Rattle.strc_startup.specs.Startup as start
 use Rattle.strc_order.specs.Schedules.{ScheduleParts, IsSchedule}
 use Rattle.strc_admissible.specs.Planned.{IsFilterOf, IsPlanned}
-use Rattle.strc_run.specs.Rates.{rates_checked}
 use Rattle.strc_run.proofs.CheckedRates.{filter_ok}
 use Rattle.strc_run.proofs.Instances.{instance_starts}
-use Rattle.strc_run.proofs.RatedGraphs.{IsChecked, all_checked, checked_at}
+use Rattle.strc_run.proofs.RatedGraphs.{IsChecked, checked_at}
 
 -- an instance is no node of fission
 never_fissioned : (code : NodeCode) → IsInstance code → fires_by_rounds code ≡ false
 never_fissioned (graphs.Filter name filter) is = refl
 never_fissioned graphs.Identity is = refl
+never_fissioned graphs.FileReader is = refl
+never_fissioned graphs.FileWriter is = refl
+never_fissioned (graphs.Splitter splitter) is = refl
+never_fissioned (graphs.Joiner weights) is = refl
 never_fissioned code is = absurd is
 
-module _ (graph : Graph) (instances : AllByRecursion IsInstance graph.nodes)
-    (checks : rates_checked 0 graph.nodes ≡ Ok tt) where
+module _ (graph : Graph) (all : AllByRecursion IsChecked graph.nodes) where
   -- each node is an instance, and checked
   at : (node : ℕ) (code : NodeCode) → slice_get graph.nodes node ≡ Some code → IsChecked code
-  at node code is =
-      checked_at graph.nodes node code (all_checked 0 graph.nodes instances checks) is
+  at node code is = checked_at graph.nodes node code all is
 
   filter_starts : (filter : filters.Filter) → IsFilterOf graph filter
       → (fields : List ℤ) × (started filter ≡ Ok fields)

@@ -1,7 +1,8 @@
 -- In a flat graph of checked instances, both ends of each channel have a rate.
 use Rattle.std.proofs.Common.{◌≡◌, ℕ, zero, suc, ◌+◌, ◌<◌, ℤ, false, List, [], ◌∷◌, length, get_or}
-use Rattle.std.proofs.Common.{refl, sym, subst, Ok, arith}
-use Rattle.std.specs.Prelude.{All, nat_eq, Option, Some, None, slice_get}
+use Rattle.std.proofs.Common.{refl, sym, ap, ◌∙◌, subst, Ok, arith, Bool, true}
+use Rattle.std.specs.Prelude.{All, nat_eq, nat_lt, Option, Some, None, slice_get, slice_index}
+use Rattle.std.specs.Prelude.{slice_index_or, if◌then◌else◌}
 use Rattle.std.specs.List.{AllByRecursion}
 use Rattle.std.specs.Option.{option_map_or}
 use Rattle.std.proofs.lemmas.List.{get_or-map, length-map}
@@ -13,15 +14,17 @@ use Rattle.strc_semantics.specs.Filters.{pop_rate, item_count}
 use Rattle.strc_rate.specs.Rates as rates
 use Rattle.strc_rate.specs.Rates.{checked, work_checked, work_lacks}
 use Rattle.strc_graph.specs.Graphs as graphs
-use Rattle.strc_graph.specs.Graphs.{NodeCode, Channel, Graph, JoinsPorts, ports_of, input_ports}
-use Rattle.strc_graph.specs.Graphs.{output_ports, inputs_at, outputs_at}
+use Rattle.strc_graph.specs.Carriers.{carries_in, carries_out, takes_at, gives_at, JoinsCarriers}
+use Rattle.strc_graph.specs.Graphs.{NodeCode, Channel, Graph, Duplicate, Roundrobin, ports_of}
+use Rattle.strc_graph.specs.Graphs.{input_ports, output_ports}
 use Rattle.strc_balance.specs.Rates.{IsRated, equation_of, equations_of, pops_by_work}
 use Rattle.strc_balance.specs.Rates.{pushes_by_work}
-use Rattle.strc_graph.proofs.Carriers.{carriers_are_joined}
-use Rattle.strc_elab.specs.Flattening.{nodes_of, IsFlat}
-use Rattle.strc_elab.specs.Instances.{Stream}
+use Rattle.strc_stream.specs.Flattening.{nodes_of, IsFlat}
+use Rattle.strc_stream.specs.Instances.{Stream}
 use Rattle.strc_elab.specs.Sound.{IsElaborated, IsInstance}
-use Rattle.strc_elab.specs.Types.{IsWellTyped}
+use Rattle.strc_stream.specs.Types.{IsWellTyped}
+use Rattle.strc_stream.specs.Dealing.{Deals}
+use Rattle.strc_stream.proofs.Dealing.{nodes_deal}
 use Rattle.strc_run.specs.Rates.{node_checked, rates_checked}
 use Rattle.strc_run.proofs.CheckedRates.{neither, node_ok, filter_ok, work_ok, lacks_none}
 
@@ -50,41 +53,79 @@ lacks_no_rate number name filter e =
     neither (rates.lacks_rate filter.input (pop_rate (work_rates members)))
     (rates.lacks_rate filter.output (push_rate (work_rates members))) lacking
 
-code_pushes : (number : ℕ) (code : NodeCode) (port : ℕ) → IsInstance code
-    → node_checked number code ≡ Ok tt → port < output_ports code → 0 < pushes_by_work code port
-code_pushes number (graphs.Filter name filter) port is e lt =
+-- a port that is below a number of ports, or has a weight
+below : (m n : ℕ) → nat_lt m n ≡ true → m < n
+below m n is = grind arith
+
+duplicated : (carried : List Bool) (port : ℕ) → slice_index_or carried port false ≡ true
+    → 0 < (if slice_index_or carried port false then 1 else 0)
+duplicated carried port is = subst (λ b. 0 < (if b then 1 else 0)) (sym is) (omega arith)
+
+code_pushes : (number : ℕ) (code : NodeCode) (port : ℕ) → IsInstance code → Deals code
+    → node_checked number code ≡ Ok tt → carries_out code port ≡ true
+    → 0 < pushes_by_work code port
+code_pushes number (graphs.Filter name filter) port is deals e carries =
     let rated = side_rate filter.output (push_rate (work_rates filter.members)) port
-    (lacks_no_rate number name filter e).1 lt in
+    (lacks_no_rate number name filter e).1
+    (below port (output_ports (graphs.Filter name filter)) carries) in
     subst (λ p. 0 < pushes_by_work (graphs.Filter name filter) p) (sym rated.0) rated.1
-code_pushes number graphs.Identity port is e lt =
-    let first : port ≡ 0 = omega (arith, lt) in
+code_pushes number graphs.Identity port is deals e carries =
+    let first : port ≡ 0 = let lt = below port 1 carries in omega (arith, lt) in
     subst (λ p. 0 < pushes_by_work graphs.Identity p) (sym first) (omega arith)
-code_pushes number code port is e lt = absurd is
+code_pushes number graphs.FileReader port is deals e carries =
+    let first : port ≡ 0 = let lt = below port 1 carries in omega (arith, lt) in
+    subst (λ p. 0 < pushes_by_work graphs.FileReader p) (sym first) (omega arith)
+code_pushes number graphs.FileWriter port is deals e carries =
+    absurd (let lt = below port 0 carries in omega (arith, lt))
+code_pushes number (graphs.Splitter (Duplicate carried)) port is deals e carries =
+    duplicated carried port carries
+code_pushes number (graphs.Splitter (Roundrobin weights)) port is deals e carries =
+    below 0 (slice_index weights port) carries
+code_pushes number (graphs.Joiner weights) port is deals e carries =
+    let first : port ≡ 0 = let lt = below port 1 carries in omega (arith, lt) in
+    subst (λ p. 0 < pushes_by_work (graphs.Joiner weights) p) (sym first) deals
+code_pushes number code port is deals e carries = absurd is
 
-code_pops : (number : ℕ) (code : NodeCode) (port : ℕ) → IsInstance code
-    → node_checked number code ≡ Ok tt → port < input_ports code → 0 < pops_by_work code port
-code_pops number (graphs.Filter name filter) port is e lt =
+code_pops : (number : ℕ) (code : NodeCode) (port : ℕ) → IsInstance code → Deals code
+    → node_checked number code ≡ Ok tt → carries_in code port ≡ true → 0 < pops_by_work code port
+code_pops number (graphs.Filter name filter) port is deals e carries =
     let rated = side_rate filter.input (pop_rate (work_rates filter.members)) port
-    (lacks_no_rate number name filter e).0 lt in
+    (lacks_no_rate number name filter e).0
+    (below port (input_ports (graphs.Filter name filter)) carries) in
     subst (λ p. 0 < pops_by_work (graphs.Filter name filter) p) (sym rated.0) rated.1
-code_pops number graphs.Identity port is e lt =
-    let first : port ≡ 0 = omega (arith, lt) in
+code_pops number graphs.Identity port is deals e carries =
+    let first : port ≡ 0 = let lt = below port 1 carries in omega (arith, lt) in
     subst (λ p. 0 < pops_by_work graphs.Identity p) (sym first) (omega arith)
-code_pops number code port is e lt = absurd is
+code_pops number graphs.FileReader port is deals e carries =
+    absurd (let lt = below port 0 carries in omega (arith, lt))
+code_pops number graphs.FileWriter port is deals e carries =
+    let first : port ≡ 0 = let lt = below port 1 carries in omega (arith, lt) in
+    subst (λ p. 0 < pops_by_work graphs.FileWriter p) (sym first) (omega arith)
+code_pops number (graphs.Splitter (Duplicate carried)) port is deals e carries =
+    let first : port ≡ 0 = let lt = below port 1 carries in omega (arith, lt) in
+    subst (λ p. 0 < pops_by_work (graphs.Splitter (Duplicate carried)) p) (sym first) (omega arith)
+code_pops number (graphs.Splitter (Roundrobin weights)) port is deals e carries =
+    let first : port ≡ 0 = let lt = below port 1 carries in omega (arith, lt) in
+    subst (λ p. 0 < pops_by_work (graphs.Splitter (Roundrobin weights)) p) (sym first) deals
+code_pops number (graphs.Joiner weights) port is deals e carries =
+    below 0 (slice_index weights port) carries
+code_pops number code port is deals e carries = absurd is
 
--- each node is an instance, and checked
+-- each node is an instance that moves items, and checked
 pub record IsChecked (code : NodeCode) : Type 0 where
   pub number : ℕ
   pub instance : IsInstance code
+  pub deals : Deals code
   pub checks : node_checked number code ≡ Ok tt
 
 pub all_checked : (number : ℕ) (codes : List NodeCode) → AllByRecursion IsInstance codes
-    → rates_checked number codes ≡ Ok tt → AllByRecursion IsChecked codes
-all_checked number [] all e = tt
-all_checked number (code ∷ codes) all e =
+    → AllByRecursion Deals codes → rates_checked number codes ≡ Ok tt
+    → AllByRecursion IsChecked codes
+all_checked number [] all deal e = tt
+all_checked number (code ∷ codes) all deal e =
     let here = node_ok (node_checked number code) (rates_checked (number + 1) codes) e in (
-      record { number = number; instance = all.0; checks = here.0 },
-      all_checked (number + 1) codes all.1 here.1,
+      record { number = number; instance = all.0; deals = deal.0; checks = here.0 },
+      all_checked (number + 1) codes all.1 deal.1 here.1,
     )
 
 pub checked_at : (codes : List NodeCode) (node : ℕ) (code : NodeCode)
@@ -95,35 +136,33 @@ checked_at (first ∷ rest) zero code all is = let same : first ≡ code = cc in
 checked_at (first ∷ rest) (suc node) code all is = checked_at rest node code all.1 is
 
 source_pushes : (nodes : List NodeCode) → AllByRecursion IsChecked nodes → (node port : ℕ)
-    → port < outputs_at nodes node → 0 < option_map_or (λ code. pushes_by_work code port)
+    → gives_at nodes node port ≡ true → 0 < option_map_or (λ code. pushes_by_work code port)
     (slice_get nodes node) 0
-source_pushes nodes all node port lt = by_option (slice_get nodes node) refl lt
+source_pushes nodes all node port carries = by_option (slice_get nodes node) refl carries
   where
     by_option : (found : Option NodeCode) → slice_get nodes node ≡ found
-        → port < option_map_or output_ports found 0
+        → option_map_or (λ code. carries_out code port) found false ≡ true
         → 0 < option_map_or (λ code. pushes_by_work code port) found 0
-    by_option None is lt = absurd (omega (arith, lt))
-    by_option (Some code) is lt = let one = checked_at nodes node code all is in
-        code_pushes one.number code port one.instance one.checks lt
+    by_option None is carries = absurd (cc)
+    by_option (Some code) is carries = let one = checked_at nodes node code all is in
+        code_pushes one.number code port one.instance one.deals one.checks carries
 
 target_pops : (nodes : List NodeCode) → AllByRecursion IsChecked nodes → (node port : ℕ)
-    → port < inputs_at nodes node → 0 < option_map_or (λ code. pops_by_work code port)
+    → takes_at nodes node port ≡ true → 0 < option_map_or (λ code. pops_by_work code port)
     (slice_get nodes node) 0
-target_pops nodes all node port lt = by_option (slice_get nodes node) refl lt
+target_pops nodes all node port carries = by_option (slice_get nodes node) refl carries
   where
     by_option : (found : Option NodeCode) → slice_get nodes node ≡ found
-        → port < option_map_or input_ports found 0
+        → option_map_or (λ code. carries_in code port) found false ≡ true
         → 0 < option_map_or (λ code. pops_by_work code port) found 0
-    by_option None is lt = absurd (omega (arith, lt))
-    by_option (Some code) is lt = let one = checked_at nodes node code all is in
-        code_pops one.number code port one.instance one.checks lt
+    by_option None is carries = absurd (cc)
+    by_option (Some code) is carries = let one = checked_at nodes node code all is in
+        code_pops one.number code port one.instance one.deals one.checks carries
 
-pub graph_is_rated : (graph : Graph) → All (JoinsPorts graph.nodes) graph.channels
-    → AllByRecursion IsInstance graph.nodes → rates_checked 0 graph.nodes ≡ Ok tt
-    → All IsRated (equations_of graph)
-graph_is_rated graph joined instances e k d within =
+pub graph_is_rated : (graph : Graph) → All (JoinsCarriers graph.nodes) graph.channels
+    → AllByRecursion IsChecked graph.nodes → All IsRated (equations_of graph)
+graph_is_rated graph joined all k d within =
     let nodes = graph.nodes in
-    let all = all_checked 0 nodes instances e in
     let nowhere : Channel = record {
       source = record { node = 0; port = 0 };
       target = record { node = 0; port = 0 };
@@ -135,17 +174,23 @@ graph_is_rated graph joined instances e k d within =
     let in_channels : k < length graph.channels = omega arith in
     let same : get_or (equations_of graph) k d ≡ equation_of nodes channel =
     get_or-map (equation_of nodes) graph.channels k nowhere d in_channels in
-    let joins : JoinsPorts nodes channel = joined k nowhere in_channels in
+    let joins : JoinsCarriers nodes channel = joined k nowhere in_channels in
     subst IsRated (sym same) (record {
       push = source_pushes nodes all channel.source.node channel.source.port joins.source;
       pop = target_pops nodes all channel.target.node channel.target.port joins.target;
     })
 
--- the flat graph of an elaborated stream whose rates hold is rated
+-- the nodes of an elaborated stream whose rates hold are checked
+pub stream_checked : (stream : Stream) → IsElaborated stream
+    → rates_checked 0 (nodes_of stream) ≡ Ok tt → AllByRecursion IsChecked (nodes_of stream)
+stream_checked stream sound checks =
+    all_checked 0 (nodes_of stream) sound.instances (nodes_deal stream sound.closed.typed) checks
+
+-- and its flat graph is rated
 pub flat_is_rated : (stream : Stream) (graph : Graph) → IsElaborated stream
     → (IsWellTyped stream → IsFlat stream graph) → graph.nodes ≡ nodes_of stream
     → rates_checked 0 graph.nodes ≡ Ok tt → All IsRated (equations_of graph)
 flat_is_rated stream graph sound flat same checks =
-    let is = flat sound.typed in
-    graph_is_rated graph (carriers_are_joined graph.nodes graph.channels is.joined)
-    (subst (AllByRecursion IsInstance) (sym same) sound.instances) checks
+    graph_is_rated graph (flat sound.closed.typed).joined
+    (subst (AllByRecursion IsChecked) (sym same)
+    (stream_checked stream sound (ap (rates_checked 0) (sym same) ∙ checks)))

@@ -5,9 +5,10 @@ use Rattle.std.specs.Result.{IsErrAnd}
 use Rattle.strc_syntax.specs.Tree.{Declaration}
 use Rattle.strc_scope.specs.Answers as elaboration
 use Rattle.strc_elab.specs.Elaboration.{elaborated}
-use Rattle.strc_elab.specs.Flattening.{nodes_of, codes_of, meaning_of, IsConnected, IsFlat}
-use Rattle.strc_elab.specs.Flattening.{IsRefused}
-use Rattle.strc_elab.specs.Instances.{Stream}
+use Rattle.strc_stream.specs.Flattening.{nodes_of, codes_of, meaning_of, IsFlat}
+use Rattle.strc_stream.specs.Connections.{IsConnected}
+use Rattle.strc_flatten.specs.Verdicts.{IsRefused}
+use Rattle.strc_stream.specs.Instances.{Stream}
 use Rattle.strc_graph.specs.Graphs.{Graph}
 use Rattle.strc_balance.specs.Balance.{count_at}
 use Rattle.strc_balance.specs.Verdicts as balancing

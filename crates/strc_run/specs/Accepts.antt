@@ -4,7 +4,7 @@ use Rattle.strc_lex.specs.Text.{Lexes, text_limit}
 use Rattle.strc_lex.specs.declared.token.Token.{Token}
 use Rattle.strc_syntax.specs.Tree.{Declaration}
 use Rattle.strc_grammar.specs.Grammar as grammar
-use Rattle.strc_elab.specs.Instances.{Stream}
+use Rattle.strc_stream.specs.Instances.{Stream}
 use Rattle.strc_run.specs.Compiling.{Compiles}
 
 -- the tokens of a text that isn't too long

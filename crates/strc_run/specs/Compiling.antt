@@ -3,9 +3,11 @@
 use Rattle.std.specs.Prelude.{◌≡◌, ℕ, List, map, Option, Result, Ok, Err}
 use Rattle.strc_syntax.specs.Tree.{Declaration}
 use Rattle.strc_elab.specs.Elaboration.{elaborated}
-use Rattle.strc_elab.specs.Flattening.{tree_of, nodes_of, codes_of, meaning_of, IsConnected}
-use Rattle.strc_elab.specs.Flattening.{IsFlat, IsAccepted, IsRefused}
-use Rattle.strc_elab.specs.Instances.{Stream}
+use Rattle.strc_stream.specs.Flattening.{tree_of, nodes_of, codes_of, meaning_of}
+use Rattle.strc_stream.specs.Connections.{IsConnected}
+use Rattle.strc_stream.specs.Flattening.{IsFlat}
+use Rattle.strc_flatten.specs.Verdicts.{IsAccepted, IsRefused}
+use Rattle.strc_stream.specs.Instances.{Stream}
 use Rattle.strc_graph.specs.FlatGraphs.{IsProgram}
 use Rattle.strc_graph.specs.Graphs.{Graph}
 use Rattle.strc_graph.specs.NodeView.{node_view, graph_view}
@@ -25,7 +27,6 @@ use Rattle.strc_run.specs.Scheduling.{HasStartup, CannotStart, HasSchedule, Cann
 
 -- how a refusal of an elaboration or of a flat graph is reported
 abbrev pub refusal_of : ElabError → Refusal
-refusal_of error.NotYet = refusal.NotYet
 refusal_of (error.UnknownName name) = refusal.UnknownName name
 refusal_of (error.TypeMismatch stream) = refusal.TypeMismatch stream
 refusal_of error.NoMain = refusal.NoMain
@@ -33,6 +34,7 @@ refusal_of error.ManyMains = refusal.ManyMains
 refusal_of error.DepthLimit = refusal.DepthLimit
 refusal_of error.NodeLimit = refusal.NodeLimit
 refusal_of (error.BadArguments stream) = refusal.BadArguments stream
+refusal_of (error.BadWeights stream) = refusal.BadWeights stream
 refusal_of (error.ConstFault cause) = refusal.ConstFault cause
 refusal_of error.TwoInputs = refusal.TwoInputs
 refusal_of error.TwoOutputs = refusal.TwoOutputs

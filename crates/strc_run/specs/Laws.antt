@@ -1,6 +1,6 @@
 -- What holds of all texts.
 use Rattle.std.specs.Prelude.{◌≡◌, ℕ, List, Option}
-use Rattle.strc_elab.specs.Instances.{Stream}
+use Rattle.strc_stream.specs.Instances.{Stream}
 use Rattle.strc_run.specs.declared.refusal.Refusal.{Refusal}
 use Rattle.strc_run.specs.Accepts.{Accepts}
 use Rattle.strc_run.specs.Refuses.{Refuses}

@@ -4,5 +4,6 @@ pub mod Laws
 pub mod Planning
 pub mod Rates
 pub mod Refuses
+pub mod Rounds
 pub mod Scheduling
 pub mod Verdicts

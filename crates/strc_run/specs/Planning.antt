@@ -1,7 +1,7 @@
 -- How a text is answered with a plan.
 use Rattle.std.specs.Prelude.{◌≡◌, ℕ, List, map, Option, Result, Ok, Err}
-use Rattle.strc_elab.specs.Flattening.{tree_of, nodes_of}
-use Rattle.strc_elab.specs.Instances.{Stream}
+use Rattle.strc_stream.specs.Flattening.{tree_of, nodes_of}
+use Rattle.strc_stream.specs.Instances.{Stream}
 use Rattle.strc_graph.specs.FlatGraphs.{IsProgram}
 use Rattle.strc_graph.specs.NodeView.{node_view, graph_view}
 use Rattle.strc_admissible.specs.Planned.{IsPlanned}

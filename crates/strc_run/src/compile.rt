@@ -14,7 +14,7 @@ use crate::refusal::Refusal;
 use std::alloc::Global;
 use strc_balance::balance::balance;
 use strc_elab::elaborate::elaborate;
-use strc_elab::flatten::flatten;
+use strc_flatten::flatten::flatten;
 use strc_lex::error::LexError;
 use strc_lex::lexer::lex;
 use strc_order::planning::schedule;

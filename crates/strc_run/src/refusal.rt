@@ -17,8 +17,6 @@ use strc_startup::error::StartupError;
 /// Why a text is refused. Bytes, tokens, declarations and nodes are numbered from 0.
 #[derive(Debug, Drop)]
 pub enum Refusal {
-    /// A part of the language that can't be run yet.
-    NotYet,
     /// No token begins at this byte.
     Lex {
         at: usize,
@@ -47,6 +45,10 @@ pub enum Refusal {
     NodeLimit,
     /// The wrong number of arguments; the declaration that holds the statement.
     BadArguments {
+        stream: usize,
+    },
+    /// Weights that aren't allowed; the declaration that holds them.
+    BadWeights {
         stream: usize,
     },
     /// A fault in the statements of a composite stream, in a rate, a length, an initialiser or
@@ -108,7 +110,6 @@ impl From<ElabError> for Refusal {
 
     fn from(error: ElabError) -> Refusal {
         match error {
-            ElabError::NotYet => Refusal::NotYet,
             ElabError::UnknownName { name } => Refusal::UnknownName { name },
             ElabError::TypeMismatch { stream } => Refusal::TypeMismatch { stream },
             ElabError::NoMain => Refusal::NoMain,
@@ -116,6 +117,7 @@ impl From<ElabError> for Refusal {
             ElabError::DepthLimit => Refusal::DepthLimit,
             ElabError::NodeLimit => Refusal::NodeLimit,
             ElabError::BadArguments { stream } => Refusal::BadArguments { stream },
+            ElabError::BadWeights { stream } => Refusal::BadWeights { stream },
             ElabError::ConstFault { cause } => Refusal::ConstFault { cause },
             ElabError::TwoInputs => Refusal::TwoInputs,
             ElabError::TwoOutputs => Refusal::TwoOutputs,

@@ -7,5 +7,6 @@ pub mod Starting
 pub mod Done
 pub mod Going
 pub mod Counting
+pub mod ServedRounds
 pub mod Endings
 pub mod Blocks

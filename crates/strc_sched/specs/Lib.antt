@@ -4,5 +4,6 @@ pub mod Circuits
 pub mod Running
 pub mod Reading
 pub mod Plain
+pub mod Serving
 pub mod Sentences
 pub mod Blocks

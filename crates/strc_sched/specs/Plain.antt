@@ -1,5 +1,5 @@
 -- What a run on one thread answers.
-use Rattle.std.specs.Prelude.{◌≡◌, ℕ, ◌<◌, ℤ, List, [], length}
+use Rattle.std.specs.Prelude.{◌≡◌, ℕ, ◌<◌, ◌≤◌, ℤ, List, [], length}
 use Rattle.std.specs.declared.vec.Vec.{Vec}
 use Rattle.std.specs.declared.alloc.Global.{Global}
 use Rattle.strc_dataflow.specs.Streams as trees
@@ -46,11 +46,12 @@ AnswersGraph graph schedule input rounds outcome =
 abbrev pub need_of : Graph → ScheduleParts → (rounds : ℕ) → ℕ
 need_of graph schedule rounds = items_read graph.nodes (counts_at schedule rounds)
 
--- a run is refused for an input that is shorter than what it reads, or where memory runs out
+-- a run is refused for an input that is shorter than what it reads, and only then; or where memory
+-- runs out
 abbrev pub IsPlainRefusal : (need got : ℕ) → RunRefusal → Type 0
 IsPlainRefusal need got (refused.InputShort needed had) =
     (needed ≡ need) × (had ≡ got) × (got < need)
-IsPlainRefusal need got refused.NoMemory = Unit {0}
+IsPlainRefusal need got refused.NoMemory = need ≤ got
 IsPlainRefusal need got _ = ⊥
 
 -- an outcome tells of a run that was stopped, and its words before

@@ -19,6 +19,7 @@ pub mod plain;
 mod reading;
 pub mod refusal;
 mod ring;
+pub mod serving;
 mod wiring;
 
 pub use strc_order::{error, laws, parts, planning, sizing, unit};

@@ -28,7 +28,7 @@ pub(crate) fn items_needed(nodes: &[Node], schedule: &Schedule, rounds: u32) -> 
 }
 
 /// The first node that reads the program's input.
-fn reader_of(nodes: &[Node]) -> Option<usize>
+pub(crate) fn reader_of(nodes: &[Node]) -> Option<usize>
     ensures { (counts : ℕ → ℕ) → items_read (map node_view nodes.now) counts
         ≡ count_of result counts }
 {
@@ -41,7 +41,7 @@ fn reader_of(nodes: &[Node]) -> Option<usize>
 }
 
 /// How often a node fires in an order.
-fn firings_of(units: &[Unit], node: usize) -> u64
+pub(crate) fn firings_of(units: &[Unit], node: usize) -> u64
     requires few { FiresFew (spec.firings_of units.now) }
     ensures firings { result ≡ tally (spec.firings_of units.now) node }
     ensures bound { result ≤ 2 ^ 20 }

@@ -11,9 +11,6 @@ use strc_semantics::fault::Cause;
 /// Why a program has no stream, or a stream no graph. Declarations are numbered from 0.
 #[derive(Debug, Drop)]
 pub enum ElabError {
-    /// A split-join, a feedback loop, a `FileReader` or a `FileWriter` would be elaborated, which
-    /// isn't done yet.
-    NotYet,
     /// A variable or a stream that isn't declared.
     UnknownName { name: Name },
     /// A type, kind or part isn't the one that must stand there; the declaration that holds it.
@@ -28,6 +25,9 @@ pub enum ElabError {
     NodeLimit,
     /// The wrong number of arguments; the declaration that holds the statement.
     BadArguments { stream: usize },
+    /// Weights that aren't allowed: their number, one below 0 or above 65,536, one of 0 for a stream
+    /// that has items on that side or above 0 for one that hasn't; the declaration that holds them.
+    BadWeights { stream: usize },
     /// A fault in the statements of a composite stream, in a rate, a length, an initialiser or
     /// `init`.
     ConstFault { cause: Cause },

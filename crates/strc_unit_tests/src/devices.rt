@@ -180,3 +180,60 @@ fn reads_are_counted_and_errors_remembered(rt: HostRuntime) {
     assert!(rt; input.read(&mut buffer).is_err());
     assert!(rt; input.failed());
 }
+
+/// Prints each number of the input.
+const ECHO: &str = "void->void pipeline Echo {
+    add FileReader<int>(\"in\");
+    add FileWriter<int>(\"out\");
+}";
+
+#[test]
+fn input_is_read_in_pieces_of_any_size(rt: HostRuntime) -> Result<(), Fail> {
+    for at_once in [1, 2, 3, 5, 1000] {
+        let mut input = Told::new(Reader {
+            rest: b" 12 -345\n6",
+            at_once,
+            calls_left: 1000,
+        });
+        let mut output = told_writer(rt.alloc(), 1000, 1000, true)?;
+        let status = execute(
+            rt.alloc(),
+            ECHO.as_bytes(),
+            &Command::Run {
+                rounds: None,
+                main: None,
+            },
+            &mut input,
+            &mut output,
+        )?;
+        assert_eq!(rt; status, Status::Done);
+        assert_eq!(rt;
+            output.into_device().taken.as_slice(),
+            b"12\n-345\n6\n".as_slice()
+        );
+    }
+    Ok(())
+}
+
+#[test]
+fn input_that_fails_is_told_and_nothing_written(rt: HostRuntime) -> Result<(), Fail> {
+    for calls in 0..3 {
+        let mut input = Told::new(Reader {
+            rest: b"12 34 56",
+            at_once: 2,
+            calls_left: calls,
+        });
+        let mut output = told_writer(rt.alloc(), 1000, 1000, true)?;
+        let outcome = execute(
+            rt.alloc(),
+            ECHO.as_bytes(),
+            &rounds(1),
+            &mut input,
+            &mut output,
+        );
+        assert_eq!(rt; outcome, Err(CliError::Read), "after {calls} calls");
+        assert!(rt; input.failed() && !output.failed());
+        assert!(rt; output.into_device().taken.is_empty());
+    }
+    Ok(())
+}

@@ -4,11 +4,11 @@ use crate::texts::code;
 use std::alloc::{AllocError, Global};
 use std::process::Abort;
 use std::test::Fail;
-use strc_elab::flatten::flatten;
-use strc_elab::stream::Stream;
-use strc_graph::graph::Graph;
+use strc_flatten::flatten::flatten;
+use strc_graph::graph::{Graph, Splitter};
 use strc_graph::instance::Instance;
 use strc_lex::token::Name;
+use strc_stream::stream::Stream;
 
 /// A stream of the only filter in a text, with a name or without one.
 fn filter(alloc: Global, name: Option<&str>, text: &str) -> Result<Stream, Fail> {
@@ -72,5 +72,59 @@ fn pipelines_are_rows(rt: HostRuntime) -> Result<(), Fail> {
     let printer = "int->void filter Printer { work pop 1 { println(pop()); } }";
     let alone = filter(alloc, None, printer)?;
     assert_eq!(rt; flat(&rt, alloc, alone)?.as_str(), "filter ");
+    Ok(())
+}
+
+/// A program that reads, a stream in the middle, and a writer.
+fn between(alloc: Global, stream: Stream) -> Result<Stream, AllocError> {
+    let mut children = Vec::new(alloc);
+    children.push(Stream::FileReader)?;
+    children.push(stream)?;
+    children.push(Stream::FileWriter)?;
+    Ok(Stream::Pipeline(children))
+}
+
+#[test]
+fn split_joins_stand_between_their_nodes(rt: HostRuntime) -> Result<(), Fail> {
+    let alloc = rt.alloc();
+    let mut children = Vec::new(alloc);
+    children.push(Stream::Identity)?;
+    children.push(filter(
+        alloc,
+        Some("Drop"),
+        "int->void filter Drop { work pop 1 { pop(); } }",
+    )?)?;
+    children.push(Stream::Identity)?;
+    let splitter = Splitter::Roundrobin(vec![in alloc; 2, 1, 1]?);
+    let joiner = vec![in alloc; 2, 0, 1]?;
+    let stream = Stream::SplitJoin(Some(splitter), children, Some(joiner));
+    assert_eq!(rt;
+        flat(&rt, alloc, between(alloc, stream)?)?.as_str(),
+        "FileReader split Identity Drop Identity join FileWriter \
+         0.0-1.0:0 1.0-2.0:0 1.1-3.0:0 1.2-4.0:0 2.0-5.0:0 4.0-5.2:0 5.0-6.0:0 "
+    );
+    Ok(())
+}
+
+#[test]
+fn loops_come_back_to_their_joiner(rt: HostRuntime) -> Result<(), Fail> {
+    let alloc = rt.alloc();
+    let sum = filter(
+        alloc,
+        Some("Sum"),
+        "int->int filter Sum { work push 1 pop 2 { push(pop() + pop()); } }",
+    )?;
+    let stream = Stream::FeedbackLoop(
+        vec![in alloc; 1, 1]?,
+        Box::new(alloc, sum)?,
+        Splitter::Duplicate(vec![in alloc; true, true]?),
+        Box::new(alloc, Stream::Identity)?,
+        vec![in alloc; 7, 8]?,
+    );
+    assert_eq!(rt;
+        flat(&rt, alloc, between(alloc, stream)?)?.as_str(),
+        "FileReader join! Sum! split! Identity! FileWriter \
+         0.0-1.0:0 1.0-2.0:0 2.0-3.0:0 3.0-5.0:0 3.1-4.0:0 4.0-1.1:2 "
+    );
     Ok(())
 }

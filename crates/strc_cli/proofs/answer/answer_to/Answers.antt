@@ -1,14 +1,16 @@
-use Rattle.std.proofs.Common.{ℕ, List, Option, length, ap, subst, sym}
-use Rattle.strc_cli.specs.Answering.{HasSize, IsAsked, IsNotRun, IsRunRefusal, RunsText, main_of}
+use Rattle.std.proofs.Common.{ℕ, List, Option, length, ap, subst, sym, inl, inr}
+use Rattle.strc_cli.specs.Answering.{HasSize, IsAsked, IsAnswered, IsRun, ReadsInput, ReadsText}
+use Rattle.strc_cli.specs.Answering.{main_of}
 use Rattle.strc_cli.specs.declared.answer.Answer.TheVariants as answer
 use Rattle.strc_cli.specs.declared.line.Command.{Command}
-use Rattle.strc_cli.proofs.PlanAnswers.{plan_size}
+use Rattle.strc_cli.proofs.PlanAnswers.{plan_size, reads_text, run_answered}
 use Rattle.strc_cli.proofs.answer.answer_to.Goals as goal
 
-pub returns-in-Check : goal.returns-in-Check
-returns-in-Check c =
+pub returns-in-Check-clause-answered : goal.returns-in-Check-clause-answered
+returns-in-Check-clause-answered g c =
     let text = c.args.text.now in
     let plan = c.in-Ok.plan in
+    let bytes = g.I.Source.remaining c.args.input.now in
     let size : HasSize text (main_of c.args.command.now) (length plan.graph.nodes)
     (length plan.graph.channels) =
     subst
@@ -16,32 +18,36 @@ returns-in-Check c =
     (length plan.graph.channels))
     c.main_name.ensures (plan_size text _ plan c.in-Ok.ensures) in
     subst
-    (λ (command : Command). IsAsked text command
+    (λ (command : Command). IsAsked text command bytes
     (answer.Checked (length c.nodes.result.now) (length c.channels.result.now)))
     (sym c.in-Check.is)
     (rw (c.nodes.ensures, c.channels.ensures.channels, ← ap main_of c.in-Check.is) size)
 
-pub returns-in-Ok-run_plan : goal.returns-in-Ok-run_plan
-returns-in-Ok-run_plan c =
+pub returns-in-Run-clause-answered : goal.returns-in-Run-clause-answered
+returns-in-Run-clause-answered g c =
     let text = c.args.text.now in
+    let bytes = g.I.Source.remaining c.args.input.now in
     let rounds = c.in-Run.rounds in
-    let outcome = c.in-Ok-run_plan.outcome in
-    let runs : RunsText text (main_of c.args.command.now) rounds outcome =
-    subst (λ (main : Option (List ℕ)). RunsText text main rounds outcome) c.main_name.ensures
-    (c.in-Ok-run_plan.ensures text _ c.in-Ok.ensures) in
-    subst (λ (command : Command). IsAsked text command (answer.Ran outcome)) (sym c.in-Run.is)
-    (rw (← ap main_of c.in-Run.is) runs)
+    let result = c.run_plan.result in
+    let runs : IsRun text (main_of c.args.command.now) rounds bytes result =
+    subst (λ (main : Option (List ℕ)). IsRun text main rounds bytes result) c.main_name.ensures
+    (c.run_plan.ensures.run text _ c.in-Ok.ensures) in
+    subst (λ (command : Command). IsAnswered text command bytes result) (sym c.in-Run.is)
+    (run_answered text rounds _ bytes result
+    (subst (λ (main : Option (List ℕ)). IsRun text main rounds bytes result)
+    (ap main_of c.in-Run.is) runs))
 
-pub returns-in-Run : goal.returns-in-Run
-returns-in-Run c =
+pub returns-in-Run-clause-unread : goal.returns-in-Run-clause-unread
+returns-in-Run-clause-unread g c =
     let text = c.args.text.now in
-    let rounds = c.in-Run.rounds in
-    let refused = c.in-Err-run_plan.refusal in
-    let unrun : IsRunRefusal text (main_of c.args.command.now) rounds refused =
-    subst (λ (main : Option (List ℕ)). IsRunRefusal text main rounds refused) c.main_name.ensures
-    (c.in-Err-run_plan.ensures text _ c.in-Ok.ensures) in
-    subst (λ (command : Command). IsNotRun text command refused) (sym c.in-Run.is)
-    (rw (← ap main_of c.in-Run.is) unrun)
+    let bytes = g.I.Source.remaining c.args.input.now in
+    elim c.run_plan.ensures.unread [
+      | inl same ↦ inl same
+      | inr reads ↦ inr (subst (ReadsInput text) (sym c.in-Run.is)
+          (subst (ReadsText text) (ap main_of c.in-Run.is)
+          (subst (ReadsText text) c.main_name.ensures
+          (reads_text text _ c.in-Ok.plan c.in-Ok.ensures c.in-Run.rounds bytes reads))))
+    ]
 
 pub run_plan-requires : goal.run_plan-requires
-run_plan-requires c = c.in-Ok.ensures.planned
+run_plan-requires g c = c.in-Ok.ensures.planned

@@ -1,10 +1,25 @@
-use Rattle.std.proofs.Common.{ℕ, Option, subst, sym}
+use Rattle.std.proofs.Common.{ℤ, List, Result, subst, sym}
+use Rattle.strc_graph.specs.NodeView.{graph_view}
 use Rattle.strc_cli.specs.Answering.{IsRun}
-use Rattle.strc_cli.proofs.PlanAnswers.{plan_answered}
+use Rattle.strc_cli.specs.Input.{IsRunAnswer}
+use Rattle.strc_cli.specs.declared.answer.Answer.{Answer}
+use Rattle.strc_cli.specs.declared.answer.Stop.{Stop}
+use Rattle.strc_cli.specs.declared.execute.CliError.{CliError}
+use Rattle.strc_cli.proofs.PlanAnswers.{input_run, stopped_run}
 use Rattle.strc_cli.proofs.answer.run_plan.Goals as goal
 
-pub returns-in-Some : goal.returns-in-Some
-returns-in-Some c = λ text main is.
-    subst (λ (rounds : Option ℕ). IsRun text main rounds c.run.result) (sym c.in-Some.is)
-    (plan_answered text main c.args.plan.now is c.in-Some.count c.run.result c.run.ensures.answer
-    c.run.ensures.refused)
+pub returns-in-Ok-clause-run : goal.returns-in-Ok-clause-run
+returns-in-Ok-clause-run g c = λ text main is.
+    input_run text main c.args.plan.now is c.args.rounds (g.I.Source.remaining c.args.input.now)
+    c.in-Ok.numbers c.run_numbers.result c.in-Ok.ensures.numbers
+    (subst (λ (input : List ℤ). IsRunAnswer (graph_view c.args.plan.now.graph)
+    c.args.plan.now.schedule input c.args.rounds c.run_numbers.result) c.deref.ensures.value
+    c.run_numbers.ensures)
+
+pub returns-in-Err-clause-run : goal.returns-in-Err-clause-run
+returns-in-Err-clause-run g c = λ text main is.
+    subst (λ (result : Result (Result Answer Stop) CliError).
+    IsRun text main c.args.rounds (g.I.Source.remaining c.args.input.now) result)
+    (sym c.unread.ensures)
+    (stopped_run text main c.args.plan.now is c.args.rounds
+    (g.I.Source.remaining c.args.input.now) c.in-Err.stop c.in-Err.ensures.numbers)

@@ -1,8 +1,7 @@
 use Rattle.std.proofs.Common.{List, map, refl, sym, ap, ◌∙◌, subst, Err}
 use Rattle.std.specs.List.{AllByRecursion}
 use Rattle.strc_graph.specs.Graphs.{NodeCode}
-use Rattle.strc_elab.specs.Sound.{IsInstance}
-use Rattle.strc_elab.specs.View.{stream_view}
+use Rattle.strc_stream.specs.View.{stream_view}
 use Rattle.strc_graph.specs.NodeView.{node_view, graph_view}
 use Rattle.strc_run.specs.Compiling.{refusal_of, balance_refusal_of}
 use Rattle.strc_run.specs.Rates.{rates_checked}
@@ -11,7 +10,7 @@ use Rattle.strc_run.specs.Verdicts.{IsRefusal}
 use Rattle.strc_run.proofs.Refusals.{elaboration_refused, graph_refused, rates_refused}
 use Rattle.strc_run.proofs.Refusals.{balance_refused, startup_refused, schedule_refused}
 use Rattle.strc_run.proofs.Refusals.{which_deadlock, refusal_told}
-use Rattle.strc_run.proofs.RatedGraphs.{flat_is_rated}
+use Rattle.strc_run.proofs.RatedGraphs.{IsChecked, flat_is_rated, stream_checked}
 use Rattle.strc_run.proofs.PlannedGraphs.{graph_is_planned}
 use Rattle.strc_run.proofs.compile.compile_program.Goals as goal
 
@@ -28,7 +27,7 @@ returns-in_err-graph c =
     refusal_told _ _ c.from_residual-in_err-graph.result
     (refusal_of c.in_err-graph.field-0.0) c.from_residual-in_err-graph.ensures.1
     (graph_refused _ _ _ elaborates c.in_err-graph.field-0.0
-    (c.in_err-graph.ensures.verdict sound.typed))
+    (c.in_err-graph.ensures.verdict sound.closed.typed))
 
 pub returns-in_err-check_rates : goal.returns-in_err-check_rates
 returns-in_err-check_rates c =
@@ -38,7 +37,7 @@ returns-in_err-check_rates c =
     refusal_told _ _ c.from_residual-in_err-check_rates.result c.in_err-check_rates.field-0.0
     c.from_residual-in_err-check_rates.ensures.1
     (rates_refused _ _ (stream_view c.in_ok-stream.stream) elaborates c.in_err-check_rates.field-0.0
-    (c.in_ok-graph.ensures.verdict sound.typed)
+    (c.in_ok-graph.ensures.verdict sound.closed.typed)
     (subst (λ (l : List NodeCode). IsRefusal (rates_checked 0 l) c.in_err-check_rates.field-0.0)
     same c.in_err-check_rates.ensures))
 
@@ -52,7 +51,7 @@ balance-requires-clause-rates c =
 pub balance-requires-clause-connected : goal.balance-requires-clause-connected
 balance-requires-clause-connected c =
     let sound = c.in_ok-stream.ensures.sound in
-    c.in_ok-graph.ensures.connected sound.typed
+    c.in_ok-graph.ensures.connected sound.closed.typed
 
 pub returns-in_err-round_counts : goal.returns-in_err-round_counts
 returns-in_err-round_counts c =
@@ -66,8 +65,8 @@ returns-in_err-round_counts c =
     c.from_residual-in_err-round_counts.ensures.1
     (balance_refused _ _ (stream_view c.in_ok-stream.stream) elaborates
     (graph_view c.in_ok-graph.graph) c.in_err-round_counts.field-0.0
-    (c.in_ok-graph.ensures.verdict sound.typed) rates
-    (c.in_ok-graph.ensures.graph sound.typed) c.in_err-round_counts.ensures.verdict)
+    (c.in_ok-graph.ensures.verdict sound.closed.typed) rates
+    (c.in_ok-graph.ensures.graph sound.closed.typed) c.in_err-round_counts.ensures.verdict)
 
 pub startup-requires : goal.startup-requires
 startup-requires c =
@@ -88,8 +87,8 @@ returns-in_err-startup_counts c =
     c.from_residual-in_err-startup_counts.ensures.1
     (startup_refused _ _ (stream_view c.in_ok-stream.stream) elaborates
     (graph_view c.in_ok-graph.graph) c.in_ok-round_counts.round_counts
-    (c.in_ok-graph.ensures.verdict sound.typed) rates
-    (c.in_ok-graph.ensures.graph sound.typed) c.in_ok-round_counts.ensures.verdict
+    (c.in_ok-graph.ensures.verdict sound.closed.typed) rates
+    (c.in_ok-graph.ensures.graph sound.closed.typed) c.in_ok-round_counts.ensures.verdict
     c.in_err-startup_counts.field-0.0
     (λ is. c.in_err-startup_counts.ensures.unbounded (ap Err is)))
 
@@ -103,7 +102,7 @@ schedule-requires-clause-rated c =
 pub schedule-requires-clause-connected : goal.schedule-requires-clause-connected
 schedule-requires-clause-connected c =
     let sound = c.in_ok-stream.ensures.sound in
-    c.in_ok-graph.ensures.connected sound.typed
+    c.in_ok-graph.ensures.connected sound.closed.typed
 
 pub returns-in_err-schedule : goal.returns-in_err-schedule
 returns-in_err-schedule c =
@@ -120,8 +119,8 @@ returns-in_err-schedule c =
     refusal_told _ _ c.from_residual-in_err-schedule.result (schedule_refusal_of broken)
     c.from_residual-in_err-schedule.ensures.1
     (schedule_refused _ _ (stream_view c.in_ok-stream.stream) elaborates graph counts
-    (c.in_ok-graph.ensures.verdict sound.typed) rates
-    (c.in_ok-graph.ensures.graph sound.typed) c.in_ok-round_counts.ensures.verdict startup broken
+    (c.in_ok-graph.ensures.verdict sound.closed.typed) rates
+    (c.in_ok-graph.ensures.graph sound.closed.typed) c.in_ok-round_counts.ensures.verdict startup broken
     (record {
       least = c.in_ok-startup_counts.ensures.least;
       within = c.in_ok-startup_counts.ensures.within;
@@ -144,10 +143,10 @@ returns c =
       stream = stream_view c.in_ok-stream.stream;
       compiles = record {
         elaborates = elaborates;
-        runs = c.in_ok-graph.ensures.verdict sound.typed;
+        runs = c.in_ok-graph.ensures.verdict sound.closed.typed;
         rates = ap (rates_checked 0) (sym nodes) ∙ checks;
         graph = graph;
-        flat = c.in_ok-graph.ensures.graph sound.typed;
+        flat = c.in_ok-graph.ensures.graph sound.closed.typed;
         counts = round;
         balances = c.in_ok-round_counts.ensures.verdict;
         startup = startup;
@@ -163,9 +162,11 @@ returns c =
       };
       nodes = nodes;
       graph = refl;
-      whole = c.in_ok-graph.ensures.program sound;
+      whole = c.in_ok-graph.ensures.program sound.closed;
       planned = graph_is_planned graph
-          (subst (AllByRecursion IsInstance) (sym nodes) sound.instances) checks
+          (subst (AllByRecursion IsChecked) (sym nodes)
+          (stream_checked (stream_view c.in_ok-stream.stream) sound
+          (ap (rates_checked 0) (sym nodes) ∙ checks)))
           c.in_ok-schedule.schedule startup round
           (flat_is_rated (stream_view c.in_ok-stream.stream) graph sound
           c.in_ok-graph.ensures.graph nodes checks)

@@ -23,6 +23,21 @@ use Rattle.strc_elab.proofs.LoopRuns.{body_refused, loop_goes_on, loop_over}
 use Rattle.strc_elab.proofs.Refusals.{refused_same, first_refused, second_refused, both_done}
 use Rattle.strc_elab.proofs.body.Body.+body.Goals as goal
 
+pub inside-returns-clause-runs : goal.inside-returns-clause-runs
+inside-returns-clause-runs g t c =
+    let setting = setting_of c.args.self.now.task in
+    let names = c.args.progress.now.store.variables.names in
+    let p = progress_of c.args.progress.now in
+    let start = c.count-start.result in
+    let after = progress_of c.statement.new.progress in
+    let runs = stmt_run setting names (length names) (stmt_view c.args.statement.now) in
+    let ran : runs p ≡ Ok after = subst (λ n. stmt_run setting names n
+    (stmt_view c.args.statement.now) p ≡ Ok after) c.count-start.ensures.names
+    c.in_ok-statement.ensures.runs in
+    inside_ran runs p after ran ∙ ap (λ (r : spec.Progress). Ok r)
+    (left_is p after c.leave.new.self.variables start c.count-start.ensures.variables
+    (ap (λ b. b.variables) c.leave.ensures))
+
 pub statements-loop-statement-preserved : goal.statements-loop-statement-preserved
 statements-loop-statement-preserved g t c =
     let items = c.args.block.now in

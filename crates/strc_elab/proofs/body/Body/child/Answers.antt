@@ -16,9 +16,10 @@ returns-in-Filter-clause-runs g c =
     let names = c.args.progress.now.store.variables.names in
     let after = progress_of c.unnamed-in-Filter.new.progress in
     let types = c.in-Filter.types in
-    let same = ap (λ child. spec.child_run setting names (child_view child) before) c.in-Filter.is
-    ∙ filter_child setting names types c.in-Filter.members before
-    ∙ ap (λ l. spec.found_run setting (Ok
+    let same = ap (λ child. spec.child_run setting names c.args.role (child_view child) before)
+    c.in-Filter.is
+    ∙ filter_child setting names c.args.role types c.in-Filter.members before
+    ∙ ap (λ l. spec.found_run setting c.args.role (Ok
     (spec.unnamed_found setting names (FilterText None (filter_parts types.input types.output l))
     before.store)) before) (sym c.deref-in-Filter.ensures.value)
     in
@@ -30,11 +31,12 @@ returns-in-Composite-clause-runs g c =
     let before = progress_of c.args.progress.now in
     let names = c.args.progress.now.store.variables.names in
     let after = progress_of c.unnamed-in-Composite.new.progress in
-    let same = ap (λ child. spec.child_run setting names (child_view child) before)
+    let same = ap (λ child. spec.child_run setting names c.args.role (child_view child) before)
     c.in-Composite.is
-    ∙ composite_child setting names c.in-Composite.written c.in-Composite.kind c.in-Composite.block
+    ∙ composite_child setting names c.args.role c.in-Composite.written c.in-Composite.kind
+    c.in-Composite.block
     before
-    ∙ ap (λ l. spec.found_run setting (Ok
+    ∙ ap (λ l. spec.found_run setting c.args.role (Ok
     (spec.unnamed_found setting names (CompositeText c.in-Composite.written c.in-Composite.kind
     (block_view l)) before.store)) before) (sym c.deref-in-Composite.ensures.value)
     in

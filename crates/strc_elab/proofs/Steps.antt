@@ -1,0 +1,45 @@
+-- What holds of the answers of steps, one after another.
+use Rattle.std.proofs.Common.{◌≡◌, Bool, true, false, ◌&&◌, Result, Ok, Err, IfOk, cond, refl}
+use Rattle.strc_base.specs.Results.{result_and_then}
+use Rattle.strc_scope.specs.declared.error.ElabError.{ElabError}
+use Rattle.strc_elab.specs.Elaboration.{where_kept}
+
+pub then_holds : {A B : Type 0} (r : Result A ElabError) (go : A → Result B ElabError)
+    (Q : A → Type 0) (P : B → Type 0) → IfOk r Q → ((x : A) → Q x → IfOk (go x) P)
+    → IfOk (result_and_then r go) P
+then_holds (Ok x) go Q P h next = next x h
+then_holds (Err e) go Q P h next = tt
+
+pub then_known : {A B : Type 0} (r : Result A ElabError) (go : A → Result B ElabError)
+    (P : B → Type 0) → ((x : A) → r ≡ Ok x → IfOk (go x) P) → IfOk (result_and_then r go) P
+then_known (Ok x) go P next = next x refl
+then_known (Err e) go P next = tt
+
+pub any_holds : {A : Type 0} (r : Result A ElabError) → IfOk r (λ x. Unit {0})
+any_holds (Ok x) = tt
+any_holds (Err e) = tt
+
+pub kept_holds : {A : Type 0} (test : Bool) (refusal : ElabError) (r : Result A ElabError)
+    (P : A → Type 0) → (test ≡ true → IfOk r P) → IfOk (where_kept test refusal r) P
+kept_holds true refusal r P next = next refl
+kept_holds false refusal r P next = tt
+
+pub either_holds : {A : Type 0} (test : Bool) (r s : Result A ElabError) (P : A → Type 0)
+    → IfOk r P → IfOk s P → IfOk (cond test r s) P
+either_holds true r s P h g = h
+either_holds false r s P h g = g
+
+pub both_hold : {A : Type 0} (r : Result A ElabError) (P Q : A → Type 0) → IfOk r P → IfOk r Q
+    → IfOk r (λ x. P x × Q x)
+both_hold (Ok x) P Q h g = (h, g)
+both_hold (Err e) P Q h g = tt
+
+pub then_did : {A B : Type 0} (r : Result A ElabError) (go : A → Result B ElabError) (y : B)
+    → result_and_then r go ≡ Ok y → (x : A) × (r ≡ Ok x) × (go x ≡ Ok y)
+then_did (Ok x) go y e = (x, refl, e)
+then_did (Err refusal) go y e = absurd (cc)
+
+pub both_true : (a b : Bool) → (a && b) ≡ true → (a ≡ true) × (b ≡ true)
+both_true true true e = (refl, refl)
+both_true true false e = absurd (cc)
+both_true false b e = absurd (cc)

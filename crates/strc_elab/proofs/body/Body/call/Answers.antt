@@ -1,0 +1,49 @@
+use Rattle.std.proofs.Common.{◌≡◌, [], map, length, false, Ok, sym, ap, ◌∙◌, subst}
+use Rattle.std.proofs.lemmas.List.{length-map}
+use Rattle.strc_syntax.specs.View.{declaration_view, expr_view}
+use Rattle.strc_scope.specs.Saying.{store_of}
+use Rattle.strc_scope.specs.Texts.{parameters_of, is_doubled, text_of}
+use Rattle.strc_elab.specs.Answering.{progress_of, Runs}
+use Rattle.strc_elab.specs.Elaboration as spec
+use Rattle.strc_elab.specs.Tasks.{setting_of}
+use Rattle.strc_elab.proofs.Children.{called_found, found_anew}
+use Rattle.strc_elab.proofs.body.Body.call.Goals as goal
+
+pub returns-clause-runs : goal.returns-clause-runs
+returns-clause-runs g c =
+    let setting = setting_of c.args.self.now.task in
+    let role = c.args.role in
+    let names = c.args.progress.now.store.variables.names in
+    let p = progress_of c.args.progress.now in
+    let after = progress_of c.elaborated.new.progress in
+    let declaration = declaration_view c.args.declaration.now in
+    let arguments = map expr_view c.args.arguments.now in
+    let store = store_of c.arguments.new.store in
+    let bound = c.in_ok-constants.constants in
+    let parameters : c.parameters_of-parameters.result.now ≡ parameters_of declaration =
+    c.parameters_of-parameters.ensures in
+    let same : length arguments ≡ length (parameters_of declaration) =
+    length-map c.args.arguments.now expr_view ∙ c.if-arguments-parameters.false
+    ∙ ap (λ l. length l) parameters in
+    let given : spec.arguments_given setting names (parameters_of declaration) arguments [] p.store
+    ≡ Ok (bound, store) =
+    subst (λ l. spec.arguments_given setting names l arguments [] p.store ≡ Ok (bound, store))
+    parameters c.in_ok-constants.ensures.binds in
+    let plain : is_doubled (parameters_of declaration) ≡ false =
+    subst (λ l. is_doubled l ≡ false) parameters
+    (sym c.in_ok-is_doubled.ensures ∙ c.if-branch.false) in
+    let found : spec.Found = record {
+      place = record { declaration = c.args.number; constants = bound };
+      text = text_of declaration.name declaration.stream;
+      store = store;
+    } in
+    let called = called_found setting names [] c.args.number declaration arguments p.store store
+    bound same given plain in
+    let whole = ap (λ o. spec.found_run setting role o p) called
+    ∙ sym (found_anew setting role found p store) in
+    let ran : Runs (spec.found_run setting role (Ok found) (record p { store = store }))
+    c.elaborated.result after =
+    subst (λ t. Runs (spec.found_run setting role (Ok (record found { text = t }))
+    (record p { store = store })) c.elaborated.result after)
+    c.text_of.ensures c.elaborated.ensures.runs in
+    subst (λ r. Runs r c.elaborated.result after) (sym whole) ran

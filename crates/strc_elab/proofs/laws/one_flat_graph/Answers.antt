@@ -1,5 +1,0 @@
-use Rattle.strc_elab.proofs.OneGraph.{one_graph}
-use Rattle.strc_elab.proofs.laws.one_flat_graph.Goals as goal
-
-pub returns : goal.returns
-returns c = one_graph

@@ -1,0 +1,40 @@
+use Rattle.std.proofs.Common.{◌≡◌, length, option_map, Ok, sym, ap, ◌∙◌, subst, rules}
+use Rattle.strc_graph.specs.NodeView.{splitter_view}
+use Rattle.strc_elab.specs.Answering.{progress_of, split_view, join_view}
+use Rattle.strc_elab.specs.Elaboration as spec
+use Rattle.strc_elab.specs.Elaboration.{inputs_in, outputs_in, any_side}
+use Rattle.strc_elab.specs.Weights.{split_dealt, join_dealt}
+use Rattle.strc_elab.proofs.Composites.{splitjoin_done}
+use Rattle.strc_elab.proofs.task.Task.splitjoin_made.Goals as goal
+
+pub returns-then-is_as_written : goal.returns-then-is_as_written
+returns-then-is_as_written c =
+    let declaration = c.args.self.now.declaration in
+    let progress = c.args.progress.now in
+    let types = progress.types.items in
+    let split = split_view c.in-Some-Some.split in
+    let join = c.in-Some-Some.join.items in
+    let splitter = option_map splitter_view c.in_ok-splitter-in-Some-Some.splitter in
+    let joiner = option_map (λ w. w.items) c.in_ok-joiner-in-Some-Some.joiner in
+    let some : length types ≡ 0 → ⊥ = search rules in
+    let inputs : c.in_ok-inputs-in-Some-Some.inputs.items ≡ inputs_in types =
+    c.in_ok-inputs-in-Some-Some.ensures ∙ ap inputs_in c.deref.ensures.value in
+    let outputs : c.in_ok-outputs-in-Some-Some.outputs.items ≡ outputs_in types =
+    c.in_ok-outputs-in-Some-Some.ensures ∙ ap outputs_in c.deref-in-Some-Some.ensures.value in
+    let splits : split_dealt declaration split (inputs_in types) ≡ Ok splitter =
+    subst (λ l. split_dealt declaration split l ≡ Ok splitter)
+    (c.deref-in-Some-Some-2.ensures.value ∙ inputs) c.in_ok-splitter-in-Some-Some.ensures in
+    let joins : join_dealt declaration join (outputs_in types) ≡ Ok joiner =
+    subst (λ l. join_dealt declaration l (outputs_in types) ≡ Ok joiner)
+    c.deref-in-Some-Some-3.ensures.value
+    (subst (λ l. join_dealt declaration c.deref-in-Some-Some-3.result.now l ≡ Ok joiner)
+    (c.deref-in-Some-Some-4.ensures.value ∙ outputs) c.in_ok-joiner-in-Some-Some.ensures) in
+    splitjoin_done declaration c.args.written types (option_map split_view progress.split)
+    (join_view progress.join) (progress_of progress) split join splitter joiner c.any_side.result
+    c.any_side-in-Some-Some.result some (ap (option_map split_view) c.in-Some-Some.is-0)
+    (ap join_view c.in-Some-Some.is-1) splits joins
+    (c.any_side.ensures ∙ ap any_side (c.deref-in-Some-Some-5.ensures.value ∙ inputs))
+    (c.any_side-in-Some-Some.ensures
+    ∙ ap any_side (c.deref-in-Some-Some-6.ensures.value ∙ outputs))
+    (sym c.is_as_written.ensures ∙ c.if-is_as_written.true)
+    ∙ ap (λ (m : spec.Elaborated). Ok m) (sym c.splitjoin_of.ensures)

@@ -1,0 +1,223 @@
+// What is made of a composite stream's body that has run.
+
+ghost use Rattle.std.specs.Prelude.{◌≡◌, map, IfOk, IsSome, nat_lt, slice_index};
+ghost use Rattle.std.specs.Option.{option_map};
+ghost use Rattle.strc_graph.specs.Carriers.{splitter_carries as splitter_carries_at};
+ghost use Rattle.strc_graph.specs.NodeView.{splitter_view};
+ghost use Rattle.strc_stream.specs.Instances as instances;
+ghost use Rattle.strc_stream.specs.Types as stream_types;
+ghost use Rattle.strc_stream.specs.View.{stream_view};
+ghost use Rattle.strc_scope.specs.Answers.{IsVerdict};
+ghost use Rattle.strc_elab.specs.Answering.{progress_of, split_view, join_view, part_view};
+ghost use Rattle.strc_elab.specs.Elaboration as spec;
+ghost use Rattle.strc_elab.specs.Making.{made_as, IsLoopOf};
+ghost use Rattle.strc_elab.specs.Tasks.{elaborated_view};
+
+use crate::progress::Progress;
+use crate::task::{Elaborated, Task};
+use crate::types::{any_side, inputs_in, is_as_written, outputs_in, side, types_in_a_row};
+use crate::weights::{
+    input_written, join_dealt, loop_splitter, loop_weights, output_written, split_dealt,
+};
+use std::alloc::Global;
+use strc_graph::graph::Splitter;
+use strc_scope::error::ElabError;
+use strc_stream::stream::Stream;
+use strc_syntax::tree::{CompositeKind, StreamType};
+
+impl Task<'_> {
+    /// What is made of a body that has run.
+    pub(crate) fn composite_made(
+        &self,
+        kind: CompositeKind,
+        written: Option<StreamType>,
+        progress: &mut Progress,
+    ) -> Result<Elaborated, ElabError>
+        ensures { IsVerdict elaborated_view (spec.composite_made kind self.now.declaration written
+            (progress_of progress.old)) result }
+    {
+        match kind {
+            CompositeKind::Pipeline => self.pipeline_made(written, progress),
+            CompositeKind::Splitjoin => self.splitjoin_made(written, progress),
+            CompositeKind::Feedbackloop => self.loop_made(written, progress),
+        }
+    }
+
+    /// A pipeline has a child.
+    fn pipeline_made(
+        &self,
+        written: Option<StreamType>,
+        progress: &mut Progress,
+    ) -> Result<Elaborated, ElabError>
+        ensures { IsVerdict elaborated_view (spec.pipeline_made self.now.declaration written
+            progress.old.types.items (progress_of progress.old)) result }
+    {
+        match types_in_a_row(&progress.types) {
+            Some(types) if is_as_written(written, types) => {
+                Ok(pipeline_of(self.alloc, types, progress))
+            }
+            _ => Err(ElabError::TypeMismatch {
+                stream: self.declaration,
+            }),
+        }
+    }
+
+    /// A split-join has a child, a splitter and a joiner, whose weights are allowed.
+    fn splitjoin_made(
+        &self,
+        written: Option<StreamType>,
+        progress: &mut Progress,
+    ) -> Result<Elaborated, ElabError>
+        ensures { IsVerdict elaborated_view (spec.splitjoin_made self.now.declaration written
+            progress.old.types.items (option_map split_view progress.old.split)
+            (join_view progress.old.join) (progress_of progress.old)) result }
+    {
+        match (&progress.split, &progress.join) {
+            (Some(split), Some(join)) if !progress.types.is_empty() => {
+                let inputs = inputs_in(self.alloc, &progress.types)?;
+                let outputs = outputs_in(self.alloc, &progress.types)?;
+                let splitter = split_dealt(self.alloc, self.declaration, split, &inputs)?;
+                let joiner = join_dealt(self.alloc, self.declaration, join, &outputs)?;
+                let types = StreamType {
+                    input: any_side(&inputs),
+                    output: any_side(&outputs),
+                };
+                if is_as_written(written, types) {
+                    Ok(splitjoin_of(self.alloc, types, splitter, joiner, progress))
+                } else {
+                    Err(ElabError::TypeMismatch {
+                        stream: self.declaration,
+                    })
+                }
+            }
+            _ => Err(ElabError::TypeMismatch {
+                stream: self.declaration,
+            }),
+        }
+    }
+
+    /// A feedback loop has each of its parts, and its weights are allowed.
+    fn loop_made(
+        &self,
+        written: Option<StreamType>,
+        progress: &mut Progress,
+    ) -> Result<Elaborated, ElabError>
+        ensures { IsVerdict elaborated_view (spec.loop_made self.now.declaration written
+            (join_view progress.old.join) (part_view progress.old.body)
+            (option_map split_view progress.old.split) (part_view progress.old.looped)
+            (progress_of progress.old)) result }
+    {
+        match (&progress.join, &progress.split) {
+            (Some(join), Some(split)) if progress.body.is_some() && progress.looped.is_some() => {
+                let taken = input_written(written);
+                let joiner = loop_weights(self.alloc, self.declaration, taken, join)?;
+                let given = output_written(written);
+                let splitter = loop_splitter(self.alloc, self.declaration, given, split)?;
+                let types = loop_types(&joiner, &splitter);
+                if is_as_written(written, types) {
+                    Ok(loop_of(self.alloc, types, joiner, splitter, progress))
+                } else {
+                    Err(ElabError::TypeMismatch {
+                        stream: self.declaration,
+                    })
+                }
+            }
+            _ => Err(ElabError::TypeMismatch {
+                stream: self.declaration,
+            }),
+        }
+    }
+}
+
+/// The children in a row.
+fn pipeline_of(alloc: Global, types: StreamType, progress: &mut Progress) -> Elaborated
+    ensures { elaborated_view result ≡ made_as types
+        (instances.Pipeline (instances.in_a_row (map stream_view progress.old.children.items)))
+        (progress_of progress.old) }
+{
+    let children = std::mem::replace(&mut progress.children, Vec::new(alloc));
+    Elaborated {
+        stream: Stream::Pipeline(children),
+        types,
+        tally: progress.tally(),
+    }
+}
+
+/// The children side by side.
+fn splitjoin_of(
+    alloc: Global,
+    types: StreamType,
+    splitter: Option<Splitter>,
+    joiner: Option<Vec<u32>>,
+    progress: &mut Progress,
+) -> Elaborated
+    ensures { elaborated_view result ≡ made_as types
+        (instances.SplitJoin (option_map splitter_view splitter)
+        (instances.in_a_row (map stream_view progress.old.children.items))
+        (option_map (λ weights. weights.items) joiner)) (progress_of progress.old) }
+{
+    let children = std::mem::replace(&mut progress.children, Vec::new(alloc));
+    Elaborated {
+        stream: Stream::SplitJoin(splitter, children, joiner),
+        types,
+        tally: progress.tally(),
+    }
+}
+
+/// Body and loop between a joiner and a splitter.
+fn loop_of(
+    alloc: Global,
+    types: StreamType,
+    joiner: Vec<u32>,
+    splitter: Splitter,
+    progress: &mut Progress,
+) -> Elaborated
+    requires body { IsSome progress.old.body }
+    requires looped { IsSome progress.old.looped }
+    ensures { IsLoopOf types joiner.items (splitter_view splitter) progress.old
+        (elaborated_view result) }
+{
+    let body = progress.body.take().unwrap();
+    let looped = progress.looped.take().unwrap();
+    let enqueued = std::mem::replace(&mut progress.enqueued, Vec::new(alloc));
+    Elaborated {
+        stream: Stream::FeedbackLoop(joiner, body, splitter, looped, enqueued),
+        types,
+        tally: progress.tally(),
+    }
+}
+
+/// What a feedback loop takes and gives.
+fn loop_types(joiner: &[u32], splitter: &Splitter) -> StreamType
+    ensures input { result.input ≡ stream_types.side (nat_lt 0 (slice_index joiner.now 0)) }
+    ensures output { result.output
+        ≡ stream_types.side (splitter_carries_at (splitter_view splitter.now) 0) }
+{
+    StreamType {
+        input: side(first_carries(joiner)),
+        output: side(splitter_carries(splitter)),
+    }
+}
+
+/// Whether the first port carries items.
+fn first_carries(weights: &[u32]) -> bool
+    ensures { result ≡ nat_lt 0 (slice_index weights.now 0) }
+{
+    match weights {
+        [first, ..] => *first > 0,
+        [] => false,
+    }
+}
+
+/// Whether a splitter's first port carries items.
+fn splitter_carries(splitter: &Splitter) -> bool
+    ensures { result ≡ splitter_carries_at (splitter_view splitter.now) 0 }
+{
+    match splitter {
+        Splitter::Duplicate(carried) => match carried.as_slice() {
+            [first, ..] => *first,
+            [] => false,
+        },
+        Splitter::Roundrobin(weights) => first_carries(weights),
+    }
+}

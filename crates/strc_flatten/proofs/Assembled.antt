@@ -1,0 +1,94 @@
+-- What the laws on channels say of a graph that is made.
+use Rattle.std.proofs.Common.{◌≡◌, List, [], ◌∷◌, map, refl, sym, ap, subst, ◌∙◌, Result}
+use Rattle.std.proofs.Common.{Ok, Err}
+use Rattle.std.specs.Prelude.{IfOk}
+use Rattle.strc_scope.specs.declared.error.ElabError.{ElabError}
+use Rattle.strc_scope.specs.declared.error.ElabError.TheVariants as refusal
+use Rattle.strc_graph.specs.declared.graph.Node.{Node}
+use Rattle.strc_graph.specs.FlatGraphs.{IsProgram}
+use Rattle.strc_graph.specs.Graphs.{Graph, NodeCode, node_name}
+use Rattle.strc_graph.specs.NodeView.{GraphParts, graph_view, node_names, node_view}
+use Rattle.strc_stream.specs.Connections.{IsConnected}
+use Rattle.strc_stream.specs.Flattening.{IsFlat, tree_of, nodes_of, codes_of, meaning_of}
+use Rattle.strc_stream.specs.Instances.{Stream}
+use Rattle.strc_stream.specs.Types.{IsWellTyped, IsClosed}
+use Rattle.strc_wiring.proofs.Nodes.{nodes_are_codes}
+use Rattle.strc_wiring.proofs.Paths.{wires_connect}
+use Rattle.strc_wiring.proofs.Whole.{wires_are_flat, wires_are_graphs, wires_are_programs}
+use Rattle.strc_wiring.specs.Wires.{wired}
+use Rattle.strc_flatten.specs.Making.{IsMade, IsUnmade}
+use Rattle.strc_flatten.specs.Verdicts.{IsAccepted, IsRefused, IsFlattened}
+
+-- a refusal by the numbers of nodes alone is one of whatever is said of connections
+pub refused_before : (nodes codes : List NodeCode) (Connected : Type 0) (refused : ElabError)
+    → nodes ≡ codes → IsRefused nodes (Unit {0}) refused → IsRefused codes Connected refused
+refused_before nodes codes Connected refusal.NodeLimit same is =
+    subst (λ l. IsRefused l Connected refusal.NodeLimit) same is
+refused_before nodes codes Connected refusal.TwoInputs same is =
+    subst (λ l. IsRefused l Connected refusal.TwoInputs) same is
+refused_before nodes codes Connected refusal.TwoOutputs same is =
+    subst (λ l. IsRefused l Connected refusal.TwoOutputs) same is
+refused_before nodes codes Connected refusal.Disconnected same is = absurd (is.3 tt)
+refused_before nodes codes Connected refusal.NoMemory same is = tt
+refused_before nodes codes Connected _ same is = absurd is
+
+unmade_refused : (stream : Stream) → IsWellTyped stream
+    → IsAccepted (codes_of stream) (Unit {0}) → (refused : ElabError)
+    → IsUnmade (wired stream) refused
+    → IsRefused (codes_of stream) (IsConnected (meaning_of stream)) refused
+unmade_refused stream typed few refusal.Disconnected unmade = (
+  few.few,
+  few.one_input,
+  few.one_output,
+  λ connected. unmade (wires_are_graphs stream typed) ((wires_connect stream typed).1 connected),
+)
+unmade_refused stream typed few refusal.NoMemory unmade = tt
+unmade_refused stream typed few _ unmade = absurd unmade
+
+-- the verdict on a well-typed stream with few enough nodes
+pub made_verdict : (stream : Stream) (nodes : List NodeCode) (result : Result GraphParts ElabError)
+    → nodes ≡ nodes_of stream → IsAccepted nodes (Unit {0}) → IsMade (wired stream) result
+    → IsWellTyped stream → IsFlattened stream result
+made_verdict stream nodes (Ok graph) same few made typed =
+    let codes = same ∙ nodes_are_codes stream typed in
+    let accepted = subst (λ l. IsAccepted l (Unit {0})) codes few in
+    record {
+      few = accepted.few;
+      one_input = accepted.one_input;
+      one_output = accepted.one_output;
+      connected = (wires_connect stream typed).0 made.1;
+    }
+made_verdict stream nodes (Err refused) same few made typed =
+    unmade_refused stream typed
+    (subst (λ l. IsAccepted l (Unit {0})) (same ∙ nodes_are_codes stream typed) few) refused made
+
+-- its flat graph
+pub made_flat : (stream : Stream) (result : Result GraphParts ElabError)
+    → IsMade (wired stream) result → IsWellTyped stream
+    → IfOk result (λ graph. IsFlat stream (graph_view graph))
+made_flat stream (Ok graph) made typed =
+    subst (IsFlat stream) (sym made.0) (wires_are_flat stream typed)
+made_flat stream (Err refused) made typed = tt
+
+-- the program's
+pub made_program : (stream : Stream) (nodes : List NodeCode) (result : Result GraphParts ElabError)
+    → nodes ≡ nodes_of stream → IsAccepted nodes (Unit {0}) → IsMade (wired stream) result
+    → IsClosed stream → IfOk result (λ graph. IsProgram (tree_of stream) (graph_view graph))
+made_program stream nodes (Ok graph) same few made closed =
+    let accepted = subst (λ l. IsAccepted l (Unit {0})) same few in
+    subst (IsProgram (tree_of stream)) (sym made.0)
+    (wires_are_programs stream closed accepted.one_input accepted.one_output)
+made_program stream nodes (Err refused) same few made closed = tt
+
+names_view : (nodes : List Node)
+    → map (λ node. node_name (node_view node)) nodes ≡ map node_name (map node_view nodes)
+names_view [] = refl
+names_view (first ∷ rest) = ap (λ l. node_name (node_view first) ∷ l) (names_view rest)
+
+-- the names of its nodes
+pub made_names : (stream : Stream) (result : Result GraphParts ElabError)
+    → IsMade (wired stream) result
+    → IfOk result (λ graph. node_names graph ≡ map node_name (nodes_of stream))
+made_names stream (Ok graph) made =
+    names_view graph.nodes ∙ ap (λ (g : Graph). map node_name g.nodes) made.0
+made_names stream (Err refused) made = tt

@@ -1,0 +1,5 @@
+pub mod Verdicts
+pub mod HasNodes
+pub mod TargetView
+pub mod Connecting
+pub mod Making

@@ -1,0 +1,18 @@
+-- Whether a graph is made: only where it is one, and its nodes are connected.
+use Rattle.std.specs.Prelude.{◌≡◌, Result, Ok, Err}
+use Rattle.strc_scope.specs.declared.error.ElabError.{ElabError}
+use Rattle.strc_scope.specs.declared.error.ElabError.TheVariants as refusal
+use Rattle.strc_graph.specs.Connections.{IsConnected}
+use Rattle.strc_graph.specs.Graphs.{Graph, IsGraph}
+use Rattle.strc_graph.specs.NodeView.{GraphParts, graph_view}
+
+-- why no graph is made
+abbrev pub IsUnmade : Graph → ElabError → Type 0
+IsUnmade graph refusal.Disconnected = IsGraph graph → ¬ IsConnected graph
+IsUnmade graph refusal.NoMemory = Unit {0}
+IsUnmade graph _ = ⊥
+
+-- the graph is made, or there is a reason why not
+abbrev pub IsMade : Graph → Result GraphParts ElabError → Type 0
+IsMade graph (Ok made) = (graph_view made ≡ graph) × IsConnected graph
+IsMade graph (Err refused) = IsUnmade graph refused

@@ -1,0 +1,15 @@
+// Takes a stream of instances.
+// Gives its flat graph: its nodes in preorder and the channels between their ports. The theorem to
+// rely on: `flatten`'s graph is the flat graph of the stream's tree, for which the run is proved.
+// Stands on strc_wiring, whose laws say which channels those are, on strc_stream, strc_graph and
+// strc_dataflow, which give streams and graphs their meaning, and on strc_scope for its refusals.
+#![tactic(auto)]
+
+mod channels;
+mod connection;
+pub mod flatten;
+mod limits;
+mod loops;
+mod nodes;
+mod parts;
+mod size;

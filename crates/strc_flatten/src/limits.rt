@@ -1,0 +1,87 @@
+// How many nodes a graph may have, and how many that take the input or write words.
+
+ghost use Rattle.std.specs.Prelude.{◌≡◌, map, count_by};
+ghost use Rattle.strc_graph.specs.Graphs as graphs;
+ghost use Rattle.strc_graph.specs.NodeView.{node_view};
+ghost use Rattle.strc_flatten.specs.Verdicts.{IsVerdict};
+
+use strc_graph::graph::Node;
+use strc_scope::error::ElabError;
+
+/// How many nodes a program may have.
+const NODE_LIMIT: usize = 4096;
+
+/// Whether a graph can have these nodes, by the first test that fails.
+pub(crate) fn check(nodes: &[Node]) -> Result<(), ElabError>
+    ensures { IsVerdict (map node_view nodes.now) (Unit {0}) result }
+{
+    if nodes.len() > NODE_LIMIT {
+        return Err(ElabError::NodeLimit);
+    }
+    if count_inputs(nodes) > 1 {
+        return Err(ElabError::TwoInputs);
+    }
+    if count_outputs(nodes) > 1 {
+        return Err(ElabError::TwoOutputs);
+    }
+    Ok(())
+}
+
+/// How many nodes take the program's input.
+fn count_inputs(nodes: &[Node]) -> usize
+    ensures { result ≡ count_by graphs.reads_input (map node_view nodes.now) }
+{
+    let mut count = 0;
+    for node in nodes {
+        if reads_input(node) {
+            count += 1;
+        }
+    }
+    count
+}
+
+/// How many nodes can write words.
+fn count_outputs(nodes: &[Node]) -> usize
+    ensures { result ≡ count_by graphs.gives_words (map node_view nodes.now) }
+{
+    let mut count = 0;
+    for node in nodes {
+        if gives_words(node) {
+            count += 1;
+        }
+    }
+    count
+}
+
+/// Whether a node takes the program's input.
+fn reads_input(node: &Node) -> bool
+    ensures { result ≡ graphs.reads_input (node_view node.now) }
+{
+    match node {
+        Node::FileReader => true,
+        Node::Filter(_)
+        | Node::Identity
+        | Node::FileWriter
+        | Node::Splitter(_)
+        | Node::Joiner(_)
+        | Node::Scatter(_)
+        | Node::Copy(_, _)
+        | Node::Gather(_) => false,
+    }
+}
+
+/// Whether a firing of a node can write words.
+fn gives_words(node: &Node) -> bool
+    ensures { result ≡ graphs.gives_words (node_view node.now) }
+{
+    match node {
+        Node::Filter(instance) | Node::Copy(instance, _) => instance.code.prints(),
+        Node::FileWriter => true,
+        Node::Identity
+        | Node::FileReader
+        | Node::Splitter(_)
+        | Node::Joiner(_)
+        | Node::Scatter(_)
+        | Node::Gather(_) => false,
+    }
+}

@@ -1,0 +1,13 @@
+// Reading byte by byte gives the numbers of the whole input.
+
+ghost use Rattle.strc_input.specs.Reading.{ReadsInts, FailsForGood};
+
+/// Reading byte by byte gives the numbers of the bytes.
+pub fn reads_ints()
+    ensures { ReadsInts }
+{}
+
+/// What comes behind a word that writes no number changes nothing.
+pub fn fails_for_good()
+    ensures { FailsForGood }
+{}

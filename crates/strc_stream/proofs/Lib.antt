@@ -1,0 +1,2 @@
+pub mod OneGraph
+pub mod Dealing

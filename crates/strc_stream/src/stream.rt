@@ -1,0 +1,25 @@
+// A stream of instances: what a program's text becomes when its composite streams have run.
+
+use strc_graph::graph::Splitter;
+use strc_graph::instance::Instance;
+
+/// A stream, with its constants put in (StreamIt specification 2.1, "Streams").
+#[derive(Drop)]
+pub enum Stream {
+    /// A filter.
+    Filter(Instance),
+    /// What comes in goes out, item by item.
+    Identity,
+    /// What gives the program's input.
+    FileReader,
+    /// What writes each item.
+    FileWriter,
+    /// Streams in a row: what one gives is what the next one takes.
+    Pipeline(Vec<Stream>),
+    /// Streams side by side, between a splitter, where they take items, and a joiner, where they
+    /// give some; the joiner takes so many items of each in turn.
+    SplitJoin(Option<Splitter>, Vec<Stream>, Option<Vec<u32>>),
+    /// The joiner's weights, the body, the splitter, the loop, and the items that are enqueued on
+    /// the channel from the loop to the joiner.
+    FeedbackLoop(Vec<u32>, Box<Stream>, Splitter, Box<Stream>, Vec<i32>),
+}
