@@ -107,7 +107,8 @@ fn input_of<I: Source>(alloc: Global, plan: &Plan, input: &mut I) -> Result<Vec<
     ensures numbers { IsInputOf (list_any graphs.reads_input (graph_view plan.now.graph).nodes)
         (I.remaining input.old) result }
     ensures failed { result ≡ Err ReadStop.Failed → I.has_failed input.new ≡ true }
-    ensures steady { result ≢ Err ReadStop.Failed → I.has_failed input.new ≡ I.has_failed input.old }
+    ensures steady { result ≢ Err ReadStop.Failed
+        → I.has_failed input.new ≡ I.has_failed input.old }
     ensures unread { (input.new ≡ input.old)
         ⊎ (list_any graphs.reads_input (graph_view plan.now.graph).nodes ≡ true) }
 {

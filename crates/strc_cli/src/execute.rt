@@ -54,8 +54,8 @@ pub enum CliError {
     Memory,
 }
 
-/// Runs a program's text over the input, and writes what it prints; or writes how large its graph is,
-/// or how often its nodes fire; or one line that names a refusal.
+/// Runs a program's text over the input, and writes what it prints; or writes how large its graph
+/// is, or how often its nodes fire; or one line that names a refusal.
 pub fn execute<I: Source, O: Sink>(
     alloc: Global,
     text: &[u8],

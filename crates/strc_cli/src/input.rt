@@ -23,11 +23,13 @@ pub(crate) enum ReadStop {
     NoMemory,
 }
 
-/// The numbers that the input's bytes write, read to the end, or to the first word that writes none.
+/// The numbers that the input's bytes write, read to the end, or to the first word that writes
+/// none.
 pub(crate) fn read_numbers<I: Source>(alloc: Global, input: &mut I) -> Result<Vec<i32>, ReadStop>
     ensures numbers { ReadsNumbers (I.remaining input.old) result }
     ensures failed { result ≡ Err ReadStop.Failed → I.has_failed input.new ≡ true }
-    ensures steady { result ≢ Err ReadStop.Failed → I.has_failed input.new ≡ I.has_failed input.old }
+    ensures steady { result ≢ Err ReadStop.Failed
+        → I.has_failed input.new ≡ I.has_failed input.old }
 {
     let mut numbers = Numbers::new(alloc);
     let mut piece = [0u8; PIECE];

@@ -18,8 +18,8 @@ use strc_sched::serving::rounds_served;
 /// stream the plan's graph is the flat graph of.
 ///
 /// `RoundsNeeded` comes where no number is given and the graph has no reader; then `InputShort`
-/// where the input has fewer items than these rounds read, or than start-up reads where no number is
-/// given; `NoMemory` where memory runs out.
+/// where the input has fewer items than these rounds read, or than start-up reads where no number
+/// is given; `NoMemory` where memory runs out.
 pub fn run(
     alloc: Global,
     plan: &Plan,

@@ -25,8 +25,9 @@ pub enum ElabError {
     NodeLimit,
     /// The wrong number of arguments; the declaration that holds the statement.
     BadArguments { stream: usize },
-    /// Weights that aren't allowed: their number, one below 0 or above 65,536, one of 0 for a stream
-    /// that has items on that side or above 0 for one that hasn't; the declaration that holds them.
+    /// Weights that aren't allowed: their number, one below 0 or above 65,536, one of 0 for a
+    /// stream that has items on that side or above 0 for one that hasn't; the declaration that
+    /// holds them.
     BadWeights { stream: usize },
     /// A fault in the statements of a composite stream, in a rate, a length, an initialiser or
     /// `init`.
