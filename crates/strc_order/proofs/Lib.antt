@@ -10,6 +10,7 @@ pub mod Fills
 pub mod Touching
 pub mod Units
 pub mod Buffering
+pub mod Lengthening
 pub mod Scheduling
 pub mod Connecting
 pub mod Greedily

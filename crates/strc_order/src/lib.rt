@@ -12,6 +12,7 @@ mod greedy;
 pub mod laws;
 mod limit;
 mod network;
+mod padding;
 pub mod parts;
 mod peaks;
 pub mod planning;
