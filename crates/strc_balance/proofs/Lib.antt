@@ -1,4 +1,6 @@
 pub mod Divisors
+pub mod Words
+pub mod Membership
 pub mod Limits
 pub mod Spreading
 pub mod Solutions

@@ -7,6 +7,7 @@
 #![tactic(auto)]
 
 pub mod balance;
+mod bits;
 pub mod condition;
 pub mod counts;
 mod equation;
@@ -16,6 +17,7 @@ mod frontier;
 mod incidence;
 pub mod laws;
 mod multiples;
+pub mod number_set;
 mod propagation;
 mod rates;
 mod solution;

@@ -1,4 +1,3 @@
-pub mod Sets
 pub mod Tallies
 pub mod Windows
 pub mod Networks

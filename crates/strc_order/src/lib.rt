@@ -17,7 +17,6 @@ pub mod parts;
 mod peaks;
 pub mod planning;
 mod progress;
-mod ready;
 pub mod sizing;
 mod turns;
 pub mod unit;
