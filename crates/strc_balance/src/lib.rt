@@ -13,7 +13,6 @@ pub mod counts;
 mod equation;
 pub mod error;
 mod fraction;
-mod frontier;
 mod incidence;
 pub mod laws;
 mod multiples;
