@@ -1,5 +1,6 @@
 pub mod Divisors
 pub mod Words
+pub mod Appending
 pub mod Membership
 pub mod Limits
 pub mod Spreading
@@ -11,6 +12,7 @@ pub mod Scales
 pub mod Turns
 pub mod Judging
 pub mod Rated
+pub mod GraphViews
 pub mod Examples
 pub mod Connections
 pub mod Channels
