@@ -1,7 +1,8 @@
 -- Sets of numbers as words of 64 bits, with one more number or one less.
 use Rattle.std.proofs.Common.{◌≡◌, ◌≢◌, ◌∙◌, refl, sym, ap, ℕ, ◌<◌, ◌≤◌, ◌+◌, ◌*◌, ◌/◌, ◌%◌}
 use Rattle.std.proofs.Common.{◌==◌, Bool, true, false, cond, List, length, set, get_or, inl, inr}
-use Rattle.std.proofs.Common.{arith, eq-eqb, ne_eqb, ◌^◌, ◌-◌, ◌++◌, suc, replicate, bit_and, bit_or, w64}
+use Rattle.std.proofs.Common.{arith, eq-eqb, ne_eqb, ◌^◌, ◌-◌, ◌++◌, suc, replicate, bit_and}
+use Rattle.std.proofs.Common.{bit_or, w64}
 use Rattle.std.specs.Int.{bit_at, bit_not}
 use Rattle.std.proofs.lemmas.Bool.{cases_eq}
 use mathlib.Core.Path.{fun_ext}
@@ -240,10 +241,12 @@ module _ (words used later later_used : List ℕ) (are : AreWords words used) (n
   with_use here is uses word =
       elim (cases_eq word (number / 64)) [
         | inl same ↦
-            uses word ∙ ap (λ t. cond t here (has_number used word)) (eq-eqb word (number / 64) same)
+            uses word
+            ∙ ap (λ t. cond t here (has_number used word)) (eq-eqb word (number / 64) same)
             ∙ sym is ∙ ap (λ k. nat_lt 0 (slice_index later k)) (sym same)
         | inr apart ↦
-            uses word ∙ ap (λ t. cond t here (has_number used word)) (ne_eqb word (number / 64) apart)
+            uses word
+            ∙ ap (λ t. cond t here (has_number used word)) (ne_eqb word (number / 64) apart)
             ∙ are.uses word ∙ ap (nat_lt 0) (sym (others word apart))
       ]
 

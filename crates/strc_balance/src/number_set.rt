@@ -2,7 +2,8 @@
 
 ghost use Rattle.std.specs.Prelude.{◌≡◌, ℕ, ◌<◌, ◌≤◌, ◌^◌, true, false};
 ghost use Rattle.std.specs.Prelude.{length, slice_index, IfOk, OnOk, IfSome, IfNone};
-ghost use Rattle.strc_balance.specs.NumberSets.{has_number, AreWords, IsWith, IsWithout, AllNumbers};
+ghost use Rattle.strc_balance.specs.NumberSets.{has_number, AreWords, IsWith, IsWithout};
+ghost use Rattle.strc_balance.specs.NumberSets.{AllNumbers};
 
 use crate::bits::{clear_bit, highest_bit, lowest_bit, set_bit};
 use std::alloc::{AllocError, Global};

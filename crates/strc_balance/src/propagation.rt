@@ -1,6 +1,7 @@
 // Each node's count as a fraction of node 0's, from channel to channel.
 
-ghost use Rattle.std.specs.Prelude.{◌≡◌, ℕ, ◌<◌, length, All, IfOk, OnOk, IfErr, IfSome, Some, None};
+ghost use Rattle.std.specs.Prelude.{◌≡◌, ℕ, ◌<◌, length, All, IfOk, OnOk, IfErr, IfSome, Some};
+ghost use Rattle.std.specs.Prelude.{None};
 ghost use Rattle.std.specs.Prelude.{replicate, false, ◌*◌, ◌^◌};
 ghost use Rattle.strc_balance.specs.Divisors.{lowest_terms as lowest};
 ghost use Rattle.std.specs.List.{list_any};

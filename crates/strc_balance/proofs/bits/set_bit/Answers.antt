@@ -8,7 +8,8 @@ pub returns-clause-numbers : goal.returns-clause-numbers
 returns-clause-numbers c =
     let words = c.args.words.now.items in
     let word = c.args.number / 64 in
-    let own = get_or_read words word c.index_mut.result.now c.requires c.index_mut.ensures.value 0 in
+    let own = get_or_read words word c.index_mut.result.now c.requires c.index_mut.ensures.value
+    0 in
     subst (λ w. (other : ℕ) → has_number (set words word (bit_or w (bit_of c.args.number))) other
     ≡ cond (other == c.args.number) true (has_number words other)) (sym own)
     (with_number words c.args.number c.requires)

@@ -9,7 +9,8 @@ use Rattle.strc_order.specs.Order.{after, tally}
 use Rattle.strc_order.specs.Peaks.{IsTurns, IsFirstPast}
 use Rattle.strc_order.proofs.Buffering.{zero_counts}
 use Rattle.strc_order.proofs.Firing.{counted_within}
-use Rattle.strc_order.proofs.Scheduling.{greedy_turns, past_limit, is_schedule, some_order, no_order}
+use Rattle.strc_order.proofs.Scheduling.{greedy_turns, past_limit, is_schedule, some_order}
+use Rattle.strc_order.proofs.Scheduling.{no_order}
 use Rattle.strc_order.proofs.Scheduling.{same_error, found_order}
 use Rattle.strc_order.proofs.planning.scheduled.Goals as goal
 
