@@ -10,3 +10,5 @@ pub mod Counting
 pub mod ServedRounds
 pub mod Endings
 pub mod Blocks
+pub mod Moves
+pub mod Tasking

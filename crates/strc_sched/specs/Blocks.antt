@@ -5,6 +5,8 @@ use Rattle.strc_admissible.specs.Machine.{CircuitView}
 use Rattle.strc_admissible.specs.Rings.{Ring, at_port, items_at}
 use Rattle.strc_admissible.specs.Wiring.{ports_at}
 use Rattle.strc_sched.specs.declared.block.Block.{Block}
+use Rattle.strc_sched.specs.declared.tasks.Kind.TheVariants as kind
+use Rattle.strc_sched.specs.declared.tasks.Task.{Task}
 
 -- its node is an identity between two rings, and the one at its input holds all its items
 pub record IsBlock (circuit : CircuitView) (rings : List Ring) (block : Block) : Type 0 where
@@ -12,4 +14,11 @@ pub record IsBlock (circuit : CircuitView) (rings : List Ring) (block : Block) :
   pub input : at_port (ports_at circuit.inputs block.node) 0 ≡ Some block.from
   pub output : at_port (ports_at circuit.outputs block.node) 0 ≡ Some block.to
   pub apart : block.from ≢ block.to
+  pub enough : block.count ≤ length (items_at rings (Some block.from))
+
+-- a task's firings, where they are those of an identity whose ring holds all its items
+pub record IsBlockOf (task : Task) (rings : List Ring) (block : Block) : Type 0 where
+  pub node : block.node ≡ task.node
+  pub turns : block.count ≡ task.turns
+  pub kind : task.kind ≡ kind.Identity block.from block.to
   pub enough : block.count ≤ length (items_at rings (Some block.from))

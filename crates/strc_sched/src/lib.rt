@@ -16,10 +16,12 @@ mod movers;
 pub mod outcome;
 mod passing;
 pub mod plain;
+mod pouring;
 mod reading;
 pub mod refusal;
 mod ring;
 pub mod serving;
+mod tasks;
 mod wiring;
 
 pub use strc_order::{error, laws, parts, planning, sizing, unit};

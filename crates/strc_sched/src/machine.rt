@@ -9,15 +9,16 @@ ghost use Rattle.strc_sched.specs.Blocks.{IsBlock};
 ghost use Rattle.strc_admissible.specs.Circuits.{IsCircuit, IsFirst};
 ghost use Rattle.strc_sched.specs.Circuits.{circuit_view};
 ghost use Rattle.strc_admissible.specs.Machine as spec;
+ghost use Rattle.strc_sched.specs.Tasks.{AreTasks, FitsUnit, IsTask};
 ghost use Rattle.strc_sched.specs.Running.{HasDone, HasGone, IsMachine, machine_view};
 
 use crate::actor::{Actor, start_actors};
 use crate::block::{Block, block_of};
 use crate::circuit::Circuit;
 use crate::filter::fire_filter;
-use crate::movers::ring_of;
 use crate::passing::fire_passive;
 use crate::ring::{Ring, first_rings, move_items};
+use crate::tasks::{Order, Task, task_at};
 use std::alloc::Global;
 use strc_base::memory::NoMemory;
 use strc_graph::graph::{Graph, Node};
@@ -78,15 +79,18 @@ impl Machine {
         })
     }
 
-    /// Fires the nodes of units, each as often as its unit says, until one faults.
-    pub(crate) fn fire_units(&mut self, circuit: &Circuit, units: &[Unit]) -> Result<(), Stop>
+    /// Fires the nodes of an order's units, each as often as its unit says, until one faults.
+    pub(crate) fn fire_order(&mut self, circuit: &Circuit, order: &Order) -> Result<(), Stop>
         requires machine { IsMachine (circuit_view circuit.now) self.old }
+        requires tasks { AreTasks (circuit_view circuit.now) order.now.units.now
+            order.now.tasks.items }
         ensures machine { IsMachine (circuit_view circuit.now) self.new }
-        ensures gone { HasGone (spec.order_run (circuit_view circuit.now) (firings_of units.now)
-            (machine_view self.old)) result (machine_view self.old).words (machine_view self.new) }
+        ensures gone { HasGone (spec.order_run (circuit_view circuit.now)
+            (firings_of order.now.units.now) (machine_view self.old)) result
+            (machine_view self.old).words (machine_view self.new) }
     {
-        for unit in units {
-            match self.fire_unit(circuit, unit) {
+        for place in 0..order.units.len() {
+            match self.fire_unit(circuit, &order.units[place], order.tasks[place]) {
                 Ok(()) => {}
                 Err(stop) => return Err(stop),
             }
@@ -94,19 +98,58 @@ impl Machine {
         Ok(())
     }
 
-    /// Fires a unit's nodes in turn, and the whole list a number of times; in one block where the
-    /// unit is one.
-    fn fire_unit(&mut self, circuit: &Circuit, unit: &Unit) -> Result<(), Stop>
+    /// Fires a unit's nodes in turn, and the whole list a number of times; as its task, where it
+    /// has one.
+    fn fire_unit(
+        &mut self,
+        circuit: &Circuit,
+        unit: &Unit,
+        task: Option<Task>,
+    ) -> Result<(), Stop>
         requires machine { IsMachine (circuit_view circuit.now) self.old }
+        requires task { FitsUnit (circuit_view circuit.now) unit.now task }
         ensures machine { IsMachine (circuit_view circuit.now) self.new }
         ensures gone { HasGone (spec.order_run (circuit_view circuit.now)
             (repeated unit.now.turns unit.now.nodes.items) (machine_view self.old)) result
             (machine_view self.old).words (machine_view self.new) }
     {
-        match block_of(circuit, unit, &self.rings) {
-            Some(block) => self.fire_block(circuit, block),
+        match task {
+            Some(task) => self.fire_task(circuit, task),
             None => self.fire_turns(circuit, unit),
         }
+    }
+
+    /// Fires a task's node so often; in one block where it is an identity that finds all its items.
+    fn fire_task(&mut self, circuit: &Circuit, task: Task) -> Result<(), Stop>
+        requires machine { IsMachine (circuit_view circuit.now) self.old }
+        requires task { IsTask (circuit_view circuit.now) task }
+        ensures machine { IsMachine (circuit_view circuit.now) self.new }
+        ensures gone { HasGone (spec.order_run (circuit_view circuit.now)
+            (repeated task.turns (task.node ∷ [])) (machine_view self.old)) result
+            (machine_view self.old).words (machine_view self.new) }
+    {
+        match block_of(task, &self.rings) {
+            Some(block) => self.fire_block(circuit, block),
+            None => self.fire_alone(circuit, task),
+        }
+    }
+
+    /// Fires a task's node so often, one firing after another.
+    fn fire_alone(&mut self, circuit: &Circuit, task: Task) -> Result<(), Stop>
+        requires machine { IsMachine (circuit_view circuit.now) self.old }
+        requires task { IsTask (circuit_view circuit.now) task }
+        ensures machine { IsMachine (circuit_view circuit.now) self.new }
+        ensures gone { HasGone (spec.order_run (circuit_view circuit.now)
+            (repeated task.turns (task.node ∷ [])) (machine_view self.old)) result
+            (machine_view self.old).words (machine_view self.new) }
+    {
+        for _turn in 0..task.turns {
+            match self.fire_once(circuit, task) {
+                Ok(()) => {}
+                Err(stop) => return Err(stop),
+            }
+        }
+        Ok(())
     }
 
     /// Fires an identity some times at once.
@@ -172,15 +215,28 @@ impl Machine {
         if place >= circuit.nodes.len() {
             return Ok(());
         }
+        self.fire_once(circuit, task_at(circuit, node, 1))
+    }
+
+    /// Fires a task's node once, where it finds its windows.
+    fn fire_once(&mut self, circuit: &Circuit, task: Task) -> Result<(), Stop>
+        requires machine { IsMachine (circuit_view circuit.now) self.old }
+        requires task { IsTask (circuit_view circuit.now) task }
+        ensures machine { IsMachine (circuit_view circuit.now) self.new }
+        ensures gone { HasGone (spec.after_step (machine_view self.old) task.node
+            (spec.next_step (circuit_view circuit.now) (machine_view self.old) task.node)) result
+            (machine_view self.old).words (machine_view self.new) }
+    {
+        let place = task.node as usize;
         let firing = self.fired[place];
-        match self.step(circuit, place, firing) {
+        match self.step(circuit, task, firing) {
             Ok(true) => {
                 self.fired[place] = firing.saturating_add(1);
                 Ok(())
             }
             Ok(false) => Ok(()),
             Err(Halt::Fault(cause)) => Err(Stop::Fault {
-                node,
+                node: task.node,
                 firing,
                 cause,
             }),
@@ -188,18 +244,17 @@ impl Machine {
         }
     }
 
-    /// One firing of a node, by its number. Whether it found its windows; if not, it leaves all as
-    /// it was.
-    fn step(&mut self, circuit: &Circuit, node: usize, firing: u64) -> Result<bool, Halt>
+    /// One firing of a task's node, by its number. Whether it found its windows; if not, it leaves
+    /// all as it was.
+    fn step(&mut self, circuit: &Circuit, task: Task, firing: u64) -> Result<bool, Halt>
         requires machine { IsMachine (circuit_view circuit.now) self.old }
-        requires node { node < length circuit.now.nodes.now }
+        requires task { IsTask (circuit_view circuit.now) task }
         ensures machine { IsMachine (circuit_view circuit.now) self.new }
         ensures fired { self.new.fired ≡ self.old.fired }
-        ensures step { HasDone (spec.step_at (circuit_view circuit.now) (machine_view self.old) node
-            firing) node result (machine_view self.old) (machine_view self.new) }
+        ensures step { HasDone (spec.step_at (circuit_view circuit.now) (machine_view self.old)
+            task.node firing) task.node result (machine_view self.old) (machine_view self.new) }
     {
-        let inputs = circuit.inputs.at(node);
-        let outputs = circuit.outputs.at(node);
+        let node = task.node as usize;
         match &circuit.nodes[node] {
             Node::Filter(instance) => match &mut self.actors[node] {
                 Actor::Filter(actor) => fire_filter(
@@ -207,8 +262,8 @@ impl Machine {
                     firing,
                     actor,
                     &mut self.rings,
-                    ring_of(inputs, 0),
-                    ring_of(outputs, 0),
+                    task.input,
+                    task.output,
                     &mut self.words,
                 ),
                 Actor::Passive => unreachable!(),
@@ -216,8 +271,8 @@ impl Machine {
             passive => fire_passive(
                 passive,
                 firing,
-                inputs,
-                outputs,
+                circuit.inputs.at(node),
+                circuit.outputs.at(node),
                 circuit.input,
                 &mut self.rings,
                 &mut self.items,
