@@ -12,3 +12,4 @@ pub mod Endings
 pub mod Blocks
 pub mod Moves
 pub mod Tasking
+pub mod Turns

@@ -11,7 +11,7 @@ use Rattle.strc_sched.proofs.Fronts.{pieces}
 take_append : (n : ℕ) (a b : List ℤ) → take n (a ++ b) ≡ take n a ++ take (n - length a) b
 take_append n a b = sym (pieces a b n)
 
-extended_twice : (a b : List ℤ) (ring : Ring)
+pub extended_twice : (a b : List ℤ) (ring : Ring)
     → extended b (extended a ring) ≡ extended (a ++ b) ring
 extended_twice a b ring =
     let room = ring.capacity - length ring.items in

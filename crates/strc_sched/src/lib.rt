@@ -10,6 +10,7 @@
 mod actor;
 mod block;
 mod circuit;
+mod dealing;
 mod filter;
 mod machine;
 mod movers;

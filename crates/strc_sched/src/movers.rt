@@ -178,7 +178,7 @@ fn fire_roundrobin(
 }
 
 /// How many items a splitter deals in turn: all weights together.
-fn cycle_length(weights: &[u32]) -> u128
+pub(crate) fn cycle_length(weights: &[u32]) -> u128
     ensures length { result ≡ sum weights.now }
 {
     let mut length: u128 = 0;

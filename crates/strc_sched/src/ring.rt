@@ -1,6 +1,6 @@
 // The rings of a graph's channels: a queue of bounded size each.
 
-ghost use Rattle.std.specs.Prelude.{◌≡◌, ◌<◌, ◌++◌, take, length, map, IfSome, IfOk, OnOk};
+ghost use Rattle.std.specs.Prelude.{◌≡◌, ◌<◌, ◌++◌, take, drop, length, map, IfSome, IfOk, OnOk};
 ghost use Rattle.strc_graph.specs.NodeView.{channel_view};
 ghost use Rattle.strc_admissible.specs.Rings as spec;
 ghost use Rattle.strc_admissible.specs.Rings.{AreFirst, items_at};
@@ -119,6 +119,13 @@ pub(crate) fn first_of(items: &[i32], count: usize) -> &[i32]
     ensures { result.now ≡ take count items.now }
 {
     &items[..items.len().min(count)]
+}
+
+/// Some items without the first of them, so many or all.
+pub(crate) fn rest_of(items: &[i32], count: usize) -> &[i32]
+    ensures { result.now ≡ drop count items.now }
+{
+    &items[items.len().min(count)..]
 }
 
 /// The first items at a port.
