@@ -13,3 +13,4 @@ pub mod Blocks
 pub mod Moves
 pub mod Tasking
 pub mod Turns
+pub mod TurnFirings

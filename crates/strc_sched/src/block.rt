@@ -1,37 +1,92 @@
-// Firings of an identity that move their items in one block.
+// Firings of a node in a row that pass items on, at once.
 
-ghost use Rattle.std.specs.Prelude.{◌≡◌, IfSome};
-ghost use Rattle.strc_sched.specs.Blocks.{IsBlockOf};
+ghost use Rattle.std.specs.Prelude.{◌≡◌, ◌≢◌, ◌<◌, ◌≤◌, Some, length, true, false};
+ghost use Rattle.strc_admissible.specs.Rings.{items_at, moved};
+ghost use Rattle.strc_admissible.specs.Wiring.{ports_at};
+ghost use Rattle.strc_sched.specs.Blocks.{AreApart, HasPassed};
+ghost use Rattle.strc_sched.specs.Circuits.{circuit_view};
+ghost use Rattle.strc_sched.specs.Running.{HoldRings};
+ghost use Rattle.strc_sched.specs.Tasks.{IsTask};
 
+use crate::circuit::Circuit;
+use crate::dealing::{deal_turns, join_turns};
+use crate::pouring::move_across;
 use crate::ring::Ring;
 use crate::tasks::{Kind, Task};
+use std::alloc::AllocError;
+use strc_graph::graph::{Node, Splitter};
 
-/// An identity that fires some times in a row and finds all its items at the start.
-#[derive(Clone, Copy)]
-pub(crate) struct Block {
-    pub(crate) node: usize,
-    /// The ring at its input.
-    pub(crate) from: usize,
-    /// The ring at its output, another one.
-    pub(crate) to: usize,
-    pub(crate) count: usize,
+/// All firings of a task at once, where its node passes items on and its rings hold them all.
+/// Whether it did; if not, it leaves all as it was.
+pub(crate) fn pass_at_once(
+    circuit: &Circuit,
+    task: Task,
+    rings: &mut [Ring],
+    items: &mut Vec<i32>,
+) -> Result<bool, AllocError>
+    requires task { IsTask (circuit_view circuit.now) task }
+    requires inputs { HoldRings (length rings.old) circuit.now.inputs }
+    requires outputs { HoldRings (length rings.old) circuit.now.outputs }
+    requires input_nodes { length circuit.now.inputs ≡ length circuit.now.nodes.now }
+    requires output_nodes { length circuit.now.outputs ≡ length circuit.now.nodes.now }
+    ensures rings { length rings.new ≡ length rings.old }
+    ensures passed { HasPassed (circuit_view circuit.now) task.node task.turns result rings.old
+        rings.new }
+{
+    match task.kind {
+        Kind::Identity { from, to } => Ok(pass_between(rings, from, to, task.turns as usize)),
+        Kind::Dealer => deal_at_once(circuit, task, rings, items),
+        Kind::Other => Ok(false),
+    }
 }
 
-/// A task as a block, where it is one.
-pub(crate) fn block_of(task: Task, rings: &[Ring]) -> Option<Block>
-    ensures { IfSome result (λ block. IsBlockOf task rings.now block) }
+/// The same for an identity between two rings.
+fn pass_between(rings: &mut [Ring], from: usize, to: usize, count: usize) -> bool
+    requires from { from < length rings.old }
+    requires to { to < length rings.old }
+    requires apart { from ≢ to }
+    ensures rings { length rings.new ≡ length rings.old }
+    ensures all { result ≡ true → (count ≤ length (items_at rings.old (Some from)))
+        × (rings.new ≡ moved (Some from) (Some to) count rings.old) }
+    ensures none { result ≡ false → rings.new ≡ rings.old }
 {
-    let Kind::Identity { from, to } = task.kind else {
-        return None;
-    };
-    let count = task.turns as usize;
-    if from >= rings.len() || rings[from].len() < count {
-        return None;
+    if rings[from].len() < count {
+        return false;
     }
-    Some(Block {
-        node: task.node as usize,
-        from,
-        to,
-        count,
-    })
+    move_across(rings, from, to, count);
+    true
+}
+
+/// The same for a splitter or a joiner.
+fn deal_at_once(
+    circuit: &Circuit,
+    task: Task,
+    rings: &mut [Ring],
+    items: &mut Vec<i32>,
+) -> Result<bool, AllocError>
+    requires task { IsTask (circuit_view circuit.now) task }
+    requires apart { AreApart (ports_at circuit.now.inputs task.node)
+        (ports_at circuit.now.outputs task.node) }
+    requires inputs { HoldRings (length rings.old) circuit.now.inputs }
+    requires outputs { HoldRings (length rings.old) circuit.now.outputs }
+    requires input_nodes { length circuit.now.inputs ≡ length circuit.now.nodes.now }
+    requires output_nodes { length circuit.now.outputs ≡ length circuit.now.nodes.now }
+    ensures rings { length rings.new ≡ length rings.old }
+    ensures passed { HasPassed (circuit_view circuit.now) task.node task.turns result rings.old
+        rings.new }
+{
+    let node = task.node as usize;
+    let inputs = circuit.inputs.at(node);
+    let outputs = circuit.outputs.at(node);
+    let turns = task.turns as usize;
+    match &circuit.nodes[node] {
+        Node::Splitter(splitter) => match splitter {
+            Splitter::Roundrobin(weights) => {
+                deal_turns(rings, weights, turns, inputs, outputs, items)
+            }
+            Splitter::Duplicate(_) => Ok(false),
+        },
+        Node::Joiner(weights) => join_turns(rings, weights, turns, inputs, outputs, items),
+        _ => Ok(false),
+    }
 }

@@ -1,14 +1,14 @@
-// Turns of a splitter that deals by weights, all at once.
+// Turns of a splitter that deals by weights, or of a joiner, all at once.
 
-ghost use Rattle.std.specs.Prelude.{◌≡◌, ◌≤◌, ◌<◌, ◌*◌, IfSome, OnOk, length, sum};
+ghost use Rattle.std.specs.Prelude.{◌≡◌, ◌≤◌, ◌<◌, ◌*◌, IfSome, OnOk, length, sum, true};
 ghost use Rattle.strc_admissible.specs.Rings as spec;
-ghost use Rattle.strc_admissible.specs.Rings.{at_port, dealt_out, items_at};
+ghost use Rattle.strc_admissible.specs.Rings.{at_port, dealt_out, gathered_in, items_at};
 ghost use Rattle.strc_sched.specs.Answers.{AreRings};
-ghost use Rattle.strc_sched.specs.Blocks.{AreApart, firsts, spread_out, times};
+ghost use Rattle.strc_sched.specs.Blocks.{AreApart, FindsCycles, HasTurned, firsts, spread_out, times};
 
-use crate::movers::{cycle_length, ring_of};
+use crate::movers::{cycle_length, gather, ring_of};
 use crate::pouring::extend;
-use crate::ring::{Ring, copy_front, first_of, rest_of, take_from};
+use crate::ring::{Ring, copy_front, count_at, first_of, rest_of, take_from};
 use std::alloc::AllocError;
 
 /// So many cycles of items.
@@ -22,7 +22,7 @@ pub(crate) struct Cycles {
 }
 
 /// So many cycles of weights, where so many items are there for them.
-pub(crate) fn cycles_within(weights: &[u32], count: usize, held: usize) -> Option<Cycles>
+fn cycles_within(weights: &[u32], count: usize, held: usize) -> Option<Cycles>
     ensures count { IfSome result (λ cycles. cycles.count ≡ count) }
     ensures length { IfSome result (λ cycles. cycles.length ≡ sum weights.now) }
     ensures items { IfSome result (λ cycles. cycles.items ≡ cycles.count * cycles.length) }
@@ -43,9 +43,79 @@ pub(crate) fn cycles_within(weights: &[u32], count: usize, held: usize) -> Optio
     }
 }
 
-/// So many turns of a splitter, whose ring holds their items: they go to the ports in one block
-/// each.
-pub(crate) fn deal_cycles(
+/// So many turns of a splitter, where its ring holds their items: whether it does. If not, it leaves
+/// all as it was.
+pub(crate) fn deal_turns(
+    rings: &mut [Ring],
+    weights: &[u32],
+    turns: usize,
+    inputs: &[Option<usize>],
+    outputs: &[Option<usize>],
+    items: &mut Vec<i32>,
+) -> Result<bool, AllocError>
+    requires inputs { AreRings (length rings.old) inputs.now }
+    requires outputs { AreRings (length rings.old) outputs.now }
+    requires apart { AreApart inputs.now outputs.now }
+    ensures rings { length rings.new ≡ length rings.old }
+    ensures dealt { HasTurned (turns * sum weights.now
+        ≤ length (items_at rings.old (at_port inputs.now 0))) turns
+        (dealt_out weights.now (at_port inputs.now 0) outputs.now 0) result rings.old rings.new }
+{
+    let held = count_at(rings, ring_of(inputs, 0));
+    let Some(cycles) = cycles_within(weights, turns, held) else {
+        return Ok(false);
+    };
+    deal_cycles(rings, weights, cycles, inputs, outputs, items)?;
+    Ok(true)
+}
+
+/// So many turns of a joiner, where its rings hold their items: whether they do. If not, it leaves
+/// all as it was.
+pub(crate) fn join_turns(
+    rings: &mut [Ring],
+    weights: &[u32],
+    turns: usize,
+    inputs: &[Option<usize>],
+    outputs: &[Option<usize>],
+    items: &mut Vec<i32>,
+) -> Result<bool, AllocError>
+    requires inputs { AreRings (length rings.old) inputs.now }
+    requires outputs { AreRings (length rings.old) outputs.now }
+    ensures rings { length rings.new ≡ length rings.old }
+    ensures joined { HasTurned (FindsCycles turns weights.now inputs.now rings.old) turns
+        (gathered_in weights.now inputs.now (at_port outputs.now 0) 0) result rings.old rings.new }
+{
+    if !have_cycles(rings, weights, turns, inputs) {
+        return Ok(false);
+    }
+    let output = ring_of(outputs, 0);
+    for _turn in 0..turns {
+        gather(rings, weights, inputs, output, items)?;
+    }
+    Ok(true)
+}
+
+/// Whether each port holds the items of so many cycles.
+fn have_cycles(
+    rings: &[Ring],
+    weights: &[u32],
+    count: usize,
+    inputs: &[Option<usize>],
+) -> bool
+    requires inputs { AreRings (length rings.now) inputs.now }
+    ensures { result ≡ true → FindsCycles count weights.now inputs.now rings.now }
+{
+    for port in 0..weights.len() {
+        match count.checked_mul(weights[port] as usize) {
+            Some(wanted) if wanted <= count_at(rings, ring_of(inputs, port)) => {}
+            _ => return false,
+        }
+    }
+    true
+}
+
+/// So many turns of a splitter, whose ring holds their items: each port gets its items in a row.
+fn deal_cycles(
     rings: &mut [Ring],
     weights: &[u32],
     cycles: Cycles,

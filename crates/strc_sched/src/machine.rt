@@ -5,7 +5,6 @@ ghost use Rattle.strc_graph.specs.NodeView.{graph_view};
 ghost use Rattle.strc_order.specs.Greedy.{firings_of};
 ghost use Rattle.strc_order.specs.Order.{repeated};
 ghost use Rattle.strc_sched.specs.Actors.{AreActors, AreStartable, AreClosed};
-ghost use Rattle.strc_sched.specs.Blocks.{IsBlock};
 ghost use Rattle.strc_admissible.specs.Circuits.{IsCircuit, IsFirst};
 ghost use Rattle.strc_sched.specs.Circuits.{circuit_view};
 ghost use Rattle.strc_admissible.specs.Machine as spec;
@@ -13,11 +12,11 @@ ghost use Rattle.strc_sched.specs.Tasks.{AreTasks, FitsUnit, IsTask};
 ghost use Rattle.strc_sched.specs.Running.{HasDone, HasGone, IsMachine, machine_view};
 
 use crate::actor::{Actor, start_actors};
-use crate::block::{Block, block_of};
+use crate::block::pass_at_once;
 use crate::circuit::Circuit;
 use crate::filter::fire_filter;
 use crate::passing::fire_passive;
-use crate::ring::{Ring, first_rings, move_items};
+use crate::ring::{Ring, first_rings};
 use crate::tasks::{Order, Task, task_at};
 use std::alloc::Global;
 use strc_base::memory::NoMemory;
@@ -119,7 +118,7 @@ impl Machine {
         }
     }
 
-    /// Fires a task's node so often; in one block where it is an identity that finds all its items.
+    /// Fires a task's node so often; at once where it passes items on and finds them all.
     fn fire_task(&mut self, circuit: &Circuit, task: Task) -> Result<(), Stop>
         requires machine { IsMachine (circuit_view circuit.now) self.old }
         requires task { IsTask (circuit_view circuit.now) task }
@@ -128,9 +127,14 @@ impl Machine {
             (repeated task.turns (task.node ∷ [])) (machine_view self.old)) result
             (machine_view self.old).words (machine_view self.new) }
     {
-        match block_of(task, &self.rings) {
-            Some(block) => self.fire_block(circuit, block),
-            None => self.fire_alone(circuit, task),
+        match pass_at_once(circuit, task, &mut self.rings, &mut self.items) {
+            Ok(true) => {
+                let place = task.node as usize;
+                self.fired[place] = self.fired[place].saturating_add(u64::from(task.turns));
+                Ok(())
+            }
+            Ok(false) => self.fire_alone(circuit, task),
+            Err(_) => Err(Stop::NoMemory),
         }
     }
 
@@ -150,24 +154,6 @@ impl Machine {
             }
         }
         Ok(())
-    }
-
-    /// Fires an identity some times at once.
-    fn fire_block(&mut self, circuit: &Circuit, block: Block) -> Result<(), Stop>
-        requires machine { IsMachine (circuit_view circuit.now) self.old }
-        requires block { IsBlock (circuit_view circuit.now) self.old.rings.items block }
-        ensures machine { IsMachine (circuit_view circuit.now) self.new }
-        ensures gone { HasGone (spec.order_run (circuit_view circuit.now)
-            (repeated block.count (block.node ∷ [])) (machine_view self.old)) result
-            (machine_view self.old).words (machine_view self.new) }
-    {
-        let firing = self.fired[block.node];
-        self.fired[block.node] = firing.saturating_add(block.count as u64);
-        let (from, to) = (Some(block.from), Some(block.to));
-        match move_items(&mut self.rings, from, to, block.count, &mut self.items) {
-            Ok(()) => Ok(()),
-            Err(_) => Err(Stop::NoMemory),
-        }
     }
 
     /// Fires a unit's nodes one by one.
@@ -215,7 +201,7 @@ impl Machine {
         if place >= circuit.nodes.len() {
             return Ok(());
         }
-        self.fire_once(circuit, task_at(circuit, node, 1))
+        self.fire_once(circuit, task_at(circuit, node))
     }
 
     /// Fires a task's node once, where it finds its windows.

@@ -1,9 +1,11 @@
 // What is looked up once about the units of an order: in a round nothing is looked up again.
 
-ghost use Rattle.std.specs.Prelude.{◌≡◌, ◌<◌, IfSome, IfOk, length};
-ghost use Rattle.strc_graph.specs.NodeView.{node_view};
+ghost use Rattle.std.specs.Prelude.{◌≡◌, ◌<◌, IfSome, IfOk, Some, length, slice_get, true};
+ghost use Rattle.strc_graph.specs.Graphs.{NodeCode};
+ghost use Rattle.strc_admissible.specs.Wiring.{ports_at};
+ghost use Rattle.strc_sched.specs.Blocks.{AreAllApart};
 ghost use Rattle.strc_sched.specs.Circuits.{circuit_view};
-ghost use Rattle.strc_sched.specs.Tasks.{AreTasks, IsTask, IsTaskOf, FitsKind};
+ghost use Rattle.strc_sched.specs.Tasks.{AreTasks, FitsKind, IsKindBetween, IsTask, IsTaskOf};
 
 use crate::circuit::Circuit;
 use crate::movers::ring_of;
@@ -28,6 +30,9 @@ pub(crate) struct Task {
 pub(crate) enum Kind {
     /// It is an identity between these two rings.
     Identity { from: usize, to: usize },
+    /// No ring stands at two of its ports: so it may deal its items, or join them, many times at
+    /// once.
+    Dealer,
     /// It may be any node.
     Other,
 }
@@ -48,6 +53,8 @@ impl<'s> Order<'s> {
     ) -> Result<Order<'s>, AllocError>
         requires inputs { length circuit.now.inputs ≡ length circuit.now.nodes.now }
         requires outputs { length circuit.now.outputs ≡ length circuit.now.nodes.now }
+        requires apart { circuit.now.apart ≡ true
+            → AreAllApart circuit.now.inputs circuit.now.outputs }
         ensures tasks { IfOk result (λ order. AreTasks (circuit_view circuit.now) order.units.now
             order.tasks.items) }
         ensures units { IfOk result (λ order. order.units.now ≡ units.now) }
@@ -64,42 +71,69 @@ impl<'s> Order<'s> {
 fn task_of(circuit: &Circuit, unit: &Unit) -> Option<Task>
     requires inputs { length circuit.now.inputs ≡ length circuit.now.nodes.now }
     requires outputs { length circuit.now.outputs ≡ length circuit.now.nodes.now }
+    requires apart { circuit.now.apart ≡ true → AreAllApart circuit.now.inputs circuit.now.outputs }
     ensures { IfSome result (IsTaskOf (circuit_view circuit.now) unit.now) }
 {
     if unit.nodes.len() == 1 && (unit.nodes[0] as usize) < circuit.nodes.len() {
-        Some(task_at(circuit, unit.nodes[0], unit.turns))
+        let mut task = task_at(circuit, unit.nodes[0]);
+        task.turns = unit.turns;
+        task.kind = kind_at(circuit, unit.nodes[0] as usize);
+        Some(task)
     } else {
         None
     }
 }
 
-/// So many firings of a node.
-pub(crate) fn task_at(circuit: &Circuit, node: u32, turns: u32) -> Task
+/// One firing of a node, of which nothing is known.
+pub(crate) fn task_at(circuit: &Circuit, node: u32) -> Task
     requires inputs { length circuit.now.inputs ≡ length circuit.now.nodes.now }
     requires outputs { length circuit.now.outputs ≡ length circuit.now.nodes.now }
     requires node { node < length circuit.now.nodes.now }
     ensures task { IsTask (circuit_view circuit.now) result }
     ensures node { result.node ≡ node }
-    ensures turns { result.turns ≡ turns }
 {
     let place = node as usize;
-    let input = ring_of(circuit.inputs.at(place), 0);
-    let output = ring_of(circuit.outputs.at(place), 0);
     Task {
         node,
-        turns,
-        input,
-        output,
-        kind: kind_of(&circuit.nodes[place], input, output),
+        turns: 1,
+        input: ring_of(circuit.inputs.at(place), 0),
+        output: ring_of(circuit.outputs.at(place), 0),
+        kind: Kind::Other,
     }
 }
 
-/// What kind of node it is, by the rings at its first ports.
-fn kind_of(node: &Node, input: Option<usize>, output: Option<usize>) -> Kind
-    ensures { FitsKind (node_view node.now) input output result }
+/// What kind of node it is.
+fn kind_at(circuit: &Circuit, node: usize) -> Kind
+    requires inputs { length circuit.now.inputs ≡ length circuit.now.nodes.now }
+    requires outputs { length circuit.now.outputs ≡ length circuit.now.nodes.now }
+    requires apart { circuit.now.apart ≡ true → AreAllApart circuit.now.inputs circuit.now.outputs }
+    requires node { node < length circuit.now.nodes.now }
+    ensures { (code : NodeCode) → slice_get (circuit_view circuit.now).codes node ≡ Some code
+        → FitsKind code (ports_at circuit.now.inputs node) (ports_at circuit.now.outputs node)
+        result }
 {
-    match (node, input, output) {
-        (Node::Identity, Some(from), Some(to)) if from != to => Kind::Identity { from, to },
+    match &circuit.nodes[node] {
+        Node::Identity => kind_between(
+            ring_of(circuit.inputs.at(node), 0),
+            ring_of(circuit.outputs.at(node), 0),
+        ),
+        Node::Splitter(_) | Node::Joiner(_) => {
+            if circuit.apart {
+                Kind::Dealer
+            } else {
+                Kind::Other
+            }
+        }
+        _ => Kind::Other,
+    }
+}
+
+/// The kind of an identity, by its rings.
+fn kind_between(input: Option<usize>, output: Option<usize>) -> Kind
+    ensures { IsKindBetween input output result }
+{
+    match (input, output) {
+        (Some(from), Some(to)) if from != to => Kind::Identity { from, to },
         _ => Kind::Other,
     }
 }
