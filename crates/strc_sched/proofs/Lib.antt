@@ -11,6 +11,6 @@ pub mod ServedRounds
 pub mod Endings
 pub mod Blocks
 pub mod Moves
-pub mod Tasking
+pub mod Batching
 pub mod Turns
 pub mod TurnFirings

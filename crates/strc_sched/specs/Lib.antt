@@ -7,4 +7,4 @@ pub mod Plain
 pub mod Serving
 pub mod Sentences
 pub mod Blocks
-pub mod Tasks
+pub mod Batches

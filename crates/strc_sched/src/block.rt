@@ -6,36 +6,36 @@ ghost use Rattle.strc_admissible.specs.Wiring.{ports_at};
 ghost use Rattle.strc_sched.specs.Blocks.{AreApart, HasPassed};
 ghost use Rattle.strc_sched.specs.Circuits.{circuit_view};
 ghost use Rattle.strc_sched.specs.Running.{HoldRings};
-ghost use Rattle.strc_sched.specs.Tasks.{IsTask};
+ghost use Rattle.strc_sched.specs.Batches.{IsBatch};
 
+use crate::batches::{Batch, Kind};
 use crate::circuit::Circuit;
 use crate::dealing::{deal_turns, join_turns};
 use crate::pouring::move_across;
 use crate::ring::Ring;
-use crate::tasks::{Kind, Task};
 use std::alloc::AllocError;
 use strc_graph::graph::{Node, Splitter};
 
-/// All firings of a task at once, where its node passes items on and its rings hold them all.
+/// All firings of a batch at once, where its node passes items on and its rings hold them all.
 /// Whether it did; if not, it leaves all as it was.
 pub(crate) fn pass_at_once(
     circuit: &Circuit,
-    task: Task,
+    batch: Batch,
     rings: &mut [Ring],
     items: &mut Vec<i32>,
 ) -> Result<bool, AllocError>
-    requires task { IsTask (circuit_view circuit.now) task }
+    requires batch { IsBatch (circuit_view circuit.now) batch }
     requires inputs { HoldRings (length rings.old) circuit.now.inputs }
     requires outputs { HoldRings (length rings.old) circuit.now.outputs }
     requires input_nodes { length circuit.now.inputs ≡ length circuit.now.nodes.now }
     requires output_nodes { length circuit.now.outputs ≡ length circuit.now.nodes.now }
     ensures rings { length rings.new ≡ length rings.old }
-    ensures passed { HasPassed (circuit_view circuit.now) task.node task.turns result rings.old
+    ensures passed { HasPassed (circuit_view circuit.now) batch.node batch.turns result rings.old
         rings.new }
 {
-    match task.kind {
-        Kind::Identity { from, to } => Ok(pass_between(rings, from, to, task.turns as usize)),
-        Kind::Dealer => deal_at_once(circuit, task, rings, items),
+    match batch.kind {
+        Kind::Identity { from, to } => Ok(pass_between(rings, from, to, batch.turns as usize)),
+        Kind::Dealer => deal_at_once(circuit, batch, rings, items),
         Kind::Other => Ok(false),
     }
 }
@@ -60,25 +60,25 @@ fn pass_between(rings: &mut [Ring], from: usize, to: usize, count: usize) -> boo
 /// The same for a splitter or a joiner.
 fn deal_at_once(
     circuit: &Circuit,
-    task: Task,
+    batch: Batch,
     rings: &mut [Ring],
     items: &mut Vec<i32>,
 ) -> Result<bool, AllocError>
-    requires task { IsTask (circuit_view circuit.now) task }
-    requires apart { AreApart (ports_at circuit.now.inputs task.node)
-        (ports_at circuit.now.outputs task.node) }
+    requires batch { IsBatch (circuit_view circuit.now) batch }
+    requires apart { AreApart (ports_at circuit.now.inputs batch.node)
+        (ports_at circuit.now.outputs batch.node) }
     requires inputs { HoldRings (length rings.old) circuit.now.inputs }
     requires outputs { HoldRings (length rings.old) circuit.now.outputs }
     requires input_nodes { length circuit.now.inputs ≡ length circuit.now.nodes.now }
     requires output_nodes { length circuit.now.outputs ≡ length circuit.now.nodes.now }
     ensures rings { length rings.new ≡ length rings.old }
-    ensures passed { HasPassed (circuit_view circuit.now) task.node task.turns result rings.old
+    ensures passed { HasPassed (circuit_view circuit.now) batch.node batch.turns result rings.old
         rings.new }
 {
-    let node = task.node as usize;
+    let node = batch.node as usize;
     let inputs = circuit.inputs.at(node);
     let outputs = circuit.outputs.at(node);
-    let turns = task.turns as usize;
+    let turns = batch.turns as usize;
     match &circuit.nodes[node] {
         Node::Splitter(splitter) => match splitter {
             Splitter::Roundrobin(weights) => {

@@ -96,12 +96,7 @@ pub(crate) fn join_turns(
 }
 
 /// Whether each port holds the items of so many cycles.
-fn have_cycles(
-    rings: &[Ring],
-    weights: &[u32],
-    count: usize,
-    inputs: &[Option<usize>],
-) -> bool
+fn have_cycles(rings: &[Ring], weights: &[u32], count: usize, inputs: &[Option<usize>]) -> bool
     requires inputs { AreRings (length rings.now) inputs.now }
     ensures { result ≡ true → FindsCycles count weights.now inputs.now rings.now }
 {

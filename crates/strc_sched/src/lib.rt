@@ -8,6 +8,7 @@
 #![tactic(auto)]
 
 mod actor;
+mod batches;
 mod block;
 mod circuit;
 mod dealing;
@@ -22,7 +23,6 @@ mod reading;
 pub mod refusal;
 mod ring;
 pub mod serving;
-mod tasks;
 mod wiring;
 
 pub use strc_order::{error, laws, parts, planning, sizing, unit};

@@ -8,16 +8,16 @@ ghost use Rattle.strc_sched.specs.Actors.{AreActors, AreStartable, AreClosed};
 ghost use Rattle.strc_admissible.specs.Circuits.{IsCircuit, IsFirst};
 ghost use Rattle.strc_sched.specs.Circuits.{circuit_view};
 ghost use Rattle.strc_admissible.specs.Machine as spec;
-ghost use Rattle.strc_sched.specs.Tasks.{AreTasks, FitsUnit, IsTask};
+ghost use Rattle.strc_sched.specs.Batches.{AreBatches, FitsUnit, IsBatch};
 ghost use Rattle.strc_sched.specs.Running.{HasDone, HasGone, IsMachine, machine_view};
 
 use crate::actor::{Actor, start_actors};
+use crate::batches::{Batch, Order, batch_at};
 use crate::block::pass_at_once;
 use crate::circuit::Circuit;
 use crate::filter::fire_filter;
 use crate::passing::fire_passive;
 use crate::ring::{Ring, first_rings};
-use crate::tasks::{Order, Task, task_at};
 use std::alloc::Global;
 use strc_base::memory::NoMemory;
 use strc_graph::graph::{Graph, Node};
@@ -81,15 +81,15 @@ impl Machine {
     /// Fires the nodes of an order's units, each as often as its unit says, until one faults.
     pub(crate) fn fire_order(&mut self, circuit: &Circuit, order: &Order) -> Result<(), Stop>
         requires machine { IsMachine (circuit_view circuit.now) self.old }
-        requires tasks { AreTasks (circuit_view circuit.now) order.now.units.now
-            order.now.tasks.items }
+        requires batches { AreBatches (circuit_view circuit.now) order.now.units.now
+            order.now.batches.items }
         ensures machine { IsMachine (circuit_view circuit.now) self.new }
         ensures gone { HasGone (spec.order_run (circuit_view circuit.now)
             (firings_of order.now.units.now) (machine_view self.old)) result
             (machine_view self.old).words (machine_view self.new) }
     {
         for place in 0..order.units.len() {
-            match self.fire_unit(circuit, &order.units[place], order.tasks[place]) {
+            match self.fire_unit(circuit, &order.units[place], order.batches[place]) {
                 Ok(()) => {}
                 Err(stop) => return Err(stop),
             }
@@ -97,58 +97,58 @@ impl Machine {
         Ok(())
     }
 
-    /// Fires a unit's nodes in turn, and the whole list a number of times; as its task, where it
+    /// Fires a unit's nodes in turn, and the whole list a number of times; as its batch, where it
     /// has one.
     fn fire_unit(
         &mut self,
         circuit: &Circuit,
         unit: &Unit,
-        task: Option<Task>,
+        batch: Option<Batch>,
     ) -> Result<(), Stop>
         requires machine { IsMachine (circuit_view circuit.now) self.old }
-        requires task { FitsUnit (circuit_view circuit.now) unit.now task }
+        requires batch { FitsUnit (circuit_view circuit.now) unit.now batch }
         ensures machine { IsMachine (circuit_view circuit.now) self.new }
         ensures gone { HasGone (spec.order_run (circuit_view circuit.now)
             (repeated unit.now.turns unit.now.nodes.items) (machine_view self.old)) result
             (machine_view self.old).words (machine_view self.new) }
     {
-        match task {
-            Some(task) => self.fire_task(circuit, task),
+        match batch {
+            Some(batch) => self.fire_batch(circuit, batch),
             None => self.fire_turns(circuit, unit),
         }
     }
 
-    /// Fires a task's node so often; at once where it passes items on and finds them all.
-    fn fire_task(&mut self, circuit: &Circuit, task: Task) -> Result<(), Stop>
+    /// Fires a batch's node so often; at once where it passes items on and finds them all.
+    fn fire_batch(&mut self, circuit: &Circuit, batch: Batch) -> Result<(), Stop>
         requires machine { IsMachine (circuit_view circuit.now) self.old }
-        requires task { IsTask (circuit_view circuit.now) task }
+        requires batch { IsBatch (circuit_view circuit.now) batch }
         ensures machine { IsMachine (circuit_view circuit.now) self.new }
         ensures gone { HasGone (spec.order_run (circuit_view circuit.now)
-            (repeated task.turns (task.node ∷ [])) (machine_view self.old)) result
+            (repeated batch.turns (batch.node ∷ [])) (machine_view self.old)) result
             (machine_view self.old).words (machine_view self.new) }
     {
-        match pass_at_once(circuit, task, &mut self.rings, &mut self.items) {
+        match pass_at_once(circuit, batch, &mut self.rings, &mut self.items) {
             Ok(true) => {
-                let place = task.node as usize;
-                self.fired[place] = self.fired[place].saturating_add(u64::from(task.turns));
+                let place = batch.node as usize;
+                self.fired[place] = self.fired[place].saturating_add(u64::from(batch.turns));
                 Ok(())
             }
-            Ok(false) => self.fire_alone(circuit, task),
+            Ok(false) => self.fire_alone(circuit, batch),
             Err(_) => Err(Stop::NoMemory),
         }
     }
 
-    /// Fires a task's node so often, one firing after another.
-    fn fire_alone(&mut self, circuit: &Circuit, task: Task) -> Result<(), Stop>
+    /// Fires a batch's node so often, one firing after another.
+    fn fire_alone(&mut self, circuit: &Circuit, batch: Batch) -> Result<(), Stop>
         requires machine { IsMachine (circuit_view circuit.now) self.old }
-        requires task { IsTask (circuit_view circuit.now) task }
+        requires batch { IsBatch (circuit_view circuit.now) batch }
         ensures machine { IsMachine (circuit_view circuit.now) self.new }
         ensures gone { HasGone (spec.order_run (circuit_view circuit.now)
-            (repeated task.turns (task.node ∷ [])) (machine_view self.old)) result
+            (repeated batch.turns (batch.node ∷ [])) (machine_view self.old)) result
             (machine_view self.old).words (machine_view self.new) }
     {
-        for _turn in 0..task.turns {
-            match self.fire_once(circuit, task) {
+        for _turn in 0..batch.turns {
+            match self.fire_once(circuit, batch) {
                 Ok(()) => {}
                 Err(stop) => return Err(stop),
             }
@@ -201,28 +201,28 @@ impl Machine {
         if place >= circuit.nodes.len() {
             return Ok(());
         }
-        self.fire_once(circuit, task_at(circuit, node))
+        self.fire_once(circuit, batch_at(circuit, node))
     }
 
-    /// Fires a task's node once, where it finds its windows.
-    fn fire_once(&mut self, circuit: &Circuit, task: Task) -> Result<(), Stop>
+    /// Fires a batch's node once, where it finds its windows.
+    fn fire_once(&mut self, circuit: &Circuit, batch: Batch) -> Result<(), Stop>
         requires machine { IsMachine (circuit_view circuit.now) self.old }
-        requires task { IsTask (circuit_view circuit.now) task }
+        requires batch { IsBatch (circuit_view circuit.now) batch }
         ensures machine { IsMachine (circuit_view circuit.now) self.new }
-        ensures gone { HasGone (spec.after_step (machine_view self.old) task.node
-            (spec.next_step (circuit_view circuit.now) (machine_view self.old) task.node)) result
+        ensures gone { HasGone (spec.after_step (machine_view self.old) batch.node
+            (spec.next_step (circuit_view circuit.now) (machine_view self.old) batch.node)) result
             (machine_view self.old).words (machine_view self.new) }
     {
-        let place = task.node as usize;
+        let place = batch.node as usize;
         let firing = self.fired[place];
-        match self.step(circuit, task, firing) {
+        match self.step(circuit, batch, firing) {
             Ok(true) => {
                 self.fired[place] = firing.saturating_add(1);
                 Ok(())
             }
             Ok(false) => Ok(()),
             Err(Halt::Fault(cause)) => Err(Stop::Fault {
-                node: task.node,
+                node: batch.node,
                 firing,
                 cause,
             }),
@@ -230,17 +230,17 @@ impl Machine {
         }
     }
 
-    /// One firing of a task's node, by its number. Whether it found its windows; if not, it leaves
+    /// One firing of a batch's node, by its number. Whether it found its windows; if not, it leaves
     /// all as it was.
-    fn step(&mut self, circuit: &Circuit, task: Task, firing: u64) -> Result<bool, Halt>
+    fn step(&mut self, circuit: &Circuit, batch: Batch, firing: u64) -> Result<bool, Halt>
         requires machine { IsMachine (circuit_view circuit.now) self.old }
-        requires task { IsTask (circuit_view circuit.now) task }
+        requires batch { IsBatch (circuit_view circuit.now) batch }
         ensures machine { IsMachine (circuit_view circuit.now) self.new }
         ensures fired { self.new.fired ≡ self.old.fired }
         ensures step { HasDone (spec.step_at (circuit_view circuit.now) (machine_view self.old)
-            task.node firing) task.node result (machine_view self.old) (machine_view self.new) }
+            batch.node firing) batch.node result (machine_view self.old) (machine_view self.new) }
     {
-        let node = task.node as usize;
+        let node = batch.node as usize;
         match &circuit.nodes[node] {
             Node::Filter(instance) => match &mut self.actors[node] {
                 Actor::Filter(actor) => fire_filter(
@@ -248,8 +248,8 @@ impl Machine {
                     firing,
                     actor,
                     &mut self.rings,
-                    task.input,
-                    task.output,
+                    batch.input,
+                    batch.output,
                     &mut self.words,
                 ),
                 Actor::Passive => unreachable!(),

@@ -9,15 +9,15 @@ ghost use Rattle.strc_sched.specs.Circuits.{circuit_view};
 ghost use Rattle.strc_sched.specs.Plain.{AnswersGraph, IsEnding, IsPlainRefusal, IsStopped};
 ghost use Rattle.strc_sched.specs.Plain.{need_of};
 ghost use Rattle.strc_sched.specs.Running.{IsMachine, machine_view};
-ghost use Rattle.strc_sched.specs.Tasks.{AreTasks};
+ghost use Rattle.strc_sched.specs.Batches.{AreBatches};
 ghost use Rattle.strc_sched.specs.declared.refusal.RunRefusal.TheVariants as refused;
 
+use crate::batches::Order;
 use crate::circuit::Circuit;
 use crate::machine::{Machine, Stop};
 use crate::outcome::{Outcome, Round};
 use crate::reading::items_needed;
 use crate::refusal::RunRefusal;
-use crate::tasks::Order;
 use std::alloc::Global;
 use strc_graph::graph::Graph;
 use strc_order::parts::Schedule;
@@ -76,10 +76,10 @@ fn run_orders(
     rounds: u32,
 ) -> Result<Outcome, RunRefusal>
     requires machine { IsMachine (circuit_view circuit.now) machine }
-    requires startup { AreTasks (circuit_view circuit.now) startup.now.units.now
-        startup.now.tasks.items }
-    requires round { AreTasks (circuit_view circuit.now) round.now.units.now
-        round.now.tasks.items }
+    requires startup { AreBatches (circuit_view circuit.now) startup.now.units.now
+        startup.now.batches.items }
+    requires round { AreBatches (circuit_view circuit.now) round.now.units.now
+        round.now.batches.items }
     ensures ending { IfOk result (λ outcome. IsEnding outcome (spec.whole_run
         (circuit_view circuit.now) (firings_of startup.now.units.now)
         (firings_of round.now.units.now) rounds (machine_view machine))) }
@@ -100,8 +100,8 @@ fn run_rounds(
     rounds: u32,
 ) -> Result<Outcome, RunRefusal>
     requires machine { IsMachine (circuit_view circuit.now) machine }
-    requires tasks { AreTasks (circuit_view circuit.now) order.now.units.now
-        order.now.tasks.items }
+    requires batches { AreBatches (circuit_view circuit.now) order.now.units.now
+        order.now.batches.items }
     ensures ending { IfOk result (λ outcome. IsEnding outcome (spec.rounds_run
         (circuit_view circuit.now) (firings_of order.now.units.now) rounds 0
         (machine_view machine))) }

@@ -19,14 +19,14 @@ pub returns-in-Roundrobin-clause-passed : goal.returns-in-Roundrobin-clause-pass
 returns-in-Roundrobin-clause-passed c =
     let circuit = circuit_view c.args.circuit.now in
     let nodes = c.args.circuit.now.nodes.now in
-    let number = c.args.task.node in
-    let turns = c.args.task.turns in
+    let number = c.args.batch.node in
+    let turns = c.args.batch.turns in
     let rings = c.args.rings.now in
     let inputs = ports_at circuit.inputs number in
     let outputs = ports_at circuit.outputs number in
     let weights = c.in-Roundrobin.weights.items in
     let there : number < length nodes =
-    let e = c.requires.task.node in let l = length-map nodes node_view in omega arith in
+    let e = c.requires.batch.node in let l = length-map nodes node_view in omega arith in
     let here : slice_get circuit.codes number ≡ Some (graphs.Splitter (graphs.Roundrobin weights)) =
     code_at nodes number c.index-circuit-node.result
     (node.Splitter (splitter.Roundrobin c.in-Roundrobin.weights)) there
@@ -53,14 +53,14 @@ pub returns-in-Joiner-clause-passed : goal.returns-in-Joiner-clause-passed
 returns-in-Joiner-clause-passed c =
     let circuit = circuit_view c.args.circuit.now in
     let nodes = c.args.circuit.now.nodes.now in
-    let number = c.args.task.node in
-    let turns = c.args.task.turns in
+    let number = c.args.batch.node in
+    let turns = c.args.batch.turns in
     let rings = c.args.rings.now in
     let inputs = ports_at circuit.inputs number in
     let outputs = ports_at circuit.outputs number in
     let weights = c.in-Joiner.weights.items in
     let there : number < length nodes =
-    let e = c.requires.task.node in let l = length-map nodes node_view in omega arith in
+    let e = c.requires.batch.node in let l = length-map nodes node_view in omega arith in
     let here : slice_get circuit.codes number ≡ Some (graphs.Joiner weights) =
     code_at nodes number c.index-circuit-node.result (node.Joiner c.in-Joiner.weights) there
     c.in-Joiner.is in

@@ -73,9 +73,9 @@ returns-clause-circuit c =
 pub returns-clause-apart : goal.returns-clause-apart
 returns-clause-apart c =
     λ apart. all_apart c.channels-channels.result.now c.in_ok-inputs.inputs
-        c.in_ok-outputs.outputs
-        (subst (λ ends. IsWired ends c.in_ok-inputs.inputs)
-        (c.deref-2.ensures.value ∙ c.in_ok-targets.ensures) c.in_ok-inputs.ensures.wired)
-        (subst (λ ends. IsWired ends c.in_ok-outputs.outputs)
-        (c.deref-4.ensures.value ∙ c.in_ok-sources.ensures) c.in_ok-outputs.ensures.wired)
-        (c.are_apart.ensures apart)
+    c.in_ok-outputs.outputs
+    (subst (λ ends. IsWired ends c.in_ok-inputs.inputs)
+    (c.deref-2.ensures.value ∙ c.in_ok-targets.ensures) c.in_ok-inputs.ensures.wired)
+    (subst (λ ends. IsWired ends c.in_ok-outputs.outputs)
+    (c.deref-4.ensures.value ∙ c.in_ok-sources.ensures) c.in_ok-outputs.ensures.wired)
+    (c.are_apart.ensures apart)

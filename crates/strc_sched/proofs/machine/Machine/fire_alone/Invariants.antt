@@ -8,7 +8,7 @@ use Rattle.strc_sched.proofs.machine.Machine.fire_alone.Given as goal
 abbrev pub invariant-loop-turn : goal.invariant-loop-turn
 invariant-loop-turn l = record {
   machine : IsMachine (circuit_view l.circuit) l.self;
-  goes : Goes (circuit_view l.circuit) (repeated l.task.turns (l.task.node ∷ []))
-      (repeated (l.task.turns - l._turn) (l.task.node ∷ []))
+  goes : Goes (circuit_view l.circuit) (repeated l.batch.turns (l.batch.node ∷ []))
+      (repeated (l.batch.turns - l._turn) (l.batch.node ∷ []))
       (machine_view l.fn.self) (machine_view l.self);
 }

@@ -3,26 +3,26 @@ use Rattle.strc_order.specs.Greedy.{firings_of}
 use Rattle.strc_order.specs.Order.{repeated}
 use Rattle.strc_sched.specs.Circuits.{circuit_view}
 use Rattle.strc_sched.specs.Running.{machine_view}
-use Rattle.strc_sched.specs.Tasks.{FitsUnit}
+use Rattle.strc_sched.specs.Batches.{FitsUnit}
 use Rattle.strc_sched.proofs.Going.{goes_on, goes_so, stops_so, units_left}
-use Rattle.strc_sched.proofs.Tasking.{tasks_each, task_there}
+use Rattle.strc_sched.proofs.Batching.{batches_each, batch_there}
 use Rattle.strc_sched.proofs.machine.Machine.fire_order.Goals as goal
 
 pub index-requires : goal.index-requires
 index-requires c =
-    let each = tasks_each (circuit_view c.args.circuit.now) c.args.order.now.units.now
-    c.args.order.now.tasks.items c.requires.tasks in
+    let each = batches_each (circuit_view c.args.circuit.now) c.args.order.now.units.now
+    c.args.order.now.batches.items c.requires.batches in
     let less = c.loop-place-test.true in
     omega (arith, each, less)
 
-pub fire_unit-requires-clause-task : goal.fire_unit-requires-clause-task
-fire_unit-requires-clause-task c =
+pub fire_unit-requires-clause-batch : goal.fire_unit-requires-clause-batch
+fire_unit-requires-clause-batch c =
     let circuit = circuit_view c.args.circuit.now in
     let units = c.args.order.now.units.now in
     let place = c.loop-place.place in
     subst (FitsUnit circuit (get_or units place c.index-order-place.result)) (sym c.index.ensures)
-    (task_there circuit units c.args.order.now.tasks.items place c.index-order-place.result
-    c.index.result.now c.requires.tasks c.loop-place-test.true)
+    (batch_there circuit units c.args.order.now.batches.items place c.index-order-place.result
+    c.index.result.now c.requires.batches c.loop-place-test.true)
 
 pub returns-in-Err-clause-gone : goal.returns-in-Err-clause-gone
 returns-in-Err-clause-gone c =

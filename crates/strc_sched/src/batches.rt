@@ -5,7 +5,7 @@ ghost use Rattle.strc_graph.specs.Graphs.{NodeCode};
 ghost use Rattle.strc_admissible.specs.Wiring.{ports_at};
 ghost use Rattle.strc_sched.specs.Blocks.{AreAllApart};
 ghost use Rattle.strc_sched.specs.Circuits.{circuit_view};
-ghost use Rattle.strc_sched.specs.Tasks.{AreTasks, FitsKind, IsKindBetween, IsTask, IsTaskOf};
+ghost use Rattle.strc_sched.specs.Batches.{AreBatches, FitsKind, IsKindBetween, IsBatch, IsBatchOf};
 
 use crate::circuit::Circuit;
 use crate::movers::ring_of;
@@ -15,7 +15,7 @@ use strc_order::unit::Unit;
 
 /// Firings of one node in a row.
 #[derive(Clone, Copy)]
-pub(crate) struct Task {
+pub(crate) struct Batch {
     pub(crate) node: u32,
     pub(crate) turns: u32,
     /// The ring at its first input port.
@@ -37,11 +37,11 @@ pub(crate) enum Kind {
     Other,
 }
 
-/// The units of an order, with a task for each that has one node.
+/// The units of an order, with a batch for each that has one node.
 #[derive(Drop)]
 pub(crate) struct Order<'s> {
     pub(crate) units: &'s [Unit],
-    pub(crate) tasks: Vec<Option<Task>>,
+    pub(crate) batches: Vec<Option<Batch>>,
 }
 
 impl<'s> Order<'s> {
@@ -55,45 +55,45 @@ impl<'s> Order<'s> {
         requires outputs { length circuit.now.outputs ≡ length circuit.now.nodes.now }
         requires apart { circuit.now.apart ≡ true
             → AreAllApart circuit.now.inputs circuit.now.outputs }
-        ensures tasks { IfOk result (λ order. AreTasks (circuit_view circuit.now) order.units.now
-            order.tasks.items) }
+        ensures batches { IfOk result (λ order. AreBatches (circuit_view circuit.now) order.units.now
+            order.batches.items) }
         ensures units { IfOk result (λ order. order.units.now ≡ units.now) }
     {
-        let mut tasks = Vec::with_capacity(alloc, units.len())?;
+        let mut batches = Vec::with_capacity(alloc, units.len())?;
         for unit in units {
-            tasks.push(task_of(circuit, unit))?;
+            batches.push(batch_of(circuit, unit))?;
         }
-        Ok(Order { units, tasks })
+        Ok(Order { units, batches })
     }
 }
 
-/// The task of a unit that has one node.
-fn task_of(circuit: &Circuit, unit: &Unit) -> Option<Task>
+/// The batch of a unit that has one node.
+fn batch_of(circuit: &Circuit, unit: &Unit) -> Option<Batch>
     requires inputs { length circuit.now.inputs ≡ length circuit.now.nodes.now }
     requires outputs { length circuit.now.outputs ≡ length circuit.now.nodes.now }
     requires apart { circuit.now.apart ≡ true → AreAllApart circuit.now.inputs circuit.now.outputs }
-    ensures { IfSome result (IsTaskOf (circuit_view circuit.now) unit.now) }
+    ensures { IfSome result (IsBatchOf (circuit_view circuit.now) unit.now) }
 {
     if unit.nodes.len() == 1 && (unit.nodes[0] as usize) < circuit.nodes.len() {
-        let mut task = task_at(circuit, unit.nodes[0]);
-        task.turns = unit.turns;
-        task.kind = kind_at(circuit, unit.nodes[0] as usize);
-        Some(task)
+        let mut batch = batch_at(circuit, unit.nodes[0]);
+        batch.turns = unit.turns;
+        batch.kind = kind_at(circuit, unit.nodes[0] as usize);
+        Some(batch)
     } else {
         None
     }
 }
 
 /// One firing of a node, of which nothing is known.
-pub(crate) fn task_at(circuit: &Circuit, node: u32) -> Task
+pub(crate) fn batch_at(circuit: &Circuit, node: u32) -> Batch
     requires inputs { length circuit.now.inputs ≡ length circuit.now.nodes.now }
     requires outputs { length circuit.now.outputs ≡ length circuit.now.nodes.now }
     requires node { node < length circuit.now.nodes.now }
-    ensures task { IsTask (circuit_view circuit.now) result }
+    ensures batch { IsBatch (circuit_view circuit.now) result }
     ensures node { result.node ≡ node }
 {
     let place = node as usize;
-    Task {
+    Batch {
         node,
         turns: 1,
         input: ring_of(circuit.inputs.at(place), 0),

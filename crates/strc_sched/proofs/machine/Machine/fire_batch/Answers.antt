@@ -10,18 +10,18 @@ use Rattle.strc_sched.specs.Blocks.{HasPassed, PassesOn}
 use Rattle.strc_sched.specs.Circuits.{circuit_view}
 use Rattle.strc_sched.specs.Running.{machine_view}
 use Rattle.strc_sched.proofs.Done.{machine_after, more_refl, passive_kept}
-use Rattle.strc_sched.proofs.machine.Machine.fire_task.Goals as goal
+use Rattle.strc_sched.proofs.machine.Machine.fire_batch.Goals as goal
 
 pub returns-in-Ok-true-clause-gone : goal.returns-in-Ok-true-clause-gone
 returns-in-Ok-true-clause-gone c =
     let circuit = circuit_view c.args.circuit.now in
     let before = machine_view c.args.self.now in
-    let node = c.args.task.node in
-    let turns = c.args.task.turns in
+    let node = c.args.batch.node in
+    let turns = c.args.batch.turns in
     let code = get_or circuit.codes node graphs.Identity in
-    let here = slice_get-get_or circuit.codes node graphs.Identity c.requires.task.node in
+    let here = slice_get-get_or circuit.codes node graphs.Identity c.requires.batch.node in
     let there : node < length before.fired =
-    let less = c.requires.task.node in
+    let less = c.requires.batch.node in
     let many = c.requires.machine.fired in omega arith in
     let firing : ℕ = c.index.result.now in
     let same : firing ≡ get_or before.fired node 0 =

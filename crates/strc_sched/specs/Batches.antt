@@ -8,9 +8,9 @@ use Rattle.strc_admissible.specs.Machine.{CircuitView}
 use Rattle.strc_admissible.specs.Rings.{at_port}
 use Rattle.strc_admissible.specs.Wiring.{ports_at}
 use Rattle.strc_sched.specs.Blocks.{AreApart}
-use Rattle.strc_sched.specs.declared.tasks.Kind.{Kind}
-use Rattle.strc_sched.specs.declared.tasks.Kind.TheVariants as kind
-use Rattle.strc_sched.specs.declared.tasks.Task.{Task}
+use Rattle.strc_sched.specs.declared.batches.Kind.{Kind}
+use Rattle.strc_sched.specs.declared.batches.Kind.TheVariants as kind
+use Rattle.strc_sched.specs.declared.batches.Batch.{Batch}
 
 -- a node is of a kind, by the rings at its ports
 abbrev pub FitsKind : NodeCode → (inputs outputs : List (Option ℕ)) → Kind → Type 0
@@ -27,27 +27,27 @@ IsKindBetween input output (kind.Identity from to) =
 IsKindBetween input output kind.Dealer = ⊥
 IsKindBetween input output kind.Other = Unit {0}
 
--- a task's node is there, and what it says of it is so
-pub record IsTask (circuit : CircuitView) (task : Task) : Type 0 where
-  pub node : task.node < length circuit.codes
-  pub input : task.input ≡ at_port (ports_at circuit.inputs task.node) 0
-  pub output : task.output ≡ at_port (ports_at circuit.outputs task.node) 0
-  pub kind : (code : NodeCode) → slice_get circuit.codes task.node ≡ Some code
-      → FitsKind code (ports_at circuit.inputs task.node) (ports_at circuit.outputs task.node)
-      task.kind
+-- a batch's node is there, and what it says of it is so
+pub record IsBatch (circuit : CircuitView) (batch : Batch) : Type 0 where
+  pub node : batch.node < length circuit.codes
+  pub input : batch.input ≡ at_port (ports_at circuit.inputs batch.node) 0
+  pub output : batch.output ≡ at_port (ports_at circuit.outputs batch.node) 0
+  pub kind : (code : NodeCode) → slice_get circuit.codes batch.node ≡ Some code
+      → FitsKind code (ports_at circuit.inputs batch.node) (ports_at circuit.outputs batch.node)
+      batch.kind
 
 -- it is a unit's
-pub record IsTaskOf (circuit : CircuitView) (unit : units.Unit.Unit) (task : Task) : Type 0 where
-  pub is : IsTask circuit task
-  pub nodes : unit.nodes.items ≡ task.node ∷ []
-  pub turns : unit.turns ≡ task.turns
+pub record IsBatchOf (circuit : CircuitView) (unit : units.Unit.Unit) (batch : Batch) : Type 0 where
+  pub is : IsBatch circuit batch
+  pub nodes : unit.nodes.items ≡ batch.node ∷ []
+  pub turns : unit.turns ≡ batch.turns
 
-abbrev pub FitsUnit : CircuitView → units.Unit.Unit → Option Task → Type 0
-FitsUnit circuit unit found = IfSome found (IsTaskOf circuit unit)
+abbrev pub FitsUnit : CircuitView → units.Unit.Unit → Option Batch → Type 0
+FitsUnit circuit unit found = IfSome found (IsBatchOf circuit unit)
 
 -- one for each unit
-abbrev pub AreTasks : CircuitView → List units.Unit.Unit → List (Option Task) → Type 0
-AreTasks circuit [] [] = Unit {0}
-AreTasks circuit (unit ∷ units) (task ∷ tasks) =
-    FitsUnit circuit unit task × AreTasks circuit units tasks
-AreTasks circuit _ _ = ⊥
+abbrev pub AreBatches : CircuitView → List units.Unit.Unit → List (Option Batch) → Type 0
+AreBatches circuit [] [] = Unit {0}
+AreBatches circuit (unit ∷ units) (batch ∷ batches) =
+    FitsUnit circuit unit batch × AreBatches circuit units batches
+AreBatches circuit _ _ = ⊥
