@@ -8,7 +8,7 @@ use Rattle.strc_semantics.specs.declared.fault.Cause.{Cause}
 use Rattle.strc_semantics.specs.declared.fault.Cause.TheVariants as cause
 use Rattle.strc_graph.specs.NodeView.{node_names}
 use Rattle.strc_graph.specs.declared.graph.Channel.{Channel}
-use Rattle.strc_run.specs.declared.plan.Plan.{Plan}
+use Rattle.strc_stage.specs.Plans.{PlanParts}
 use Rattle.strc_sched.specs.declared.outcome.Outcome.{Outcome}
 use Rattle.strc_sched.specs.declared.outcome.Outcome.TheVariants as outcome
 use Rattle.strc_sched.specs.declared.outcome.Round.{Round}
@@ -106,7 +106,7 @@ channel_lines number channels sizes = []
 
 -- all that is written of a plan: for each node how often it fires in a round, for each node how
 -- often it fires before the first round, and for each channel the size of its buffer
-abbrev pub plan_text : Plan → List ℕ
+abbrev pub plan_text : PlanParts → List ℕ
 plan_text plan =
     node_lines 0 (node_names plan.graph) plan.round_counts ++ start_lines 0 plan.startup_counts
     ++ channel_lines 0 plan.graph.channels plan.schedule.sizes

@@ -8,7 +8,7 @@ ghost use Rattle.strc_cli.specs.Output as spec;
 use crate::text::{push_bytes, push_integer, push_number};
 use std::alloc::{AllocError, Global};
 use strc_graph::graph::Channel;
-use strc_run::plan::Plan;
+use strc_run::compile::Plan;
 use strc_run::refusal::Refusal;
 use strc_run::run::{Outcome, Round, RunRefusal};
 use strc_semantics::fault::Cause;
@@ -129,8 +129,8 @@ pub(crate) fn plan_text(alloc: Global, plan: &Plan) -> Result<Vec<u8>, AllocErro
 {
     let mut text = Vec::new(alloc);
     push_nodes(&mut text, plan)?;
-    push_starts(&mut text, plan.startup_counts.as_slice())?;
-    push_channels(&mut text, plan.graph.channels(), plan.schedule.sizes())?;
+    push_starts(&mut text, plan.startup_counts().as_slice())?;
+    push_channels(&mut text, plan.graph().channels(), plan.sizes())?;
     Ok(text)
 }
 
@@ -139,13 +139,10 @@ fn push_nodes(text: &mut Vec<u8>, plan: &Plan) -> Result<(), AllocError>
     ensures { OnOk result (text.new.items ≡ text.old.items
         ++ spec.node_lines 0 (node_names plan.now.graph) plan.now.round_counts) }
 {
-    for node in 0..plan.graph.nodes().len() {
-        push_node(
-            text,
-            node,
-            plan.graph.name(node),
-            plan.round_counts.at(node),
-        )?;
+    let graph = plan.graph();
+    let counts = plan.round_counts();
+    for node in 0..graph.nodes().len() {
+        push_node(text, node, graph.name(node), counts.at(node))?;
     }
     Ok(())
 }

@@ -1,4 +1,5 @@
 use Rattle.std.proofs.Common.{ℕ, List, Option, length, ap, subst, sym, inl, inr}
+use Rattle.strc_stage.specs.Plans.{planning_of}
 use Rattle.strc_cli.specs.Answering.{HasSize, IsAsked, IsAnswered, IsRun, ReadsInput, ReadsText}
 use Rattle.strc_cli.specs.Answering.{main_of}
 use Rattle.strc_cli.specs.declared.answer.Answer.TheVariants as answer
@@ -16,7 +17,7 @@ returns-in-Check-clause-answered g c =
     subst
     (λ (main : Option (List ℕ)). HasSize text main (length plan.graph.nodes)
     (length plan.graph.channels))
-    c.main_name.ensures (plan_size text _ plan c.in-Ok.ensures) in
+    c.in-Ok-options_of.ensures (plan_size text _ plan c.in-Ok.ensures.plan) in
     subst
     (λ (command : Command). IsAsked text command bytes
     (answer.Checked (length c.nodes.result.now) (length c.channels.result.now)))
@@ -30,8 +31,9 @@ returns-in-Run-clause-answered g c =
     let rounds = c.in-Run.rounds in
     let result = c.run_plan.result in
     let runs : IsRun text (main_of c.args.command.now) rounds bytes result =
-    subst (λ (main : Option (List ℕ)). IsRun text main rounds bytes result) c.main_name.ensures
-    (c.run_plan.ensures.run text _ c.in-Ok.ensures) in
+    subst (λ (main : Option (List ℕ)). IsRun text main rounds bytes result)
+    c.in-Ok-options_of.ensures
+    (c.run_plan.ensures.run text _ c.in-Ok.ensures.plan) in
     subst (λ (command : Command). IsAnswered text command bytes result) (sym c.in-Run.is)
     (run_answered text rounds _ bytes result
     (subst (λ (main : Option (List ℕ)). IsRun text main rounds bytes result)
@@ -45,9 +47,7 @@ returns-in-Run-clause-unread g c =
       | inl same ↦ inl same
       | inr reads ↦ inr (subst (ReadsInput text) (sym c.in-Run.is)
           (subst (ReadsText text) (ap main_of c.in-Run.is)
-          (subst (ReadsText text) c.main_name.ensures
-          (reads_text text _ c.in-Ok.plan c.in-Ok.ensures c.in-Run.rounds bytes reads))))
+          (subst (ReadsText text) c.in-Ok-options_of.ensures
+          (reads_text text _ (planning_of c.in-Ok.plan) c.in-Ok.ensures.plan c.in-Run.rounds bytes
+          reads))))
     ]
-
-pub run_plan-requires : goal.run_plan-requires
-run_plan-requires g c = c.in-Ok.ensures.planned
