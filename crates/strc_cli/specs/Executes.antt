@@ -16,17 +16,14 @@ use Rattle.strc_sched.specs.declared.refusal.RunRefusal.TheVariants as unrun
 use Rattle.strc_run.specs.declared.refusal.Refusal.{Refusal}
 use Rattle.strc_run.specs.declared.refusal.Refusal.TheVariants as refusal
 use Rattle.strc_cli.specs.Answering.{IsAnswered}
-use Rattle.strc_cli.specs.Output.{check_line, outcome_text, plan_text, refusal_line}
-use Rattle.strc_cli.specs.Output.{run_refusal_line, bad_input_line}
+use Rattle.strc_cli.specs.Output.{check_line, outcome_text, plan_text, stop_line}
 
 -- all that is written: what the run printed, the lines of a plan, or one line
 abbrev pub answer_text : Result Answer Stop → List ℕ
 answer_text (Ok (answer.Ran outcome)) = outcome_text outcome
 answer_text (Ok (answer.Checked nodes channels)) = check_line nodes channels
 answer_text (Ok (answer.Planned plan)) = plan_text plan
-answer_text (Err (stop.Refused refused)) = refusal_line refused
-answer_text (Err (stop.BadInput word)) = bad_input_line word
-answer_text (Err (stop.NotRun refused)) = run_refusal_line refused
+answer_text (Err stop) = stop_line stop
 
 abbrev pub refusal_status : Refusal → Status
 refusal_status refusal.NoMemory = status.NoMemory

@@ -17,6 +17,8 @@ use Rattle.strc_sched.specs.declared.refusal.RunRefusal.{RunRefusal}
 use Rattle.strc_sched.specs.declared.refusal.RunRefusal.TheVariants as unrun
 use Rattle.strc_run.specs.declared.refusal.Refusal.{Refusal}
 use Rattle.strc_run.specs.declared.refusal.Refusal.TheVariants as refusal
+use Rattle.strc_cli.specs.declared.answer.Stop.{Stop}
+use Rattle.strc_cli.specs.declared.answer.Stop.TheVariants as stop
 
 -- a line feed
 abbrev pub line_end : List ℕ
@@ -111,7 +113,13 @@ plan_text plan =
     node_lines 0 (node_names plan.graph) plan.round_counts ++ start_lines 0 plan.startup_counts
     ++ channel_lines 0 plan.graph.channels plan.schedule.sizes
 
--- the number and the name of a refusal, with its fields, each after its name
+-- the number and the name of a refusal, with its fields, each after its name; that of a declared rate
+-- that isn't the counted one has three
+abbrev pub mismatch_words : (node declared counted : ℕ) → List ℕ
+mismatch_words node declared counted =
+    codes "E14 RateMismatch node " ++ decimal node ++ codes " declared " ++ decimal declared
+    ++ codes " counted " ++ decimal counted
+
 abbrev pub refusal_words : Refusal → List ℕ
 refusal_words (refusal.Lex at) = codes "E1 Lex" ++ codes " at " ++ decimal at
 refusal_words (refusal.Parse token) = codes "E2 Parse" ++ codes " token " ++ decimal token
@@ -130,9 +138,7 @@ refusal_words (refusal.BadWeights stream) =
 refusal_words (refusal.ConstFault cause) =
     codes "E12 ConstFault" ++ codes " cause " ++ cause_name cause
 refusal_words (refusal.RateUnknown node) = codes "E13 RateUnknown" ++ codes " node " ++ decimal node
-refusal_words (refusal.RateMismatch node declared counted) =
-    codes "E14 RateMismatch" ++ codes " node " ++ decimal node
-    ++ (codes " declared " ++ decimal declared ++ codes " counted " ++ decimal counted)
+refusal_words (refusal.RateMismatch node declared counted) = mismatch_words node declared counted
 refusal_words (refusal.PeekOutside node) = codes "E15 PeekOutside" ++ codes " node " ++ decimal node
 refusal_words (refusal.RateLimit node) = codes "E16 RateLimit" ++ codes " node " ++ decimal node
 refusal_words refusal.TwoInputs = codes "E17 TwoInputs"
@@ -149,24 +155,24 @@ refusal_words (refusal.BufferLimit channel) =
 refusal_words refusal.NoMemory = codes "E25 NoMemory"
 refusal_words refusal.Nesting = codes "E26 Nesting"
 
--- `refused E1 Lex at 12`
-abbrev pub refusal_line : Refusal → List ℕ
-refusal_line refused = codes "refused " ++ refusal_words refused ++ line_end
+-- the same of a refusal of a run; an input that is shorter than what the rounds read has two
+abbrev pub short_words : (need got : ℕ) → List ℕ
+short_words need got =
+    codes "S1 InputShort need " ++ decimal need ++ codes " got " ++ decimal got
 
--- the same of a refusal of a run
 abbrev pub run_refusal_words : RunRefusal → List ℕ
-run_refusal_words (unrun.InputShort need got) =
-    codes "S1 InputShort" ++ (codes " need " ++ decimal need ++ codes " got " ++ decimal got)
+run_refusal_words (unrun.InputShort need got) = short_words need got
 run_refusal_words unrun.BadWorkers = codes "S2 BadWorkers"
 run_refusal_words unrun.NoMemory = codes "S3 NoMemory"
 run_refusal_words unrun.NoWorker = codes "S4 NoWorker"
 run_refusal_words unrun.RoundsNeeded = codes "S5 RoundsNeeded"
 
--- `refused S1 InputShort need 6 got 5`
-abbrev pub run_refusal_line : RunRefusal → List ℕ
-run_refusal_line refused = codes "refused " ++ run_refusal_words refused ++ line_end
+-- why there is no answer: a refusal of the text, of a word of its input, or of its run
+abbrev pub stop_words : Stop → List ℕ
+stop_words (stop.Refused refused) = refusal_words refused
+stop_words (stop.BadInput word) = codes "S6 BadInput" ++ codes " word " ++ decimal word
+stop_words (stop.NotRun refused) = run_refusal_words refused
 
--- `refused S6 BadInput word 2`
-abbrev pub bad_input_line : (word : ℕ) → List ℕ
-bad_input_line word = codes "refused " ++ (codes "S6 BadInput" ++ codes " word " ++ decimal word)
-    ++ line_end
+-- `refused E1 Lex at 12`, `refused S1 InputShort need 6 got 5`
+abbrev pub stop_line : Stop → List ℕ
+stop_line stop = codes "refused " ++ stop_words stop ++ line_end

@@ -1,6 +1,6 @@
 -- A flat graph of checked instances is planned by the schedule of its least counts.
 use Rattle.std.proofs.Common.{◌≡◌, ℕ, ℤ, false, refl, List, Ok}
-use Rattle.std.specs.Prelude.{All, Option, Some, slice_get}
+use Rattle.std.specs.Prelude.{All, Some, slice_get}
 use Rattle.std.specs.List.{AllByRecursion}
 use Rattle.strc_semantics.specs.Filters as filters
 use Rattle.strc_semantics.specs.Firing.{started}

@@ -1,6 +1,6 @@
 -- The rounds of a plan, by those that are run.
-use Rattle.std.proofs.Common.{◌≡◌, ℕ, ◌+◌, ◌<◌, ◌≤◌, ℤ, Bool, true, false, List, length, Option}
-use Rattle.std.proofs.Common.{Some, None, Result, Ok, Err, refl, sym, ap, ◌∙◌, arith}
+use Rattle.std.proofs.Common.{◌≡◌, ℕ, ◌≤◌, ℤ, true, List, length, Option}
+use Rattle.std.proofs.Common.{Some, None, Result, Ok, Err, refl, ◌∙◌, arith}
 use Rattle.std.specs.Prelude.{IfOk, IfErr, unwrap_or}
 use Rattle.std.specs.List.{list_any}
 use Rattle.strc_graph.specs.Graphs.{reads_input}

@@ -1,6 +1,6 @@
 -- The rounds of a text's plan are those of the text.
 use Rattle.std.proofs.Common.{◌≡◌, ◌∙◌, ap, sym, subst, ℕ, ◌<◌, ℤ, List, length, Option}
-use Rattle.std.proofs.Common.{Result, Ok, Err}
+use Rattle.std.proofs.Common.{Ok, Err}
 use Rattle.std.specs.Prelude.{unwrap_or}
 use Rattle.strc_stream.specs.Flattening.{tree_of, nodes_of}
 use Rattle.strc_sched.specs.Plain.{IsAnswer}

@@ -1,7 +1,7 @@
 -- Which texts are refused, and with which refusal: that of the first rule that is broken, of those
 -- on the text's tokens, its tree, its elaboration, its flat graph, its nodes' rates, their balance,
 -- their start-up, their schedule.
-use Rattle.std.specs.Prelude.{◌≡◌, ℕ, ◌⊎◌, List, Option, Result, Ok, Err}
+use Rattle.std.specs.Prelude.{◌≡◌, ℕ, ◌⊎◌, List, Option, Ok, Err}
 use Rattle.strc_syntax.specs.Tree.{Declaration}
 use Rattle.strc_grammar.specs.declared.error.ParseError.TheVariants as parsing
 use Rattle.strc_parse.specs.Texts.{HasNoToken, IsNoProgram, IsTooLong, Spells}

@@ -140,7 +140,7 @@ impl Plan {
         ensures sizes { result.now ≡ self.now.schedule.sizes }
         ensures channels { length result.now ≡ length self.now.graph.channels }
     {
-        self.schedule.sizes()
+        self.transformed_schedule().sizes()
     }
 
     /// Where a node of `transformed_graph` comes from: itself and its first firing, since no node is

@@ -10,19 +10,20 @@ use Rattle.strc_cli.proofs.answer.answer_to.Goals as goal
 pub returns-in-Check-clause-answered : goal.returns-in-Check-clause-answered
 returns-in-Check-clause-answered g c =
     let text = c.args.text.now in
-    let plan = c.in-Ok.plan in
+    let plan = c.in-Ok-compile.plan in
     let bytes = g.I.Source.remaining c.args.input.now in
     let size : HasSize text (main_of c.args.command.now) (length plan.graph.nodes)
     (length plan.graph.channels) =
     subst
     (λ (main : Option (List ℕ)). HasSize text main (length plan.graph.nodes)
     (length plan.graph.channels))
-    c.in-Ok-options_of.ensures (plan_size text _ plan c.in-Ok.ensures.plan) in
+    c.in-Ok.ensures (plan_size text _ plan c.in-Ok-compile.ensures.plan) in
     subst
     (λ (command : Command). IsAsked text command bytes
     (answer.Checked (length c.nodes.result.now) (length c.channels.result.now)))
     (sym c.in-Check.is)
-    (rw (c.nodes.ensures, c.channels.ensures.channels, ← ap main_of c.in-Check.is) size)
+    (rw (c.nodes.ensures, c.channels.ensures.channels, c.graph.ensures, c.graph-in-Check.ensures,
+    ← ap main_of c.in-Check.is) size)
 
 pub returns-in-Run-clause-answered : goal.returns-in-Run-clause-answered
 returns-in-Run-clause-answered g c =
@@ -32,8 +33,8 @@ returns-in-Run-clause-answered g c =
     let result = c.run_plan.result in
     let runs : IsRun text (main_of c.args.command.now) rounds bytes result =
     subst (λ (main : Option (List ℕ)). IsRun text main rounds bytes result)
-    c.in-Ok-options_of.ensures
-    (c.run_plan.ensures.run text _ c.in-Ok.ensures.plan) in
+    c.in-Ok.ensures
+    (c.run_plan.ensures.run text _ c.in-Ok-compile.ensures.plan) in
     subst (λ (command : Command). IsAnswered text command bytes result) (sym c.in-Run.is)
     (run_answered text rounds _ bytes result
     (subst (λ (main : Option (List ℕ)). IsRun text main rounds bytes result)
@@ -47,7 +48,7 @@ returns-in-Run-clause-unread g c =
       | inl same ↦ inl same
       | inr reads ↦ inr (subst (ReadsInput text) (sym c.in-Run.is)
           (subst (ReadsText text) (ap main_of c.in-Run.is)
-          (subst (ReadsText text) c.in-Ok-options_of.ensures
-          (reads_text text _ (planning_of c.in-Ok.plan) c.in-Ok.ensures.plan c.in-Run.rounds bytes
+          (subst (ReadsText text) c.in-Ok.ensures
+          (reads_text text _ (planning_of c.in-Ok-compile.plan) c.in-Ok-compile.ensures.plan c.in-Run.rounds bytes
           reads))))
     ]

@@ -1,4 +1,4 @@
-use Rattle.strc_run.proofs.Refusals.{none_balance, read_refused}
+use Rattle.strc_run.proofs.Refusals.{read_refused}
 use Rattle.strc_run.proofs.compile.compile.Goals as goal
 
 pub returns-in-Err-clause-plan : goal.returns-in-Err-clause-plan

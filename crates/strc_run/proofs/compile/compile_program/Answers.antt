@@ -1,4 +1,4 @@
-use Rattle.std.proofs.Common.{List, map, refl, sym, ap, ◌∙◌, subst, Err}
+use Rattle.std.proofs.Common.{List, map, sym, ap, ◌∙◌, subst, Err}
 use Rattle.std.specs.List.{AllByRecursion}
 use Rattle.strc_graph.specs.Graphs.{NodeCode}
 use Rattle.strc_stream.specs.View.{stream_view}
