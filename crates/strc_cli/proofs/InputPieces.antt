@@ -1,7 +1,6 @@
 -- The input read piece by piece.
 use Rattle.std.proofs.Common.{◌≡◌, ℕ, ℤ, List, [], ◌++◌, take, Option, Some, None, Result, Ok, Err}
 use Rattle.std.proofs.Common.{refl, sym, ap, ◌∙◌, subst, append-nil, append_assoc, Vec, Global}
-use Rattle.std.specs.Prelude.{IfSome}
 use Rattle.std.specs.Io.KnownBytes.{Consumes, IsAtEnd}
 use Rattle.strc_input.specs.Numbers.{ints}
 use Rattle.strc_input.specs.Reading.{Reading, Fails, unread, bytes_read, ended}
@@ -9,7 +8,7 @@ use Rattle.strc_input.specs.Reading.{ReadsInts, FailsForGood, ReadsInPieces}
 use Rattle.strc_input.specs.Answers.{IsRead}
 use Rattle.strc_input.specs.declared.numbers.InputError.{InputError}
 use Rattle.strc_input.specs.declared.numbers.InputError.TheVariants as error
-use Rattle.strc_cli.specs.Answering.{Writes}
+use Rattle.strc_cli.specs.Answering.{WritesNumbers}
 use Rattle.strc_cli.specs.Input.{ReadsNumbers, IsEnded, stop_of}
 use Rattle.strc_cli.specs.declared.input.ReadStop.{ReadStop}
 use Rattle.strc_cli.specs.declared.input.ReadStop.TheVariants as stop
@@ -46,7 +45,7 @@ read_more pieces first middle last reading after piece has consumed is = record 
 
 -- at the end the numbers of all bytes are told
 pub all_read : ReadsInts → (first left : Option (List ℕ)) (reading : Reading) (result : Result (List ℤ) ℕ)
-    → HasRead first left reading → IsAtEnd left → ended reading ≡ result → Writes first result
+    → HasRead first left reading → IsAtEnd left → ended reading ≡ result → WritesNumbers first result
 all_read reads None left reading result has end is = tt
 all_read reads (Some bytes) None reading result has end is = absurd has.consumed
 all_read reads (Some bytes) (Some rest) reading result has end is =
@@ -57,7 +56,7 @@ all_read reads (Some bytes) (Some rest) reading result has end is =
 
 -- a word that writes no number is told at once
 pub word_found : FailsForGood → (first left : Option (List ℕ)) (word : ℕ) → HasRead first left (Fails word)
-    → Writes first (Err word)
+    → WritesNumbers first (Err word)
 word_found fails None left word has = tt
 word_found fails (Some bytes) None word has = absurd has.consumed
 word_found fails (Some bytes) (Some rest) word has =

@@ -16,13 +16,10 @@ use Rattle.strc_cli.specs.declared.answer.Answer.{Answer}
 use Rattle.strc_cli.specs.declared.answer.Answer.TheVariants as answer
 use Rattle.strc_cli.specs.declared.answer.Stop.{Stop}
 use Rattle.strc_cli.specs.declared.answer.Stop.TheVariants as stop
-use Rattle.strc_cli.specs.declared.execute.CliError.{CliError}
-use Rattle.strc_cli.specs.declared.execute.CliError.TheVariants as error
 use Rattle.strc_cli.specs.declared.line.Command.TheVariants as command
 use Rattle.strc_cli.specs.declared.input.ReadStop.{ReadStop}
 use Rattle.strc_cli.specs.declared.input.ReadStop.TheVariants as read
-use Rattle.strc_cli.specs.Answering.{HasSize, IsAnswered, IsInput, IsRun, ReadsText}
-use Rattle.strc_cli.specs.Answering.{Writes as WritesNumbers}
+use Rattle.strc_cli.specs.Answering.{HasSize, IsAnswered, IsInput, ReadsText, WritesNumbers}
 use Rattle.strc_cli.specs.Input.{IsInputOf, IsRunAnswer, unread}
 
 -- the size of a plan is that of its text's graph
@@ -36,14 +33,15 @@ plan_size text main plan is = record {
   channels = sym (length-map plan.graph.channels channel_view);
 }
 
-module _ (text : List ℕ) (main : Option (List ℕ)) (plan : Planning) (is : IsPlanOf text main plan)
-    (rounds : Option ℕ) (bytes : Option (List ℕ)) where
+module _ (text : List ℕ) (main : Option (String Global)) (plan : Planning)
+    (is : IsPlanOf text (option_map string_bytes main) plan) (rounds : Option ℕ)
+    (bytes : Option (List ℕ)) where
   -- the plan's nodes are the stream's
   same_reader : plan_reads plan ≡ has_reader is.accepted.stream
   same_reader = ap (list_any reads_input) is.nodes
 
   -- where the graph reads, the text's stream has a reader
-  pub reads_text : plan_reads plan ≡ true → ReadsText text main
+  pub reads_text : plan_reads plan ≡ true → ReadsText text (option_map string_bytes main)
   reads_text is_true = record {
     plan = plan;
     accepted = is.accepted;
@@ -70,13 +68,13 @@ module _ (text : List ℕ) (main : Option (List ℕ)) (plan : Planning) (is : Is
     given_here = subst (λ b. IsInput b bytes input) same_reader given
 
     plan_answered : (result : Result Answer Stop) → IsRunAnswer plan input rounds result
-        → IsRun text main rounds bytes (Ok result)
+        → IsAnswered text (command.Run rounds main) bytes (Ok result)
     plan_answered (Ok (answer.Ran outcome)) runs = record {
       plan = plan;
       accepted = is.accepted;
       input = input;
       given = given_here;
-      ends = answers text main plan input rounds (Ok outcome) is runs;
+      ends = answers text (option_map string_bytes main) plan input rounds (Ok outcome) is runs;
     }
     plan_answered (Ok answer) never = absurd never
     plan_answered (Err (stop.NotRun why)) unrun = record {
@@ -84,7 +82,7 @@ module _ (text : List ℕ) (main : Option (List ℕ)) (plan : Planning) (is : Is
       accepted = is.accepted;
       input = input;
       given = given_here;
-      ends = answers text main plan input rounds (Err why) is unrun;
+      ends = answers text (option_map string_bytes main) plan input rounds (Err why) is unrun;
     }
     plan_answered (Err why) never = absurd never
 
@@ -92,31 +90,16 @@ module _ (text : List ℕ) (main : Option (List ℕ)) (plan : Planning) (is : Is
   pub input_run : PlansAnswerTexts → (numbers : Vec ℤ Global) (result : Result Answer Stop)
       → IsInputOf (plan_reads plan) bytes (Ok numbers)
       → IsRunAnswer plan numbers.items rounds result
-      → IsRun text main rounds bytes (Ok result)
+      → IsAnswered text (command.Run rounds main) bytes (Ok result)
   input_run law numbers result given answers =
       plan_answered law numbers.items (input_is (plan_reads plan) numbers given) result answers
 
   -- or the input isn't read to its end
   pub stopped_run : (why : ReadStop) → IsInputOf (plan_reads plan) bytes (Err why)
-      → IsRun text main rounds bytes (unread why)
+      → IsAnswered text (command.Run rounds main) bytes (unread why)
   stopped_run (read.BadInput word) given = (
     reads_text (no_input (plan_reads plan) (read.BadInput word) given),
     bad_input (plan_reads plan) word given,
   )
   stopped_run read.Failed given = reads_text (no_input (plan_reads plan) read.Failed given)
   stopped_run read.NoMemory given = reads_text (no_input (plan_reads plan) read.NoMemory given)
-
--- a run of the text is what the command asks for
-pub run_answered : (text : List ℕ) (rounds : Option ℕ) (main : Option (String Global))
-    (bytes : Option (List ℕ)) (result : Result (Result Answer Stop) CliError)
-    → IsRun text (option_map string_bytes main) rounds bytes result
-    → IsAnswered text (command.Run rounds main) bytes result
-run_answered text rounds main bytes (Ok (Ok (answer.Ran outcome))) runs = runs
-run_answered text rounds main bytes (Ok (Ok (answer.Checked nodes channels))) never = absurd never
-run_answered text rounds main bytes (Ok (Ok (answer.Planned plan))) never = absurd never
-run_answered text rounds main bytes (Ok (Err (stop.Refused refused))) never = absurd never
-run_answered text rounds main bytes (Ok (Err (stop.BadInput word))) is = is
-run_answered text rounds main bytes (Ok (Err (stop.NotRun refused))) is = is
-run_answered text rounds main bytes (Err error.Read) is = is
-run_answered text rounds main bytes (Err error.Memory) is = is
-run_answered text rounds main bytes (Err error.Write) never = absurd never

@@ -1,6 +1,7 @@
 -- What is answered for a text, a command and an input, before anything is written.
 use Rattle.std.specs.Prelude.{◌≡◌, ℕ, ℤ, Bool, true, false, List, [], length, Option, Result, Ok}
-use Rattle.std.specs.Prelude.{Err, string_bytes, IfSome}
+use Rattle.std.specs.Prelude.{Err, String, string_bytes, IfSome}
+use Rattle.std.specs.declared.alloc.Global.{Global}
 use Rattle.std.specs.Option.{option_map}
 use Rattle.strc_input.specs.Numbers.{ints}
 use Rattle.strc_sched.specs.declared.outcome.Outcome.{Outcome}
@@ -27,12 +28,12 @@ main_of (command.Plan main) = option_map string_bytes main
 
 -- the bytes of the input, where they are known, write these numbers; or the word of this number
 -- writes none
-abbrev pub Writes : (bytes : Option (List ℕ)) → Result (List ℤ) ℕ → Type 0
-Writes bytes numbers = IfSome bytes (λ all. ints all ≡ numbers)
+abbrev pub WritesNumbers : (bytes : Option (List ℕ)) → Result (List ℤ) ℕ → Type 0
+WritesNumbers bytes numbers = IfSome bytes (λ all. ints all ≡ numbers)
 
 -- the input of a program that reads one is what the bytes write; that of another one is empty
 abbrev pub IsInput : (reads : Bool) → (bytes : Option (List ℕ)) → List ℤ → Type 0
-IsInput true bytes input = Writes bytes (Ok input)
+IsInput true bytes input = WritesNumbers bytes (Ok input)
 IsInput false bytes input = input ≡ []
 
 -- the text is accepted, and its rounds over the input that the bytes write end so: with the answer
@@ -80,7 +81,7 @@ ReadsInput text _ = ⊥
 abbrev pub IsStopped : List ℕ → Command → (bytes : Option (List ℕ)) → Stop → Type 0
 IsStopped text command bytes (stop.Refused refused) = IsTrueOf text (main_of command) refused
 IsStopped text command bytes (stop.BadInput word) =
-    ReadsInput text command × Writes bytes (Err word)
+    ReadsInput text command × WritesNumbers bytes (Err word)
 IsStopped text (command.Run rounds main) bytes (stop.NotRun refused) =
     RunsText text (option_map string_bytes main) rounds bytes (Err refused)
 IsStopped text _ bytes (stop.NotRun refused) = ⊥
@@ -94,17 +95,10 @@ IsAnswered text command bytes (Err error.Read) = ReadsInput text command
 IsAnswered text command bytes (Err error.Memory) = ReadsInput text command
 IsAnswered text command bytes (Err error.Write) = ⊥
 
--- the same of a run, for whatever plan of whatever text it is
-abbrev pub IsRun : List ℕ → Option (List ℕ) → (rounds : Option ℕ) → (bytes : Option (List ℕ))
+-- a run of a plan is answered, whatever text it is the plan of
+abbrev pub AnswersPlan : Planning → (rounds : Option ℕ) → (bytes : Option (List ℕ))
     → Result (Result Answer Stop) CliError → Type 0
-IsRun text main rounds bytes (Ok (Ok (answer.Ran outcome))) =
-    RunsText text main rounds bytes (Ok outcome)
-IsRun text main rounds bytes (Ok (Ok _)) = ⊥
-IsRun text main rounds bytes (Ok (Err (stop.Refused refused))) = ⊥
-IsRun text main rounds bytes (Ok (Err (stop.BadInput word))) =
-    ReadsText text main × Writes bytes (Err word)
-IsRun text main rounds bytes (Ok (Err (stop.NotRun refused))) =
-    RunsText text main rounds bytes (Err refused)
-IsRun text main rounds bytes (Err error.Read) = ReadsText text main
-IsRun text main rounds bytes (Err error.Memory) = ReadsText text main
-IsRun text main rounds bytes (Err error.Write) = ⊥
+AnswersPlan plan rounds bytes result =
+    (text : List ℕ) (main : Option (String Global))
+    → IsPlanOf text (option_map string_bytes main) plan
+    → IsAnswered text (command.Run rounds main) bytes result

@@ -6,7 +6,7 @@ use Rattle.strc_input.specs.declared.numbers.InputError.{InputError}
 use Rattle.strc_input.specs.declared.numbers.InputError.TheVariants as error
 use Rattle.strc_stage.specs.Plans.{Planning}
 use Rattle.strc_run.specs.Rounds.{IsRunOf}
-use Rattle.strc_cli.specs.Answering.{Writes}
+use Rattle.strc_cli.specs.Answering.{WritesNumbers}
 use Rattle.strc_cli.specs.declared.execute.CliError.{CliError}
 use Rattle.strc_cli.specs.declared.execute.CliError.TheVariants as failure
 use Rattle.strc_cli.specs.declared.answer.Answer.{Answer}
@@ -18,8 +18,8 @@ use Rattle.strc_cli.specs.declared.input.ReadStop.TheVariants as stop
 
 -- an answer is the numbers of the bytes, where they are known, or the word that writes none
 abbrev pub ReadsNumbers : (bytes : Option (List ℕ)) → Result (Vec ℤ Global) ReadStop → Type 0
-ReadsNumbers bytes (Ok numbers) = Writes bytes (Ok numbers.items)
-ReadsNumbers bytes (Err (stop.BadInput word)) = Writes bytes (Err word)
+ReadsNumbers bytes (Ok numbers) = WritesNumbers bytes (Ok numbers.items)
+ReadsNumbers bytes (Err (stop.BadInput word)) = WritesNumbers bytes (Err word)
 ReadsNumbers bytes (Err stop.Failed) = Unit {0}
 ReadsNumbers bytes (Err stop.NoMemory) = Unit {0}
 

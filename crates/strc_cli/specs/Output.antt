@@ -28,6 +28,7 @@ line_end = 10 ∷ []
 abbrev pub word_text : Word → List ℕ
 word_text word = signed_decimal word.value ++ (if word.ends_line then line_end else [])
 
+-- words one after another
 abbrev pub words_text : List Word → List ℕ
 words_text [] = []
 words_text (word ∷ words) = word_text word ++ words_text words
@@ -37,6 +38,7 @@ abbrev pub is_open : Option Word → Bool
 is_open None = false
 is_open (Some word) = not word.ends_line
 
+-- the same of words
 abbrev pub leaves_open : List Word → Bool
 leaves_open words = is_open (slice_get words (length words - 1))
 
@@ -44,12 +46,14 @@ leaves_open words = is_open (slice_get words (length words - 1))
 abbrev pub closing : List Word → List ℕ
 closing words = if leaves_open words then line_end else []
 
+-- why a firing faults, by its name
 abbrev pub cause_name : Cause → List ℕ
 cause_name cause.DivZero = codes "DivZero"
 cause_name cause.Index = codes "Index"
 cause_name cause.PeekRange = codes "PeekRange"
 cause_name cause.Turns = codes "Turns"
 
+-- when a firing faults: before the first round, or in a round
 abbrev pub round_words : Round → List ℕ
 round_words round.Startup = codes " startup"
 round_words (round.At q) = codes " round " ++ decimal q
@@ -113,13 +117,13 @@ plan_text plan =
     node_lines 0 (node_names plan.graph) plan.round_counts ++ start_lines 0 plan.startup_counts
     ++ channel_lines 0 plan.graph.channels plan.schedule.sizes
 
--- the number and the name of a refusal, with its fields, each after its name; that of a declared rate
--- that isn't the counted one has three
+-- a declared rate that isn't the counted one
 abbrev pub mismatch_words : (node declared counted : ℕ) → List ℕ
 mismatch_words node declared counted =
     codes "E14 RateMismatch node " ++ decimal node ++ codes " declared " ++ decimal declared
     ++ codes " counted " ++ decimal counted
 
+-- the number and the name of a refusal, with its fields, each after its name
 abbrev pub refusal_words : Refusal → List ℕ
 refusal_words (refusal.Lex at) = codes "E1 Lex" ++ codes " at " ++ decimal at
 refusal_words (refusal.Parse token) = codes "E2 Parse" ++ codes " token " ++ decimal token
@@ -155,11 +159,12 @@ refusal_words (refusal.BufferLimit channel) =
 refusal_words refusal.NoMemory = codes "E25 NoMemory"
 refusal_words refusal.Nesting = codes "E26 Nesting"
 
--- the same of a refusal of a run; an input that is shorter than what the rounds read has two
+-- an input that is shorter than what the rounds read
 abbrev pub short_words : (need got : ℕ) → List ℕ
 short_words need got =
     codes "S1 InputShort need " ++ decimal need ++ codes " got " ++ decimal got
 
+-- the number and the name of a refusal of a run, with its fields
 abbrev pub run_refusal_words : RunRefusal → List ℕ
 run_refusal_words (unrun.InputShort need got) = short_words need got
 run_refusal_words unrun.BadWorkers = codes "S2 BadWorkers"

@@ -1,11 +1,10 @@
 // What a command is answered for a text, before anything is written.
 
-ghost use Rattle.std.specs.Prelude.{◌≡◌, ◌≢◌, ◌⊎◌, true, ℕ, List, Option, Err, IfOk};
+ghost use Rattle.std.specs.Prelude.{◌≡◌, ◌≢◌, ◌⊎◌, true, Err, IfOk};
 ghost use Rattle.strc_stage.specs.Plans.{planning_of};
 ghost use Rattle.strc_run.specs.Plans as plans;
-ghost use Rattle.strc_run.specs.Plans.{IsPlanOf};
 ghost use Rattle.strc_run.specs.Rounds.{plan_reads};
-ghost use Rattle.strc_cli.specs.Answering.{IsAnswered, IsRun, ReadsInput, main_of};
+ghost use Rattle.strc_cli.specs.Answering.{AnswersPlan, IsAnswered, ReadsInput, main_of};
 ghost use Rattle.strc_cli.specs.Input as spec;
 ghost use Rattle.strc_cli.specs.Input.{IsInputOf, IsRunAnswer};
 
@@ -79,8 +78,7 @@ fn run_plan<I: Source>(
     rounds: Option<u32>,
     input: &mut I,
 ) -> Result<Result<Answer, Stop>, CliError>
-    ensures run { (text : List ℕ) (main : Option (List ℕ)) → IsPlanOf text main (planning_of plan.now)
-        → IsRun text main rounds (I.remaining input.old) result }
+    ensures run { AnswersPlan (planning_of plan.now) rounds (I.remaining input.old) result }
     ensures failed { result ≡ Err CliError.Read → I.has_failed input.new ≡ true }
     ensures steady { result ≢ Err CliError.Read → I.has_failed input.new ≡ I.has_failed input.old }
     ensures unread { (input.new ≡ input.old)

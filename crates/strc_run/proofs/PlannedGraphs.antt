@@ -63,11 +63,11 @@ pub graph_has_plan : (graph : Graph) → AllByRecursion IsChecked graph.nodes
     → (parts : ScheduleParts) (startup round : List ℕ) → All IsRated (equations_of graph)
     → HasStartup graph startup → HasRound graph round → HasSchedule graph startup round parts
     → IsPlan (record {
-        graph = graph;
-        startup_counts = startup;
-        round_counts = round;
-        schedule = parts;
-      })
+      graph = graph;
+      startup_counts = startup;
+      round_counts = round;
+      schedule = parts;
+    })
 graph_has_plan graph all parts startup round rated starts rounds scheduled = record {
   planned = graph_is_planned graph all parts startup round rated starts rounds scheduled;
   startup = starts;

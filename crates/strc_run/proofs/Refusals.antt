@@ -136,9 +136,12 @@ module _ (text : List ℕ) (main : Option (List ℕ)) (program : List Declaratio
         pub startup_refused : (broken : StartupError)
             → (broken ≡ unprimed.Unbounded → IsUnbounded graph)
             → IsTrueOf text main (startup_refusal_of broken)
-        startup_refused unprimed.Unbounded unbounded = inr (program, spells,
-            Breaks.InStartup stream graph counts elaborates runs rates flat balances
-            (unbounded refl))
+        startup_refused unprimed.Unbounded unbounded = inr (
+          program,
+          spells,
+          Breaks.InStartup stream graph counts elaborates runs rates flat balances
+              (unbounded refl),
+        )
         startup_refused unprimed.NoMemory unbounded = tt
 
         -- the schedule's
@@ -150,11 +153,19 @@ module _ (text : List ℕ) (main : Option (List ℕ)) (program : List Declaratio
             → Overflows graph startup counts channel)
             → IsTrueOf text main (schedule_refusal_of broken)
         schedule_refused startup (unscheduled.Deadlock in_startup) starts deadlocked past =
-            inr (program, spells, Breaks.InSchedule stream graph counts startup elaborates runs
-            rates flat balances starts (deadlocked in_startup refl))
+            inr (
+              program,
+              spells,
+              Breaks.InSchedule stream graph counts startup elaborates runs
+                  rates flat balances starts (deadlocked in_startup refl),
+            )
         schedule_refused startup (unscheduled.BufferLimit channel) starts deadlocked past =
-            inr (program, spells, Breaks.InSchedule stream graph counts startup elaborates runs
-            rates flat balances starts (past channel refl))
+            inr (
+              program,
+              spells,
+              Breaks.InSchedule stream graph counts startup elaborates runs
+                  rates flat balances starts (past channel refl),
+            )
         schedule_refused startup unscheduled.NoMemory starts deadlocked past = tt
 
 -- a deadlock is one of start-up, or one of a round

@@ -15,7 +15,7 @@ use Rattle.strc_order.specs.Greedy.{firings_of, IsGreedyOrder}
 use Rattle.strc_order.specs.Laws.{GreedyIsAnOrder, OneGreedyOrder}
 use Rattle.strc_order.specs.Order.{HasOrder}
 use Rattle.strc_order.specs.Schedules.{ScheduleParts, IsSchedule, PassesLimit}
-use Rattle.strc_stage.specs.Plans.{HasStartup, HasSchedule, IsDeadlocked}
+use Rattle.strc_stage.specs.Plans.{HasSchedule, IsDeadlocked}
 use Rattle.strc_stage.specs.Laws.{OneStartup, ScheduledOrRefused}
 
 pub one_startup : OneStartup

@@ -1,6 +1,6 @@
 -- Plans: a flat graph, how often its nodes fire, and the schedule of these firings (Lee and
 -- Messerschmitt 1987: a periodic admissible sequential schedule).
-use Rattle.std.specs.Prelude.{◌≡◌, ℕ, ◌≤◌, Bool, true, false, List, All}
+use Rattle.std.specs.Prelude.{ℕ, ◌≤◌, Bool, true, false, List, All}
 use Rattle.strc_graph.specs.Graphs.{Graph}
 use Rattle.strc_graph.specs.NodeView.{GraphParts, graph_view}
 use Rattle.strc_balance.specs.Balance.{count_at, IsWithinLimit}

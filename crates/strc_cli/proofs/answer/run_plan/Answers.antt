@@ -1,10 +1,11 @@
 use Rattle.std.proofs.Common.{ℤ, List, Result, subst, sym}
 use Rattle.strc_stage.specs.Plans.{planning_of}
-use Rattle.strc_cli.specs.Answering.{IsRun}
+use Rattle.strc_cli.specs.Answering.{IsAnswered}
 use Rattle.strc_cli.specs.Input.{IsRunAnswer}
 use Rattle.strc_cli.specs.declared.answer.Answer.{Answer}
 use Rattle.strc_cli.specs.declared.answer.Stop.{Stop}
 use Rattle.strc_cli.specs.declared.execute.CliError.{CliError}
+use Rattle.strc_cli.specs.declared.line.Command.TheVariants as command
 use Rattle.strc_cli.proofs.PlanAnswers.{input_run, stopped_run}
 use Rattle.strc_cli.proofs.answer.run_plan.Goals as goal
 
@@ -19,7 +20,7 @@ returns-in-Ok-clause-run g c = λ text main is.
 pub returns-in-Err-clause-run : goal.returns-in-Err-clause-run
 returns-in-Err-clause-run g c = λ text main is.
     subst (λ (result : Result (Result Answer Stop) CliError).
-    IsRun text main c.args.rounds (g.I.Source.remaining c.args.input.now) result)
+    IsAnswered text (command.Run c.args.rounds main) (g.I.Source.remaining c.args.input.now) result)
     (sym c.unread.ensures)
     (stopped_run text main (planning_of c.args.plan.now) is c.args.rounds
     (g.I.Source.remaining c.args.input.now) c.in-Err.stop c.in-Err.ensures.numbers)

@@ -1,4 +1,4 @@
-use Rattle.std.proofs.Common.{◌≡◌, ◌<◌, ◌∙◌, ap, sym, length, rules}
+use Rattle.std.proofs.Common.{◌<◌, ◌∙◌, ap, sym, length, rules}
 use Rattle.std.specs.Prelude.{slice_get, slice_index}
 use Rattle.strc_graph.specs.NodeView.{node_names}
 use Rattle.strc_cli.proofs.PlanLines.{one_line_more}
