@@ -1,7 +1,7 @@
 // What a command line asks for.
 
 /// What the program is to do.
-#[derive(Debug, Drop)]
+#[derive(Drop)]
 pub enum Command {
     /// Run the program for so many rounds, or for as many as its input allows.
     Run {
@@ -24,7 +24,7 @@ pub enum Command {
 }
 
 /// A line of words that was understood.
-#[derive(Debug, Drop)]
+#[derive(Drop)]
 pub struct Line {
     /// The file of the program's text; without one it comes from standard input.
     pub file: Option<String>,
