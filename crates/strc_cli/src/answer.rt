@@ -135,7 +135,8 @@ fn run_numbers(
     }
 }
 
-fn main_name(command: &Command) -> Option<&str>
+/// The main stream that a command names.
+pub(crate) fn main_name(command: &Command) -> Option<&str>
     ensures { option_map (λ name. name.now) result ≡ main_of command.now }
 {
     let main = match command {

@@ -78,8 +78,8 @@ pub fn execute<I: Source, O: Sink>(
     }
 }
 
-// Writes what is reported of an answer.
-fn tell<O: Sink>(
+/// Writes what is reported of an answer.
+pub(crate) fn tell<O: Sink>(
     alloc: Global,
     answered: &Result<Answer, Stop>,
     output: &mut O,

@@ -13,6 +13,7 @@
 mod answer;
 pub mod device;
 pub mod execute;
+pub mod explain;
 mod input;
 pub mod line;
 mod output;
