@@ -12,6 +12,7 @@
 
 mod answer;
 pub mod device;
+mod drawing;
 pub mod execute;
 pub mod explain;
 mod input;

@@ -8,7 +8,7 @@ ghost use Rattle.clap.specs.declared.builder.command.Command.TheViews.{out-Comma
 ghost use Rattle.strc_cli.specs.Answering.{main_of};
 ghost use Rattle.strc_cli.specs.Lines.{AsksFor, IsCommand, IsCommandOf, IsKnown, IsLineIn};
 ghost use Rattle.strc_cli.specs.Lines.{check_app, default_line, fault_by, faults, file_rule};
-ghost use Rattle.strc_cli.specs.Lines.{main_rule, plan_app, rounds_rule, run_app, strc_app};
+ghost use Rattle.strc_cli.specs.Lines.{graph_app, main_rule, plan_app, rounds_rule, run_app, strc_app};
 
 use crate::line::{Command, Line, LineFault};
 use clap::error::ErrorKind;
@@ -77,7 +77,8 @@ fn parser<'a>(alloc: Global) -> Result<clap::Command<'a>, AllocError>
         .subcommand_required(true)
         .subcommand(run_command(alloc)?)?
         .subcommand(check_command(alloc)?)?
-        .subcommand(plan_command(alloc)?)
+        .subcommand(plan_command(alloc)?)?
+        .subcommand(graph_command(alloc)?)
 }
 
 // The words `run FILE [--rounds N] [--main NAME]`.
@@ -110,6 +111,17 @@ fn plan_command<'a>(alloc: Global) -> Result<clap::Command<'a>, AllocError>
 {
     clap::Command::new(alloc, "plan")
         .about("Tells how often each node of a StreamIt program fires")
+        .arg(file_argument(alloc))?
+        .arg(main_option(alloc))
+}
+
+// The words `graph FILE [--main NAME]`.
+fn graph_command<'a>(alloc: Global) -> Result<clap::Command<'a>, AllocError>
+    ensures app { IfOk result (λ graph. app_of graph ≡ graph_app) }
+    ensures local { IfOk result (λ graph. (fields_of graph).has_globals ≡ false) }
+{
+    clap::Command::new(alloc, "graph")
+        .about("Draws the flat graph of a StreamIt program, for Graphviz")
         .arg(file_argument(alloc))?
         .arg(main_option(alloc))
 }
@@ -180,6 +192,7 @@ fn command_of(name: &str, found: &ArgMatches, main: Option<String>) -> Result<Co
         },
         "check" => Ok(Command::Check { main }),
         "plan" => Ok(Command::Plan { main }),
+        "graph" => Ok(Command::Graph { main }),
         _ => Err(LineFault::Words),
     }
 }
