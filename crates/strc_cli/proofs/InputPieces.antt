@@ -34,7 +34,8 @@ consumes_more (Some bytes) (Some rest) (Some others) one two h k =
 pub read_none : (bytes : Option (List ℕ)) → HasRead bytes bytes unread
 read_none bytes = record { taken = []; consumed = consumes_none bytes; read = refl }
 
-pub read_more : ReadsInPieces → (first middle last : Option (List ℕ)) (reading after : Reading) (piece : List ℕ)
+pub read_more : ReadsInPieces → (first middle last : Option (List ℕ)) (reading after : Reading)
+    (piece : List ℕ)
     → HasRead first middle reading → Consumes middle last piece
     → bytes_read reading piece ≡ after → HasRead first last after
 read_more pieces first middle last reading after piece has consumed is = record {
@@ -44,8 +45,10 @@ read_more pieces first middle last reading after piece has consumed is = record 
 }
 
 -- at the end the numbers of all bytes are told
-pub all_read : ReadsInts → (first left : Option (List ℕ)) (reading : Reading) (result : Result (List ℤ) ℕ)
-    → HasRead first left reading → IsAtEnd left → ended reading ≡ result → WritesNumbers first result
+pub all_read : ReadsInts → (first left : Option (List ℕ)) (reading : Reading)
+    (result : Result (List ℤ) ℕ)
+    → HasRead first left reading → IsAtEnd left → ended reading ≡ result
+    → WritesNumbers first result
 all_read reads None left reading result has end is = tt
 all_read reads (Some bytes) None reading result has end is = absurd has.consumed
 all_read reads (Some bytes) (Some rest) reading result has end is =
@@ -55,7 +58,8 @@ all_read reads (Some bytes) (Some rest) reading result has end is =
     ∙ ap ended has.read ∙ is
 
 -- a word that writes no number is told at once
-pub word_found : FailsForGood → (first left : Option (List ℕ)) (word : ℕ) → HasRead first left (Fails word)
+pub word_found : FailsForGood → (first left : Option (List ℕ)) (word : ℕ)
+    → HasRead first left (Fails word)
     → WritesNumbers first (Err word)
 word_found fails None left word has = tt
 word_found fails (Some bytes) None word has = absurd has.consumed
@@ -64,7 +68,8 @@ word_found fails (Some bytes) (Some rest) word has =
 
 -- nothing more was read
 pub read_no_more : ReadsInPieces → (first middle last : Option (List ℕ)) (reading : Reading)
-    (n : ℕ) (piece : List ℕ) → HasRead first middle reading → Consumes middle last (take n piece) → n ≡ 0
+    (n : ℕ) (piece : List ℕ) → HasRead first middle reading → Consumes middle last (take n piece)
+    → n ≡ 0
     → HasRead first last reading
 read_no_more pieces first middle last reading n piece has consumed none =
     read_more pieces first middle last reading reading (take n piece) has consumed
@@ -87,7 +92,8 @@ never_failed expected result is failed = absurd (subst (IsEnded expected) failed
 
 -- a piece with a word that writes no number
 pub word_stops : ReadsInPieces → FailsForGood → (first middle last : Option (List ℕ))
-    (reading after : Reading) (piece : List ℕ) (e : InputError) (why : ReadStop) → HasRead first middle reading
+    (reading after : Reading) (piece : List ℕ) (e : InputError) (why : ReadStop)
+    → HasRead first middle reading
     → Consumes middle last piece → IsRead (bytes_read reading piece) (Err e) after
     → why ≡ stop_of e → ReadsNumbers first (Err why)
 word_stops pieces fails first middle last reading after piece (error.BadInput word) why has consumed

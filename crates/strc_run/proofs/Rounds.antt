@@ -58,5 +58,6 @@ module _ (plan : Planning) (input : List ℤ) where
       absurd (omega (arith, serves.enough, short.2))
   served_run (Some count) (Err refused.NoMemory) reads serves none enough is = (reads, serves.start)
   served_run (Some count) (Err refusal) reads serves none enough never = absurd never
-  served_run None (Ok outcome) reads short answers enough none = absurd (omega (arith, short, enough))
+  served_run None (Ok outcome) reads short answers enough none =
+      absurd (omega (arith, short, enough))
   served_run None (Err refusal) reads short none enough is = refused_as None 0 refusal reads refl is

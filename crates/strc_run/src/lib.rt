@@ -3,8 +3,8 @@
 // its schedule, or the first refusal; and runs plans.
 // The theorem to rely on: `compile` refuses exactly where a layer does, and the outcome of a plan's
 // rounds is the answer of its stream's equations (`laws::plans_answer_texts`).
-// Stands on strc_lex, strc_parse, strc_elab, strc_flatten, strc_rate, strc_balance, strc_startup and
-// strc_order, whose rules a text keeps, on strc_stage, whose plans it gives, and on strc_sched,
+// Stands on strc_lex, strc_parse, strc_elab, strc_flatten, strc_rate, strc_balance, strc_startup
+// and strc_order, whose rules a text keeps, on strc_stage, whose plans it gives, and on strc_sched,
 // which runs schedules.
 #![tactic(auto)]
 

@@ -143,8 +143,8 @@ impl Plan {
         self.transformed_schedule().sizes()
     }
 
-    /// Where a node of `transformed_graph` comes from: itself and its first firing, since no node is
-    /// split. `None` where there is no such node.
+    /// Where a node of `transformed_graph` comes from: itself and its first firing, since no node
+    /// is split. `None` where there is no such node.
     pub fn origin(&self, node: u32) -> Option<Origin>
         ensures { result ≡ origin_at (length self.now.graph.nodes) node }
     {
