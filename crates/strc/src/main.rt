@@ -11,7 +11,7 @@ use strc_cli::execute::CliError;
 use strc_cli::explain::execute_explained;
 use strc_cli::line::{Line, LineFault};
 use strc_cli::program_text::{TextFault, read_text};
-use strc_cli::words::{asks_for_help, command, usage_error};
+use strc_cli::words::{VERSION, asks_for_help, asks_for_version, command, usage_error};
 
 // The exit statuses that no answer of `execute_explained` has.
 const DONE: u8 = 0;
@@ -53,6 +53,12 @@ fn run(rt: &HostRuntime) -> u8 {
 
 // Prints help, or the version, where the words ask for it; else what is wrong with them.
 fn print_usage(rt: &HostRuntime, words: &[&str]) -> u8 {
+    if asks_for_version(words) {
+        return match println!(rt; "strc {VERSION}") {
+            Ok(()) => DONE,
+            Err(_) => FAILED,
+        };
+    }
     let Ok(text) = usage_error(rt.alloc(), words) else {
         return out_of_memory(rt);
     };

@@ -58,11 +58,7 @@ graph_app = with_rule (with_rule (new_app (codes "graph")) file_rule) main_rule
 -- the words of the program, which wants a subcommand
 abbrev pub strc_app : App
 strc_app =
-    let strc = on_top (λ shape. record shape {
-      subcommand_required = true;
-      has_version = true;
-      propagate_version = true;
-    })
+    let strc = on_top (λ shape. record shape { subcommand_required = true })
     (new_app (codes "strc")) in
     with_subcommand (with_subcommand (with_subcommand (with_subcommand strc run_app.top)
     check_app.top) plan_app.top) graph_app.top

@@ -76,13 +76,17 @@ fn explanation(
         Err(Stop::Refused(refusal)) => refusal_message(alloc, file, text, main, refusal),
         Err(Stop::BadInput { word }) => bad_input_message(alloc, *word),
         Err(Stop::NotRun(refusal)) => not_run_message(alloc, file, *refusal),
-        Ok(Answer::Ran(Outcome::Fault {
-            node,
-            firing,
-            round,
-            cause,
-            words: _,
-        })) => {
+        Ok(
+            Answer::Ran(
+                Outcome::Fault {
+                    node,
+                    firing,
+                    round,
+                    cause,
+                    words: _,
+                },
+            ),
+        ) => {
             let site = FaultSite {
                 node: *node,
                 firing: *firing,

@@ -15,8 +15,8 @@ use clap::error::ErrorKind;
 use clap::{Arg, ArgMatches, Error, value_parser};
 use std::alloc::{AllocError, Global};
 
-// What `--version` says behind the program's name.
-const VERSION: &str = "0.9.0";
+/// What `--version` says behind the program's name.
+pub const VERSION: &str = "0.9.0";
 
 // How many rounds the program runs with no words after its name.
 const BARE_ROUNDS: u32 = 5;
@@ -56,14 +56,20 @@ pub fn usage_error<'a>(alloc: Global, words: &'a [&'a str]) -> Result<String, Al
     }
 }
 
-/// Whether words that `command` doesn't understand ask for help or for the version, so that what
-/// `usage_error` says of them is no error.
-pub fn asks_for_help<'a>(alloc: Global, words: &'a [&'a str]) -> Result<bool, AllocError>
-{
+/// Whether words that `command` doesn't understand ask for help, so that what `usage_error` says of
+/// them is no error.
+pub fn asks_for_help<'a>(alloc: Global, words: &'a [&'a str]) -> Result<bool, AllocError> {
     match parser(alloc)?.try_get_matches_from(words) {
         Ok(_) => Ok(false),
         Err(error) => Ok(!error.use_stderr()),
     }
+}
+
+/// Whether words ask for the version, wherever they do so.
+pub fn asks_for_version(words: &[&str]) -> bool {
+    words
+        .iter()
+        .any(|word| *word == "--version" || *word == "-V")
 }
 
 // The words that the program knows.
@@ -71,8 +77,6 @@ fn parser<'a>(alloc: Global) -> Result<clap::Command<'a>, AllocError>
     ensures { IfOk result (λ parser. app_of parser ≡ strc_app) }
 {
     clap::Command::new(alloc, "strc")
-        .version(VERSION)
-        .propagate_version(true)
         .about("A compiler of StreamIt programs")
         .subcommand_required(true)
         .subcommand(run_command(alloc)?)?
