@@ -1,18 +1,18 @@
 // The program `strc_cases`: runs whole programs in memory, and compares what they write with what
 // they are to write.
 // Takes the files of the folder that it runs in. A case is a text NAME.str and its words NAME.args,
-// the command first; its input NAME.in, if it has one; what it writes, NAME.out; and the status it
-// ends with, NAME.status, if that isn't 0.
+// the command first; its input NAME.in, if it has one; what it writes, NAME.out; the status it ends
+// with, NAME.status, if that isn't 0; and what a person reads of it, NAME.message, if that is tested.
 // Gives a line for each case that differs, and at the end how many do.
 // There is no theorem here; the values are those of the language's rules.
-// Stands on strc_cli, whose `command` and `execute` it calls.
+// Stands on strc_cli, whose `command` and `execute_explained` it calls.
 #![tactic(auto)]
 
 use std::io::ErrorKind;
 use std::process::ExitCode;
 use std::{fs, io};
 use strc_cli::device::Told;
-use strc_cli::execute::execute;
+use strc_cli::explain::execute_explained;
 use strc_cli::line::{Command, LineFault};
 use strc_cli::words::command;
 
@@ -26,11 +26,12 @@ const NO_MEMORY: u8 = 4;
 
 const FAILED: u8 = 5;
 
-/// What a program writes, and the status that it ends with.
+/// What a program writes, the status that it ends with, and what a person reads of it.
 #[derive(Drop)]
 struct Answer {
     output: Vec<u8>,
     status: u8,
+    message: Vec<u8>,
 }
 
 fn main(rt: HostRuntime) -> ExitCode {
@@ -88,6 +89,7 @@ fn compare(rt: &HostRuntime, name: &str) -> io::Result<bool> {
     let wanted = Answer {
         output: part(rt, name, "out")?,
         status: wanted_status(rt, name)?,
+        message: part_if_there(rt, name, "message")?,
     };
     let found = found_answer(rt, name)?;
     // No case asks for more memory than there is.
@@ -103,6 +105,11 @@ fn compare(rt: &HostRuntime, name: &str) -> io::Result<bool> {
             "{name}: wanted status {}, got {}",
             wanted.status, found.status
         )?;
+        return Ok(false);
+    }
+    // A case without a message says nothing of it.
+    if !wanted.message.is_empty() && found.message != wanted.message {
+        tell_lines(rt, name, &wanted.message, &found.message)?;
         return Ok(false);
     }
     Ok(true)
@@ -137,6 +144,7 @@ fn found_answer(rt: &HostRuntime, name: &str) -> io::Result<Answer> {
         Err(LineFault::Words) => Ok(Answer {
             output: Vec::new(alloc),
             status: WORDS,
+            message: Vec::new(alloc),
         }),
         Err(LineFault::Memory) => Err(io::Error::from(ErrorKind::OutOfMemory)),
     }
@@ -148,10 +156,13 @@ fn run(rt: &HostRuntime, name: &str, command: &Command) -> io::Result<Answer> {
     let input = part_if_there(rt, name, "in")?;
     let mut input = Told::new(input.as_slice());
     let mut output = Told::new(Vec::new(alloc));
-    match execute(alloc, &text, command, &mut input, &mut output) {
+    let file = format!(in alloc; "{name}.str")?;
+    let explained = execute_explained(alloc, &file, &text, command, &mut input, &mut output);
+    match explained.result {
         Ok(status) => Ok(Answer {
             output: output.into_device(),
             status: status.number(),
+            message: explained.message,
         }),
         // Devices in memory fail only where there is no more of it.
         Err(_) => Err(io::Error::from(ErrorKind::OutOfMemory)),

@@ -6,9 +6,12 @@ use Rattle.std.specs.Option.{option_map}
 use Rattle.strc_input.specs.Numbers.{ints}
 use Rattle.strc_sched.specs.declared.outcome.Outcome.{Outcome}
 use Rattle.strc_sched.specs.declared.refusal.RunRefusal.{RunRefusal}
-use Rattle.strc_stage.specs.Plans.{Planning, planning_of}
+use Rattle.strc_stream.specs.Instances.{Stream}
+use Rattle.strc_picture.specs.Pictures.{picture_text}
+use Rattle.strc_stage.specs.Plans.{Planning, PlanParts, planning_of}
 use Rattle.strc_run.specs.Accepts.{Accepts}
 use Rattle.strc_run.specs.Plans.{IsPlanOf}
+use Rattle.strc_run.specs.Streams.{IsStreamOf}
 use Rattle.strc_run.specs.Refuses.{IsTrueOf}
 use Rattle.strc_run.specs.TextRuns.{IsTextRun, has_reader}
 use Rattle.strc_cli.specs.declared.execute.CliError.{CliError}
@@ -25,6 +28,7 @@ abbrev pub main_of : Command → Option (List ℕ)
 main_of (command.Run rounds main) = option_map string_bytes main
 main_of (command.Check main) = option_map string_bytes main
 main_of (command.Plan main) = option_map string_bytes main
+main_of (command.Graph main) = option_map string_bytes main
 
 -- the bytes of the input, where they are known, write these numbers; or the word of this number
 -- writes none
@@ -60,8 +64,18 @@ pub record HasSize (text : List ℕ) (main : Option (List ℕ))
   pub nodes : node_count ≡ length plan.graph.nodes
   pub channels : channel_count ≡ length plan.graph.channels
 
+-- the text is accepted, and this is the picture of its flat graph, with the counts and the sizes of
+-- its plan, in boxes as its main stream has split-joins and feedback loops
+pub record HasPicture (text : List ℕ) (main : Option (List ℕ)) (picture : List ℕ) : Type 0 where
+  pub plan : PlanParts
+  pub planned : IsPlanOf text main (planning_of plan)
+  pub stream : Stream
+  pub means : IsStreamOf text main stream
+  pub drawn : picture
+      ≡ picture_text stream plan.graph plan.startup_counts plan.round_counts plan.schedule.sizes
+
 -- an answer is what a command asks of the text: the outcome of its rounds, the size of its graph,
--- or its plan
+-- its plan, or the picture of its graph
 abbrev pub IsAsked : List ℕ → Command → (bytes : Option (List ℕ)) → Answer → Type 0
 IsAsked text (command.Run rounds main) bytes (answer.Ran outcome) =
     RunsText text (option_map string_bytes main) rounds bytes (Ok outcome)
@@ -69,6 +83,8 @@ IsAsked text (command.Check main) bytes (answer.Checked nodes channels) =
     HasSize text (option_map string_bytes main) nodes channels
 IsAsked text (command.Plan main) bytes (answer.Planned plan) =
     IsPlanOf text (option_map string_bytes main) (planning_of plan)
+IsAsked text (command.Graph main) bytes (answer.Drawn picture) =
+    HasPicture text (option_map string_bytes main) picture.items
 IsAsked text _ bytes _ = ⊥
 
 -- a command asks for a run, which reads the input

@@ -18,11 +18,12 @@ use Rattle.strc_run.specs.declared.refusal.Refusal.TheVariants as refusal
 use Rattle.strc_cli.specs.Answering.{IsAnswered}
 use Rattle.strc_cli.specs.Output.{check_line, outcome_text, plan_text, stop_line}
 
--- all that is written: what the run printed, the lines of a plan, or one line
+-- all that is written: what the run printed, the lines of a plan, a picture, or one line
 abbrev pub answer_text : Result Answer Stop → List ℕ
 answer_text (Ok (answer.Ran outcome)) = outcome_text outcome
 answer_text (Ok (answer.Checked nodes channels)) = check_line nodes channels
 answer_text (Ok (answer.Planned plan)) = plan_text plan
+answer_text (Ok (answer.Drawn picture)) = picture.items
 answer_text (Err stop) = stop_line stop
 
 -- the status of a text that is refused
@@ -42,6 +43,7 @@ answer_status (Ok (answer.Ran (outcome.Done words))) = status.Done
 answer_status (Ok (answer.Ran (outcome.Fault node firing round cause words))) = status.Fault
 answer_status (Ok (answer.Checked nodes channels)) = status.Done
 answer_status (Ok (answer.Planned plan)) = status.Done
+answer_status (Ok (answer.Drawn picture)) = status.Done
 answer_status (Err (stop.Refused refused)) = refusal_status refused
 answer_status (Err (stop.BadInput word)) = status.Refused
 answer_status (Err (stop.NotRun refused)) = run_refusal_status refused

@@ -1,6 +1,7 @@
 // What a command is answered for a text, before anything is written.
 
 ghost use Rattle.std.specs.Prelude.{◌≡◌, ◌≢◌, ◌⊎◌, true, Err, IfOk};
+ghost use Rattle.std.specs.Option.{option_map};
 ghost use Rattle.strc_stage.specs.Plans.{planning_of};
 ghost use Rattle.strc_run.specs.Plans as plans;
 ghost use Rattle.strc_run.specs.Rounds.{plan_reads};
@@ -9,6 +10,7 @@ ghost use Rattle.strc_cli.specs.Input as spec;
 ghost use Rattle.strc_cli.specs.Input.{IsInputOf, IsRunAnswer};
 
 use crate::device::Source;
+use crate::drawing::drawn;
 use crate::execute::CliError;
 use crate::input::{ReadStop, read_numbers};
 use crate::line::Command;
@@ -28,6 +30,8 @@ pub(crate) enum Answer {
     Checked { nodes: usize, channels: usize },
     /// Its plan.
     Planned(Plan),
+    /// The picture of its flat graph.
+    Drawn(Vec<u8>),
 }
 
 /// Why there is no answer.
@@ -68,6 +72,7 @@ pub(crate) fn answer_to<I: Source>(
             channels: plan.graph().channels().len(),
         })),
         Command::Plan { main: _ } => Ok(Ok(Answer::Planned(plan))),
+        Command::Graph { main: _ } => Ok(drawn(alloc, text, &options, &plan)),
     }
 }
 
@@ -138,15 +143,26 @@ fn run_numbers(
 fn options_of(alloc: Global, command: &Command) -> Result<Options, AllocError>
     ensures { IfOk result (λ options. plans.main_of options ≡ main_of command.now) }
 {
+    match main_name(command) {
+        Some(name) => Ok(Options {
+            main: Some(String::from_str(alloc, name)?),
+        }),
+        None => Ok(Options { main: None }),
+    }
+}
+
+/// The main stream that a command names.
+pub(crate) fn main_name(command: &Command) -> Option<&str>
+    ensures { option_map (λ name. name.now) result ≡ main_of command.now }
+{
     let main = match command {
         Command::Run { rounds: _, main } => main,
         Command::Check { main } => main,
         Command::Plan { main } => main,
+        Command::Graph { main } => main,
     };
     match main {
-        Some(name) => Ok(Options {
-            main: Some(String::from_str(alloc, name.as_str())?),
-        }),
-        None => Ok(Options { main: None }),
+        Some(name) => Some(name.as_str()),
+        None => None,
     }
 }

@@ -76,8 +76,8 @@ pub fn execute<I: Source, O: Sink>(
     }
 }
 
-// Writes what is reported of an answer.
-fn tell<O: Sink>(
+/// Writes what is reported of an answer.
+pub(crate) fn tell<O: Sink>(
     alloc: Global,
     answered: &Result<Answer, Stop>,
     output: &mut O,
@@ -117,6 +117,7 @@ fn answer_text(alloc: Global, answered: &Result<Answer, Stop>) -> Result<Vec<u8>
         Ok(Answer::Ran(outcome)) => outcome_text(alloc, outcome),
         Ok(Answer::Checked { nodes, channels }) => check_text(alloc, *nodes, *channels),
         Ok(Answer::Planned(plan)) => plan_text(alloc, plan),
+        Ok(Answer::Drawn(picture)) => picture.to_vec(alloc),
         Err(stop) => stop_text(alloc, stop),
     }
 }
@@ -130,6 +131,7 @@ fn answer_status(answered: &Result<Answer, Stop>) -> Status
         Ok(Answer::Ran(Outcome::Fault { .. })) => Status::Fault,
         Ok(Answer::Checked { .. }) => Status::Done,
         Ok(Answer::Planned(_)) => Status::Done,
+        Ok(Answer::Drawn(_)) => Status::Done,
         Err(Stop::Refused(Refusal::NoMemory)) => Status::NoMemory,
         Err(Stop::Refused(_)) => Status::Refused,
         Err(Stop::BadInput { .. }) => Status::Refused,

@@ -12,7 +12,9 @@
 
 mod answer;
 pub mod device;
+mod drawing;
 pub mod execute;
+pub mod explain;
 mod input;
 pub mod line;
 mod output;

@@ -21,6 +21,11 @@ pub enum Command {
         /// The name of the main stream, where one is given.
         main: Option<String>,
     },
+    /// Draw the program's flat graph, as a text for Graphviz.
+    Graph {
+        /// The name of the main stream, where one is given.
+        main: Option<String>,
+    },
 }
 
 /// A line of words that was understood.

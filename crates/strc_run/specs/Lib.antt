@@ -5,5 +5,6 @@ pub mod Rates
 pub mod Refuses
 pub mod Reports
 pub mod Rounds
+pub mod Streams
 pub mod TextRuns
 pub mod Verdicts

@@ -5,6 +5,7 @@ ghost use Rattle.std.specs.Option.{option_map};
 ghost use Rattle.strc_syntax.specs.View.{program_view};
 ghost use Rattle.strc_parse.specs.Texts.{Spells};
 ghost use Rattle.strc_run.specs.Plans.{HasPlan, main_of};
+ghost use Rattle.strc_run.specs.Streams.{HasStream};
 ghost use Rattle.strc_run.specs.Refuses.{HasNoBalance, IsReadRefusal};
 ghost use Rattle.strc_run.specs.declared.refusal.Refusal.TheVariants as refused;
 
@@ -22,6 +23,7 @@ use strc_parse::{ParseError, parse};
 pub use strc_stage::plan::Plan;
 use strc_startup::startup::startup;
 use strc_stream::laws::nodes_deal;
+use strc_stream::stream::Stream;
 use strc_syntax::tree::Program;
 
 /// The plan of the program's main stream.
@@ -38,6 +40,22 @@ pub fn compile(alloc: Global, text: &[u8], options: &Options) -> Result<Plan, Re
     match read_program(alloc, text) {
         Ok(program) => compile_program(alloc, &program, options.main_name()),
         Err(refusal) => Err(refusal),
+    }
+}
+
+/// The main stream of a text, without its graph; or the refusal of the first rule that is broken on
+/// the way to it: of the text's tokens, its tree, its elaboration. `NoMemory` can come in place of
+/// any answer.
+pub fn stream_of(alloc: Global, text: &[u8], options: &Options) -> Result<Stream, Refusal>
+    ensures { HasStream text.now (main_of options.now) result }
+{
+    let program = match read_program(alloc, text) {
+        Ok(program) => program,
+        Err(refusal) => return Err(refusal),
+    };
+    match elaborate(alloc, &program, options.main_name()) {
+        Ok(stream) => Ok(stream),
+        Err(error) => Err(Refusal::from(error)),
     }
 }
 
