@@ -1,6 +1,7 @@
 -- What the words of a command line ask for. After the program's name they are
 -- `run FILE [--rounds N] [--main NAME]`, `check FILE [--main NAME]`, `plan FILE [--main NAME]` or
--- `graph FILE [--main NAME]`, and are read as the crate `clap` reads the words of a command: `strc_app` describes ours.
+-- `graph FILE [--main NAME]`, and are read as the crate `clap` reads the words of a command:
+-- `strc_app` describes ours.
 use Rattle.std.specs.Prelude.{◌≡◌, ◌⊎◌, ℕ, ◌<◌, ◌^◌, pos, true, List, []}
 use Rattle.std.specs.Prelude.{Option, Some, None, IsSome, option_map, string_bytes, codes}
 use Rattle.std.specs.Str.Parse.{IsNumeral, digits_value, without_leading_plus}

@@ -8,7 +8,8 @@ ghost use Rattle.clap.specs.declared.builder.command.Command.TheViews.{out-Comma
 ghost use Rattle.strc_cli.specs.Answering.{main_of};
 ghost use Rattle.strc_cli.specs.Lines.{AsksFor, IsCommand, IsCommandOf, IsKnown, IsLineIn};
 ghost use Rattle.strc_cli.specs.Lines.{check_app, default_line, fault_by, faults, file_rule};
-ghost use Rattle.strc_cli.specs.Lines.{graph_app, main_rule, plan_app, rounds_rule, run_app, strc_app};
+ghost use Rattle.strc_cli.specs.Lines.{graph_app, main_rule, plan_app, rounds_rule, run_app};
+ghost use Rattle.strc_cli.specs.Lines.{strc_app};
 
 use crate::line::{Command, Line, LineFault};
 use clap::error::ErrorKind;

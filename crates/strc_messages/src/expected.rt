@@ -6,8 +6,8 @@ use strc_lex::lexer::lex;
 use strc_lex::token::{Keyword, Punctuation};
 use strc_parse::{ParseError, parse};
 
-/// The longest beginning of a text for which it is found out, in bytes: it takes a reading of it for
-/// each kind of token.
+/// The longest beginning of a text for which it is found out, in bytes: it takes a reading of it
+/// for each kind of token.
 const LONGEST: usize = 16_384;
 
 /// How many tokens are named.

@@ -57,7 +57,7 @@ fn hint_of(refusal: &Refusal) -> &'static [u8] {
         Refusal::DepthLimit => b"a stream that adds itself needs a condition that ends it",
         Refusal::TwoOutputs => b"one FileWriter, or one filter with print or println, is allowed",
         Refusal::ConstFault { .. } => {
-            b"look at rates, lengths, initialisers, init, and the loops of pipelines and split-joins"
+            b"look at rates, lengths, initialisers, init, and the loops of composite streams"
         }
         _ => rate_hint(refusal),
     }

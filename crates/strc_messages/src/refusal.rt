@@ -14,8 +14,8 @@ use strc_lex::lexer::lex;
 use strc_lex::token::Token;
 use strc_run::refusal::Refusal;
 
-/// What a person reads of a text's refusal: the place in the file, one sentence, the source line with a
-/// mark under the place, and where it helps a hint; a line feed ends the message.
+/// What a person reads of a text's refusal: the place in the file, one sentence, the source line
+/// with a mark under the place, and where it helps a hint; a line feed ends the message.
 ///
 /// `main` is the main stream that was asked for.
 pub fn refusal_message(

@@ -1,6 +1,6 @@
 -- A text that grows piece by piece.
-use Rattle.std.proofs.Common.{◌≡◌, ◌∙◌, ◌<◌, ◌+◌, ◌++◌, ◌∷◌, ℕ, List, Result, Ok, Err, OnOk, ap, sym}
-use Rattle.std.proofs.Common.{append_assoc, drop, length, get_or, slice_index, refl}
+use Rattle.std.proofs.Common.{◌≡◌, ◌∙◌, ◌<◌, ◌+◌, ◌++◌, ◌∷◌, ℕ, List, Result, Ok, Err, OnOk, ap}
+use Rattle.std.proofs.Common.{sym, append_assoc, drop, length, get_or, slice_index, refl}
 use Rattle.std.proofs.lemmas.List.{drop_more}
 use Rattle.strc_graph.specs.declared.graph.Channel.{Channel}
 use Rattle.strc_graph.specs.declared.graph.Node.{Node}

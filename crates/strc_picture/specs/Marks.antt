@@ -1,4 +1,4 @@
--- A stream as a row of marks: a mark for each node in preorder, and marks where boxes open and close.
+-- A stream as a row of marks: one for each node in preorder, and where boxes open and close.
 use Rattle.std.specs.Prelude.{List, [], ◌∷◌, ◌++◌, map}
 use Rattle.strc_stream.specs.Instances.{Stream, Streams, Pipeline, SplitJoin, FeedbackLoop}
 use Rattle.strc_stream.specs.Instances.{Done, More}
