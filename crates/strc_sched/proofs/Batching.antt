@@ -71,8 +71,8 @@ passed_between E circuit batch from to before after true is same inner outer mov
     ∙ ap (λ (code : NodeCode). Some code) known.0 in (
       passive_at circuit batch.node graphs.Identity here tt,
       subst (PassesOn circuit batch.node batch.turns before) (sym (moves refl).1)
-          (identity_passes from to known.3 circuit batch.node batch.turns before here known.1 known.2
-          inner outer (moves refl).0),
+          (identity_passes from to known.3 circuit batch.node batch.turns before here
+          known.1 known.2 inner outer (moves refl).0),
     )
 passed_between E circuit batch from to before after false is same inner outer moves stays =
     stays refl

@@ -1,5 +1,6 @@
 -- Items go from a ring to another one.
-use Rattle.std.proofs.Common.{◌≡◌, ◌≢◌, refl, sym, ap, ◌∙◌, ℕ, zero, suc, ◌-◌, ◌<◌, ◌≤◌, ℤ, List, []}
+use Rattle.std.proofs.Common.{◌≡◌, ◌≢◌, refl, sym, ap, ◌∙◌, ℕ, zero, suc, ◌-◌, ◌<◌, ◌≤◌, ℤ}
+use Rattle.std.proofs.Common.{List, []}
 use Rattle.std.proofs.Common.{◌∷◌, ◌++◌, length, take, drop, set, get_or, arith, append_assoc}
 use Rattle.std.proofs.Common.{append-nil, length-append, length-take}
 use Rattle.std.specs.Prelude.{Some}
@@ -85,7 +86,8 @@ module _ (rings low high : List Ring) (source target count : ℕ) (one other new
     (target_there : target < length rings) where
   as_poured : (was_one was_other : Ring) → was_one ≡ ring_at rings source
       → was_other ≡ ring_at rings target
-      → new_one ≡ shortened count was_one → new_other ≡ extended (take count was_one.items) was_other
+      → new_one ≡ shortened count was_one
+      → new_other ≡ extended (take count was_one.items) was_other
       → set (set rings source new_one) target new_other
       ≡ moved (Some source) (Some target) count rings
   as_poured was_one was_other one_is other_is now then =

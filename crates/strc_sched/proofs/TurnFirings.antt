@@ -89,7 +89,8 @@ module _ (circuit : CircuitView) (node : ℕ) (weights : List ℕ) where
           let fewer = ap length rest ∙ length-drop (sum weights) items in
           let enough = ready.enough in
           let one : sum weights ≤ length items = omega (arith, enough) in (
-            ap (λ found. if_found found (Goes [] after [])) (le-leb (sum weights) (length items) one),
+            ap (λ found. if_found found (Goes [] after []))
+                (le-leb (sum weights) (length items) one),
             record {
               placed = still_placed inputs outputs (rate_at_0 (sum weights)) (piece weights items)
                   rings after moves ready.placed;

@@ -1,5 +1,6 @@
 -- Firings of a node in a row that pass items on, at once.
-use Rattle.std.specs.Prelude.{◌≡◌, ℕ, zero, suc, ◌+◌, ◌-◌, ◌*◌, ◌^◌, ◌<◌, ◌≤◌, ℤ, List, [], ◌∷◌, ◌++◌}
+use Rattle.std.specs.Prelude.{◌≡◌, ℕ, zero, suc, ◌+◌, ◌-◌, ◌*◌, ◌^◌, ◌<◌, ◌≤◌, ℤ, List, []}
+use Rattle.std.specs.Prelude.{◌∷◌, ◌++◌}
 use Rattle.std.specs.Prelude.{length, take, drop, min, Bool, true, false, Option, Some}
 use Rattle.std.specs.Prelude.{Result, Ok, Err, slice_get, slice_set, slice_index, slice_index_or}
 use Rattle.strc_semantics.specs.declared.word.Word.{Word}

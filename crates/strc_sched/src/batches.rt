@@ -55,8 +55,8 @@ impl<'s> Order<'s> {
         requires outputs { length circuit.now.outputs ≡ length circuit.now.nodes.now }
         requires apart { circuit.now.apart ≡ true
             → AreAllApart circuit.now.inputs circuit.now.outputs }
-        ensures batches { IfOk result (λ order. AreBatches (circuit_view circuit.now) order.units.now
-            order.batches.items) }
+        ensures batches { IfOk result (λ order. AreBatches (circuit_view circuit.now)
+            order.units.now order.batches.items) }
         ensures units { IfOk result (λ order. order.units.now ≡ units.now) }
     {
         let mut batches = Vec::with_capacity(alloc, units.len())?;

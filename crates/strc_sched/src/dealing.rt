@@ -4,7 +4,8 @@ ghost use Rattle.std.specs.Prelude.{◌≡◌, ◌≤◌, ◌<◌, ◌*◌, IfSo
 ghost use Rattle.strc_admissible.specs.Rings as spec;
 ghost use Rattle.strc_admissible.specs.Rings.{at_port, dealt_out, gathered_in, items_at};
 ghost use Rattle.strc_sched.specs.Answers.{AreRings};
-ghost use Rattle.strc_sched.specs.Blocks.{AreApart, FindsCycles, HasTurned, firsts, spread_out, times};
+ghost use Rattle.strc_sched.specs.Blocks.{AreApart, FindsCycles, HasTurned};
+ghost use Rattle.strc_sched.specs.Blocks.{firsts, spread_out, times};
 
 use crate::movers::{cycle_length, gather, ring_of};
 use crate::pouring::extend;
@@ -43,8 +44,8 @@ fn cycles_within(weights: &[u32], count: usize, held: usize) -> Option<Cycles>
     }
 }
 
-/// So many turns of a splitter, where its ring holds their items: whether it does. If not, it leaves
-/// all as it was.
+/// So many turns of a splitter, where its ring holds their items: whether it does. If not, it
+/// leaves all as it was.
 pub(crate) fn deal_turns(
     rings: &mut [Ring],
     weights: &[u32],

@@ -33,7 +33,8 @@ returns-clause-answer c =
       answered = ring_runs tree graph schedule c.args.input.now rounds circuit machine program
           c.requires.planned (closed_known graph c.in-Ok-new-3.ensures.known) c.ranges.rounds.fits
           supplied c.in-Ok.ensures.circuit c.in-Ok.ensures.input
-          (subst (λ sizes. IsFirst graph sizes machine) c.sizes.ensures c.in-Ok-new-3.ensures.first);
+          (subst (λ sizes. IsFirst graph sizes machine) c.sizes.ensures
+          c.in-Ok-new-3.ensures.first);
       told = subst (λ order. IsEnding outcome (whole_run circuit order (round_order schedule) rounds
           machine)) startup
           (subst (λ order. IsEnding outcome (whole_run circuit

@@ -10,6 +10,6 @@ invariant-loop-round l = record {
   machine : IsMachine (circuit_view l.circuit) l.running;
   rest : rounds_run (circuit_view l.circuit) (firings_of l.order.units.now) l.fn.rounds 0
       (machine_view l.fn.machine)
-      ≡ rounds_run (circuit_view l.circuit) (firings_of l.order.units.now) (l.fn.rounds - l.round) l.round
-      (machine_view l.running);
+      ≡ rounds_run (circuit_view l.circuit) (firings_of l.order.units.now)
+      (l.fn.rounds - l.round) l.round (machine_view l.running);
 }

@@ -1,5 +1,5 @@
-use Rattle.std.proofs.Common.{◌≡◌, ◌∙◌, refl, sym, ap, subst, ℕ, ◌<◌, ◌+◌, ◌-◌, ◌^◌, min, List, length}
-use Rattle.std.proofs.Common.{get_or, set, arith, Ok}
+use Rattle.std.proofs.Common.{◌≡◌, ◌∙◌, refl, sym, ap, subst, ℕ, ◌<◌, ◌+◌, ◌-◌, ◌^◌, min}
+use Rattle.std.proofs.Common.{List, length, get_or, set, arith, Ok}
 use Rattle.std.proofs.lemmas.Grind.{get_or_default_zero}
 use Rattle.std.proofs.lemmas.List.{with_items_is}
 use Rattle.std.proofs.lemmas.Option.{slice_get-get_or}
@@ -26,8 +26,9 @@ returns-in-Ok-true-clause-gone c =
     let firing : ℕ = c.index.result.now in
     let same : firing ≡ get_or before.fired node 0 =
     c.index.ensures ∙ get_or_default_zero before.fired node firing there in
-    let passed = subst (λ all. HasPassed {E = AllocError} circuit node turns (Ok all) c.deref_mut.result.now
-    c.pass_at_once.new.rings) c.in-Ok-true.field-0-test c.in-Ok-true.ensures.passed in
+    let passed = subst (λ all. HasPassed {E = AllocError}
+    circuit node turns (Ok all) c.deref_mut.result.now c.pass_at_once.new.rings)
+    c.in-Ok-true.field-0-test c.in-Ok-true.ensures.passed in
     let none = passive_kept circuit.codes c.args.self.now.actors.items
     c.requires.machine.actors node code here (passed.0 code here) in
     let rings = with_items_is c.args.self.now.rings c.pass_at_once.new.rings

@@ -100,7 +100,8 @@ returns-in_default c =
     let there : c.args.batch.node < length c.args.circuit.now.nodes.now =
     let e = c.requires.batch.node in
     let l = length-map c.args.circuit.now.nodes.now node_view in omega arith in
-    let passive = get_or c.args.circuit.now.nodes.now c.args.batch.node c.index-circuit-node.result in
+    let passive = get_or c.args.circuit.now.nodes.now c.args.batch.node
+    c.index-circuit-node.result in
     let actors = c.args.self.now.actors.items in
     let number = c.args.batch.node in
     let rings = c.args.self.now.rings in
