@@ -2,10 +2,11 @@
 // handed to the library that does the work.
 #![tactic(auto)]
 
-use std::env;
 use std::fs::File;
 use std::io::{ErrorKind, Write};
 use std::process::ExitCode;
+use std::thread::Builder;
+use std::{env, thread};
 use strc_cli::device::Told;
 use strc_cli::execute::CliError;
 use strc_cli::explain::execute_explained;
@@ -22,8 +23,22 @@ const NO_MEMORY: u8 = 4;
 
 const FAILED: u8 = 5;
 
+// The room for calls in one another, in bytes. Streams may be added in one another 64 deep, each by
+// statements 256 deep, and the walk over them calls itself for each.
+const STACK: usize = 0x1000_0000;
+
+// Runs on a thread with that much room; on this one, where there can't be such a thread.
 fn main(rt: HostRuntime) -> ExitCode {
-    ExitCode::from(run(&rt))
+    let status = thread::scope(thread::scope_env(), &rt, |scope| {
+        match Builder::new()
+            .stack_size(STACK)
+            .spawn_scoped(scope, || run(&rt))
+        {
+            Ok(handle) => handle.join(&rt),
+            Err(_) => run(&rt),
+        }
+    });
+    ExitCode::from(status)
 }
 
 fn run(rt: &HostRuntime) -> u8 {

@@ -10,7 +10,8 @@
 
 use std::io::ErrorKind;
 use std::process::ExitCode;
-use std::{fs, io};
+use std::thread::Builder;
+use std::{fs, io, thread};
 use strc_cli::device::Told;
 use strc_cli::explain::execute_explained;
 use strc_cli::line::{Command, LineFault};
@@ -26,6 +27,9 @@ const NO_MEMORY: u8 = 4;
 
 const FAILED: u8 = 5;
 
+// The room for calls in one another, as of the program: the deepest texts need it.
+const STACK: usize = 0x1000_0000;
+
 /// What a program writes, the status that it ends with, and what a person reads of it.
 #[derive(Drop)]
 struct Answer {
@@ -34,16 +38,31 @@ struct Answer {
     message: Vec<u8>,
 }
 
+// Runs on a thread with the room that the program gives itself.
 fn main(rt: HostRuntime) -> ExitCode {
-    match run_cases(&rt) {
-        Ok(true) => ExitCode::SUCCESS,
-        Ok(false) => ExitCode::from(DIFFERENT),
+    let status = thread::scope(thread::scope_env(), &rt, |scope| {
+        match Builder::new()
+            .stack_size(STACK)
+            .spawn_scoped(scope, || status_of(&rt))
+        {
+            Ok(handle) => handle.join(&rt),
+            Err(_) => status_of(&rt),
+        }
+    });
+    ExitCode::from(status)
+}
+
+/// Runs the cases. 0 where all are as they are to be.
+fn status_of(rt: &HostRuntime) -> u8 {
+    match run_cases(rt) {
+        Ok(true) => 0,
+        Ok(false) => DIFFERENT,
         Err(error) => {
             let _ = eprintln!(rt; "strc_cases: {error}");
-            ExitCode::from(match error.kind() {
+            match error.kind() {
                 ErrorKind::OutOfMemory => NO_MEMORY,
                 _ => FAILED,
-            })
+            }
         }
     }
 }
