@@ -1,10 +1,15 @@
 // Programs of filters that look ahead, and how often their source fires before the first round.
 
+ghost use Rattle.std.specs.Prelude.{All};
+ghost use Rattle.strc_balance.specs.Rates.{IsRated, equations_of};
+ghost use Rattle.strc_graph.specs.NodeView.{graph_view};
+
 use std::io;
 use std::io::ErrorKind;
 use std::time::{Duration, Instant};
 use strc_balance::condition::can_balance;
 use strc_balance::counts::Counts;
+use strc_graph::graph::Graph;
 use strc_run::compile::{Plan, compile};
 use strc_run::options::Options;
 use strc_run::refusal::Refusal;
@@ -40,11 +45,23 @@ pub(crate) fn prime(rt: &HostRuntime, peeks: Peeks, repeats: u32) -> io::Result<
         Ok(false) => return Err(io::Error::new(ErrorKind::InvalidData, "not to be balanced")),
         Err(_) => return Err(io::Error::from(ErrorKind::OutOfMemory)),
     }
+    timed_startup(rt, graph, plan.round_counts(), repeats)
+}
+
+/// The start-up of a graph, and the least of so many times that finding it took.
+fn timed_startup(
+    rt: &HostRuntime,
+    graph: &Graph,
+    round: &Counts,
+    repeats: u32,
+) -> io::Result<Primed>
+    requires { All IsRated (equations_of (graph_view graph.now)) }
+{
     let mut least = Duration::MAX;
     let mut source = None;
     for _ in 0..repeats {
         let begun = Instant::now(rt)?;
-        let answer = startup(rt.alloc(), graph, plan.round_counts());
+        let answer = startup(rt.alloc(), graph, round);
         least = least.min(begun.elapsed(rt)?);
         source = source_of(answer)?;
     }
