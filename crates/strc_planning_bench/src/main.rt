@@ -3,7 +3,7 @@
 // Takes the word `times`, or no word.
 // Gives a line for each graph: its nodes and channels, and how often its last node fires in a
 // round, the units of its schedule and the items of its buffers; and for each program how often
-// its source fires before the first round. With `times` also the least of 99 times that planning
+// its source fires before the first round. With `times` also the least of 999 times that planning
 // took, and how it grew.
 // There is no theorem here; `balance`, `startup` and `schedule` have their own.
 // Stands on strc_balance, strc_startup and strc_order, which it times, on strc_graph, whose graphs
@@ -36,7 +36,7 @@ const LARGE: u32 = 4096;
 
 /// How often each graph is planned where times are wanted. The least time counts: the first ones
 /// also wait for memory that was never touched, and any for what else the machine does.
-const REPEATS: u32 = 99;
+const REPEATS: u32 = 999;
 
 /// Programs of filters that look far ahead: the longest row that is primed, and one more.
 const FAR: [Peeks; 2] = [
