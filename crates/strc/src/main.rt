@@ -2,25 +2,43 @@
 // handed to the library that does the work.
 #![tactic(auto)]
 
-use std::env;
 use std::fs::File;
 use std::io::{ErrorKind, Write};
 use std::process::ExitCode;
+use std::thread::Builder;
+use std::{env, thread};
 use strc_cli::device::Told;
-use strc_cli::execute::{CliError, execute};
+use strc_cli::execute::CliError;
+use strc_cli::explain::execute_explained;
 use strc_cli::line::{Line, LineFault};
 use strc_cli::program_text::{TextFault, read_text};
-use strc_cli::words::{command, usage_error};
+use strc_cli::words::{VERSION, asks_for_help, asks_for_version, command, usage_error};
 
-// The exit statuses that no answer of `execute` has.
+// The exit statuses that no answer of `execute_explained` has.
+const DONE: u8 = 0;
+
 const WORDS: u8 = 1;
 
 const NO_MEMORY: u8 = 4;
 
 const FAILED: u8 = 5;
 
+// The room for calls in one another, in bytes. Streams may be added in one another 64 deep, each by
+// statements 256 deep, and the walk over them calls itself for each.
+const STACK: usize = 0x1000_0000;
+
+// Runs on a thread with that much room; on this one, where there can't be such a thread.
 fn main(rt: HostRuntime) -> ExitCode {
-    ExitCode::from(run(&rt))
+    let status = thread::scope(thread::scope_env(), &rt, |scope| {
+        match Builder::new()
+            .stack_size(STACK)
+            .spawn_scoped(scope, || run(&rt))
+        {
+            Ok(handle) => handle.join(&rt),
+            Err(_) => run(&rt),
+        }
+    });
+    ExitCode::from(status)
 }
 
 fn run(rt: &HostRuntime) -> u8 {
@@ -44,13 +62,29 @@ fn run(rt: &HostRuntime) -> u8 {
     match command(rt.alloc(), &words) {
         Ok(line) => run_line(rt, &line),
         Err(LineFault::Memory) => out_of_memory(rt),
-        Err(LineFault::Words) => {
-            if let Ok(text) = usage_error(rt.alloc(), &words) {
-                let _ = eprintln!(rt; "{text}");
-            }
-            WORDS
-        }
+        Err(LineFault::Words) => print_usage(rt, &words),
     }
+}
+
+// Prints help, or the version, where the words ask for it; else what is wrong with them.
+fn print_usage(rt: &HostRuntime, words: &[&str]) -> u8 {
+    if asks_for_version(words) {
+        return match println!(rt; "strc {VERSION}") {
+            Ok(()) => DONE,
+            Err(_) => FAILED,
+        };
+    }
+    let Ok(text) = usage_error(rt.alloc(), words) else {
+        return out_of_memory(rt);
+    };
+    if let Ok(true) = asks_for_help(rt.alloc(), words) {
+        return match print!(rt; "{text}") {
+            Ok(()) => DONE,
+            Err(_) => FAILED,
+        };
+    }
+    let _ = eprintln!(rt; "{text}");
+    WORDS
 }
 
 // Reads the text that the line names, and executes it.
@@ -60,6 +94,7 @@ fn run_line(rt: &HostRuntime, line: &Line) -> u8 {
         None => "standard input",
     };
     let text = match &line.file {
+        Some(file) if file.as_str() == "-" => read_text(rt.alloc(), &mut rt.stdin()),
         Some(file) => match File::open(rt, file.as_str()) {
             Ok(mut file) => read_text(rt.alloc(), &mut file),
             Err(error) => {
@@ -70,7 +105,7 @@ fn run_line(rt: &HostRuntime, line: &Line) -> u8 {
         None => read_text(rt.alloc(), &mut rt.stdin()),
     };
     match text {
-        Ok(text) => execute_text(rt, line, &text),
+        Ok(text) => execute_text(rt, name, line, &text),
         Err(TextFault::NoMemory) => out_of_memory(rt),
         Err(TextFault::Failed(error)) => {
             let _ = eprintln!(rt; "strc: cannot read {name}: {error}");
@@ -79,10 +114,14 @@ fn run_line(rt: &HostRuntime, line: &Line) -> u8 {
     }
 }
 
-fn execute_text(rt: &HostRuntime, line: &Line, text: &[u8]) -> u8 {
+// Executes it, and tells a person on standard error what is wrong with it.
+fn execute_text(rt: &HostRuntime, name: &str, line: &Line, text: &[u8]) -> u8 {
     let mut input = Told::new(rt.stdin());
     let mut output = Told::new(rt.stdout());
-    match execute(rt.alloc(), text, &line.command, &mut input, &mut output) {
+    let command = &line.command;
+    let explained = execute_explained(rt.alloc(), name, text, command, &mut input, &mut output);
+    let _ = rt.stderr().write_all(&explained.message);
+    match explained.result {
         Ok(status) => status.number(),
         Err(CliError::Memory) => out_of_memory(rt),
         Err(CliError::Read) => {

@@ -1,4 +1,7 @@
 pub mod Divisors
+pub mod Words
+pub mod Appending
+pub mod Membership
 pub mod Limits
 pub mod Spreading
 pub mod Solutions
@@ -9,6 +12,7 @@ pub mod Scales
 pub mod Turns
 pub mod Judging
 pub mod Rated
+pub mod GraphViews
 pub mod Examples
 pub mod Connections
 pub mod Channels

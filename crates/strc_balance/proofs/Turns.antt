@@ -1,17 +1,16 @@
 -- The spread, turn by turn: what is left to do from the fractions that are known gives the whole.
-use Rattle.std.proofs.Common.{◌≡◌, ℕ, zero, suc, ◌+◌, ◌-◌, ◌<◌, true, false, List, [], ◌++◌, length}
-use Rattle.std.proofs.Common.{get_or, set, replicate, Option, Some, None, IsPermutation, All}
-use Rattle.std.proofs.Common.{Contains, sym, ap, subst, ◌∙◌, refl, ◌⊎◌, inl, inr, arith}
+use Rattle.std.proofs.Common.{◌≡◌, ℕ, zero, suc, ◌+◌, ◌-◌, ◌<◌, true, false, List, length}
+use Rattle.std.proofs.Common.{get_or, set, replicate, Option, Some, None, All}
+use Rattle.std.proofs.Common.{sym, ap, subst, ◌∙◌, refl, arith}
 use Rattle.std.specs.List.{list_any}
-use Rattle.std.proofs.lemmas.Bool.{false≢true}
+use Rattle.std.proofs.lemmas.Bool.{false≢true, true≢false}
 use Rattle.std.proofs.lemmas.List.{length-set, get_or-set_same}
-use Rattle.std.proofs.lemmas.List.Elements.{All-append, Contains-append_left, Contains-append_right}
-use Rattle.std.proofs.lemmas.List.Sorted.{All-permutation, Contains-permutation}
 use Rattle.strc_balance.specs.declared.equation.Equation.{Equation}
 use Rattle.strc_balance.specs.declared.fraction.Fraction.{Fraction}
 use Rattle.strc_balance.specs.Balance.{Fractions, fraction_at, first_given, with_given, propagated}
 use Rattle.strc_balance.specs.Balance.{one, start_fractions, spread, fraction_passes, HasRates}
-use Rattle.strc_balance.specs.Frontiers.{Covers, CoversApart, IsIncidence, channels_at}
+use Rattle.strc_balance.specs.Frontiers.{Covers, CoversApart, IsIncidence, channels_at, Adds}
+use Rattle.strc_balance.specs.NumberSets.{has_number, AllNumbers}
 use Rattle.strc_balance.specs.Frontiers.{found_passes}
 use Rattle.strc_balance.proofs.Divisors.{IsLowest}
 use Rattle.strc_balance.proofs.Limits.{parts_within}
@@ -19,7 +18,7 @@ use Rattle.strc_balance.proofs.Spreading.{Known, Known-set, first_given-known, f
 use Rattle.strc_balance.proofs.Spreading.{propagated-stays, propagated-done, propagated-length}
 use Rattle.strc_balance.proofs.Spreading.{start-known, start-length}
 use Rattle.strc_balance.proofs.Solutions.{one-lowest, lowest_carries}
-use Rattle.strc_balance.proofs.Frontiers.{Covers-learnt, CoversApart-start}
+use Rattle.strc_balance.proofs.Frontiers.{Covers-learnt, CoversApart-start, adds_below}
 use Rattle.strc_balance.proofs.Quantifiers.{list_any-set, list_any-holds}
 
 pub record IsSpreading (size turn : ℕ) (equations : List Equation) (fractions : Fractions)
@@ -29,25 +28,7 @@ pub record IsSpreading (size turn : ℕ) (equations : List Equation) (fractions 
   pub lowest : Known (λ node fraction. IsLowest fraction) fractions
   pub within : list_any fraction_passes fractions ≡ false
   pub covers : Covers frontier fractions equations
-  pub numbers : All (λ channel. channel < length equations) frontier
-
--- channels that were added
-
-added-contains : (old channels new : List ℕ) → IsPermutation (old ++ channels) new → (k : ℕ)
-    → Contains channels k ⊎ Contains old k → Contains new k
-added-contains old channels new moved k h =
-    Contains-permutation (old ++ channels) new k moved
-    (elim h [
-      | inl added ↦ Contains-append_right old channels k added
-      | inr there ↦
-          Contains-append_left old channels k there
-    ])
-
-added-below : (bound : ℕ) (old channels new : List ℕ) → IsPermutation (old ++ channels) new
-    → All (λ k. k < bound) old → All (λ k. k < bound) channels → All (λ k. k < bound) new
-added-below bound old channels new moved h k =
-    All-permutation (λ n. n < bound) (old ++ channels) new moved
-    (All-append (λ n. n < bound) old channels h k)
+  pub numbers : AllNumbers (λ channel. channel < length equations) frontier
 
 -- at first
 
@@ -58,16 +39,14 @@ nothing_passes (suc size) = nothing_passes size
 one_within : fraction_passes (Some one) ≡ false
 one_within = parts_within one (omega arith) (omega arith)
 
-none_below : (bound : ℕ) → All (λ k. k < bound) []
-none_below bound k d within = absurd (omega arith)
-
 pub spreading_start : (size : ℕ) (equations : List Equation) (fractions : Fractions)
-    (lists : List (List ℕ)) (frontier : List ℕ) → fractions ≡ replicate size None
+    (lists : List (List ℕ)) (nobody frontier : List ℕ) → fractions ≡ replicate size None
     → IsIncidence lists equations → ((node : ℕ)
     → All (λ k. k < length equations) (channels_at lists node))
-    → IsPermutation ([] ++ channels_at lists 0) frontier
+    → ((channel : ℕ) → has_number nobody channel ≡ false)
+    → Adds (channels_at lists 0) nobody frontier
     → IsSpreading size 0 equations (set fractions 0 (Some one)) frontier
-spreading_start size equations fractions lists frontier is listed numbers moved =
+spreading_start size equations fractions lists nobody frontier is listed numbers none moved =
     let nothing : Fractions = replicate size None in
     subst (λ l. IsSpreading size 0 equations (set l 0 (Some one)) frontier) (sym is) (record {
       size_is = start-length size;
@@ -75,11 +54,10 @@ spreading_start size equations fractions lists frontier is listed numbers moved 
           ap (λ turns. propagated turns equations (start_fractions size)) all);
       lowest = start-known (λ node fraction. IsLowest fraction) size one-lowest;
       within = list_any-set fraction_passes nothing 0 (Some one) (nothing_passes size) one_within;
-      covers = Covers-learnt lists nothing equations [] frontier 0 one listed
-          (CoversApart-start size 0 equations)
-          (added-contains [] (channels_at lists 0) frontier moved);
-      numbers = added-below (length equations) [] (channels_at lists 0) frontier moved
-          (none_below (length equations)) (numbers 0);
+      covers = Covers-learnt lists nothing equations nobody frontier 0 one listed
+          (CoversApart-start size 0 equations nobody) moved;
+      numbers = adds_below (length equations) (channels_at lists 0) nobody frontier moved
+          (λ channel has. absurd (true≢false (sym has ∙ none channel))) (numbers 0);
     })
 
 -- a turn
@@ -90,8 +68,8 @@ pub spreading_next : (size turn : ℕ) (equations : List Equation) (fractions : 
     → ((node : ℕ) → All (λ k. k < length equations) (channels_at lists node))
     → IsSpreading size turn equations fractions old → first_given fractions equations ≡ Some found
     → found_passes (Some found) ≡ false → CoversApart found.0 middle fractions equations
-    → All (λ k. k < length equations) middle
-    → IsPermutation (middle ++ channels_at lists found.0) frontier
+    → AllNumbers (λ k. k < length equations) middle
+    → Adds (channels_at lists found.0) middle frontier
     → IsSpreading size (turn + 1) equations (set fractions found.0 (Some found.1)) frontier
 spreading_next size turn equations fractions lists old middle frontier found below rates listed
     numbers before first within covers in_range moved =
@@ -109,8 +87,8 @@ spreading_next size turn equations fractions lists old middle frontier found bel
           before.lowest found first);
       within = list_any-set fraction_passes fractions found.0 (Some found.1) before.within within;
       covers = Covers-learnt lists fractions equations middle frontier found.0 found.1 listed covers
-          (added-contains middle (channels_at lists found.0) frontier moved);
-      numbers = added-below (length equations) middle (channels_at lists found.0) frontier moved
+          moved;
+      numbers = adds_below (length equations) (channels_at lists found.0) middle frontier moved
           in_range (numbers found.0);
     }
 

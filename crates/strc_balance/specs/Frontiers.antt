@@ -1,12 +1,13 @@
 -- Which channels can give a fraction next: all of them stand in a frontier, and each in the lists
 -- of its two ends.
-use Rattle.std.specs.Prelude.{◌≡◌, ◌≢◌, ℕ, ◌^◌, ◌<◌, Bool, true, false, List, [], Contains}
+use Rattle.std.specs.Prelude.{◌≡◌, ◌≢◌, ◌⊎◌, ℕ, ◌^◌, ◌<◌, Bool, true, false, List, [], Contains}
 use Rattle.std.specs.Prelude.{slice_get, slice_index_or, Option, Some, None}
 use Rattle.strc_balance.specs.declared.equation.Equation.{Equation}
 use Rattle.strc_balance.specs.declared.fraction.Fraction.{Fraction}
 use Rattle.strc_balance.specs.declared.error.BalanceError.{BalanceError}
 use Rattle.strc_balance.specs.declared.error.BalanceError.TheVariants as refused
 use Rattle.strc_balance.specs.Balance.{Fractions, fraction_at, given, fraction_passes}
+use Rattle.strc_balance.specs.NumberSets.{has_number}
 
 -- the rates are sums of fewer than 2 ^ 64 weights
 pub record IsBounded (equation : Equation) : Type 0 where
@@ -23,14 +24,22 @@ abbrev pub Covers : List ℕ → Fractions → List Equation → Type 0
 Covers frontier fractions equations =
     (channel : ℕ) (equation : Equation) (found : ℕ × Fraction)
     → slice_get equations channel ≡ Some equation → given fractions equation ≡ Some found
-    → Contains frontier channel
+    → has_number frontier channel ≡ true
 
 -- each one of those that have no end at a node
 abbrev pub CoversApart : ℕ → List ℕ → Fractions → List Equation → Type 0
 CoversApart node frontier fractions equations =
     (channel : ℕ) (equation : Equation) (found : ℕ × Fraction)
     → slice_get equations channel ≡ Some equation → equation.source ≢ node
-    → equation.target ≢ node → given fractions equation ≡ Some found → Contains frontier channel
+    → equation.target ≢ node → given fractions equation ≡ Some found
+    → has_number frontier channel ≡ true
+
+-- more channels in a frontier
+pub record Adds (channels old new : List ℕ) : Type 0 where
+  pub kept : (channel : ℕ) → has_number old channel ≡ true → has_number new channel ≡ true
+  pub added : (channel : ℕ) → Contains channels channel → has_number new channel ≡ true
+  pub only : (channel : ℕ) → has_number new channel ≡ true
+      → (has_number old channel ≡ true) ⊎ Contains channels channel
 
 -- the channels listed at a node
 abbrev pub channels_at : List (List ℕ) → ℕ → List ℕ

@@ -1,5 +1,6 @@
 pub mod Divisors
 pub mod Balance
+pub mod NumberSets
 pub mod Rates
 pub mod Frontiers
 pub mod Verdicts

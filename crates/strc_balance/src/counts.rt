@@ -1,10 +1,11 @@
 // How often each node of a graph fires.
 
 ghost use Rattle.std.specs.Prelude.{◌≡◌, ◌<◌, length, slice_index};
+ghost use Rattle.strc_balance.specs.Balance.{IsWithinLimit};
 
 use std::marker::Model;
 
-/// How often each node fires, by its number. Contracts see a list.
+/// How often each node fires, by its number: at most 1,000,000 times. Contracts see a list.
 #[derive(Debug, Drop)]
 pub struct Counts {
     counts: Vec<u32>,
@@ -12,15 +13,19 @@ pub struct Counts {
 
 impl Model for Counts {
     ghost use Rattle.std.specs.Prelude.{ℕ, List};
+    ghost use Rattle.strc_balance.specs.Balance.{IsWithinLimit};
 
     ghost Value = { List ℕ };
 
     ghost view = { λ c. c.counts.items };
+
+    ghost invariant = { λ c. IsWithinLimit c.counts.items };
 }
 
 impl Counts {
     /// The counts of nodes in order of their numbers.
     pub fn new(counts: Vec<u32>) -> Counts
+        requires { IsWithinLimit counts.items }
         ensures { result ≡ counts.items }
     {
         Counts { counts }
@@ -28,7 +33,8 @@ impl Counts {
 
     /// The counts, in order of the nodes' numbers.
     pub fn as_slice(&self) -> &[u32]
-        ensures { result.now ≡ self.now }
+        ensures counts { result.now ≡ self.now }
+        ensures within { IsWithinLimit self.now }
     {
         self.counts.as_slice()
     }

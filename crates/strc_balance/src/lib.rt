@@ -7,15 +7,16 @@
 #![tactic(auto)]
 
 pub mod balance;
+mod bits;
 pub mod condition;
 pub mod counts;
 mod equation;
 pub mod error;
 mod fraction;
-mod frontier;
 mod incidence;
 pub mod laws;
 mod multiples;
+pub mod number_set;
 mod propagation;
 mod rates;
 mod solution;

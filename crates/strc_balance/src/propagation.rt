@@ -1,19 +1,21 @@
 // Each node's count as a fraction of node 0's, from channel to channel.
 
-ghost use Rattle.std.specs.Prelude.{◌≡◌, ℕ, ◌<◌, length, All, IfOk, IfErr, IfSome, Some, None};
+ghost use Rattle.std.specs.Prelude.{◌≡◌, ℕ, ◌<◌, length, All, IfOk, OnOk, IfErr, IfSome, Some};
+ghost use Rattle.std.specs.Prelude.{None};
 ghost use Rattle.std.specs.Prelude.{replicate, false, ◌*◌, ◌^◌};
 ghost use Rattle.strc_balance.specs.Divisors.{lowest_terms as lowest};
 ghost use Rattle.std.specs.List.{list_any};
 ghost use Rattle.strc_balance.specs.Balance as spec;
 ghost use Rattle.strc_balance.specs.Balance.{HasRates, fraction_passes};
-ghost use Rattle.strc_balance.specs.Frontiers.{IsBounded, ArePositive, Covers, CoversApart};
+ghost use Rattle.strc_balance.specs.Frontiers.{IsBounded, ArePositive, Covers, CoversApart, Adds};
+ghost use Rattle.strc_balance.specs.NumberSets.{AllNumbers};
 ghost use Rattle.strc_balance.specs.Frontiers.{found_passes, IsTooLarge, IsLargeOrMemory};
 
 use crate::equation::Equation;
 use crate::error::BalanceError;
 use crate::fraction::{Fraction, lowest_terms};
-use crate::frontier::Frontier;
 use crate::incidence::incidence_of;
+use crate::number_set::NumberSet;
 use std::alloc::{AllocError, Global};
 
 /// Each node's fraction, as far as channels lead from node 0, whose fraction is 1.
@@ -36,14 +38,14 @@ pub(crate) fn spread(
     if size == 0 {
         return Ok(fractions);
     }
-    let mut frontier = Frontier::new(alloc);
+    let mut frontier = NumberSet::with_capacity(alloc, equations.len())?;
     fractions[0] = Some(Fraction { top: 1, bottom: 1 });
-    frontier.add_all(incidence.at(0))?;
+    add_all(&mut frontier, incidence.at(0))?;
     for _turn in 0..size {
         match next_given(&mut frontier, &fractions, equations) {
             Ok(Some((node, fraction))) => {
                 fractions[node] = Some(fraction);
-                frontier.add_all(incidence.at(node))?;
+                add_all(&mut frontier, incidence.at(node))?;
             }
             Ok(None) => return Ok(fractions),
             Err(refusal) => return Err(refusal),
@@ -59,9 +61,19 @@ fn unknown(alloc: Global, size: usize) -> Result<Vec<Option<Fraction>>, AllocErr
     Vec::from_elem(alloc, None, size)
 }
 
+/// Adds channels of which an end became known.
+fn add_all(frontier: &mut NumberSet, channels: &[usize]) -> Result<(), AllocError>
+    ensures { OnOk result (Adds channels.now frontier.old frontier.new) }
+{
+    for channel in channels {
+        frontier.add(*channel)?;
+    }
+    Ok(())
+}
+
 /// The fraction that the lowest channel with one known end gives the node at its other end.
 fn next_given(
-    frontier: &mut Frontier,
+    frontier: &mut NumberSet,
     fractions: &[Option<Fraction>],
     equations: &[Equation],
 ) -> Result<Option<(usize, Fraction)>, BalanceError>
@@ -69,7 +81,7 @@ fn next_given(
     requires bounds { All IsBounded equations.now }
     requires positive { ArePositive fractions.now }
     requires covers { Covers frontier.old fractions.now equations.now }
-    requires numbers { All (λ channel. channel < length equations.now) frontier.old }
+    requires numbers { AllNumbers (λ channel. channel < length equations.now) frontier.old }
     ensures found { IfOk result (λ found. found ≡ spec.first_given fractions.now equations.now) }
     ensures within { IfOk result (λ found. found_passes found ≡ false) }
     ensures passes { IfErr result (λ refusal. IsTooLarge
@@ -77,7 +89,7 @@ fn next_given(
     ensures covers { IfOk result (λ found. IfSome found (λ found.
         CoversApart found.0 frontier.new fractions.now equations.now)) }
     ensures numbers { IfOk result (λ found. IfSome found (λ _.
-        All (λ channel. channel < length equations.now) frontier.new)) }
+        AllNumbers (λ channel. channel < length equations.now) frontier.new)) }
 {
     while let Some(channel) = frontier.take_lowest() {
         match given(fractions, equations[channel]) {

@@ -1,18 +1,19 @@
 // The program `strc_cases`: runs whole programs in memory, and compares what they write with what
 // they are to write.
 // Takes the files of the folder that it runs in. A case is a text NAME.str and its words NAME.args,
-// the command first; its input NAME.in, if it has one; what it writes, NAME.out; and the status it
-// ends with, NAME.status, if that isn't 0.
+// the command first; its input NAME.in, if it has one; what it writes, NAME.out; the status it ends
+// with, NAME.status, if that isn't 0; and what a person reads of it, NAME.message, if that is told.
 // Gives a line for each case that differs, and at the end how many do.
 // There is no theorem here; the values are those of the language's rules.
-// Stands on strc_cli, whose `command` and `execute` it calls.
+// Stands on strc_cli, whose `command` and `execute_explained` it calls.
 #![tactic(auto)]
 
 use std::io::ErrorKind;
 use std::process::ExitCode;
-use std::{fs, io};
+use std::thread::Builder;
+use std::{fs, io, thread};
 use strc_cli::device::Told;
-use strc_cli::execute::execute;
+use strc_cli::explain::execute_explained;
 use strc_cli::line::{Command, LineFault};
 use strc_cli::words::command;
 
@@ -26,23 +27,42 @@ const NO_MEMORY: u8 = 4;
 
 const FAILED: u8 = 5;
 
-/// What a program writes, and the status that it ends with.
+// The room for calls in one another, as of the program: the deepest texts need it.
+const STACK: usize = 0x1000_0000;
+
+/// What a program writes, the status that it ends with, and what a person reads of it.
 #[derive(Drop)]
 struct Answer {
     output: Vec<u8>,
     status: u8,
+    message: Vec<u8>,
 }
 
+// Runs on a thread with the room that the program gives itself.
 fn main(rt: HostRuntime) -> ExitCode {
-    match run_cases(&rt) {
-        Ok(true) => ExitCode::SUCCESS,
-        Ok(false) => ExitCode::from(DIFFERENT),
+    let status = thread::scope(thread::scope_env(), &rt, |scope| {
+        match Builder::new()
+            .stack_size(STACK)
+            .spawn_scoped(scope, || status_of(&rt))
+        {
+            Ok(handle) => handle.join(&rt),
+            Err(_) => status_of(&rt),
+        }
+    });
+    ExitCode::from(status)
+}
+
+/// Runs the cases. 0 where all are as they are to be.
+fn status_of(rt: &HostRuntime) -> u8 {
+    match run_cases(rt) {
+        Ok(true) => 0,
+        Ok(false) => DIFFERENT,
         Err(error) => {
             let _ = eprintln!(rt; "strc_cases: {error}");
-            ExitCode::from(match error.kind() {
+            match error.kind() {
                 ErrorKind::OutOfMemory => NO_MEMORY,
                 _ => FAILED,
-            })
+            }
         }
     }
 }
@@ -88,6 +108,7 @@ fn compare(rt: &HostRuntime, name: &str) -> io::Result<bool> {
     let wanted = Answer {
         output: part(rt, name, "out")?,
         status: wanted_status(rt, name)?,
+        message: part_if_there(rt, name, "message")?,
     };
     let found = found_answer(rt, name)?;
     // No case asks for more memory than there is.
@@ -103,6 +124,11 @@ fn compare(rt: &HostRuntime, name: &str) -> io::Result<bool> {
             "{name}: wanted status {}, got {}",
             wanted.status, found.status
         )?;
+        return Ok(false);
+    }
+    // A case without a message says nothing of it.
+    if !wanted.message.is_empty() && found.message != wanted.message {
+        tell_lines(rt, name, &wanted.message, &found.message)?;
         return Ok(false);
     }
     Ok(true)
@@ -137,6 +163,7 @@ fn found_answer(rt: &HostRuntime, name: &str) -> io::Result<Answer> {
         Err(LineFault::Words) => Ok(Answer {
             output: Vec::new(alloc),
             status: WORDS,
+            message: Vec::new(alloc),
         }),
         Err(LineFault::Memory) => Err(io::Error::from(ErrorKind::OutOfMemory)),
     }
@@ -148,10 +175,13 @@ fn run(rt: &HostRuntime, name: &str, command: &Command) -> io::Result<Answer> {
     let input = part_if_there(rt, name, "in")?;
     let mut input = Told::new(input.as_slice());
     let mut output = Told::new(Vec::new(alloc));
-    match execute(alloc, &text, command, &mut input, &mut output) {
+    let file = format!(in alloc; "{name}.str")?;
+    let explained = execute_explained(alloc, &file, &text, command, &mut input, &mut output);
+    match explained.result {
         Ok(status) => Ok(Answer {
             output: output.into_device(),
             status: status.number(),
+            message: explained.message,
         }),
         // Devices in memory fail only where there is no more of it.
         Err(_) => Err(io::Error::from(ErrorKind::OutOfMemory)),

@@ -28,7 +28,7 @@ use Rattle.clap.specs.declared.builder.value_parser.Reading.TheVariants.{Without
 use Rattle.clap.specs.declared.builder.value_parser.ValueParser.{ValueParser}
 use Rattle.clap.specs.declared.builder.value_parser.ValueParser.TheVariants.{Signed}
 use Rattle.strc_cli.specs.Lines.{IsCommand, IsNumberOf, Writes32, check_app, faults}
-use Rattle.strc_cli.specs.Lines.{plan_app, run_app, strc_app}
+use Rattle.strc_cli.specs.Lines.{graph_app, plan_app, run_app, strc_app}
 
 -- ---- faults of two steps
 
@@ -338,7 +338,9 @@ module _ (shape : Shape) (plain : Each IsPlainRule shape.rules) (once : shape.ar
 
 -- the name of a subcommand
 abbrev IsName : Text → Type 0
-IsName name = (name ≡ codes "run") ⊎ ((name ≡ codes "check") ⊎ (name ≡ codes "plan"))
+IsName name =
+    (name ≡ codes "run")
+    ⊎ ((name ≡ codes "check") ⊎ ((name ≡ codes "plan") ⊎ (name ≡ codes "graph")))
 
 abbrev StopsAtName : Option (Text × List Text) → Type 0
 StopsAtName stopped = IfSome stopped (λ p. IsName p.0)
@@ -384,28 +386,29 @@ names = names_of (built strc_app)
 abbrev top : Shape
 top = (built strc_app).top
 
--- a subcommand that is met and has no fault is one of the three: `help` has a fault
+-- a subcommand that is met and has no fault is one of the four: `help` has a fault
 met_name : (waiting : Waiting) (word name : Text) (held : Held)
     → subcommand_met names waiting word ≡ Some name
     → other_fault top (Some name) word held ≡ [] → IsName name
 met_name walking.idle word name held met none =
     go (answers_to word (codes "run", [])) (answers_to word (codes "check", []))
-    (answers_to word (codes "plan", []))
+    (answers_to word (codes "plan", [])) (answers_to word (codes "graph", []))
     (answers_to word (codes "help", [])) met none
   where
-    go : (is_run is_check is_plan is_help : Bool)
+    go : (is_run is_check is_plan is_graph is_help : Bool)
         → option_map {T = Text × List Text} (λ s. s.0)
         (cond is_run (Some (codes "run", [])) (cond is_check (Some (codes "check", []))
-        (cond is_plan (Some (codes "plan", []))
-        (cond is_help (Some (codes "help", [])) None)))) ≡ Some name
+        (cond is_plan (Some (codes "plan", [])) (cond is_graph (Some (codes "graph", []))
+        (cond is_help (Some (codes "help", [])) None))))) ≡ Some name
         → other_fault top (Some name) word held ≡ [] → IsName name
-    go true is_check is_plan is_help met none = inl cc
-    go false true is_plan is_help met none = inr (inl cc)
-    go false false true is_help met none = inr (inr cc)
-    go false false false true met none =
+    go true is_check is_plan is_graph is_help met none = inl cc
+    go false true is_plan is_graph is_help met none = inr (inl cc)
+    go false false true is_graph is_help met none = inr (inr (inl cc))
+    go false false false true is_help met none = inr (inr (inr cc))
+    go false false false false true met none =
         let is : name ≡ codes "help" = cc in
         let bad = subst (λ (n : Text). other_fault top (Some n) word held ≡ []) is none in cc
-    go false false false false met none = cc
+    go false false false false false met none = cc
 met_name (walking.option id) word name held met none = cc
 met_name walking.positional word name held met none = cc
 
@@ -491,6 +494,12 @@ plain_check = (
 
 plain_plan : Each IsPlainRule (shape_of plan_app).rules
 plain_plan = (
+  inl (record { action = refl; range = refl; number = λ is value passes. cc }),
+  (inl (record { action = refl; range = refl; number = λ is value passes. cc }), (inr refl, tt)),
+)
+
+plain_graph : Each IsPlainRule (shape_of graph_app).rules
+plain_graph = (
   inl (record { action = refl; range = refl; number = λ is value passes. cc }),
   (inl (record { action = refl; range = refl; number = λ is value passes. cc }), (inr refl, tt)),
 )
@@ -643,7 +652,23 @@ plans words none =
       name = codes "plan";
       rows = rows;
       is = refl;
-      known = inr (inr refl);
+      known = inr (inr (inl refl));
+      file = given_file rows good (file_given (is_given (codes "FILE") rows) faultless.checks);
+    }
+
+-- those after `graph`
+graphs : (words : List Text) → level_fault (shape_of graph_app) [] nothing_held words false [] ≡ []
+    → IsCommand (Some (codes "graph", rows_after (shape_of graph_app).rules [] words))
+graphs words none =
+    let graph = shape_of graph_app in
+    let faultless = faultless_level graph [] words false [] none in
+    let rows = rows_after graph.rules [] words in
+    let good = rows_good graph plain_graph (refl, (refl, (refl, tt))) refl words faultless in
+    record {
+      name = codes "graph";
+      rows = rows;
+      is = refl;
+      known = inr (inr (inr refl));
       file = given_file rows good (file_given (is_given (codes "FILE") rows) faultless.checks);
     }
 
@@ -656,7 +681,8 @@ Enters words name =
 enters_name : (words : List Text) (name : Text) → IsName name → Enters words name
 enters_name words name (inl is) = subst (Enters words) (sym is) (runs words)
 enters_name words name (inr (inl is)) = subst (Enters words) (sym is) (checks words)
-enters_name words name (inr (inr is)) = subst (Enters words) (sym is) (plans words)
+enters_name words name (inr (inr (inl is))) = subst (Enters words) (sym is) (plans words)
+enters_name words name (inr (inr (inr is))) = subst (Enters words) (sym is) (graphs words)
 
 -- words that have no fault enter a subcommand
 enters : (stopped : Option (Text × List Text)) → StopsAtName stopped

@@ -1,16 +1,14 @@
 -- The input read piece by piece.
 use Rattle.std.proofs.Common.{◌≡◌, ℕ, ℤ, List, [], ◌++◌, take, Option, Some, None, Result, Ok, Err}
 use Rattle.std.proofs.Common.{refl, sym, ap, ◌∙◌, subst, append-nil, append_assoc, Vec, Global}
-use Rattle.std.specs.Prelude.{IfSome}
 use Rattle.std.specs.Io.KnownBytes.{Consumes, IsAtEnd}
 use Rattle.strc_input.specs.Numbers.{ints}
 use Rattle.strc_input.specs.Reading.{Reading, Fails, unread, bytes_read, ended}
-use Rattle.strc_input.proofs.Bytes.{read_append}
-use Rattle.strc_input.proofs.Inputs.{reads_ints, fails_for_good}
+use Rattle.strc_input.specs.Reading.{ReadsInts, FailsForGood, ReadsInPieces}
 use Rattle.strc_input.specs.Answers.{IsRead}
 use Rattle.strc_input.specs.declared.numbers.InputError.{InputError}
 use Rattle.strc_input.specs.declared.numbers.InputError.TheVariants as error
-use Rattle.strc_cli.specs.Answering.{Writes}
+use Rattle.strc_cli.specs.Answering.{WritesNumbers}
 use Rattle.strc_cli.specs.Input.{ReadsNumbers, IsEnded, stop_of}
 use Rattle.strc_cli.specs.declared.input.ReadStop.{ReadStop}
 use Rattle.strc_cli.specs.declared.input.ReadStop.TheVariants as stop
@@ -36,51 +34,56 @@ consumes_more (Some bytes) (Some rest) (Some others) one two h k =
 pub read_none : (bytes : Option (List ℕ)) → HasRead bytes bytes unread
 read_none bytes = record { taken = []; consumed = consumes_none bytes; read = refl }
 
-pub read_more : (first middle last : Option (List ℕ)) (reading after : Reading) (piece : List ℕ)
+pub read_more : ReadsInPieces → (first middle last : Option (List ℕ)) (reading after : Reading)
+    (piece : List ℕ)
     → HasRead first middle reading → Consumes middle last piece
     → bytes_read reading piece ≡ after → HasRead first last after
-read_more first middle last reading after piece has consumed is = record {
+read_more pieces first middle last reading after piece has consumed is = record {
   taken = has.taken ++ piece;
   consumed = consumes_more first middle last has.taken piece has.consumed consumed;
-  read = read_append unread has.taken piece ∙ ap (λ r. bytes_read r piece) has.read ∙ is;
+  read = pieces unread has.taken piece ∙ ap (λ r. bytes_read r piece) has.read ∙ is;
 }
 
 -- at the end the numbers of all bytes are told
-pub all_read : (first left : Option (List ℕ)) (reading : Reading) (result : Result (List ℤ) ℕ)
-    → HasRead first left reading → IsAtEnd left → ended reading ≡ result → Writes first result
-all_read None left reading result has end is = tt
-all_read (Some bytes) None reading result has end is = absurd has.consumed
-all_read (Some bytes) (Some rest) reading result has end is =
-    sym (reads_ints bytes)
+pub all_read : ReadsInts → (first left : Option (List ℕ)) (reading : Reading)
+    (result : Result (List ℤ) ℕ)
+    → HasRead first left reading → IsAtEnd left → ended reading ≡ result
+    → WritesNumbers first result
+all_read reads None left reading result has end is = tt
+all_read reads (Some bytes) None reading result has end is = absurd has.consumed
+all_read reads (Some bytes) (Some rest) reading result has end is =
+    sym (reads bytes)
     ∙ ap (λ l. ended (bytes_read unread l))
     (has.consumed ∙ ap (λ l. has.taken ++ l) end ∙ append-nil has.taken)
     ∙ ap ended has.read ∙ is
 
 -- a word that writes no number is told at once
-pub word_found : (first left : Option (List ℕ)) (word : ℕ) → HasRead first left (Fails word)
-    → Writes first (Err word)
-word_found None left word has = tt
-word_found (Some bytes) None word has = absurd has.consumed
-word_found (Some bytes) (Some rest) word has =
-    ap ints has.consumed ∙ fails_for_good has.taken rest word has.read
+pub word_found : FailsForGood → (first left : Option (List ℕ)) (word : ℕ)
+    → HasRead first left (Fails word)
+    → WritesNumbers first (Err word)
+word_found fails None left word has = tt
+word_found fails (Some bytes) None word has = absurd has.consumed
+word_found fails (Some bytes) (Some rest) word has =
+    ap ints has.consumed ∙ fails has.taken rest word has.read
 
 -- nothing more was read
-pub read_no_more : (first middle last : Option (List ℕ)) (reading : Reading) (n : ℕ)
-    (piece : List ℕ) → HasRead first middle reading → Consumes middle last (take n piece) → n ≡ 0
+pub read_no_more : ReadsInPieces → (first middle last : Option (List ℕ)) (reading : Reading)
+    (n : ℕ) (piece : List ℕ) → HasRead first middle reading → Consumes middle last (take n piece)
+    → n ≡ 0
     → HasRead first last reading
-read_no_more first middle last reading n piece has consumed none =
-    read_more first middle last reading reading (take n piece) has consumed
+read_no_more pieces first middle last reading n piece has consumed none =
+    read_more pieces first middle last reading reading (take n piece) has consumed
     (ap (λ m. bytes_read reading (take m piece)) none)
 
-pub ended_reads : (first left : Option (List ℕ)) (reading : Reading)
+pub ended_reads : ReadsInts → (first left : Option (List ℕ)) (reading : Reading)
     (result : Result (Vec ℤ Global) ReadStop) → HasRead first left reading → IsAtEnd left
     → IsEnded (ended reading) result → ReadsNumbers first result
-ended_reads first left reading (Ok numbers) has end is =
-    all_read first left reading (Ok numbers.items) has end is
-ended_reads first left reading (Err (stop.BadInput word)) has end is =
-    all_read first left reading (Err word) has end is
-ended_reads first left reading (Err stop.Failed) has end is = absurd is
-ended_reads first left reading (Err stop.NoMemory) has end is = tt
+ended_reads reads first left reading (Ok numbers) has end is =
+    all_read reads first left reading (Ok numbers.items) has end is
+ended_reads reads first left reading (Err (stop.BadInput word)) has end is =
+    all_read reads first left reading (Err word) has end is
+ended_reads reads first left reading (Err stop.Failed) has end is = absurd is
+ended_reads reads first left reading (Err stop.NoMemory) has end is = tt
 
 pub never_failed : {A : Type 0} (expected : Result (List ℤ) ℕ)
     (result : Result (Vec ℤ Global) ReadStop) → IsEnded expected result → result ≡ Err stop.Failed
@@ -88,13 +91,16 @@ pub never_failed : {A : Type 0} (expected : Result (List ℤ) ℕ)
 never_failed expected result is failed = absurd (subst (IsEnded expected) failed is)
 
 -- a piece with a word that writes no number
-pub word_stops : (first middle last : Option (List ℕ)) (reading after : Reading) (piece : List ℕ)
-    (e : InputError) (why : ReadStop) → HasRead first middle reading
+pub word_stops : ReadsInPieces → FailsForGood → (first middle last : Option (List ℕ))
+    (reading after : Reading) (piece : List ℕ) (e : InputError) (why : ReadStop)
+    → HasRead first middle reading
     → Consumes middle last piece → IsRead (bytes_read reading piece) (Err e) after
     → why ≡ stop_of e → ReadsNumbers first (Err why)
-word_stops first middle last reading after piece (error.BadInput word) why has consumed is told =
+word_stops pieces fails first middle last reading after piece (error.BadInput word) why has consumed
+    is told =
     subst (λ (w : ReadStop). ReadsNumbers first (Err w)) (sym told)
-    (word_found first last word
-    (read_more first middle last reading (Fails word) piece has consumed is))
-word_stops first middle last reading after piece error.NoMemory why has consumed is told =
+    (word_found fails first last word
+    (read_more pieces first middle last reading (Fails word) piece has consumed is))
+word_stops pieces fails first middle last reading after piece error.NoMemory why has consumed is
+    told =
     subst (λ (w : ReadStop). ReadsNumbers first (Err w)) (sym told) tt

@@ -63,7 +63,8 @@ pub no_number : (name : Text) (rows : List Row) → name ≡ codes "run"
     → IsKnown name rows → ⊥
 no_number name rows run none (inl (is, (number, reads))) = none number reads
 no_number name rows run none (inr (inl is)) = cc
-no_number name rows run none (inr (inr is)) = cc
+no_number name rows run none (inr (inr (inl is))) = cc
+no_number name rows run none (inr (inr (inr is))) = cc
 
 -- how a text is read as a number of 32 bits
 abbrev pub Gives : Text → Result ℕ ParseIntError → Type 0

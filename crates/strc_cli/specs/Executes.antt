@@ -16,22 +16,22 @@ use Rattle.strc_sched.specs.declared.refusal.RunRefusal.TheVariants as unrun
 use Rattle.strc_run.specs.declared.refusal.Refusal.{Refusal}
 use Rattle.strc_run.specs.declared.refusal.Refusal.TheVariants as refusal
 use Rattle.strc_cli.specs.Answering.{IsAnswered}
-use Rattle.strc_cli.specs.Output.{check_line, outcome_text, plan_text, refusal_line}
-use Rattle.strc_cli.specs.Output.{run_refusal_line, bad_input_line}
+use Rattle.strc_cli.specs.Output.{check_line, outcome_text, plan_text, stop_line}
 
--- all that is written: what the run printed, the lines of a plan, or one line
+-- all that is written: what the run printed, the lines of a plan, a picture, or one line
 abbrev pub answer_text : Result Answer Stop → List ℕ
 answer_text (Ok (answer.Ran outcome)) = outcome_text outcome
 answer_text (Ok (answer.Checked nodes channels)) = check_line nodes channels
 answer_text (Ok (answer.Planned plan)) = plan_text plan
-answer_text (Err (stop.Refused refused)) = refusal_line refused
-answer_text (Err (stop.BadInput word)) = bad_input_line word
-answer_text (Err (stop.NotRun refused)) = run_refusal_line refused
+answer_text (Ok (answer.Drawn picture)) = picture.items
+answer_text (Err stop) = stop_line stop
 
+-- the status of a text that is refused
 abbrev pub refusal_status : Refusal → Status
 refusal_status refusal.NoMemory = status.NoMemory
 refusal_status refused = status.Refused
 
+-- the status of a run that is refused
 abbrev pub run_refusal_status : RunRefusal → Status
 run_refusal_status unrun.NoMemory = status.NoMemory
 run_refusal_status unrun.NoWorker = status.NoMemory
@@ -43,15 +43,18 @@ answer_status (Ok (answer.Ran (outcome.Done words))) = status.Done
 answer_status (Ok (answer.Ran (outcome.Fault node firing round cause words))) = status.Fault
 answer_status (Ok (answer.Checked nodes channels)) = status.Done
 answer_status (Ok (answer.Planned plan)) = status.Done
+answer_status (Ok (answer.Drawn picture)) = status.Done
 answer_status (Err (stop.Refused refused)) = refusal_status refused
 answer_status (Err (stop.BadInput word)) = status.Refused
 answer_status (Err (stop.NotRun refused)) = run_refusal_status refused
 
--- a device from before to after: what it has taken, and whether it has failed
+-- the output at one moment: the bytes that it has taken, where they are known, and whether it has
+-- failed
 pub record Device : Type 0 where
   pub taken : Option (List ℕ)
   pub has_failed : Bool
 
+-- a device that has taken these bytes, and has failed or not
 abbrev pub device_of : Option (List ℕ) → Bool → Device
 device_of taken has_failed = record { taken = taken; has_failed = has_failed }
 

@@ -1,13 +1,12 @@
 -- How the input is read.
-use Rattle.std.specs.Prelude.{◌≡◌, ℕ, ℤ, Bool, true, false, List, [], length, Option, Result, Ok}
+use Rattle.std.specs.Prelude.{◌≡◌, ℕ, ℤ, Bool, true, false, List, [], Option, Result, Ok}
 use Rattle.std.specs.Prelude.{Err, Vec}
 use Rattle.std.specs.declared.alloc.Global.{Global}
 use Rattle.strc_input.specs.declared.numbers.InputError.{InputError}
 use Rattle.strc_input.specs.declared.numbers.InputError.TheVariants as error
-use Rattle.strc_graph.specs.Graphs.{Graph}
-use Rattle.strc_order.specs.Schedules.{ScheduleParts}
-use Rattle.strc_run.specs.Rounds.{RunsRounds, IsUnrun}
-use Rattle.strc_cli.specs.Answering.{Writes}
+use Rattle.strc_stage.specs.Plans.{Planning}
+use Rattle.strc_run.specs.Rounds.{IsRunOf}
+use Rattle.strc_cli.specs.Answering.{WritesNumbers}
 use Rattle.strc_cli.specs.declared.execute.CliError.{CliError}
 use Rattle.strc_cli.specs.declared.execute.CliError.TheVariants as failure
 use Rattle.strc_cli.specs.declared.answer.Answer.{Answer}
@@ -19,8 +18,8 @@ use Rattle.strc_cli.specs.declared.input.ReadStop.TheVariants as stop
 
 -- an answer is the numbers of the bytes, where they are known, or the word that writes none
 abbrev pub ReadsNumbers : (bytes : Option (List ℕ)) → Result (Vec ℤ Global) ReadStop → Type 0
-ReadsNumbers bytes (Ok numbers) = Writes bytes (Ok numbers.items)
-ReadsNumbers bytes (Err (stop.BadInput word)) = Writes bytes (Err word)
+ReadsNumbers bytes (Ok numbers) = WritesNumbers bytes (Ok numbers.items)
+ReadsNumbers bytes (Err (stop.BadInput word)) = WritesNumbers bytes (Err word)
 ReadsNumbers bytes (Err stop.Failed) = Unit {0}
 ReadsNumbers bytes (Err stop.NoMemory) = Unit {0}
 
@@ -43,15 +42,13 @@ IsInputOf true bytes result = ReadsNumbers bytes result
 IsInputOf false bytes (Ok numbers) = numbers.items ≡ []
 IsInputOf false bytes (Err why) = ⊥
 
--- how the rounds of a plan's graph are answered
-abbrev pub IsRunAnswer : Graph → ScheduleParts → List ℤ → (rounds : Option ℕ)
-    → Result Answer Stop → Type 0
-IsRunAnswer graph schedule input rounds (Ok (answer.Ran outcome)) =
-    RunsRounds graph schedule input rounds outcome
-IsRunAnswer graph schedule input rounds (Ok _) = ⊥
-IsRunAnswer graph schedule input rounds (Err (no_answer.NotRun refused)) =
-    IsUnrun graph schedule (length input) rounds refused
-IsRunAnswer graph schedule input rounds (Err _) = ⊥
+-- how the rounds of a plan are answered
+abbrev pub IsRunAnswer : Planning → List ℤ → (rounds : Option ℕ) → Result Answer Stop → Type 0
+IsRunAnswer plan input rounds (Ok (answer.Ran outcome)) = IsRunOf plan input rounds (Ok outcome)
+IsRunAnswer plan input rounds (Ok _) = ⊥
+IsRunAnswer plan input rounds (Err (no_answer.NotRun refused)) =
+    IsRunOf plan input rounds (Err refused)
+IsRunAnswer plan input rounds (Err _) = ⊥
 
 -- what comes of an input that gives no numbers
 abbrev pub unread : ReadStop → Result (Result Answer Stop) CliError

@@ -1,4 +1,5 @@
 pub mod Answering
+pub mod Drawing
 pub mod Executes
 pub mod Input
 pub mod Lines

@@ -1,6 +1,7 @@
 -- What the words of a command line ask for. After the program's name they are
--- `run FILE [--rounds N] [--main NAME]`, `check FILE [--main NAME]` or `plan FILE [--main NAME]`,
--- and are read as the crate `clap` reads the words of a command: `strc_app` describes ours.
+-- `run FILE [--rounds N] [--main NAME]`, `check FILE [--main NAME]`, `plan FILE [--main NAME]` or
+-- `graph FILE [--main NAME]`, and are read as the crate `clap` reads the words of a command:
+-- `strc_app` describes ours.
 use Rattle.std.specs.Prelude.{◌≡◌, ◌⊎◌, ℕ, ◌<◌, ◌^◌, pos, true, List, []}
 use Rattle.std.specs.Prelude.{Option, Some, None, IsSome, option_map, string_bytes, codes}
 use Rattle.std.specs.Str.Parse.{IsNumeral, digits_value, without_leading_plus}
@@ -51,12 +52,17 @@ check_app = with_rule (with_rule (new_app (codes "check")) file_rule) main_rule
 abbrev pub plan_app : App
 plan_app = with_rule (with_rule (new_app (codes "plan")) file_rule) main_rule
 
+-- the words of `graph`
+abbrev pub graph_app : App
+graph_app = with_rule (with_rule (new_app (codes "graph")) file_rule) main_rule
+
 -- the words of the program, which wants a subcommand
 abbrev pub strc_app : App
 strc_app =
     let strc = on_top (λ shape. record shape { subcommand_required = true })
     (new_app (codes "strc")) in
-    with_subcommand (with_subcommand (with_subcommand strc run_app.top) check_app.top) plan_app.top
+    with_subcommand (with_subcommand (with_subcommand (with_subcommand strc run_app.top)
+    check_app.top) plan_app.top) graph_app.top
 
 -- decimal digits, with a plus sign before them or none, that write this number of 32 bits
 abbrev pub Writes32 : Text → ℕ → Type 0
@@ -77,6 +83,7 @@ IsCommandOf name rows (command.Run rounds main) =
     (name ≡ codes "run") × IsNumberOf (one_of (codes "rounds") rows) rounds
 IsCommandOf name rows (command.Check main) = name ≡ codes "check"
 IsCommandOf name rows (command.Plan main) = name ≡ codes "plan"
+IsCommandOf name rows (command.Graph main) = name ≡ codes "graph"
 
 -- the line has what was found for a subcommand's FILE and options
 pub record IsLineOf (name : Text) (rows : List Row) (line : Line) : Type 0 where
@@ -90,12 +97,13 @@ abbrev pub IsLineIn : Option (Text × List Row) → Line → Type 0
 IsLineIn met line =
     (name : Text) × (rows : List Row) × (met ≡ Some (name, rows)) × IsLineOf name rows line
 
--- the name is that of a subcommand: `run`, with a number where one is given, `check` or `plan`
+-- the name is that of a subcommand: `run`, with a number where one is given, `check`, `plan` or
+-- `graph`
 abbrev pub IsKnown : Text → List Row → Type 0
 IsKnown name rows =
     ((name ≡ codes "run")
     × ((number : Option ℕ) × IsNumberOf (one_of (codes "rounds") rows) number))
-    ⊎ ((name ≡ codes "check") ⊎ (name ≡ codes "plan"))
+    ⊎ ((name ≡ codes "check") ⊎ ((name ≡ codes "plan") ⊎ (name ≡ codes "graph")))
 
 -- one of the subcommands was met, with a FILE
 pub record IsCommand (met : Option (Text × List Row)) : Type 0 where

@@ -8,7 +8,7 @@ use Rattle.strc_semantics.specs.declared.fault.Cause.{Cause}
 use Rattle.strc_semantics.specs.declared.fault.Cause.TheVariants as cause
 use Rattle.strc_graph.specs.NodeView.{node_names}
 use Rattle.strc_graph.specs.declared.graph.Channel.{Channel}
-use Rattle.strc_run.specs.declared.plan.Plan.{Plan}
+use Rattle.strc_stage.specs.Plans.{PlanParts}
 use Rattle.strc_sched.specs.declared.outcome.Outcome.{Outcome}
 use Rattle.strc_sched.specs.declared.outcome.Outcome.TheVariants as outcome
 use Rattle.strc_sched.specs.declared.outcome.Round.{Round}
@@ -17,6 +17,8 @@ use Rattle.strc_sched.specs.declared.refusal.RunRefusal.{RunRefusal}
 use Rattle.strc_sched.specs.declared.refusal.RunRefusal.TheVariants as unrun
 use Rattle.strc_run.specs.declared.refusal.Refusal.{Refusal}
 use Rattle.strc_run.specs.declared.refusal.Refusal.TheVariants as refusal
+use Rattle.strc_cli.specs.declared.answer.Stop.{Stop}
+use Rattle.strc_cli.specs.declared.answer.Stop.TheVariants as stop
 
 -- a line feed
 abbrev pub line_end : List ℕ
@@ -26,6 +28,7 @@ line_end = 10 ∷ []
 abbrev pub word_text : Word → List ℕ
 word_text word = signed_decimal word.value ++ (if word.ends_line then line_end else [])
 
+-- words one after another
 abbrev pub words_text : List Word → List ℕ
 words_text [] = []
 words_text (word ∷ words) = word_text word ++ words_text words
@@ -35,6 +38,7 @@ abbrev pub is_open : Option Word → Bool
 is_open None = false
 is_open (Some word) = not word.ends_line
 
+-- the same of words
 abbrev pub leaves_open : List Word → Bool
 leaves_open words = is_open (slice_get words (length words - 1))
 
@@ -42,12 +46,14 @@ leaves_open words = is_open (slice_get words (length words - 1))
 abbrev pub closing : List Word → List ℕ
 closing words = if leaves_open words then line_end else []
 
+-- why a firing faults, by its name
 abbrev pub cause_name : Cause → List ℕ
 cause_name cause.DivZero = codes "DivZero"
 cause_name cause.Index = codes "Index"
 cause_name cause.PeekRange = codes "PeekRange"
 cause_name cause.Turns = codes "Turns"
 
+-- when a firing faults: before the first round, or in a round
 abbrev pub round_words : Round → List ℕ
 round_words round.Startup = codes " startup"
 round_words (round.At q) = codes " round " ++ decimal q
@@ -106,10 +112,16 @@ channel_lines number channels sizes = []
 
 -- all that is written of a plan: for each node how often it fires in a round, for each node how
 -- often it fires before the first round, and for each channel the size of its buffer
-abbrev pub plan_text : Plan → List ℕ
+abbrev pub plan_text : PlanParts → List ℕ
 plan_text plan =
     node_lines 0 (node_names plan.graph) plan.round_counts ++ start_lines 0 plan.startup_counts
     ++ channel_lines 0 plan.graph.channels plan.schedule.sizes
+
+-- a declared rate that isn't the counted one
+abbrev pub mismatch_words : (node declared counted : ℕ) → List ℕ
+mismatch_words node declared counted =
+    codes "E14 RateMismatch node " ++ decimal node ++ codes " declared " ++ decimal declared
+    ++ codes " counted " ++ decimal counted
 
 -- the number and the name of a refusal, with its fields, each after its name
 abbrev pub refusal_words : Refusal → List ℕ
@@ -130,9 +142,7 @@ refusal_words (refusal.BadWeights stream) =
 refusal_words (refusal.ConstFault cause) =
     codes "E12 ConstFault" ++ codes " cause " ++ cause_name cause
 refusal_words (refusal.RateUnknown node) = codes "E13 RateUnknown" ++ codes " node " ++ decimal node
-refusal_words (refusal.RateMismatch node declared counted) =
-    codes "E14 RateMismatch" ++ codes " node " ++ decimal node
-    ++ (codes " declared " ++ decimal declared ++ codes " counted " ++ decimal counted)
+refusal_words (refusal.RateMismatch node declared counted) = mismatch_words node declared counted
 refusal_words (refusal.PeekOutside node) = codes "E15 PeekOutside" ++ codes " node " ++ decimal node
 refusal_words (refusal.RateLimit node) = codes "E16 RateLimit" ++ codes " node " ++ decimal node
 refusal_words refusal.TwoInputs = codes "E17 TwoInputs"
@@ -149,24 +159,25 @@ refusal_words (refusal.BufferLimit channel) =
 refusal_words refusal.NoMemory = codes "E25 NoMemory"
 refusal_words refusal.Nesting = codes "E26 Nesting"
 
--- `refused E1 Lex at 12`
-abbrev pub refusal_line : Refusal → List ℕ
-refusal_line refused = codes "refused " ++ refusal_words refused ++ line_end
+-- an input that is shorter than what the rounds read
+abbrev pub short_words : (need got : ℕ) → List ℕ
+short_words need got =
+    codes "S1 InputShort need " ++ decimal need ++ codes " got " ++ decimal got
 
--- the same of a refusal of a run
+-- the number and the name of a refusal of a run, with its fields
 abbrev pub run_refusal_words : RunRefusal → List ℕ
-run_refusal_words (unrun.InputShort need got) =
-    codes "S1 InputShort" ++ (codes " need " ++ decimal need ++ codes " got " ++ decimal got)
+run_refusal_words (unrun.InputShort need got) = short_words need got
 run_refusal_words unrun.BadWorkers = codes "S2 BadWorkers"
 run_refusal_words unrun.NoMemory = codes "S3 NoMemory"
 run_refusal_words unrun.NoWorker = codes "S4 NoWorker"
 run_refusal_words unrun.RoundsNeeded = codes "S5 RoundsNeeded"
 
--- `refused S1 InputShort need 6 got 5`
-abbrev pub run_refusal_line : RunRefusal → List ℕ
-run_refusal_line refused = codes "refused " ++ run_refusal_words refused ++ line_end
+-- why there is no answer: a refusal of the text, of a word of its input, or of its run
+abbrev pub stop_words : Stop → List ℕ
+stop_words (stop.Refused refused) = refusal_words refused
+stop_words (stop.BadInput word) = codes "S6 BadInput" ++ codes " word " ++ decimal word
+stop_words (stop.NotRun refused) = run_refusal_words refused
 
--- `refused S6 BadInput word 2`
-abbrev pub bad_input_line : (word : ℕ) → List ℕ
-bad_input_line word = codes "refused " ++ (codes "S6 BadInput" ++ codes " word " ++ decimal word)
-    ++ line_end
+-- `refused E1 Lex at 12`, `refused S1 InputShort need 6 got 5`
+abbrev pub stop_line : Stop → List ℕ
+stop_line stop = codes "refused " ++ stop_words stop ++ line_end

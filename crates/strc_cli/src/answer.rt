@@ -1,23 +1,23 @@
 // What a command is answered for a text, before anything is written.
 
-ghost use Rattle.std.specs.Prelude.{◌≡◌, ◌≢◌, ◌⊎◌, true, ℕ, List, Option, Err};
-ghost use Rattle.std.specs.List.{list_any};
+ghost use Rattle.std.specs.Prelude.{◌≡◌, ◌≢◌, ◌⊎◌, true, Err, IfOk};
 ghost use Rattle.std.specs.Option.{option_map};
-ghost use Rattle.strc_graph.specs.Graphs as graphs;
-ghost use Rattle.strc_graph.specs.NodeView.{graph_view};
-ghost use Rattle.strc_admissible.specs.Planned.{IsPlanned};
-ghost use Rattle.strc_run.specs.Planning.{IsPlanOf};
-ghost use Rattle.strc_cli.specs.Answering.{IsAnswered, IsRun, ReadsInput, main_of};
+ghost use Rattle.strc_stage.specs.Plans.{planning_of};
+ghost use Rattle.strc_run.specs.Plans as plans;
+ghost use Rattle.strc_run.specs.Rounds.{plan_reads};
+ghost use Rattle.strc_cli.specs.Answering.{AnswersPlan, IsAnswered, ReadsInput, main_of};
 ghost use Rattle.strc_cli.specs.Input as spec;
 ghost use Rattle.strc_cli.specs.Input.{IsInputOf, IsRunAnswer};
 
 use crate::device::Source;
+use crate::drawing::drawn;
 use crate::execute::CliError;
 use crate::input::{ReadStop, read_numbers};
 use crate::line::Command;
-use std::alloc::Global;
-use strc_run::compile::compile;
-use strc_run::plan::Plan;
+use std::alloc::{AllocError, Global};
+use strc_run::compile::{Plan, compile};
+use strc_run::laws::plans_answer_texts;
+use strc_run::options::Options;
 use strc_run::refusal::Refusal;
 use strc_run::run::{Outcome, RunRefusal, reads_input, run};
 
@@ -30,6 +30,8 @@ pub(crate) enum Answer {
     Checked { nodes: usize, channels: usize },
     /// Its plan.
     Planned(Plan),
+    /// The picture of its flat graph.
+    Drawn(Vec<u8>),
 }
 
 /// Why there is no answer.
@@ -56,17 +58,21 @@ pub(crate) fn answer_to<I: Source>(
     ensures steady { result ≢ Err CliError.Read → I.has_failed input.new ≡ I.has_failed input.old }
     ensures unread { (input.new ≡ input.old) ⊎ ReadsInput text.now command.now }
 {
-    let plan = match compile(alloc, text, main_name(command)) {
+    let Ok(options) = options_of(alloc, command) else {
+        return Ok(Err(Stop::Refused(Refusal::NoMemory)));
+    };
+    let plan = match compile(alloc, text, &options) {
         Ok(plan) => plan,
         Err(refusal) => return Ok(Err(Stop::Refused(refusal))),
     };
     match command {
         Command::Run { rounds, main: _ } => run_plan(alloc, &plan, *rounds, input),
         Command::Check { main: _ } => Ok(Ok(Answer::Checked {
-            nodes: plan.graph.nodes().len(),
-            channels: plan.graph.channels().len(),
+            nodes: plan.graph().nodes().len(),
+            channels: plan.graph().channels().len(),
         })),
         Command::Plan { main: _ } => Ok(Ok(Answer::Planned(plan))),
+        Command::Graph { main: _ } => Ok(drawn(alloc, text, &options, &plan)),
     }
 }
 
@@ -77,14 +83,14 @@ fn run_plan<I: Source>(
     rounds: Option<u32>,
     input: &mut I,
 ) -> Result<Result<Answer, Stop>, CliError>
-    requires { IsPlanned (graph_view plan.now.graph) plan.now.schedule }
-    ensures run { (text : List ℕ) (main : Option (List ℕ)) → IsPlanOf text main plan.now
-        → IsRun text main rounds (I.remaining input.old) result }
+    ensures run { AnswersPlan (planning_of plan.now) rounds (I.remaining input.old) result }
     ensures failed { result ≡ Err CliError.Read → I.has_failed input.new ≡ true }
     ensures steady { result ≢ Err CliError.Read → I.has_failed input.new ≡ I.has_failed input.old }
     ensures unread { (input.new ≡ input.old)
-        ⊎ (list_any graphs.reads_input (graph_view plan.now.graph).nodes ≡ true) }
+        ⊎ (plan_reads (planning_of plan.now) ≡ true) }
 {
+    // The answer for the plan is the answer for its text.
+    plans_answer_texts();
     match input_of(alloc, plan, input) {
         Ok(numbers) => Ok(run_numbers(alloc, plan, rounds, &numbers)),
         Err(stop) => unread(stop),
@@ -104,15 +110,14 @@ fn unread(stop: ReadStop) -> Result<Result<Answer, Stop>, CliError>
 
 // The numbers of the input, where the plan's graph has a reader.
 fn input_of<I: Source>(alloc: Global, plan: &Plan, input: &mut I) -> Result<Vec<i32>, ReadStop>
-    ensures numbers { IsInputOf (list_any graphs.reads_input (graph_view plan.now.graph).nodes)
-        (I.remaining input.old) result }
+    ensures numbers { IsInputOf (plan_reads (planning_of plan.now)) (I.remaining input.old) result }
     ensures failed { result ≡ Err ReadStop.Failed → I.has_failed input.new ≡ true }
     ensures steady { result ≢ Err ReadStop.Failed
         → I.has_failed input.new ≡ I.has_failed input.old }
     ensures unread { (input.new ≡ input.old)
-        ⊎ (list_any graphs.reads_input (graph_view plan.now.graph).nodes ≡ true) }
+        ⊎ (plan_reads (planning_of plan.now) ≡ true) }
 {
-    if reads_input(&plan.graph) {
+    if reads_input(plan) {
         read_numbers(alloc, input)
     } else {
         Ok(Vec::new(alloc))
@@ -126,8 +131,7 @@ fn run_numbers(
     rounds: Option<u32>,
     input: &[i32],
 ) -> Result<Answer, Stop>
-    requires { IsPlanned (graph_view plan.now.graph) plan.now.schedule }
-    ensures { IsRunAnswer (graph_view plan.now.graph) plan.now.schedule input.now rounds result }
+    ensures { IsRunAnswer (planning_of plan.now) input.now rounds result }
 {
     match run(alloc, plan, input, rounds) {
         Ok(outcome) => Ok(Answer::Ran(outcome)),
@@ -135,13 +139,27 @@ fn run_numbers(
     }
 }
 
-fn main_name(command: &Command) -> Option<&str>
+// How the command's text is to be compiled.
+fn options_of(alloc: Global, command: &Command) -> Result<Options, AllocError>
+    ensures { IfOk result (λ options. plans.main_of options ≡ main_of command.now) }
+{
+    match main_name(command) {
+        Some(name) => Ok(Options {
+            main: Some(String::from_str(alloc, name)?),
+        }),
+        None => Ok(Options { main: None }),
+    }
+}
+
+/// The main stream that a command names.
+pub(crate) fn main_name(command: &Command) -> Option<&str>
     ensures { option_map (λ name. name.now) result ≡ main_of command.now }
 {
     let main = match command {
         Command::Run { rounds: _, main } => main,
         Command::Check { main } => main,
         Command::Plan { main } => main,
+        Command::Graph { main } => main,
     };
     match main {
         Some(name) => Some(name.as_str()),

@@ -9,9 +9,7 @@ ghost use Rattle.strc_cli.specs.Executes.{Executes, TellsAnswer, Writes, device_
 use crate::answer::{Answer, Stop, answer_to};
 use crate::device::{Sink, Source};
 use crate::line::Command;
-use crate::output::{
-    bad_input_text, check_text, outcome_text, plan_text, refusal_text, run_refusal_text,
-};
+use crate::output::{check_text, outcome_text, plan_text, stop_text};
 use std::alloc::{AllocError, Global};
 use strc_run::refusal::Refusal;
 use strc_run::run::{Outcome, RunRefusal};
@@ -78,8 +76,8 @@ pub fn execute<I: Source, O: Sink>(
     }
 }
 
-// Writes what is reported of an answer.
-fn tell<O: Sink>(
+/// Writes what is reported of an answer.
+pub(crate) fn tell<O: Sink>(
     alloc: Global,
     answered: &Result<Answer, Stop>,
     output: &mut O,
@@ -119,9 +117,8 @@ fn answer_text(alloc: Global, answered: &Result<Answer, Stop>) -> Result<Vec<u8>
         Ok(Answer::Ran(outcome)) => outcome_text(alloc, outcome),
         Ok(Answer::Checked { nodes, channels }) => check_text(alloc, *nodes, *channels),
         Ok(Answer::Planned(plan)) => plan_text(alloc, plan),
-        Err(Stop::Refused(refusal)) => refusal_text(alloc, refusal),
-        Err(Stop::BadInput { word }) => bad_input_text(alloc, *word),
-        Err(Stop::NotRun(refusal)) => run_refusal_text(alloc, *refusal),
+        Ok(Answer::Drawn(picture)) => picture.to_vec(alloc),
+        Err(stop) => stop_text(alloc, stop),
     }
 }
 
@@ -134,6 +131,7 @@ fn answer_status(answered: &Result<Answer, Stop>) -> Status
         Ok(Answer::Ran(Outcome::Fault { .. })) => Status::Fault,
         Ok(Answer::Checked { .. }) => Status::Done,
         Ok(Answer::Planned(_)) => Status::Done,
+        Ok(Answer::Drawn(_)) => Status::Done,
         Err(Stop::Refused(Refusal::NoMemory)) => Status::NoMemory,
         Err(Stop::Refused(_)) => Status::Refused,
         Err(Stop::BadInput { .. }) => Status::Refused,

@@ -7,13 +7,14 @@ ghost use Rattle.strc_cli.specs.Input.{ReadsNumbers, IsEnded};
 
 use crate::device::Source;
 use std::alloc::Global;
+use strc_input::laws::{fails_for_good, reads_in_pieces, reads_ints};
 use strc_input::numbers::{InputError, Numbers};
 
 // How many bytes are read at a time.
 const PIECE: usize = 65536;
 
 /// Why the input gives no numbers.
-#[derive(Clone, Copy, PartialEq, Eq)]
+#[derive(Drop)]
 pub(crate) enum ReadStop {
     /// A word writes no number; its number, from 0.
     BadInput { word: u64 },
@@ -31,6 +32,10 @@ pub(crate) fn read_numbers<I: Source>(alloc: Global, input: &mut I) -> Result<Ve
     ensures steady { result ≢ Err ReadStop.Failed
         → I.has_failed input.new ≡ I.has_failed input.old }
 {
+    // Read in pieces, the numbers are those of the whole input.
+    reads_in_pieces();
+    reads_ints();
+    fails_for_good();
     let mut numbers = Numbers::new(alloc);
     let mut piece = [0u8; PIECE];
     loop {

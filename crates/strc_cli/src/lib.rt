@@ -5,14 +5,16 @@
 // The theorem to rely on: `execute` reports exactly the answer of a text and a command: an outcome
 // of its rounds that is the answer of its stream's equations, the size of its graph, its plan, or a
 // refusal that holds.
-// Stands on strc_run, which compiles and runs a text, on strc_input, which reads its input's
-// numbers, on strc_sched, whose outcomes it writes, on strc_graph, strc_balance and strc_order,
-// whose graph, counts and buffers it writes, and on clap for the command line.
+// Stands on strc_run, which compiles and runs a text, on strc_stage, whose plan it writes, on
+// strc_input, which reads its input's numbers, on strc_sched, strc_graph and strc_semantics, of
+// whose outcomes, nodes, words and faults it writes, and on clap for the command line.
 #![tactic(auto)]
 
 mod answer;
 pub mod device;
+mod drawing;
 pub mod execute;
+pub mod explain;
 mod input;
 pub mod line;
 mod output;

@@ -1,7 +1,7 @@
 // What a command line asks for.
 
 /// What the program is to do.
-#[derive(Debug, Drop)]
+#[derive(Drop)]
 pub enum Command {
     /// Run the program for so many rounds, or for as many as its input allows.
     Run {
@@ -21,10 +21,15 @@ pub enum Command {
         /// The name of the main stream, where one is given.
         main: Option<String>,
     },
+    /// Draw the program's flat graph, as a text for Graphviz.
+    Graph {
+        /// The name of the main stream, where one is given.
+        main: Option<String>,
+    },
 }
 
 /// A line of words that was understood.
-#[derive(Debug, Drop)]
+#[derive(Drop)]
 pub struct Line {
     /// The file of the program's text; without one it comes from standard input.
     pub file: Option<String>,

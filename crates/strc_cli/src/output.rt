@@ -1,14 +1,15 @@
 // What is written: the words and the fault line, the lines of a check or a plan, or the line of a
 // refusal.
 
-ghost use Rattle.std.specs.Prelude.{◌≡◌, ◌++◌, IfOk, OnOk, codes, decimal, length};
+ghost use Rattle.std.specs.Prelude.{◌≡◌, ◌++◌, IfOk, OnOk, decimal, length};
 ghost use Rattle.strc_graph.specs.NodeView.{node_names};
 ghost use Rattle.strc_cli.specs.Output as spec;
 
+use crate::answer::Stop;
 use crate::text::{push_bytes, push_integer, push_number};
 use std::alloc::{AllocError, Global};
 use strc_graph::graph::Channel;
-use strc_run::plan::Plan;
+use strc_run::compile::Plan;
 use strc_run::refusal::Refusal;
 use strc_run::run::{Outcome, Round, RunRefusal};
 use strc_semantics::fault::Cause;
@@ -129,8 +130,8 @@ pub(crate) fn plan_text(alloc: Global, plan: &Plan) -> Result<Vec<u8>, AllocErro
 {
     let mut text = Vec::new(alloc);
     push_nodes(&mut text, plan)?;
-    push_starts(&mut text, plan.startup_counts.as_slice())?;
-    push_channels(&mut text, plan.graph.channels(), plan.schedule.sizes())?;
+    push_starts(&mut text, plan.startup_counts().as_slice())?;
+    push_channels(&mut text, plan.graph().channels(), plan.sizes())?;
     Ok(text)
 }
 
@@ -139,13 +140,10 @@ fn push_nodes(text: &mut Vec<u8>, plan: &Plan) -> Result<(), AllocError>
     ensures { OnOk result (text.new.items ≡ text.old.items
         ++ spec.node_lines 0 (node_names plan.now.graph) plan.now.round_counts) }
 {
-    for node in 0..plan.graph.nodes().len() {
-        push_node(
-            text,
-            node,
-            plan.graph.name(node),
-            plan.round_counts.at(node),
-        )?;
+    let graph = plan.graph();
+    let counts = plan.round_counts();
+    for node in 0..graph.nodes().len() {
+        push_node(text, node, graph.name(node), counts.at(node))?;
     }
     Ok(())
 }
@@ -217,15 +215,26 @@ fn push_channel(
     push_bytes(text, b"\n")
 }
 
-/// The line that tells a refusal.
-pub(crate) fn refusal_text(alloc: Global, refusal: &Refusal) -> Result<Vec<u8>, AllocError>
-    ensures { IfOk result (λ text. text.items ≡ spec.refusal_line refusal.now) }
+/// The line that tells why there is no answer.
+pub(crate) fn stop_text(alloc: Global, stop: &Stop) -> Result<Vec<u8>, AllocError>
+    ensures { IfOk result (λ text. text.items ≡ spec.stop_line stop.now) }
 {
     let mut text = Vec::new(alloc);
     push_bytes(&mut text, b"refused ")?;
-    push_refusal(&mut text, refusal)?;
+    push_stop(&mut text, stop)?;
     push_bytes(&mut text, b"\n")?;
     Ok(text)
+}
+
+// Why there is no answer: a refusal of the text, of a word of its input, or of its run.
+fn push_stop(text: &mut Vec<u8>, stop: &Stop) -> Result<(), AllocError>
+    ensures { OnOk result (text.new.items ≡ text.old.items ++ spec.stop_words stop.now) }
+{
+    match stop {
+        Stop::Refused(refusal) => push_refusal(text, refusal),
+        Stop::BadInput { word } => push_field(text, b"S6 BadInput", b" word ", *word),
+        Stop::NotRun(refusal) => push_run_refusal(text, *refusal),
+    }
 }
 
 // The number and the name of a refusal, and its fields, each after its name.
@@ -265,7 +274,12 @@ fn push_refusal(text: &mut Vec<u8>, refusal: &Refusal) -> Result<(), AllocError>
             node,
             declared,
             counted,
-        } => push_mismatch(text, *node, *declared, *counted),
+        } => push_mismatch(
+            text,
+            *node as u64,
+            u64::from(*declared),
+            u64::from(*counted),
+        ),
         Refusal::PeekOutside { node } => {
             push_field(text, b"E15 PeekOutside", b" node ", *node as u64)
         }
@@ -318,52 +332,25 @@ fn push_named(
     push_bytes(text, name)
 }
 
+// A declared rate that isn't the counted one.
 fn push_mismatch(
     text: &mut Vec<u8>,
-    node: usize,
-    declared: u32,
-    counted: u32,
+    node: u64,
+    declared: u64,
+    counted: u64,
 ) -> Result<(), AllocError>
     ensures { OnOk result (text.new.items ≡ text.old.items
-        ++ (codes "E14 RateMismatch" ++ codes " node " ++ decimal node
-        ++ (codes " declared " ++ decimal declared ++ codes " counted " ++ decimal counted))) }
+        ++ spec.mismatch_words node declared counted) }
 {
-    push_field(text, b"E14 RateMismatch", b" node ", node as u64)?;
-    push_counts(text, declared, counted)
-}
-
-fn push_counts(text: &mut Vec<u8>, declared: u32, counted: u32) -> Result<(), AllocError>
-    ensures { OnOk result (text.new.items ≡ text.old.items
-        ++ (codes " declared " ++ decimal declared ++ codes " counted " ++ decimal counted)) }
-{
+    push_bytes(text, b"E14 RateMismatch node ")?;
+    push_number(text, node)?;
     push_bytes(text, b" declared ")?;
-    push_number(text, u64::from(declared))?;
+    push_number(text, declared)?;
     push_bytes(text, b" counted ")?;
-    push_number(text, u64::from(counted))
+    push_number(text, counted)
 }
 
-/// The line that tells why there is no run.
-pub(crate) fn run_refusal_text(alloc: Global, refusal: RunRefusal) -> Result<Vec<u8>, AllocError>
-    ensures { IfOk result (λ text. text.items ≡ spec.run_refusal_line refusal) }
-{
-    let mut text = Vec::new(alloc);
-    push_bytes(&mut text, b"refused ")?;
-    push_run_refusal(&mut text, refusal)?;
-    push_bytes(&mut text, b"\n")?;
-    Ok(text)
-}
-
-/// The line that tells which word of the input writes no number.
-pub(crate) fn bad_input_text(alloc: Global, word: u64) -> Result<Vec<u8>, AllocError>
-    ensures { IfOk result (λ text. text.items ≡ spec.bad_input_line word) }
-{
-    let mut text = Vec::new(alloc);
-    push_bytes(&mut text, b"refused ")?;
-    push_field(&mut text, b"S6 BadInput", b" word ", word)?;
-    push_bytes(&mut text, b"\n")?;
-    Ok(text)
-}
-
+// The number and the name of a refusal of a run, and its fields.
 fn push_run_refusal(text: &mut Vec<u8>, refusal: RunRefusal) -> Result<(), AllocError>
     ensures { OnOk result (text.new.items ≡ text.old.items ++ spec.run_refusal_words refusal) }
 {
@@ -376,20 +363,11 @@ fn push_run_refusal(text: &mut Vec<u8>, refusal: RunRefusal) -> Result<(), Alloc
     }
 }
 
+// An input that is shorter than what the rounds read.
 fn push_short(text: &mut Vec<u8>, need: u64, got: u64) -> Result<(), AllocError>
-    ensures { OnOk result (text.new.items ≡ text.old.items
-        ++ (codes "S1 InputShort" ++ (codes " need " ++ decimal need
-        ++ codes " got " ++ decimal got))) }
+    ensures { OnOk result (text.new.items ≡ text.old.items ++ spec.short_words need got) }
 {
-    push_bytes(text, b"S1 InputShort")?;
-    push_items(text, need, got)
-}
-
-fn push_items(text: &mut Vec<u8>, need: u64, got: u64) -> Result<(), AllocError>
-    ensures { OnOk result (text.new.items ≡ text.old.items
-        ++ (codes " need " ++ decimal need ++ codes " got " ++ decimal got)) }
-{
-    push_bytes(text, b" need ")?;
+    push_bytes(text, b"S1 InputShort need ")?;
     push_number(text, need)?;
     push_bytes(text, b" got ")?;
     push_number(text, got)

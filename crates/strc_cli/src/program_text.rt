@@ -12,7 +12,7 @@ use std::io::{ErrorKind, Read};
 const MOST_BYTES: u64 = 1048577;
 
 /// Why a text could not be read.
-#[derive(Debug, Drop)]
+#[derive(Drop)]
 pub enum TextFault {
     /// The reader failed.
     Failed(io::Error),

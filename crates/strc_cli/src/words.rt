@@ -8,12 +8,16 @@ ghost use Rattle.clap.specs.declared.builder.command.Command.TheViews.{out-Comma
 ghost use Rattle.strc_cli.specs.Answering.{main_of};
 ghost use Rattle.strc_cli.specs.Lines.{AsksFor, IsCommand, IsCommandOf, IsKnown, IsLineIn};
 ghost use Rattle.strc_cli.specs.Lines.{check_app, default_line, fault_by, faults, file_rule};
-ghost use Rattle.strc_cli.specs.Lines.{main_rule, plan_app, rounds_rule, run_app, strc_app};
+ghost use Rattle.strc_cli.specs.Lines.{graph_app, main_rule, plan_app, rounds_rule, run_app};
+ghost use Rattle.strc_cli.specs.Lines.{strc_app};
 
 use crate::line::{Command, Line, LineFault};
 use clap::error::ErrorKind;
 use clap::{Arg, ArgMatches, Error, value_parser};
 use std::alloc::{AllocError, Global};
+
+/// What `--version` says behind the program's name.
+pub const VERSION: &str = "0.9.0";
 
 // How many rounds the program runs with no words after its name.
 const BARE_ROUNDS: u32 = 5;
@@ -53,6 +57,22 @@ pub fn usage_error<'a>(alloc: Global, words: &'a [&'a str]) -> Result<String, Al
     }
 }
 
+/// Whether words that `command` doesn't understand ask for help, so that what `usage_error` says of
+/// them is no error.
+pub fn asks_for_help<'a>(alloc: Global, words: &'a [&'a str]) -> Result<bool, AllocError> {
+    match parser(alloc)?.try_get_matches_from(words) {
+        Ok(_) => Ok(false),
+        Err(error) => Ok(!error.use_stderr()),
+    }
+}
+
+/// Whether words ask for the version, wherever they do so.
+pub fn asks_for_version(words: &[&str]) -> bool {
+    words
+        .iter()
+        .any(|word| *word == "--version" || *word == "-V")
+}
+
 // The words that the program knows.
 fn parser<'a>(alloc: Global) -> Result<clap::Command<'a>, AllocError>
     ensures { IfOk result (λ parser. app_of parser ≡ strc_app) }
@@ -62,7 +82,8 @@ fn parser<'a>(alloc: Global) -> Result<clap::Command<'a>, AllocError>
         .subcommand_required(true)
         .subcommand(run_command(alloc)?)?
         .subcommand(check_command(alloc)?)?
-        .subcommand(plan_command(alloc)?)
+        .subcommand(plan_command(alloc)?)?
+        .subcommand(graph_command(alloc)?)
 }
 
 // The words `run FILE [--rounds N] [--main NAME]`.
@@ -95,6 +116,17 @@ fn plan_command<'a>(alloc: Global) -> Result<clap::Command<'a>, AllocError>
 {
     clap::Command::new(alloc, "plan")
         .about("Tells how often each node of a StreamIt program fires")
+        .arg(file_argument(alloc))?
+        .arg(main_option(alloc))
+}
+
+// The words `graph FILE [--main NAME]`.
+fn graph_command<'a>(alloc: Global) -> Result<clap::Command<'a>, AllocError>
+    ensures app { IfOk result (λ graph. app_of graph ≡ graph_app) }
+    ensures local { IfOk result (λ graph. (fields_of graph).has_globals ≡ false) }
+{
+    clap::Command::new(alloc, "graph")
+        .about("Draws the flat graph of a StreamIt program, for Graphviz")
         .arg(file_argument(alloc))?
         .arg(main_option(alloc))
 }
@@ -165,6 +197,7 @@ fn command_of(name: &str, found: &ArgMatches, main: Option<String>) -> Result<Co
         },
         "check" => Ok(Command::Check { main }),
         "plan" => Ok(Command::Plan { main }),
+        "graph" => Ok(Command::Graph { main }),
         _ => Err(LineFault::Words),
     }
 }

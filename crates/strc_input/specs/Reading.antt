@@ -70,3 +70,8 @@ ReadsInts = (bytes : List ℕ) → ended (bytes_read unread bytes) ≡ ints byte
 abbrev pub FailsForGood : Type 0
 FailsForGood = (first rest : List ℕ) (number : ℕ) → bytes_read unread first ≡ Fails number
     → ints (first ++ rest) ≡ Err number
+
+-- reading the bytes of one piece and then those of another reads the bytes of both
+abbrev pub ReadsInPieces : Type 0
+ReadsInPieces = (reading : Reading) (first rest : List ℕ)
+    → bytes_read reading (first ++ rest) ≡ bytes_read (bytes_read reading first) rest

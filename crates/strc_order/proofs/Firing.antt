@@ -7,12 +7,13 @@ use Rattle.std.proofs.lemmas.Bool.{cases_eq, cases_lt, true≢false}
 use Rattle.std.proofs.lemmas.List.{get_or-set_same, get_or-set_other, length-set, get_or_past}
 use Rattle.std.proofs.lemmas.Option.{same_Some, slice_get-get_or}
 use Rattle.strc_balance.specs.Balance.{count_at}
+use Rattle.strc_balance.specs.NumberSets.{has_number}
 use Rattle.strc_startup.specs.Grouping.{places_at}
 use Rattle.strc_startup.specs.declared.channel_rates.ChannelRates.{ChannelRates}
 use Rattle.strc_order.specs.Firings.{Firings, fired, FindsWindows}
 use Rattle.strc_order.specs.Greedy.{IsNext, less_turns}
 use Rattle.strc_order.specs.Network.{NetworkView, IsNetwork, size_of}
-use Rattle.strc_order.specs.Progress.{count_bound, HasFirst, IsReady, has_node, ProgressView}
+use Rattle.strc_order.specs.Progress.{count_bound, HasFirst, IsReady, ProgressView}
 use Rattle.strc_order.specs.Progress.{IsSound}
 use Rattle.strc_order.specs.Progress.{IsProgress, IsCompleteBut, EndsAt}
 use Rattle.strc_order.proofs.Tallies.{turns_same, turns_other, fired_none}
@@ -103,10 +104,10 @@ left_fired left node turns within = fun_ext (λ other.
 
 module _ (network : NetworkView) (is : IsNetwork network) (progress : ProgressView)
     (all : IsProgress network progress) (node turns : ℕ) (rest : List ℕ)
-    (there : has_node progress.ready node ≡ true)
-    (lowest : (other : ℕ) → has_node progress.ready other ≡ true → node ≤ other)
-    (others : (other : ℕ) → has_node rest other
-    ≡ cond (other == node) false (has_node progress.ready other))
+    (there : has_number progress.ready node ≡ true)
+    (lowest : (other : ℕ) → has_number progress.ready other ≡ true → node ≤ other)
+    (others : (other : ℕ) → has_number rest other
+    ≡ cond (other == node) false (has_number progress.ready other))
     (within : turns ≤ count_at progress.left node)
     (finds : (earlier : ℕ) → earlier < turns
     → FindsWindows network.channels (fired (count_at progress.counts) earlier node) node)
@@ -222,16 +223,16 @@ module _ (network : NetworkView) (is : IsNetwork network) (progress : ProgressVi
             (omega (arith, less, found_other other apart)) at here)
       ]
 
-  in_rest : (other : ℕ) → other ≢ node → has_node rest other ≡ has_node progress.ready other
+  in_rest : (other : ℕ) → other ≢ node → has_number rest other ≡ has_number progress.ready other
   in_rest other apart = others other
-      ∙ ap (λ t. cond t false (has_node progress.ready other)) (ne_eqb other node apart)
+      ∙ ap (λ t. cond t false (has_number progress.ready other)) (ne_eqb other node apart)
 
-  ready : (other : ℕ) → has_node rest other ≡ true
+  ready : (other : ℕ) → has_number rest other ≡ true
       → IsReady channels (fired counts turns node) (count_at next.left) other
   ready other has =
       elim (cases_eq other node) [
         | inl same ↦ absurd (true≢false (sym has ∙ others other
-            ∙ ap (λ t. cond t false (has_node progress.ready other)) (eq-eqb other node same)))
+            ∙ ap (λ t. cond t false (has_number progress.ready other)) (eq-eqb other node same)))
         | inr apart ↦
             let old = all.sound.ready other (sym (in_rest other apart) ∙ has) in (
               omega (arith, old.0, same_left other apart),
@@ -278,7 +279,7 @@ module _ (network : NetworkView) (is : IsNetwork network) (progress : ProgressVi
   other_ready : (other : ℕ) → other ≢ node
       → IsReady channels (fired counts turns node) (count_at next.left) other
       → Leads channels node other (length channels)
-      → (has_node rest other ≡ true) ⊎ EndsAt network (places_at network.outgoing node) other
+      → (has_number rest other ≡ true) ⊎ EndsAt network (places_at network.outgoing node) other
   other_ready other apart can (Does number inside source target) =
       let rates = get_or channels number nothing in
       let here = slice_get-get_or channels number nothing inside in
@@ -310,14 +311,14 @@ module _ (network : NetworkView) (is : IsNetwork network) (progress : ProgressVi
 
 -- a node that is known to be ready is there
 pub ready_in_counts : (network : NetworkView) (progress : ProgressView) (node : ℕ)
-    → IsProgress network progress → has_node progress.ready node ≡ true
+    → IsProgress network progress → has_number progress.ready node ≡ true
     → node < length progress.counts
 ready_in_counts network progress node all there =
     let inside = counted_within progress.left node (all.sound.ready node there).0 in
     omega (arith, inside, all.sound.counts, all.sound.left)
 
 pub ready_in_left : (network : NetworkView) (progress : ProgressView) (node : ℕ)
-    → IsProgress network progress → has_node progress.ready node ≡ true
+    → IsProgress network progress → has_number progress.ready node ≡ true
     → node < length progress.left
 ready_in_left network progress node all there =
     counted_within progress.left node (all.sound.ready node there).0

@@ -1,4 +1,3 @@
-pub mod Sets
 pub mod Tallies
 pub mod Windows
 pub mod Networks
@@ -10,6 +9,7 @@ pub mod Fills
 pub mod Touching
 pub mod Units
 pub mod Buffering
+pub mod Lengthening
 pub mod Scheduling
 pub mod Connecting
 pub mod Greedily

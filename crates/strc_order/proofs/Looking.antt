@@ -8,11 +8,12 @@ use Rattle.std.proofs.lemmas.Bool.{cases_eq}
 use Rattle.std.proofs.lemmas.List.{get_or-set_same, get_or-set_other, length-set}
 use Rattle.std.proofs.lemmas.Option.{slice_get-get_or}
 use Rattle.strc_balance.specs.Balance.{count_at}
+use Rattle.strc_balance.specs.NumberSets.{has_number}
 use Rattle.strc_startup.specs.Grouping.{places_at}
 use Rattle.strc_startup.specs.declared.channel_rates.ChannelRates.{ChannelRates}
 use Rattle.strc_order.specs.Firings.{HasWindow, FindsWindows}
 use Rattle.strc_order.specs.Network.{NetworkView, IsNetwork, size_of}
-use Rattle.strc_order.specs.Progress.{HasFirst, IsReady, has_node, ProgressView, IsSound}
+use Rattle.strc_order.specs.Progress.{HasFirst, IsReady, ProgressView, IsSound}
 use Rattle.strc_order.specs.Progress.{IsCompleteBut, EndsAt}
 use Rattle.strc_order.proofs.Networks.{finds_all, all_find, nothing, listed_within}
 use Rattle.strc_order.proofs.Networks.{listed_end}
@@ -62,7 +63,7 @@ module _ (network : NetworkView) (is : IsNetwork network) (progress : ProgressVi
         ]
 
     pub sound_still : (ready : List ℕ)
-        → ((other : ℕ) → has_node ready other ≡ true
+        → ((other : ℕ) → has_number ready other ≡ true
         → IsReady network.channels (count_at progress.counts) (count_at progress.left) other)
         → IsSound network (looked progress node found ready)
     sound_still ready all = record {
@@ -78,9 +79,9 @@ module _ (network : NetworkView) (is : IsNetwork network) (progress : ProgressVi
     -- a node that has firings left and finds all its windows is ready
     pub ready_more : (ready : List ℕ) → found ≡ length (places_at network.incoming node)
         → 0 < count_at progress.left node
-        → ((other : ℕ) → has_node ready other
-        ≡ cond (other == node) true (has_node progress.ready other))
-        → (other : ℕ) → has_node ready other ≡ true
+        → ((other : ℕ) → has_number ready other
+        ≡ cond (other == node) true (has_number progress.ready other))
+        → (other : ℕ) → has_number ready other ≡ true
         → IsReady network.channels (count_at progress.counts) (count_at progress.left) other
     ready_more ready all some sets other has =
         elim (cases_eq other node) [
@@ -92,7 +93,7 @@ module _ (network : NetworkView) (is : IsNetwork network) (progress : ProgressVi
                     (places_at network.incoming node) (count_at progress.counts)) all first),
               )
           | inr apart ↦ sound.ready other (sym (sets other
-              ∙ ap (λ t. cond t true (has_node progress.ready other)) (ne_eqb other node apart))
+              ∙ ap (λ t. cond t true (has_number progress.ready other)) (ne_eqb other node apart))
               ∙ has)
         ]
 
@@ -132,9 +133,9 @@ pub looked_along : (network : NetworkView) (is : IsNetwork network) (before afte
     (numbers : List ℕ) (place : ℕ) (within : place < length numbers) (rates : ChannelRates)
     → slice_get network.channels (get_or numbers place 0) ≡ Some rates
     → after.counts ≡ before.counts → after.left ≡ before.left
-    → ((other : ℕ) → has_node before.ready other ≡ true → has_node after.ready other ≡ true)
+    → ((other : ℕ) → has_number before.ready other ≡ true → has_number after.ready other ≡ true)
     → (IsReady network.channels (count_at before.counts) (count_at before.left) rates.target
-    → has_node after.ready rates.target ≡ true)
+    → has_number after.ready rates.target ≡ true)
     → IsCompleteBut network before (EndsAt network (drop place numbers))
     → IsCompleteBut network after (EndsAt network (drop (place + 1) numbers))
 looked_along network is before after numbers place within rates there counts left kept known all
@@ -147,7 +148,7 @@ looked_along network is before after numbers place within rates there counts lef
         | inl same ↦
             let target = listed_end network.incoming network.channels (λ r. r.target) is.incoming
             node number rates ends (ap (slice_get network.channels) (sym same) ∙ there) in
-            inl (subst (λ n. has_node after.ready n ≡ true) target
+            inl (subst (λ n. has_number after.ready n ≡ true) target
             (known (subst (IsReady network.channels (count_at before.counts)
             (count_at before.left)) (sym target) old)))
         | inr later ↦ inr (number, later, ends)

@@ -1,7 +1,7 @@
 -- A schedule, of two greedy orders and the buffers that they need.
 use Rattle.std.proofs.Common.{◌≡◌, ◌∙◌, sym, ap, subst, ℕ, ◌<◌, List, [], ◌∷◌}
 use Rattle.std.proofs.Common.{map, slice_get, slice_index, Some, All, arith}
-use Rattle.std.proofs.Common.{Result, Ok, Err, length}
+use Rattle.std.proofs.Common.{Result, Ok, Err, length, Option, None, IfSome, IfNone}
 use Rattle.std.specs.Prelude.{IfOk}
 use mathlib.Core.Path.{Path, fun_ext}
 use Rattle.std.proofs.lemmas.List.{length-map}
@@ -36,6 +36,27 @@ greedy_turns channels size counts left (unit ∷ rest) there (node, single, next
     (greedy_turns channels size (fired counts unit.turns node)
     (less_turns left unit.turns node) rest
     (λ other some. there other (omega (arith, some))) later)
+
+-- a greedy order that was found, from the same counts and of the same firings
+pub found_order : {V : Type 0} (items : V → List units.Unit.Unit) (channels : List ChannelRates)
+    (counts firings from all : Firings) (found : Option V) (order : V)
+    → counts ≡ from → firings ≡ all → found ≡ Some order
+    → IfSome found (λ units. IsGreedyOrder channels counts firings (items units))
+    → IsGreedyOrder channels from all (items order)
+found_order items channels counts firings from all found order same_counts same_firings is greedy =
+    subst (λ k. IsGreedyOrder channels k all (items order)) same_counts
+    (subst (λ k. IsGreedyOrder channels counts k (items order)) same_firings
+    (subst (λ o. IfSome o (λ units. IsGreedyOrder channels counts firings (items units))) is
+    greedy))
+
+-- where none was found, no order of the same firings exists
+pub no_order : {V : Type 0} (channels : List ChannelRates) (counts firings from all : Firings)
+    (found : Option V) → counts ≡ from → firings ≡ all → found ≡ None
+    → IfNone found (¬ HasOrder channels counts firings) → ¬ HasOrder channels from all
+no_order channels counts firings from all found same_counts same_firings is none =
+    subst (λ k. ¬ HasOrder channels k all) same_counts
+    (subst (λ k. ¬ HasOrder channels counts k) same_firings
+    (subst (λ o. IfNone o (¬ HasOrder channels counts firings)) is none))
 
 module _ (channels : List ChannelRates) (startup round : Firings)
     (first later : List units.Unit.Unit)

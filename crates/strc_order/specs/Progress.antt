@@ -1,9 +1,9 @@
 -- How far an order has come: how often each node has fired, how often it is yet to fire, which of
 -- its channels are known to have its window, and which nodes are known to be ready.
-use Rattle.std.specs.Prelude.{◌≡◌, ◌⊎◌, ℕ, Bool, true, ◌==◌, ◌+◌, ◌*◌, ◌<◌, ◌≤◌, List, length}
+use Rattle.std.specs.Prelude.{◌≡◌, ◌⊎◌, ℕ, true, ◌+◌, ◌*◌, ◌<◌, ◌≤◌, List, length}
 use Rattle.std.specs.Prelude.{slice_get, Some, Contains}
-use Rattle.std.specs.List.{list_any}
 use Rattle.strc_balance.specs.Balance.{count_at, count_limit}
+use Rattle.strc_balance.specs.NumberSets.{has_number}
 use Rattle.strc_startup.specs.Grouping.{places_at}
 use Rattle.strc_startup.specs.declared.channel_rates.ChannelRates.{ChannelRates}
 use Rattle.strc_order.specs.Firings.{Firings, HasWindow, FindsWindows}
@@ -32,10 +32,6 @@ HasFirst network numbers counts found =
     → slice_get numbers place ≡ Some number → slice_get network.channels number ≡ Some rates
     → HasWindow counts rates
 
--- a node is one of these
-abbrev pub has_node : List ℕ → (node : ℕ) → Bool
-has_node nodes node = list_any (λ other. node == other) nodes
-
 pub record ProgressView : Type 0 where
   pub counts : List ℕ
   pub left : List ℕ
@@ -52,21 +48,21 @@ pub record IsSound (network : NetworkView) (progress : ProgressView) : Type 0 wh
       → count_at progress.found node ≤ length (places_at network.incoming node)
   pub windows : (node : ℕ) → HasFirst network (places_at network.incoming node)
       (count_at progress.counts) (count_at progress.found node)
-  pub ready : (node : ℕ) → has_node progress.ready node ≡ true
+  pub ready : (node : ℕ) → has_number progress.ready node ≡ true
       → IsReady network.channels (count_at progress.counts) (count_at progress.left) node
 
 -- all nodes that are ready are known, but for some
 abbrev pub IsCompleteBut : NetworkView → ProgressView → (ℕ → Type 0) → Type 0
 IsCompleteBut network progress pending =
     (node : ℕ) → IsReady network.channels (count_at progress.counts) (count_at progress.left) node
-    → (has_node progress.ready node ≡ true) ⊎ pending node
+    → (has_number progress.ready node ≡ true) ⊎ pending node
 
 -- all nodes that are ready are known
 pub record IsProgress (network : NetworkView) (progress : ProgressView) : Type 0 where
   pub sound : IsSound network progress
   pub complete : (node : ℕ)
       → IsReady network.channels (count_at progress.counts) (count_at progress.left) node
-      → has_node progress.ready node ≡ true
+      → has_number progress.ready node ≡ true
 
 -- one of these channels ends at a node
 abbrev pub EndsAt : NetworkView → (numbers : List ℕ) → (node : ℕ) → Type 0

@@ -1,6 +1,6 @@
 // The schedule of a graph.
 
-ghost use Rattle.std.specs.Prelude.{◌≡◌, ℕ, ◌≤◌, ◌^◌, true, false, All, Err, IfOk, length};
+ghost use Rattle.std.specs.Prelude.{◌≡◌, ℕ, ◌≤◌, true, false, All, Err, IfOk, length};
 ghost use Rattle.strc_balance.specs.Balance.{count_at, IsWithinLimit};
 ghost use Rattle.strc_balance.specs.Rates.{IsRated, equations_of};
 ghost use Rattle.strc_graph.specs.Connections.{IsConnected};
@@ -13,10 +13,11 @@ ghost use Rattle.strc_order.specs.Order.{HasOrder};
 ghost use Rattle.strc_order.specs.Schedules.{IsSchedule, PassesLimit};
 ghost use Rattle.strc_order.specs.declared.error.ScheduleError.TheVariants as refused;
 
-use crate::buffers::{Buffers, buffers_of, copy_of, zeros};
+use crate::buffers::{Buffers, buffers_of, zeros};
 use crate::error::ScheduleError;
 use crate::greedy::greedy_order;
-use crate::network::Network;
+use crate::network::{NODE_LIMIT, Network};
+use crate::padding::padded;
 use crate::parts::Schedule;
 use std::alloc::Global;
 use strc_balance::counts::Counts;
@@ -30,11 +31,12 @@ use strc_startup::rates::channel_rates;
 /// algorithm). The size of a channel's buffer is the greatest number of items there before, between
 /// and after the firings of start-up and of one round, enqueued items included.
 ///
-/// Both ends of each channel need a rate of at least 1 by `work`, all nodes are connected by
-/// channels, and the counts are those of the graph's nodes, each at most 1,000,000. `Deadlock`
-/// comes only where no order of the firings exists in which each finds what it looks at,
-/// `BufferLimit` for the lowest channel that would hold more than 16,777,216 items. `NoMemory` can
-/// come in place of any answer.
+/// Both ends of each channel need a rate of at least 1 by `work`, and all nodes are connected by
+/// channels. A node of the graph for which there is no count doesn't fire, and counts past the
+/// graph's nodes are those of nodes without channels. `Deadlock` comes only where no order of the
+/// firings exists in which each finds what it looks at, `BufferLimit` for the lowest channel that
+/// would hold more than 16,777,216 items. `NoMemory` can come in place of any answer, and comes
+/// where there are counts of more than 4,294,967,296 nodes.
 pub fn schedule(
     alloc: Global,
     graph: &Graph,
@@ -43,10 +45,6 @@ pub fn schedule(
 ) -> Result<Schedule, ScheduleError>
     requires rated { All IsRated (equations_of (graph_view graph.now)) }
     requires connected { IsConnected (graph_view graph.now) }
-    requires startup { length startup.now ≡ length graph.now.nodes }
-    requires round { length round.now ≡ length graph.now.nodes }
-    requires startup_within { IsWithinLimit startup.now }
-    requires round_within { IsWithinLimit round.now }
     ensures schedule { IfOk result (IsSchedule (rates_of (graph_view graph.now))
         (count_at startup.now) (count_at round.now)) }
     ensures within { IfOk result (λ schedule. All (λ size. size ≤ size_limit) schedule.sizes) }
@@ -61,9 +59,15 @@ pub fn schedule(
     ensures limit { (channel : ℕ) → result ≡ Err (refused.BufferLimit channel) → PassesLimit
         (rates_of (graph_view graph.now)) (count_at startup.now) (count_at round.now) channel }
 {
+    let startup = startup.as_slice();
+    let round = round.as_slice();
+    let size = graph.nodes().len().max(startup.len()).max(round.len());
+    if size > NODE_LIMIT {
+        return Err(ScheduleError::NoMemory);
+    }
     let channels = channel_rates(alloc, graph)?;
-    let network = Network::new(alloc, channels, graph.nodes().len())?;
-    scheduled(alloc, &network, startup.as_slice(), round.as_slice())
+    let network = Network::new(alloc, channels, size)?;
+    scheduled(alloc, &network, startup, round)
 }
 
 /// The schedule of a network.
@@ -73,8 +77,8 @@ fn scheduled(
     startup: &[u32],
     round: &[u32],
 ) -> Result<Schedule, ScheduleError>
-    requires startup { length startup.now ≡ size_of network.now }
-    requires round { length round.now ≡ size_of network.now }
+    requires startup { length startup.now ≤ size_of network.now }
+    requires round { length round.now ≤ size_of network.now }
     requires startup_within { IsWithinLimit startup.now }
     requires round_within { IsWithinLimit round.now }
     ensures schedule { IfOk result (IsSchedule network.now.channels (count_at startup.now)
@@ -89,13 +93,14 @@ fn scheduled(
     ensures limit { (channel : ℕ) → result ≡ Err (refused.BufferLimit channel) → PassesLimit
         network.now.channels (count_at startup.now) (count_at round.now) channel }
 {
-    let before = zeros(alloc, network.size())?;
-    let first = greedy_order(alloc, network, before, copy_of(alloc, startup)?)?;
+    let size = network.size();
+    let before = zeros(alloc, size)?;
+    let first = greedy_order(alloc, network, before, padded(alloc, startup, size)?)?;
     let Some(first) = first else {
         return Err(ScheduleError::Deadlock { in_startup: true });
     };
-    let before = copy_of(alloc, startup)?;
-    let later = greedy_order(alloc, network, before, copy_of(alloc, round)?)?;
+    let before = padded(alloc, startup, size)?;
+    let later = greedy_order(alloc, network, before, padded(alloc, round, size)?)?;
     let Some(later) = later else {
         return Err(ScheduleError::Deadlock { in_startup: false });
     };

@@ -4,19 +4,20 @@ ghost use Rattle.std.specs.Prelude.{◌≡◌, ◌⊎◌, ℕ, true, ◌+◌, �
 ghost use Rattle.std.specs.Prelude.{slice_get, slice_set, Some, IfOk, OnOk, IfSome, IfNone};
 ghost use Rattle.std.specs.Prelude.{IsTrue, ◌↔◌};
 ghost use Rattle.strc_balance.specs.Balance.{count_at};
+ghost use Rattle.strc_balance.specs.NumberSets.{has_number};
 ghost use Rattle.strc_startup.specs.Grouping.{places_at};
 ghost use Rattle.strc_startup.specs.declared.channel_rates.ChannelRates.{ChannelRates};
 ghost use Rattle.strc_order.specs.Firings.{HasWindow, fired};
 ghost use Rattle.strc_order.specs.Greedy.{IsNext, less_turns};
 ghost use Rattle.strc_order.specs.Network.{size_of};
 ghost use Rattle.strc_order.specs.Progress.{count_bound, AreCounts, IsReady, IsStuck, HasFirst};
-ghost use Rattle.strc_order.specs.Progress.{IsSound, IsProgress, IsCompleteBut, EndsAt, has_node};
+ghost use Rattle.strc_order.specs.Progress.{IsSound, IsProgress, IsCompleteBut, EndsAt};
 
 use crate::network::Network;
-use crate::ready::ReadyNodes;
 use crate::turns::{has_window, turns_at};
 use std::alloc::{AllocError, Global};
 use std::marker::Model;
+use strc_balance::number_set::NumberSet;
 
 /// How often each node has fired and is yet to fire, and the nodes that can fire.
 ///
@@ -31,7 +32,7 @@ pub(crate) struct Progress {
     /// How many of each node's incoming channels, from the first on, are known to have its window.
     found: Vec<usize>,
     /// The nodes that have firings left and find their windows.
-    ready: ReadyNodes,
+    ready: NumberSet,
 }
 
 impl Model for Progress {
@@ -69,7 +70,7 @@ impl Progress {
             counts,
             left,
             found,
-            ready: ReadyNodes::new(alloc),
+            ready: NumberSet::with_capacity(alloc, network.size())?,
         };
         for node in 0..network.size() {
             progress.look_at(network, node)?;
@@ -111,14 +112,13 @@ impl Progress {
             (count_at self.old.counts) (count_at self.old.left)
             × (self.new.counts ≡ self.old.counts) × (self.new.left ≡ self.old.left))) }
     {
-        let Some(ready) = self.ready.take_lowest() else {
+        let Some(node) = self.ready.take_lowest() else {
             return Ok(None);
         };
-        let node = ready as usize;
         let turns = turns_at(network, node, &self.counts, self.left[node]);
         self.fire(node, turns);
         self.look_along(network, network.outgoing(node))?;
-        Ok(Some((turns, ready)))
+        Ok(Some((turns, node as u32)))
     }
 
     /// So many more firings of a node, of whose channels nothing is known then.
@@ -162,10 +162,10 @@ impl Progress {
         ensures sound { OnOk result (IsSound network.now self.new) }
         ensures counts { OnOk result (self.new.counts ≡ self.old.counts) }
         ensures left { OnOk result (self.new.left ≡ self.old.left) }
-        ensures kept { OnOk result ((other : ℕ) → has_node self.old.ready other ≡ true
-            → has_node self.new.ready other ≡ true) }
+        ensures kept { OnOk result ((other : ℕ) → has_number self.old.ready other ≡ true
+            → has_number self.new.ready other ≡ true) }
         ensures known { OnOk result (IsReady network.now.channels (count_at self.old.counts)
-            (count_at self.old.left) node → has_node self.new.ready node ≡ true) }
+            (count_at self.old.left) node → has_number self.new.ready node ≡ true) }
     {
         if self.left[node] == 0 {
             return Ok(());
@@ -174,7 +174,7 @@ impl Progress {
         let found = found_from(network, incoming, &self.counts, self.found[node]);
         self.found[node] = found;
         if found == incoming.len() {
-            self.ready.add(node as u32)?;
+            self.ready.add(node)?;
         }
         Ok(())
     }

@@ -1,1 +1,2 @@
 pub mod RateViews
+pub mod Spelling

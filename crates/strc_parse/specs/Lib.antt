@@ -1,3 +1,4 @@
 pub mod Seen
 pub mod Readers
 pub mod Parts
+pub mod Texts

@@ -1,7 +1,7 @@
 // Takes the tokens of a program's text.
 // Gives its syntax tree, or the refusal of tokens that no program has.
 // The theorem to rely on: `parse` answers Ok exactly with the tree of height at most `HEIGHT_LIMIT`
-// that has this spelling.
+// that has this spelling. `laws`: a text spells one program.
 // Stands on strc_rules, which reads what has no statement in it, on strc_grammar, whose rules it
 // follows, on strc_syntax, whose trees it makes, and on strc_lex, whose tokens it reads.
 #![tactic(auto)]
@@ -9,6 +9,7 @@
 mod composition;
 mod control;
 mod declaration;
+pub mod laws;
 mod member;
 mod program;
 mod simple;

@@ -3,7 +3,7 @@
 // Takes the word `times`, or no word.
 // Gives a line for each graph: its nodes and channels, and how often its last node fires in a
 // round, the units of its schedule and the items of its buffers; and for each program how often
-// its source fires before the first round. With `times` also the least of nine times that planning
+// its source fires before the first round. With `times` also the least of 999 times that planning
 // took, and how it grew.
 // There is no theorem here; `balance`, `startup` and `schedule` have their own.
 // Stands on strc_balance, strc_startup and strc_order, which it times, on strc_graph, whose graphs
@@ -34,8 +34,9 @@ const SMALL: u32 = 1024;
 
 const LARGE: u32 = 4096;
 
-/// How often each graph is planned; the least time counts.
-const REPEATS: u32 = 9;
+/// How often each graph is planned where times are wanted. The least time counts: the first ones
+/// also wait for memory that was never touched, and any for what else the machine does.
+const REPEATS: u32 = 999;
 
 /// Programs of filters that look far ahead: the longest row that is primed, and one more.
 const FAR: [Peeks; 2] = [
@@ -82,9 +83,10 @@ fn main(rt: HostRuntime) -> ExitCode {
 
 fn print_plans(rt: &HostRuntime) -> io::Result<()> {
     let timed = wants_times(rt)?;
+    let repeats = if timed { REPEATS } else { 1 };
     for shape in &SHAPES {
-        let small = plan_of(rt, *shape, SMALL)?;
-        let large = plan_of(rt, *shape, LARGE)?;
+        let small = plan_of(rt, *shape, SMALL, repeats)?;
+        let large = plan_of(rt, *shape, LARGE, repeats)?;
         print_plan(rt, *shape, small)?;
         print_plan(rt, *shape, large)?;
         if timed {
@@ -93,7 +95,7 @@ fn print_plans(rt: &HostRuntime) -> io::Result<()> {
         }
     }
     print_circle(rt, timed)?;
-    print_startups(rt, timed)
+    print_startups(rt, timed, repeats)
 }
 
 /// The schedule of a loop that starts with a single item.
@@ -110,13 +112,13 @@ fn print_circle(rt: &HostRuntime, timed: bool) -> io::Result<()> {
     Ok(())
 }
 
-fn print_startups(rt: &HostRuntime, timed: bool) -> io::Result<()> {
+fn print_startups(rt: &HostRuntime, timed: bool, repeats: u32) -> io::Result<()> {
     for peeks in &FAR {
         let far = prime(rt, *peeks, 1)?;
         print_startup(rt, *peeks, far)?;
     }
-    let small = prime(rt, FEW_AHEAD, REPEATS)?;
-    let large = prime(rt, MANY_AHEAD, REPEATS)?;
+    let small = prime(rt, FEW_AHEAD, repeats)?;
+    let large = prime(rt, MANY_AHEAD, repeats)?;
     print_startup(rt, FEW_AHEAD, small)?;
     print_startup(rt, MANY_AHEAD, large)?;
     if timed {
@@ -170,7 +172,7 @@ fn print_growth(rt: &HostRuntime, name: &str, small: Duration, large: Duration) 
 }
 
 /// The plan of a graph of this shape and of so many nodes.
-fn plan_of(rt: &HostRuntime, shape: Shape, nodes: u32) -> io::Result<Plan> {
+fn plan_of(rt: &HostRuntime, shape: Shape, nodes: u32, repeats: u32) -> io::Result<Plan> {
     let graph = match graph_of(rt.alloc(), shape, nodes)? {
         Some(graph) => graph,
         None => return Err(io::Error::new(ErrorKind::InvalidData, "not a graph")),
@@ -182,13 +184,13 @@ fn plan_of(rt: &HostRuntime, shape: Shape, nodes: u32) -> io::Result<Plan> {
     }
     let mut least = Duration::MAX;
     let mut last = 0;
-    for _ in 0..REPEATS {
+    for _ in 0..repeats {
         let begun = Instant::now(rt)?;
         let counts = counts_of(balance(rt.alloc(), &graph))?;
         least = least.min(begun.elapsed(rt)?);
         last = last_of(&counts);
     }
-    let schedule = timed_schedule(rt, &graph, REPEATS)?;
+    let schedule = timed_schedule(rt, &graph, repeats)?;
     Ok(Plan {
         nodes: graph.nodes().len(),
         channels: graph.channels().len(),

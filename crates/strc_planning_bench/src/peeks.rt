@@ -1,12 +1,17 @@
 // Programs of filters that look ahead, and how often their source fires before the first round.
 
+ghost use Rattle.std.specs.Prelude.{All};
+ghost use Rattle.strc_balance.specs.Rates.{IsRated, equations_of};
+ghost use Rattle.strc_graph.specs.NodeView.{graph_view};
+
 use std::io;
 use std::io::ErrorKind;
 use std::time::{Duration, Instant};
 use strc_balance::condition::can_balance;
 use strc_balance::counts::Counts;
-use strc_run::compile::compile;
-use strc_run::plan::Plan;
+use strc_graph::graph::Graph;
+use strc_run::compile::{Plan, compile};
+use strc_run::options::Options;
 use strc_run::refusal::Refusal;
 use strc_startup::error::StartupError;
 use strc_startup::startup::startup;
@@ -34,16 +39,29 @@ pub(crate) fn prime(rt: &HostRuntime, peeks: Peeks, repeats: u32) -> io::Result<
             took: Duration::ZERO,
         });
     };
-    match can_balance(rt.alloc(), &plan.graph) {
+    let graph = plan.graph();
+    match can_balance(rt.alloc(), graph) {
         Ok(true) => {}
         Ok(false) => return Err(io::Error::new(ErrorKind::InvalidData, "not to be balanced")),
         Err(_) => return Err(io::Error::from(ErrorKind::OutOfMemory)),
     }
+    timed_startup(rt, graph, plan.round_counts(), repeats)
+}
+
+/// The start-up of a graph, and the least of so many times that finding it took.
+fn timed_startup(
+    rt: &HostRuntime,
+    graph: &Graph,
+    round: &Counts,
+    repeats: u32,
+) -> io::Result<Primed>
+    requires { All IsRated (equations_of (graph_view graph.now)) }
+{
     let mut least = Duration::MAX;
     let mut source = None;
     for _ in 0..repeats {
         let begun = Instant::now(rt)?;
-        let answer = startup(rt.alloc(), &plan.graph, &plan.round_counts);
+        let answer = startup(rt.alloc(), graph, round);
         least = least.min(begun.elapsed(rt)?);
         source = source_of(answer)?;
     }
@@ -66,7 +84,7 @@ fn plan_of(rt: &HostRuntime, peeks: Peeks) -> io::Result<Option<Plan>> {
          }}",
         peeks.filters, peeks.peek
     )?;
-    match compile(rt.alloc(), text.as_bytes(), None) {
+    match compile(rt.alloc(), text.as_bytes(), &Options { main: None }) {
         Ok(plan) => Ok(Some(plan)),
         Err(Refusal::StartupUnbounded) => Ok(None),
         Err(_) => Err(io::Error::new(ErrorKind::InvalidData, "the text is refused")),

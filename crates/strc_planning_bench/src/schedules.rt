@@ -42,16 +42,21 @@ pub(crate) fn timed_schedule(
         items: None,
         took: Duration::MAX,
     };
+    // The last schedule is kept while the next one is made, so that its memory stays the process's
+    // own: what is timed is planning, and not the handing out of pages.
+    let mut last = schedule(rt.alloc(), graph, &before, &round);
     for _ in 0..repeats {
         let begun = Instant::now(rt)?;
         let answer = schedule(rt.alloc(), graph, &before, &round);
         let took = scheduled.took.min(begun.elapsed(rt)?);
-        scheduled = told(answer, took)?;
+        scheduled = told(&answer, took)?;
+        last = answer;
     }
+    drop(last);
     Ok(scheduled)
 }
 
-fn told(answer: Result<Schedule, ScheduleError>, took: Duration) -> io::Result<Scheduled> {
+fn told(answer: &Result<Schedule, ScheduleError>, took: Duration) -> io::Result<Scheduled> {
     match answer {
         Ok(schedule) => Ok(Scheduled {
             units: schedule
@@ -62,7 +67,7 @@ fn told(answer: Result<Schedule, ScheduleError>, took: Duration) -> io::Result<S
             took,
         }),
         Err(ScheduleError::BufferLimit { channel }) => Ok(Scheduled {
-            units: channel,
+            units: *channel,
             items: None,
             took,
         }),

@@ -1,17 +1,12 @@
--- No text is both accepted and refused, or accepted with two streams: its tokens and its tree are
--- the only ones.
+-- No text is both accepted and refused, or accepted with two streams.
 use Rattle.std.proofs.Common.{◌≡◌, ℕ, List, length, map, Option, Result, Ok, Err, ap, ◌∙◌, sym}
 use Rattle.std.proofs.Common.{subst, arith, inl, inr}
-use Rattle.std.specs.Prelude.{Bool, true, false}
-use mathlib.Core.Path.{fun_ext}
-use Rattle.strc_lex.specs.declared.token.Token.{Token}
-use Rattle.strc_lex.proofs.Lexing.{lexes_only, stuck_lexes}
 use Rattle.strc_syntax.specs.Tree.{Declaration}
-use Rattle.strc_grammar.specs.Grammar as grammar
-use Rattle.strc_grammar.proofs.Exact.{unambiguous}
+use Rattle.strc_parse.specs.Texts.{Spells, SpellsOneProgram, SpelledTextsAreReadable}
 use Rattle.strc_elab.specs.Elaboration.{elaborated}
 use Rattle.strc_stream.specs.Flattening.{nodes_of, IsFlat}
-use Rattle.strc_stream.proofs.OneGraph.{one_graph}
+use Rattle.strc_stream.specs.Instances.{Stream}
+use Rattle.strc_stream.specs.OneGraph.{HasOneGraph}
 use Rattle.strc_graph.specs.Graphs.{Graph}
 use Rattle.strc_balance.specs.Balance.{count_at}
 use Rattle.strc_balance.specs.Rates.{equation_of}
@@ -20,35 +15,17 @@ use Rattle.strc_balance.specs.declared.error.BalanceError.{BalanceError}
 use Rattle.strc_balance.specs.declared.error.BalanceError.TheVariants as unbalanced
 use Rattle.strc_startup.specs.Rates.{first_count, first_counts, rates_of, rates_of_channel}
 use Rattle.strc_startup.specs.Startup.{IsLeast}
-use Rattle.strc_order.specs.Firings.{none_fired}
 use Rattle.strc_order.specs.Schedules.{ScheduleParts, IsSchedule}
-use Rattle.strc_order.proofs.Scheduling.{some_order}
-use Rattle.strc_order.proofs.Limiting.{within_limit}
-use Rattle.strc_stream.specs.Instances.{Stream}
 use Rattle.strc_scope.specs.declared.error.ElabError.{ElabError}
+use Rattle.strc_stage.specs.Laws.{OneStartup, ScheduledOrRefused}
+use Rattle.strc_stage.specs.Plans.{HasSchedule, HasStartup, Planning}
 use Rattle.strc_run.specs.declared.refusal.Refusal.{Refusal}
 use Rattle.strc_run.specs.declared.refusal.Refusal.TheVariants as refusal
-use Rattle.strc_run.specs.Compiling.{Compiles, Breaks, CanRun, CannotRun, CannotBalance}
-use Rattle.strc_run.specs.Compiling.{round_counts}
-use Rattle.strc_run.specs.Rates.{rates_checked}
-use Rattle.strc_run.specs.Scheduling.{HasStartup, CannotStart, HasSchedule, CannotSchedule}
-use Rattle.strc_run.specs.Scheduling.{IsDeadlocked}
-use Rattle.strc_run.specs.Accepts.{HasTokens, IsText, Accepts}
-use Rattle.strc_run.specs.Refuses.{BreaksRule, IsUnreadable}
+use Rattle.strc_run.specs.Accepts.{Accepts, CanRun, round_counts}
 use Rattle.strc_run.specs.Laws.{AcceptedOrRefused, OneStream}
-
--- one text has one token list
-same_tokens : (text : List ℕ) (one other : List Token) → HasTokens text one → HasTokens text other
-    → one ≡ other
-same_tokens text one other h g = lexes_only text 0 one other h.lexes g.lexes
-
--- one text spells one program
-same_program : (text : List ℕ) (one other : List Declaration) → IsText text one → IsText text other
-    → one ≡ other
-same_program text one other h g =
-    let same = same_tokens text h.tokens g.tokens h.has_tokens g.has_tokens in
-    unambiguous one other h.parses.1 g.parses.1
-    (sym h.parses.0 ∙ ap grammar.kinds same ∙ g.parses.0)
+use Rattle.strc_run.specs.Rates.{rates_checked}
+use Rattle.strc_run.specs.Refuses.{Breaks, CannotBalance, CannotRun, CannotSchedule, CannotStart}
+use Rattle.strc_run.specs.Refuses.{IsUnreadable}
 
 one_result : (result : Result Stream ElabError) (stream : Stream) (broken : ElabError)
     → result ≡ Ok stream → result ≡ Err broken → ⊥
@@ -134,13 +111,6 @@ one_round one other counts others nodes channels balances balanced =
     let both : ◌≡◌ {A = Result (List ℕ) BalanceError} (Ok counts) (Ok others) =
     sym balances ∙ same_round one other nodes channels ∙ balanced in cc
 
--- a graph has one list of start-up counts
-one_startup : (graph : Graph) (one other : List ℕ) → HasStartup graph one → HasStartup graph other
-    → count_at one ≡ count_at other
-one_startup graph one other h g = fun_ext (λ node.
-    let less = h.least.least other g.least.primed node in
-    let more = g.least.least one h.least.primed node in omega (arith, less, more))
-
 -- a graph has start-up counts, or it has none
 starts_or_not : (graph : Graph) (counts : List ℕ) (refused : Refusal) → HasStartup graph counts
     → CannotStart graph refused → ⊥
@@ -149,102 +119,83 @@ starts_or_not graph counts refusal.StartupUnbounded has cannot =
 starts_or_not graph counts refused has cannot = cannot
 
 -- a graph has a schedule, or it has none
-schedules_or_not : (graph : Graph) (startup round : List ℕ) (schedule : ScheduleParts)
-    (refused : Refusal) → HasSchedule graph startup round schedule
+schedules_or_not : ScheduledOrRefused → (graph : Graph) (startup round : List ℕ)
+    (schedule : ScheduleParts) (refused : Refusal) → HasSchedule graph startup round schedule
     → CannotSchedule graph startup round refused → ⊥
-schedules_or_not graph startup round schedule (refusal.Deadlock in_startup) has cannot =
-    by_time in_startup cannot
-  where
-    by_time : (in_startup : Bool) → IsDeadlocked graph startup round in_startup → ⊥
-    by_time true none =
-        none (some_order (rates_of graph) none_fired (count_at startup) schedule.startup
-        has.is.startup_order)
-    by_time false none =
-        none.1 (some_order (rates_of graph) (count_at startup) (count_at round) schedule.round
-        has.is.round_order)
-schedules_or_not graph startup round schedule (refusal.BufferLimit channel) has past =
-    within_limit (rates_of graph) (count_at startup) (count_at round) schedule has.is has.within
-    channel past
-schedules_or_not graph startup round schedule refused has cannot = cannot
+schedules_or_not law graph startup round schedule (refusal.Deadlock in_startup) has cannot =
+    (law graph startup round schedule has).0 in_startup cannot
+schedules_or_not law graph startup round schedule (refusal.BufferLimit channel) has past =
+    (law graph startup round schedule has).1 channel past
+schedules_or_not law graph startup round schedule refused has cannot = cannot
 
--- a program that means a stream breaks no rule
-compiles_or_breaks : (program : List Declaration) (main : Option (List ℕ)) (stream : Stream)
-    (refused : Refusal) → Compiles program main stream → Breaks program main refused → ⊥
-compiles_or_breaks program main stream refused compiles (Breaks.InElaboration broken is told) =
-    one_result (elaborated program main) stream broken compiles.elaborates is
-compiles_or_breaks program main stream refused compiles (Breaks.InGraph other is cannot) =
-    let same = same_stream (elaborated program main) stream other compiles.elaborates is in
-    runs_or_not other refused (subst CanRun same compiles.runs) cannot
-compiles_or_breaks program main stream refused compiles (Breaks.InRates other is runs broken) =
-    let same = same_stream (elaborated program main) stream other compiles.elaborates is in
-    let both : ◌≡◌ {A = Result (Unit {0}) Refusal} (Ok tt) (Err refused) =
-    sym compiles.rates ∙ ap (λ (s : Stream). rates_checked 0 (nodes_of s)) same ∙ broken in
-    absurd (cc)
-compiles_or_breaks program main stream refused compiles
-    (Breaks.InBalance other graph is runs rates flat cannot) =
-    let same = same_stream (elaborated program main) stream other compiles.elaborates is in
-    let one = one_graph stream compiles.graph graph compiles.flat
-    (subst (λ (s : Stream). IsFlat s graph) (sym same) flat) in
-    balances_or_not compiles.counts compiles.graph graph refused one.0 one.1 compiles.balances
-    cannot
-compiles_or_breaks program main stream refused compiles
-    (Breaks.InStartup other graph counts is runs rates flat balances cannot) =
-    let same = same_stream (elaborated program main) stream other compiles.elaborates is in
-    let one = one_graph stream compiles.graph graph compiles.flat
-    (subst (λ (s : Stream). IsFlat s graph) (sym same) flat) in
-    starts_or_not graph compiles.startup refused
-    (same_startup compiles.graph graph compiles.startup one.0 one.1 compiles.starts) cannot
-compiles_or_breaks program main stream refused compiles
-    (Breaks.InSchedule other graph counts startup is runs rates flat balances starts cannot) =
-    let same = same_stream (elaborated program main) stream other compiles.elaborates is in
-    let one = one_graph stream compiles.graph graph compiles.flat
-    (subst (λ (s : Stream). IsFlat s graph) (sym same) flat) in
-    let first = one_startup graph compiles.startup startup
-    (same_startup compiles.graph graph compiles.startup one.0 one.1 compiles.starts) starts in
-    let round = one_round compiles.graph graph compiles.counts counts one.0 one.1 compiles.balances
-    balances in
-    schedules_or_not graph startup counts compiles.schedule refused
-    (same_schedule compiles.graph graph compiles.startup startup compiles.counts counts
-    compiles.schedule (same_rates compiles.graph graph one.0 one.1) first round compiles.scheduled)
-    cannot
+-- a text with a program can be read
+readable : SpelledTextsAreReadable → (text : List ℕ) (program : List Declaration)
+    (refused : Refusal) → Spells text program → IsUnreadable text refused → ⊥
+readable law text program refusal.TextTooLong spells long = (law text program spells).short long
+readable law text program (refusal.Lex at) spells stops = (law text program spells).lexes at stops
+readable law text program (refusal.Parse token) spells none =
+    (law text program spells).parses token none
+readable law text program refusal.Nesting spells none = (law text program spells).nests none
+readable law text program refused spells never = never
 
--- a text with an accepted program spells none that breaks a rule
-breaks_none : (text : List ℕ) (main : Option (List ℕ)) (stream : Stream) (refused : Refusal)
-    → Accepts text main stream → BreaksRule text main refused → ⊥
-breaks_none text main stream refused accepted broken =
-    let same = same_program text accepted.program broken.0 accepted.is_text broken.1 in
-    compiles_or_breaks broken.0 main stream refused
-    (subst (λ (program : List Declaration). Compiles program main stream) same
-    accepted.compiles) broken.2
+module _ (one_program : SpellsOneProgram) where
+  -- the elaboration of the one program of a text is the only one
+  pub only_stream : OneStream
+  only_stream text main plan other accepted again =
+      let same = one_program text accepted.program again.program accepted.spells again.spells in
+      same_stream (elaborated again.program main) accepted.stream again.stream
+      (subst (λ (program : List Declaration). elaborated program main ≡ Ok accepted.stream) same
+      accepted.elaborates) again.elaborates
 
--- a text with an accepted program can be read
-readable : (text : List ℕ) (main : Option (List ℕ)) (stream : Stream) (refused : Refusal)
-    → Accepts text main stream → IsUnreadable text refused → ⊥
-readable text main stream refusal.TextTooLong accepted long = let short =
-    accepted.is_text.has_tokens.short in omega arith
-readable text main stream (refusal.Lex at) accepted stops =
-    stuck_lexes text 0 at stops.1.tokens accepted.is_text.tokens stops.1.front stops.1.stuck
-    accepted.is_text.has_tokens.lexes
-readable text main stream (refusal.Parse token) accepted none =
-    let same = same_tokens text none.0 accepted.is_text.tokens none.1 accepted.is_text.has_tokens in
-    none.2.1 accepted.program accepted.is_text.parses.1
-    (ap grammar.kinds same ∙ accepted.is_text.parses.0)
-readable text main stream refusal.Nesting accepted none =
-    let same = same_tokens text accepted.is_text.tokens none.0 accepted.is_text.has_tokens none.1 in
-    none.2.1 accepted.program (subst (λ (tokens : List Token). grammar.Parses
-    (grammar.kinds tokens) accepted.program) same accepted.is_text.parses)
-readable text main stream refused accepted never = never
+  module _ (spelled : SpelledTextsAreReadable) (one_graph : HasOneGraph)
+      (one_startup : OneStartup) (scheduled : ScheduledOrRefused) where
+    module _ (text : List ℕ) (main : Option (List ℕ)) (plan : Planning)
+        (accepted : Accepts text main plan) (refused : Refusal) where
+      -- a program that means the accepted stream breaks no rule
+      breaks_none : (program : List Declaration) → elaborated program main ≡ Ok accepted.stream
+          → Breaks program main refused → ⊥
+      breaks_none program elaborates (Breaks.InElaboration broken is told) =
+          one_result (elaborated program main) accepted.stream broken elaborates is
+      breaks_none program elaborates (Breaks.InGraph other is cannot) =
+          let same = same_stream (elaborated program main) accepted.stream other elaborates is in
+          runs_or_not other refused (subst CanRun same accepted.runs) cannot
+      breaks_none program elaborates (Breaks.InRates other is runs broken) =
+          let same = same_stream (elaborated program main) accepted.stream other elaborates is in
+          let both : ◌≡◌ {A = Result (Unit {0}) Refusal} (Ok tt) (Err refused) =
+          sym accepted.rates ∙ ap (λ (s : Stream). rates_checked 0 (nodes_of s)) same ∙ broken in
+          absurd (cc)
+      breaks_none program elaborates (Breaks.InBalance other graph is runs rates flat cannot) =
+          let same = same_stream (elaborated program main) accepted.stream other elaborates is in
+          let one = one_graph accepted.stream plan.graph graph accepted.flat
+          (subst (λ (s : Stream). IsFlat s graph) (sym same) flat) in
+          balances_or_not plan.round_counts plan.graph graph refused one.0 one.1 accepted.round
+          cannot
+      breaks_none program elaborates
+          (Breaks.InStartup other graph counts is runs rates flat balances cannot) =
+          let same = same_stream (elaborated program main) accepted.stream other elaborates is in
+          let one = one_graph accepted.stream plan.graph graph accepted.flat
+          (subst (λ (s : Stream). IsFlat s graph) (sym same) flat) in
+          starts_or_not graph plan.startup_counts refused
+          (same_startup plan.graph graph plan.startup_counts one.0 one.1 accepted.startup) cannot
+      breaks_none program elaborates
+          (Breaks.InSchedule other graph counts startup is runs rates flat balances starts cannot) =
+          let same = same_stream (elaborated program main) accepted.stream other elaborates is in
+          let one = one_graph accepted.stream plan.graph graph accepted.flat
+          (subst (λ (s : Stream). IsFlat s graph) (sym same) flat) in
+          let first = one_startup graph plan.startup_counts startup
+          (same_startup plan.graph graph plan.startup_counts one.0 one.1 accepted.startup) starts in
+          let round = one_round plan.graph graph plan.round_counts counts one.0 one.1
+          accepted.round balances in
+          schedules_or_not scheduled graph startup counts plan.schedule refused
+          (same_schedule plan.graph graph plan.startup_counts startup plan.round_counts counts
+          plan.schedule (same_rates plan.graph graph one.0 one.1) first round accepted.schedule)
+          cannot
 
-pub excluded : AcceptedOrRefused
-excluded text main stream refused accepted (inl unreadable) =
-    readable text main stream refused accepted unreadable
-excluded text main stream refused accepted (inr broken) =
-    breaks_none text main stream refused accepted broken
-
--- the elaboration of the one program of a text is the only one
-pub only_stream : OneStream
-only_stream text main one other accepted again =
-    let same = same_program text accepted.program again.program accepted.is_text again.is_text in
-    same_stream (elaborated again.program main) one other
-    (subst (λ (program : List Declaration). elaborated program main ≡ Ok one) same
-    accepted.compiles.elaborates) again.compiles.elaborates
+    pub excluded : AcceptedOrRefused
+    excluded text main plan refused accepted (inl unreadable) =
+        readable spelled text accepted.program refused accepted.spells unreadable
+    excluded text main plan refused accepted (inr broken) =
+        let same = one_program text accepted.program broken.0 accepted.spells broken.1 in
+        breaks_none text main plan accepted refused broken.0
+        (subst (λ (program : List Declaration). elaborated program main ≡ Ok accepted.stream) same
+        accepted.elaborates) broken.2

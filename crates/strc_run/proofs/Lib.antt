@@ -5,3 +5,4 @@ pub mod PlannedGraphs
 pub mod RatedGraphs
 pub mod Refusals
 pub mod Rounds
+pub mod TextRuns

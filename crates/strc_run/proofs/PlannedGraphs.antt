@@ -1,6 +1,6 @@
 -- A flat graph of checked instances is planned by the schedule of its least counts.
 use Rattle.std.proofs.Common.{◌≡◌, ℕ, ℤ, false, refl, List, Ok}
-use Rattle.std.specs.Prelude.{All, Option, Some, slice_get}
+use Rattle.std.specs.Prelude.{All, Some, slice_get}
 use Rattle.std.specs.List.{AllByRecursion}
 use Rattle.strc_semantics.specs.Filters as filters
 use Rattle.strc_semantics.specs.Firing.{started}
@@ -8,13 +8,10 @@ use Rattle.strc_graph.specs.Graphs as graphs
 use Rattle.strc_graph.specs.Graphs.{NodeCode, Graph}
 use Rattle.strc_rate.specs.Rates.{FilterRates, checked}
 use Rattle.strc_elab.specs.Sound.{IsInstance}
-use Rattle.strc_balance.specs.Balance.{count_at, IsWithinLimit}
-use Rattle.strc_balance.specs.Balance as balance
-use Rattle.strc_balance.specs.Rates.{IsRated, equations_of, size_of, fires_by_rounds}
-use Rattle.strc_startup.specs.Rates.{rates_of, first_counts}
-use Rattle.strc_startup.specs.Startup as start
-use Rattle.strc_order.specs.Schedules.{ScheduleParts, IsSchedule}
+use Rattle.strc_balance.specs.Rates.{IsRated, equations_of, fires_by_rounds}
+use Rattle.strc_order.specs.Schedules.{ScheduleParts}
 use Rattle.strc_admissible.specs.Planned.{IsFilterOf, IsPlanned}
+use Rattle.strc_stage.specs.Plans.{HasRound, HasSchedule, HasStartup, IsPlan}
 use Rattle.strc_run.proofs.CheckedRates.{filter_ok}
 use Rattle.strc_run.proofs.Instances.{instance_starts}
 use Rattle.strc_run.proofs.RatedGraphs.{IsChecked, checked_at}
@@ -45,22 +42,35 @@ module _ (graph : Graph) (all : AllByRecursion IsChecked graph.nodes) where
       filter_ok here.number (checked filter) here.checks
 
   pub graph_is_planned : (parts : ScheduleParts) (startup round : List ℕ)
-      → All IsRated (equations_of graph)
-      → start.IsLeast (first_counts graph) (rates_of graph) startup → IsWithinLimit startup
-      → balance.IsLeast (size_of graph) (equations_of graph) round → IsWithinLimit round
-      → IsSchedule (rates_of graph) (count_at startup) (count_at round) parts
-      → IsPlanned graph parts
-  graph_is_planned parts startup round rated least_startup startup_within least_round round_within
-      schedule = record {
-        unfissioned = λ node code is. never_fissioned code (at node code is).instance;
-        starts = filter_starts;
-        rates = filter_rates;
-        rated = rated;
-        startup = startup;
-        round = round;
-        least_startup = least_startup;
-        least_round = least_round;
-        startup_within = startup_within;
-        round_within = round_within;
-        schedule = schedule;
-      }
+      → All IsRated (equations_of graph) → HasStartup graph startup → HasRound graph round
+      → HasSchedule graph startup round parts → IsPlanned graph parts
+  graph_is_planned parts startup round rated starts rounds scheduled = record {
+    unfissioned = λ node code is. never_fissioned code (at node code is).instance;
+    starts = filter_starts;
+    rates = filter_rates;
+    rated = rated;
+    startup = startup;
+    round = round;
+    least_startup = starts.least;
+    least_round = rounds.least;
+    startup_within = starts.within;
+    round_within = rounds.within;
+    schedule = scheduled.is;
+  }
+
+-- so it has a plan
+pub graph_has_plan : (graph : Graph) → AllByRecursion IsChecked graph.nodes
+    → (parts : ScheduleParts) (startup round : List ℕ) → All IsRated (equations_of graph)
+    → HasStartup graph startup → HasRound graph round → HasSchedule graph startup round parts
+    → IsPlan (record {
+      graph = graph;
+      startup_counts = startup;
+      round_counts = round;
+      schedule = parts;
+    })
+graph_has_plan graph all parts startup round rated starts rounds scheduled = record {
+  planned = graph_is_planned graph all parts startup round rated starts rounds scheduled;
+  startup = starts;
+  round = rounds;
+  schedule = scheduled;
+}

@@ -23,8 +23,7 @@ use Rattle.strc_stream.specs.Flattening.{nodes_of, IsFlat}
 use Rattle.strc_stream.specs.Instances.{Stream}
 use Rattle.strc_elab.specs.Sound.{IsElaborated, IsInstance}
 use Rattle.strc_stream.specs.Types.{IsWellTyped}
-use Rattle.strc_stream.specs.Dealing.{Deals}
-use Rattle.strc_stream.proofs.Dealing.{nodes_deal}
+use Rattle.strc_stream.specs.Dealing.{Deals, NodesDeal}
 use Rattle.strc_run.specs.Rates.{node_checked, rates_checked}
 use Rattle.strc_run.proofs.CheckedRates.{neither, node_ok, filter_ok, work_ok, lacks_none}
 
@@ -180,17 +179,18 @@ graph_is_rated graph joined all k d within =
       pop = target_pops nodes all channel.target.node channel.target.port joins.target;
     })
 
--- the nodes of an elaborated stream whose rates hold are checked
-pub stream_checked : (stream : Stream) → IsElaborated stream
-    → rates_checked 0 (nodes_of stream) ≡ Ok tt → AllByRecursion IsChecked (nodes_of stream)
-stream_checked stream sound checks =
-    all_checked 0 (nodes_of stream) sound.instances (nodes_deal stream sound.closed.typed) checks
+module _ (nodes_deal : NodesDeal) where
+  -- the nodes of an elaborated stream whose rates hold are checked
+  pub stream_checked : (stream : Stream) → IsElaborated stream
+      → rates_checked 0 (nodes_of stream) ≡ Ok tt → AllByRecursion IsChecked (nodes_of stream)
+  stream_checked stream sound checks =
+      all_checked 0 (nodes_of stream) sound.instances (nodes_deal stream sound.closed.typed) checks
 
--- and its flat graph is rated
-pub flat_is_rated : (stream : Stream) (graph : Graph) → IsElaborated stream
-    → (IsWellTyped stream → IsFlat stream graph) → graph.nodes ≡ nodes_of stream
-    → rates_checked 0 graph.nodes ≡ Ok tt → All IsRated (equations_of graph)
-flat_is_rated stream graph sound flat same checks =
-    graph_is_rated graph (flat sound.closed.typed).joined
-    (subst (AllByRecursion IsChecked) (sym same)
-    (stream_checked stream sound (ap (rates_checked 0) (sym same) ∙ checks)))
+  -- and its flat graph is rated
+  pub flat_is_rated : (stream : Stream) (graph : Graph) → IsElaborated stream
+      → (IsWellTyped stream → IsFlat stream graph) → graph.nodes ≡ nodes_of stream
+      → rates_checked 0 graph.nodes ≡ Ok tt → All IsRated (equations_of graph)
+  flat_is_rated stream graph sound flat same checks =
+      graph_is_rated graph (flat sound.closed.typed).joined
+      (subst (AllByRecursion IsChecked) (sym same)
+      (stream_checked stream sound (ap (rates_checked 0) (sym same) ∙ checks)))

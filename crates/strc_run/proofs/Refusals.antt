@@ -1,103 +1,172 @@
 -- What is answered for a text holds by the definitions.
-use Rattle.std.proofs.Common.{◌≡◌, refl, sym, subst, List, ℕ, Option, Result, Ok, Err, inl, inr}
+use Rattle.std.proofs.Common.{◌≡◌, refl, sym, subst, List, [], ◌∷◌, ℕ, ◌+◌, Option, Result}
+use Rattle.std.proofs.Common.{Ok, Err, inl, inr}
 use Rattle.std.specs.Prelude.{Bool, true, false}
 use Rattle.std.specs.Result.{IsErrAnd}
 use Rattle.strc_syntax.specs.Tree.{Declaration}
+use Rattle.strc_parse.specs.Texts.{Spells}
 use Rattle.strc_scope.specs.Answers as elaboration
 use Rattle.strc_elab.specs.Elaboration.{elaborated}
 use Rattle.strc_stream.specs.Flattening.{nodes_of, codes_of, meaning_of, IsFlat}
 use Rattle.strc_stream.specs.Connections.{IsConnected}
 use Rattle.strc_flatten.specs.Verdicts.{IsRefused}
 use Rattle.strc_stream.specs.Instances.{Stream}
-use Rattle.strc_graph.specs.Graphs.{Graph}
-use Rattle.strc_balance.specs.Balance.{count_at}
+use Rattle.strc_graph.specs.Graphs.{Graph, NodeCode, Filter}
+use Rattle.strc_rate.specs.Rates.{FilterRates, checked}
+use Rattle.strc_rate.specs.declared.rates.RateError.{RateError}
+use Rattle.strc_rate.specs.declared.rates.RateError.TheVariants as rate
+use Rattle.strc_balance.specs.Balance.{Balances}
+use Rattle.strc_balance.specs.Rates.{equations_of, size_of}
 use Rattle.strc_balance.specs.Verdicts as balancing
 use Rattle.strc_balance.specs.declared.error.BalanceError.{BalanceError}
 use Rattle.strc_balance.specs.declared.error.BalanceError.TheVariants as unbalanced
-use Rattle.strc_order.specs.Schedules.{PassesLimit}
 use Rattle.strc_order.specs.declared.error.ScheduleError.{ScheduleError}
 use Rattle.strc_order.specs.declared.error.ScheduleError.TheVariants as unscheduled
-use Rattle.strc_startup.specs.Rates.{rates_of}
 use Rattle.strc_startup.specs.declared.error.StartupError.{StartupError}
 use Rattle.strc_startup.specs.declared.error.StartupError.TheVariants as unprimed
 use Rattle.strc_scope.specs.declared.error.ElabError.{ElabError}
 use Rattle.strc_scope.specs.declared.error.ElabError.TheVariants as error
-use Rattle.strc_run.specs.declared.plan.Plan.{Plan}
+use Rattle.strc_stage.specs.Plans.{HasStartup, IsDeadlocked, IsUnbounded, Overflows, PlanParts}
+use Rattle.strc_stage.specs.Plans.{planning_of}
 use Rattle.strc_run.specs.declared.refusal.Refusal.{Refusal}
 use Rattle.strc_run.specs.declared.refusal.Refusal.TheVariants as refusal
-use Rattle.strc_run.specs.Compiling.{Breaks, CanRun, IsCompiled, refusal_of, balance_refusal_of}
-use Rattle.strc_run.specs.Compiling.{round_counts}
-use Rattle.strc_run.specs.Accepts.{IsText}
-use Rattle.strc_run.specs.Refuses.{IsTrueOf, IsReadRefusal}
-use Rattle.strc_run.specs.Rates.{rates_checked}
-use Rattle.strc_run.specs.Scheduling.{HasStartup, IsUnbounded, IsDeadlocked}
-use Rattle.strc_run.specs.Scheduling.{startup_refusal_of, schedule_refusal_of}
-use Rattle.strc_run.specs.Planning.{HasPlan}
+use Rattle.strc_run.specs.Accepts.{CanRun, round_counts}
+use Rattle.strc_run.specs.Plans.{HasPlan, IsPlanOf}
+use Rattle.strc_run.specs.Refuses.{Breaks, HasNoBalance, IsTrueOf, IsReadRefusal}
+use Rattle.strc_run.specs.Rates.{rates_checked, node_checked, filter_checked, then_check}
+use Rattle.strc_run.specs.Rates.{told_of_node}
+use Rattle.strc_run.specs.Reports.{refusal_of, balance_refusal_of, startup_refusal_of}
+use Rattle.strc_run.specs.Reports.{schedule_refusal_of}
 use Rattle.strc_run.specs.Verdicts.{IsRefusal}
 
-module _ (program : List Declaration) (main : Option (List ℕ)) where
+-- a test of rates doesn't speak of the balance
+not_of_rate : (node channel : ℕ) (broken : RateError)
+    → told_of_node node broken ≡ refusal.Inconsistent channel → ⊥
+not_of_rate node channel rate.RateLimit e = absurd (cc)
+not_of_rate node channel rate.RateUnknown e = absurd (cc)
+not_of_rate node channel (rate.RateMismatch declared counted) e = absurd (cc)
+not_of_rate node channel rate.PeekOutside e = absurd (cc)
+not_of_rate node channel rate.NoMemory e = absurd (cc)
+
+not_of_filter : (node channel : ℕ) (one : Result FilterRates RateError)
+    → filter_checked node one ≡ Err (refusal.Inconsistent channel) → ⊥
+not_of_filter node channel (Ok rates) e = absurd (cc)
+not_of_filter node channel (Err broken) e =
+    let same : told_of_node node broken ≡ refusal.Inconsistent channel = cc in
+    not_of_rate node channel broken same
+
+not_of_node : (node channel : ℕ) (code : NodeCode)
+    → node_checked node code ≡ Err (refusal.Inconsistent channel) → ⊥
+not_of_node node channel (Filter name filter) e = not_of_filter node channel (checked filter) e
+not_of_node node channel code e = absurd (cc)
+
+one_of_two : (one next : Result (Unit {0}) Refusal) (refused : Refusal)
+    → (one ≡ Err refused → ⊥) → (next ≡ Err refused → ⊥) → then_check one next ≡ Err refused → ⊥
+one_of_two (Ok done) next refused first later e = later e
+one_of_two (Err broken) next refused first later e = first e
+
+not_of_rates : (node channel : ℕ) (codes : List NodeCode)
+    → rates_checked node codes ≡ Err (refusal.Inconsistent channel) → ⊥
+not_of_rates node channel [] e = absurd (cc)
+not_of_rates node channel (code ∷ codes) e =
+    one_of_two (node_checked node code) (rates_checked (node + 1) codes)
+    (refusal.Inconsistent channel) (not_of_node node channel code)
+    (not_of_rates (node + 1) channel codes) e
+
+module _ (text : List ℕ) (main : Option (List ℕ)) (program : List Declaration)
+    (spells : Spells text program) where
   -- the elaboration's refusal
   pub elaboration_refused : (broken : ElabError)
       → elaboration.IsRefusal (elaborated program main) broken
-      → IsCompiled program main (Err (refusal_of broken))
+      → IsTrueOf text main (refusal_of broken)
   elaboration_refused error.NoMemory e = tt
-  elaboration_refused broken e = Breaks.InElaboration broken e refl
+  elaboration_refused broken e = inr (program, spells, Breaks.InElaboration broken e refl)
 
   module _ (stream : Stream) (elaborates : elaborated program main ≡ Ok stream) where
     -- the flat graph's
     pub graph_refused : (broken : ElabError)
         → IsRefused (codes_of stream) (IsConnected (meaning_of stream)) broken
-        → IsCompiled program main (Err (refusal_of broken))
-    graph_refused error.NodeLimit e = Breaks.InGraph stream elaborates e
-    graph_refused error.TwoInputs e = Breaks.InGraph stream elaborates e
-    graph_refused error.TwoOutputs e = Breaks.InGraph stream elaborates e
-    graph_refused error.Disconnected e = Breaks.InGraph stream elaborates e
+        → IsTrueOf text main (refusal_of broken)
+    graph_refused error.NodeLimit e =
+        inr (program, spells, Breaks.InGraph stream elaborates e)
+    graph_refused error.TwoInputs e =
+        inr (program, spells, Breaks.InGraph stream elaborates e)
+    graph_refused error.TwoOutputs e =
+        inr (program, spells, Breaks.InGraph stream elaborates e)
+    graph_refused error.Disconnected e =
+        inr (program, spells, Breaks.InGraph stream elaborates e)
     graph_refused error.NoMemory e = tt
     graph_refused broken e = absurd e
 
     -- the rates'
     pub rates_refused : (refused : Refusal) → CanRun stream
-        → IsRefusal (rates_checked 0 (nodes_of stream)) refused
-        → IsCompiled program main (Err refused)
+        → IsRefusal (rates_checked 0 (nodes_of stream)) refused → IsTrueOf text main refused
     rates_refused refusal.NoMemory runs e = tt
-    rates_refused refused runs e = Breaks.InRates stream elaborates runs e
+    rates_refused (refusal.Inconsistent channel) runs e =
+        absurd (not_of_rates 0 channel (nodes_of stream) e)
+    rates_refused refused runs e =
+        inr (program, spells, Breaks.InRates stream elaborates runs e)
 
-    -- the balance's
-    pub balance_refused : (graph : Graph) (broken : BalanceError) → CanRun stream
-        → rates_checked 0 (nodes_of stream) ≡ Ok tt → IsFlat stream graph
-        → balancing.IsRefusal (round_counts graph) broken
-        → IsCompiled program main (Err (balance_refusal_of broken))
-    balance_refused graph unbalanced.CountsTooLarge runs rates flat e =
-        Breaks.InBalance stream graph elaborates runs rates flat e
-    balance_refused graph (unbalanced.Inconsistent channel) runs rates flat e =
-        Breaks.InBalance stream graph elaborates runs rates flat e
-    balance_refused graph unbalanced.NoMemory runs rates flat e = tt
+    module _ (graph : Graph) (runs : CanRun stream)
+        (rates : rates_checked 0 (nodes_of stream) ≡ Ok tt) (flat : IsFlat stream graph) where
+      -- the balance's
+      pub balance_refused : (broken : BalanceError)
+          → balancing.IsRefusal (round_counts graph) broken
+          → ((channel : ℕ) → broken ≡ unbalanced.Inconsistent channel → (counts : List ℕ)
+          → ¬ Balances (size_of graph) (equations_of graph) counts)
+          → IsTrueOf text main (balance_refusal_of broken)
+      balance_refused unbalanced.CountsTooLarge e none =
+          inr (program, spells, Breaks.InBalance stream graph elaborates runs rates flat e)
+      balance_refused (unbalanced.Inconsistent channel) e none = (
+        inr (program, spells, Breaks.InBalance stream graph elaborates runs rates flat e),
+        record {
+          program = program;
+          spells = spells;
+          stream = stream;
+          elaborates = elaborates;
+          graph = graph;
+          flat = flat;
+          none = none channel refl;
+        },
+      )
+      balance_refused unbalanced.NoMemory e none = tt
 
-    module _ (graph : Graph) (counts : List ℕ) (runs : CanRun stream)
-        (rates : rates_checked 0 (nodes_of stream) ≡ Ok tt) (flat : IsFlat stream graph)
-        (balances : round_counts graph ≡ Ok counts) where
-      -- the start-up's
-      pub startup_refused : (broken : StartupError)
-          → (broken ≡ unprimed.Unbounded → IsUnbounded graph)
-          → IsCompiled program main (Err (startup_refusal_of broken))
-      startup_refused unprimed.Unbounded unbounded =
-          Breaks.InStartup stream graph counts elaborates runs rates flat balances (unbounded refl)
-      startup_refused unprimed.NoMemory unbounded = tt
+      module _ (counts : List ℕ) (balances : round_counts graph ≡ Ok counts) where
+        -- the start-up's
+        pub startup_refused : (broken : StartupError)
+            → (broken ≡ unprimed.Unbounded → IsUnbounded graph)
+            → IsTrueOf text main (startup_refusal_of broken)
+        startup_refused unprimed.Unbounded unbounded = inr (
+          program,
+          spells,
+          Breaks.InStartup stream graph counts elaborates runs rates flat balances
+              (unbounded refl),
+        )
+        startup_refused unprimed.NoMemory unbounded = tt
 
-      -- the schedule's
-      pub schedule_refused : (startup : List ℕ) (broken : ScheduleError) → HasStartup graph startup
-          → ((in_startup : Bool) → broken ≡ unscheduled.Deadlock in_startup
-          → IsDeadlocked graph startup counts in_startup)
-          → ((channel : ℕ) → broken ≡ unscheduled.BufferLimit channel
-          → PassesLimit (rates_of graph) (count_at startup) (count_at counts) channel)
-          → IsCompiled program main (Err (schedule_refusal_of broken))
-      schedule_refused startup (unscheduled.Deadlock in_startup) starts deadlocked past =
-          Breaks.InSchedule stream graph counts startup elaborates runs rates flat balances starts
-          (deadlocked in_startup refl)
-      schedule_refused startup (unscheduled.BufferLimit channel) starts deadlocked past =
-          Breaks.InSchedule stream graph counts startup elaborates runs rates flat balances starts
-          (past channel refl)
-      schedule_refused startup unscheduled.NoMemory starts deadlocked past = tt
+        -- the schedule's
+        pub schedule_refused : (startup : List ℕ) (broken : ScheduleError)
+            → HasStartup graph startup
+            → ((in_startup : Bool) → broken ≡ unscheduled.Deadlock in_startup
+            → IsDeadlocked graph startup counts in_startup)
+            → ((channel : ℕ) → broken ≡ unscheduled.BufferLimit channel
+            → Overflows graph startup counts channel)
+            → IsTrueOf text main (schedule_refusal_of broken)
+        schedule_refused startup (unscheduled.Deadlock in_startup) starts deadlocked past =
+            inr (
+              program,
+              spells,
+              Breaks.InSchedule stream graph counts startup elaborates runs
+                  rates flat balances starts (deadlocked in_startup refl),
+            )
+        schedule_refused startup (unscheduled.BufferLimit channel) starts deadlocked past =
+            inr (
+              program,
+              spells,
+              Breaks.InSchedule stream graph counts startup elaborates runs
+                  rates flat balances starts (past channel refl),
+            )
+        schedule_refused startup unscheduled.NoMemory starts deadlocked past = tt
 
 -- a deadlock is one of start-up, or one of a round
 pub which_deadlock : (graph : Graph) (startup round : List ℕ) (broken : ScheduleError)
@@ -109,32 +178,27 @@ which_deadlock graph startup round broken first later true is = first is
 which_deadlock graph startup round broken first later false is = later is
 
 -- the refusal that is reported
-pub refusal_told : (program : List Declaration) (main : Option (List ℕ))
-    (result : Result Plan Refusal) (refused : Refusal) → IsErrAnd result (λ found. found ≡ refused)
-    → IsCompiled program main (Err refused) → IsCompiled program main result
-refusal_told program main (Ok plan) refused told is = absurd told
-refusal_told program main (Err found) refused told is =
-    subst (λ (r : Refusal). IsCompiled program main (Err r)) (sym told) is
-
--- the answer for a program is that for its text
-pub program_answered : (text : List ℕ) (main : Option (List ℕ)) (program : List Declaration)
-    (result : Result Plan Refusal) → IsText text program → IsCompiled program main result
+pub refusal_told : (text : List ℕ) (main : Option (List ℕ)) (result : Result PlanParts Refusal)
+    (refused : Refusal) → IsErrAnd result (λ found. found ≡ refused) → IsTrueOf text main refused
     → HasPlan text main result
-program_answered text main program (Ok plan) is_text planned = record {
-  stream = planned.stream;
-  accepted = record { program = program; is_text = is_text; compiles = planned.compiles };
-  nodes = planned.nodes;
-  graph = planned.graph;
-  whole = planned.whole;
-  planned = planned.planned;
-  counts = planned.counts;
-  startup = planned.startup;
-  schedule = planned.schedule;
-}
-program_answered text main program (Err refusal.NoMemory) is_text broken = tt
-program_answered text main program (Err refused) is_text broken = inr (program, is_text, broken)
+refusal_told text main (Ok plan) refused told is = absurd told
+refusal_told text main (Err found) refused told is = subst (IsTrueOf text main) (sym told) is
 
+-- the plan that is given
+pub plan_told : (text : List ℕ) (main : Option (List ℕ)) (plan parts : PlanParts) → plan ≡ parts
+    → IsPlanOf text main (planning_of parts) → IsPlanOf text main (planning_of plan)
+plan_told text main plan parts same is =
+    subst (λ (p : PlanParts). IsPlanOf text main (planning_of p)) (sym same) is
+
+-- before there is a program
 pub read_refused : (text : List ℕ) (main : Option (List ℕ)) (refused : Refusal)
     → IsReadRefusal text refused → IsTrueOf text main refused
 read_refused text main refusal.NoMemory e = tt
+read_refused text main (refusal.Inconsistent channel) e = absurd e
 read_refused text main refused e = inl e
+
+-- an inconsistent graph has no rounds
+pub none_balance : (text : List ℕ) (main : Option (List ℕ)) (result : Result PlanParts Refusal)
+    (channel : ℕ) → HasPlan text main result → result ≡ Err (refusal.Inconsistent channel)
+    → HasNoBalance text main
+none_balance text main result channel has is = (subst (HasPlan text main) is has).1

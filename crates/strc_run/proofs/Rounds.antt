@@ -1,23 +1,23 @@
 -- The rounds of a plan, by those that are run.
-use Rattle.std.proofs.Common.{◌≡◌, ℕ, ◌+◌, ◌<◌, ◌≤◌, ℤ, Bool, true, false, List, length, Option}
-use Rattle.std.proofs.Common.{Some, None, Result, Ok, Err, refl, sym, ap, ◌∙◌, arith}
+use Rattle.std.proofs.Common.{◌≡◌, ℕ, ◌≤◌, ℤ, true, List, length, Option}
+use Rattle.std.proofs.Common.{Some, None, Result, Ok, Err, refl, ◌∙◌, arith}
 use Rattle.std.specs.Prelude.{IfOk, IfErr, unwrap_or}
 use Rattle.std.specs.List.{list_any}
-use Rattle.strc_graph.specs.Graphs.{Graph, reads_input}
-use Rattle.strc_order.specs.Schedules.{ScheduleParts}
-use Rattle.strc_sched.specs.Plain.{AnswersGraph, IsPlainRefusal, need_of}
+use Rattle.strc_graph.specs.Graphs.{reads_input}
+use Rattle.strc_sched.specs.Plain.{AnswersGraph, IsPlainRefusal}
 use Rattle.strc_sched.specs.Serving.{IsServed}
 use Rattle.strc_sched.specs.declared.outcome.Outcome.{Outcome}
 use Rattle.strc_sched.specs.declared.refusal.RunRefusal.{RunRefusal}
 use Rattle.strc_sched.specs.declared.refusal.RunRefusal.TheVariants as refused
-use Rattle.strc_run.specs.Rounds.{IsRunOf, IsUnrun, is_bounded}
+use Rattle.strc_stage.specs.Plans.{Planning}
+use Rattle.strc_run.specs.Rounds.{IsRunOf, IsUnrun, is_bounded, need_of}
 
-module _ (graph : Graph) (schedule : ScheduleParts) (input : List ℤ) where
+module _ (plan : Planning) (input : List ℤ) where
   refused_as : (asked : Option ℕ) (rounds : ℕ) (refusal : RunRefusal)
-      → is_bounded asked graph.nodes ≡ true
-      → need_of graph schedule rounds ≡ need_of graph schedule (unwrap_or asked 0)
-      → IsPlainRefusal (need_of graph schedule rounds) (length input) refusal
-      → IsUnrun graph schedule (length input) asked refusal
+      → is_bounded asked plan.graph.nodes ≡ true
+      → need_of plan rounds ≡ need_of plan (unwrap_or asked 0)
+      → IsPlainRefusal (need_of plan rounds) (length input) refusal
+      → IsUnrun plan (length input) asked refusal
   refused_as asked rounds (refused.InputShort need had) bounded same short =
       (bounded, short.0 ∙ same, short.1, omega (arith, same, short.2))
   refused_as asked rounds refused.NoMemory bounded same enough =
@@ -26,10 +26,10 @@ module _ (graph : Graph) (schedule : ScheduleParts) (input : List ℤ) where
 
   -- a number of rounds that is given
   pub given_run : (count : ℕ) (result : Result Outcome RunRefusal)
-      → IfOk result (AnswersGraph graph schedule input count)
-      → IfOk result (λ _. need_of graph schedule count ≤ length input)
-      → IfErr result (IsPlainRefusal (need_of graph schedule count) (length input))
-      → IsRunOf graph schedule input (Some count) result
+      → IfOk result (AnswersGraph plan.graph plan.schedule input count)
+      → IfOk result (λ _. need_of plan count ≤ length input)
+      → IfErr result (IsPlainRefusal (need_of plan count) (length input))
+      → IsRunOf plan input (Some count) result
   given_run count (Ok outcome) answers enough none = record {
     bounded = refl;
     rounds = count;
@@ -41,12 +41,12 @@ module _ (graph : Graph) (schedule : ScheduleParts) (input : List ℤ) where
 
   -- as many as the input serves
   pub served_run : (served : Option ℕ) (result : Result Outcome RunRefusal)
-      → list_any reads_input graph.nodes ≡ true
-      → IsServed (need_of graph schedule) (length input) served
-      → IfOk result (AnswersGraph graph schedule input (unwrap_or served 0))
-      → IfOk result (λ _. need_of graph schedule (unwrap_or served 0) ≤ length input)
-      → IfErr result (IsPlainRefusal (need_of graph schedule (unwrap_or served 0)) (length input))
-      → IsRunOf graph schedule input None result
+      → list_any reads_input plan.graph.nodes ≡ true
+      → IsServed (need_of plan) (length input) served
+      → IfOk result (AnswersGraph plan.graph plan.schedule input (unwrap_or served 0))
+      → IfOk result (λ _. need_of plan (unwrap_or served 0) ≤ length input)
+      → IfErr result (IsPlainRefusal (need_of plan (unwrap_or served 0)) (length input))
+      → IsRunOf plan input None result
   served_run (Some count) (Ok outcome) reads serves answers enough none = record {
     bounded = reads;
     rounds = count;
@@ -58,5 +58,6 @@ module _ (graph : Graph) (schedule : ScheduleParts) (input : List ℤ) where
       absurd (omega (arith, serves.enough, short.2))
   served_run (Some count) (Err refused.NoMemory) reads serves none enough is = (reads, serves.start)
   served_run (Some count) (Err refusal) reads serves none enough never = absurd never
-  served_run None (Ok outcome) reads short answers enough none = absurd (omega (arith, short, enough))
+  served_run None (Ok outcome) reads short answers enough none =
+      absurd (omega (arith, short, enough))
   served_run None (Err refusal) reads short none enough is = refused_as None 0 refusal reads refl is

@@ -1,25 +1,42 @@
--- Which texts are accepted, and with which stream.
-use Rattle.std.specs.Prelude.{ℕ, ◌≤◌, List, length, Option}
-use Rattle.strc_lex.specs.Text.{Lexes, text_limit}
-use Rattle.strc_lex.specs.declared.token.Token.{Token}
+-- Which texts are accepted, and with which plan.
+use Rattle.std.specs.Prelude.{◌≡◌, ℕ, List, Option, Result, Ok}
 use Rattle.strc_syntax.specs.Tree.{Declaration}
-use Rattle.strc_grammar.specs.Grammar as grammar
+use Rattle.strc_parse.specs.Texts.{Spells}
+use Rattle.strc_elab.specs.Elaboration.{elaborated}
+use Rattle.strc_stream.specs.Connections.{IsConnected}
+use Rattle.strc_stream.specs.Flattening.{nodes_of, codes_of, meaning_of, IsFlat}
 use Rattle.strc_stream.specs.Instances.{Stream}
-use Rattle.strc_run.specs.Compiling.{Compiles}
+use Rattle.strc_flatten.specs.Verdicts.{IsAccepted}
+use Rattle.strc_graph.specs.Graphs.{Graph}
+use Rattle.strc_balance.specs.Rates.{equations_of, size_of}
+use Rattle.strc_balance.specs.Verdicts.{judged}
+use Rattle.strc_balance.specs.declared.error.BalanceError.{BalanceError}
+use Rattle.strc_stage.specs.Plans.{HasSchedule, HasStartup, Planning}
+use Rattle.strc_run.specs.Rates.{rates_checked}
 
--- the tokens of a text that isn't too long
-pub record HasTokens (text : List ℕ) (tokens : List Token) : Type 0 where
-  pub short : length text ≤ text_limit
-  pub lexes : Lexes text tokens
+-- a stream has no more nodes than are allowed, one of them at most takes the input and one at most
+-- writes, and all are connected
+abbrev pub CanRun : Stream → Type 0
+CanRun stream = IsAccepted (codes_of stream) (IsConnected (meaning_of stream))
 
--- the text spells this program
-pub record IsText (text : List ℕ) (program : List Declaration) : Type 0 where
-  pub tokens : List Token
-  pub has_tokens : HasTokens text tokens
-  pub parses : grammar.Parses (grammar.kinds tokens) program
+-- how often each node of a graph fires in a round, or why the graph has no rounds
+abbrev pub round_counts : Graph → Result (List ℕ) BalanceError
+round_counts graph = judged (size_of graph) (equations_of graph)
 
--- the text is accepted, with this stream
-pub record Accepts (text : List ℕ) (main : Option (List ℕ)) (stream : Stream) : Type 0 where
+-- the text is accepted, with this plan
+pub record Accepts (text : List ℕ) (main : Option (List ℕ)) (plan : Planning) : Type 0 where
+  -- the text spells a program
   pub program : List Declaration
-  pub is_text : IsText text program
-  pub compiles : Compiles program main stream
+  pub spells : Spells text program
+  -- whose main stream this is
+  pub stream : Stream
+  pub elaborates : elaborated program main ≡ Ok stream
+  -- which can be run, and each node of which keeps its rates
+  pub runs : CanRun stream
+  pub rates : rates_checked 0 (nodes_of stream) ≡ Ok tt
+  -- the plan's graph is the stream's flat graph
+  pub flat : IsFlat stream plan.graph
+  -- with its counts and its schedule
+  pub round : round_counts plan.graph ≡ Ok plan.round_counts
+  pub startup : HasStartup plan.graph plan.startup_counts
+  pub schedule : HasSchedule plan.graph plan.startup_counts plan.round_counts plan.schedule

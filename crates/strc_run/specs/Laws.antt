@@ -1,16 +1,28 @@
 -- What holds of all texts.
-use Rattle.std.specs.Prelude.{◌≡◌, ℕ, List, Option}
-use Rattle.strc_stream.specs.Instances.{Stream}
+use Rattle.std.specs.Prelude.{◌≡◌, ℕ, ℤ, List, Option, Result}
+use Rattle.strc_sched.specs.declared.outcome.Outcome.{Outcome}
+use Rattle.strc_sched.specs.declared.refusal.RunRefusal.{RunRefusal}
+use Rattle.strc_stage.specs.Plans.{Planning}
 use Rattle.strc_run.specs.declared.refusal.Refusal.{Refusal}
 use Rattle.strc_run.specs.Accepts.{Accepts}
+use Rattle.strc_run.specs.Plans.{IsPlanOf}
 use Rattle.strc_run.specs.Refuses.{Refuses}
+use Rattle.strc_run.specs.Rounds.{IsRunOf}
+use Rattle.strc_run.specs.TextRuns.{IsTextRun}
 
 -- no text is both accepted and refused
 abbrev pub AcceptedOrRefused : Type 0
-AcceptedOrRefused = (text : List ℕ) (main : Option (List ℕ)) (stream : Stream) (refused : Refusal)
-    → Accepts text main stream → Refuses text main refused → ⊥
+AcceptedOrRefused = (text : List ℕ) (main : Option (List ℕ)) (plan : Planning) (refused : Refusal)
+    → Accepts text main plan → Refuses text main refused → ⊥
 
 -- a text is accepted with one stream
 abbrev pub OneStream : Type 0
-OneStream = (text : List ℕ) (main : Option (List ℕ)) (one other : Stream)
-    → Accepts text main one → Accepts text main other → one ≡ other
+OneStream = (text : List ℕ) (main : Option (List ℕ)) (plan other : Planning)
+    → (accepted : Accepts text main plan) → (again : Accepts text main other)
+    → accepted.stream ≡ again.stream
+
+-- what the rounds of a text's plan come to is what those of the text come to
+abbrev pub PlansAnswerTexts : Type 0
+PlansAnswerTexts = (text : List ℕ) (main : Option (List ℕ)) (plan : Planning) (input : List ℤ)
+    (asked : Option ℕ) (result : Result Outcome RunRefusal) → IsPlanOf text main plan
+    → IsRunOf plan input asked result → IsTextRun text main plan input asked result

@@ -1,9 +1,10 @@
 pub mod Accepts
-pub mod Compiling
 pub mod Laws
-pub mod Planning
+pub mod Plans
 pub mod Rates
 pub mod Refuses
+pub mod Reports
 pub mod Rounds
-pub mod Scheduling
+pub mod Streams
+pub mod TextRuns
 pub mod Verdicts

@@ -1,41 +1,122 @@
--- Which texts are refused, and with which refusal.
-use Rattle.std.specs.Prelude.{ℕ, ◌<◌, ◌≤◌, ◌⊎◌, List, length, Option}
-use Rattle.strc_lex.specs.Text.{StopsAt, text_limit}
-use Rattle.strc_lex.specs.declared.token.Token.{Token}
+-- Which texts are refused, and with which refusal: that of the first rule that is broken, of those
+-- on the text's tokens, its tree, its elaboration, its flat graph, its nodes' rates, their balance,
+-- their start-up, their schedule.
+use Rattle.std.specs.Prelude.{◌≡◌, ℕ, ◌⊎◌, List, Option, Ok, Err}
 use Rattle.strc_syntax.specs.Tree.{Declaration}
-use Rattle.strc_grammar.specs.Grammar as grammar
-use Rattle.strc_grammar.specs.declared.error.ParseError.{ParseError}
 use Rattle.strc_grammar.specs.declared.error.ParseError.TheVariants as parsing
+use Rattle.strc_parse.specs.Texts.{HasNoToken, IsNoProgram, IsTooLong, Spells}
+use Rattle.strc_scope.specs.declared.error.ElabError.{ElabError}
+use Rattle.strc_scope.specs.declared.error.ElabError.TheVariants as error
+use Rattle.strc_elab.specs.Elaboration.{elaborated}
+use Rattle.strc_stream.specs.Connections.{IsConnected}
+use Rattle.strc_stream.specs.Flattening.{nodes_of, codes_of, meaning_of, IsFlat}
+use Rattle.strc_stream.specs.Instances.{Stream}
+use Rattle.strc_flatten.specs.Verdicts.{IsRefused}
+use Rattle.strc_graph.specs.Graphs.{Graph}
+use Rattle.strc_balance.specs.Balance.{Balances}
+use Rattle.strc_balance.specs.Rates.{equations_of, size_of}
+use Rattle.strc_balance.specs.declared.error.BalanceError.TheVariants as unbalanced
+use Rattle.strc_stage.specs.Plans.{HasStartup, IsDeadlocked, IsUnbounded, Overflows}
 use Rattle.strc_run.specs.declared.refusal.Refusal.{Refusal}
 use Rattle.strc_run.specs.declared.refusal.Refusal.TheVariants as refusal
-use Rattle.strc_run.specs.Accepts.{HasTokens, IsText}
-use Rattle.strc_run.specs.Compiling.{Breaks}
+use Rattle.strc_run.specs.Accepts.{CanRun, round_counts}
+use Rattle.strc_run.specs.Rates.{rates_checked}
+use Rattle.strc_run.specs.Reports.{refusal_of}
 
--- the text's tokens are refused so by the grammar
-abbrev pub IsNoProgram : List ℕ → ParseError → Type 0
-IsNoProgram text broken = (tokens : List Token) × HasTokens text tokens
-    × grammar.Refuses (grammar.kinds tokens) broken
-
--- the text spells a program that breaks this rule
-abbrev pub BreaksRule : List ℕ → Option (List ℕ) → Refusal → Type 0
-BreaksRule text main refused = (program : List Declaration) × IsText text program
-    × Breaks program main refused
-
--- the text is refused so before there is a program: for its length, its tokens or its tree
+-- the text spells no program, for this reason
 abbrev pub IsUnreadable : List ℕ → Refusal → Type 0
-IsUnreadable text refusal.TextTooLong = text_limit < length text
-IsUnreadable text (refusal.Lex at) = (length text ≤ text_limit) × StopsAt text at
+IsUnreadable text refusal.TextTooLong = IsTooLong text
+IsUnreadable text (refusal.Lex at) = HasNoToken text at
 IsUnreadable text (refusal.Parse token) = IsNoProgram text (parsing.Parse token)
 IsUnreadable text refusal.Nesting = IsNoProgram text parsing.Nesting
 IsUnreadable text refused = ⊥
+
+-- the flat graph of a stream can't be run, for this reason
+abbrev pub CannotRun : Stream → Refusal → Type 0
+CannotRun stream refusal.NodeLimit = IsRefused (codes_of stream)
+    (IsConnected (meaning_of stream)) error.NodeLimit
+CannotRun stream refusal.TwoInputs = IsRefused (codes_of stream)
+    (IsConnected (meaning_of stream)) error.TwoInputs
+CannotRun stream refusal.TwoOutputs = IsRefused (codes_of stream)
+    (IsConnected (meaning_of stream)) error.TwoOutputs
+CannotRun stream refusal.Disconnected = IsRefused (codes_of stream)
+    (IsConnected (meaning_of stream)) error.Disconnected
+CannotRun stream refused = ⊥
+
+-- a graph has no counts of a round, for this reason
+abbrev pub CannotBalance : Graph → Refusal → Type 0
+CannotBalance graph refusal.CountsTooLarge = round_counts graph ≡ Err unbalanced.CountsTooLarge
+CannotBalance graph (refusal.Inconsistent channel) =
+    round_counts graph ≡ Err (unbalanced.Inconsistent channel)
+CannotBalance graph refused = ⊥
+
+-- a graph has no start-up counts, for this reason
+abbrev pub CannotStart : Graph → Refusal → Type 0
+CannotStart graph refusal.StartupUnbounded = IsUnbounded graph
+CannotStart graph refused = ⊥
+
+-- a graph whose nodes are to fire so often has no schedule, for this reason
+abbrev pub CannotSchedule : Graph → (startup round : List ℕ) → Refusal → Type 0
+CannotSchedule graph startup round (refusal.Deadlock in_startup) =
+    IsDeadlocked graph startup round in_startup
+CannotSchedule graph startup round (refusal.BufferLimit channel) =
+    Overflows graph startup round channel
+CannotSchedule graph startup round refused = ⊥
+
+-- the first rule that a program breaks
+pub data Breaks (program : List Declaration) (main : Option (List ℕ)) (refused : Refusal) : Type 0
+  where
+    InElaboration : (broken : ElabError) → elaborated program main ≡ Err broken
+        → refused ≡ refusal_of broken → Breaks program main refused
+    InGraph : (stream : Stream) → elaborated program main ≡ Ok stream → CannotRun stream refused
+        → Breaks program main refused
+    InRates : (stream : Stream) → elaborated program main ≡ Ok stream → CanRun stream
+        → rates_checked 0 (nodes_of stream) ≡ Err refused → Breaks program main refused
+    InBalance : (stream : Stream) (graph : Graph) → elaborated program main ≡ Ok stream
+        → CanRun stream
+        → rates_checked 0 (nodes_of stream) ≡ Ok tt → IsFlat stream graph
+        → CannotBalance graph refused
+        → Breaks program main refused
+    InStartup : (stream : Stream) (graph : Graph) (counts : List ℕ)
+        → elaborated program main ≡ Ok stream
+        → CanRun stream
+        → rates_checked 0 (nodes_of stream) ≡ Ok tt → IsFlat stream graph
+        → round_counts graph ≡ Ok counts
+        → CannotStart graph refused
+        → Breaks program main refused
+    InSchedule : (stream : Stream) (graph : Graph) (counts startup : List ℕ)
+        → elaborated program main ≡ Ok stream
+        → CanRun stream
+        → rates_checked 0 (nodes_of stream) ≡ Ok tt → IsFlat stream graph
+        → round_counts graph ≡ Ok counts → HasStartup graph startup
+        → CannotSchedule graph startup counts refused
+        → Breaks program main refused
+
+-- the text spells a program that breaks this rule
+abbrev pub BreaksRule : List ℕ → Option (List ℕ) → Refusal → Type 0
+BreaksRule text main refused = (program : List Declaration) × Spells text program
+    × Breaks program main refused
 
 -- the text is refused so: it can't be read, or it breaks a rule
 abbrev pub Refuses : List ℕ → Option (List ℕ) → Refusal → Type 0
 Refuses text main refused = IsUnreadable text refused ⊎ BreaksRule text main refused
 
--- a refusal that was answered is the text's; out of memory says nothing of it
+-- no positive counts balance the flat graph of the text's main stream (Lee and Messerschmitt 1987)
+pub record HasNoBalance (text : List ℕ) (main : Option (List ℕ)) : Type 0 where
+  pub program : List Declaration
+  pub spells : Spells text program
+  pub stream : Stream
+  pub elaborates : elaborated program main ≡ Ok stream
+  pub graph : Graph
+  pub flat : IsFlat stream graph
+  pub none : (counts : List ℕ) → ¬ Balances (size_of graph) (equations_of graph) counts
+
+-- a refusal that was answered is the text's, and an inconsistent graph has no rounds at all; out of
+-- memory says nothing of the text
 abbrev pub IsTrueOf : List ℕ → Option (List ℕ) → Refusal → Type 0
 IsTrueOf text main refusal.NoMemory = Unit {0}
+IsTrueOf text main (refusal.Inconsistent channel) =
+    Refuses text main (refusal.Inconsistent channel) × HasNoBalance text main
 IsTrueOf text main refused = Refuses text main refused
 
 -- the same before there is a program

@@ -1,14 +1,15 @@
 // From the text to the plan, or the first refusal.
 
-ghost use Rattle.std.specs.Prelude.{IfOk, IfErr};
+ghost use Rattle.std.specs.Prelude.{◌≡◌, ℕ, List, Err, IfOk, IfErr};
 ghost use Rattle.std.specs.Option.{option_map};
 ghost use Rattle.strc_syntax.specs.View.{program_view};
-ghost use Rattle.strc_run.specs.Compiling.{IsCompiled};
-ghost use Rattle.strc_run.specs.Accepts.{IsText};
-ghost use Rattle.strc_run.specs.Refuses.{IsReadRefusal};
-ghost use Rattle.strc_run.specs.Planning.{HasPlan};
+ghost use Rattle.strc_parse.specs.Texts.{Spells};
+ghost use Rattle.strc_run.specs.Plans.{HasPlan, main_of};
+ghost use Rattle.strc_run.specs.Streams.{HasStream};
+ghost use Rattle.strc_run.specs.Refuses.{HasNoBalance, IsReadRefusal};
+ghost use Rattle.strc_run.specs.declared.refusal.Refusal.TheVariants as refused;
 
-use crate::plan::Plan;
+use crate::options::Options;
 use crate::rates::check_rates;
 use crate::refusal::Refusal;
 use std::alloc::Global;
@@ -19,41 +20,64 @@ use strc_lex::error::LexError;
 use strc_lex::lexer::lex;
 use strc_order::planning::schedule;
 use strc_parse::{ParseError, parse};
+pub use strc_stage::plan::Plan;
 use strc_startup::startup::startup;
+use strc_stream::laws::nodes_deal;
+use strc_stream::stream::Stream;
 use strc_syntax::tree::Program;
 
-/// The plan of the program's main stream. The first rule that is broken refuses the text: those of
-/// its tokens, its tree, its elaboration, its flat graph, its rates, its balance, its start-up, and
-/// its schedule.
-pub fn compile(alloc: Global, text: &[u8], main: Option<&str>) -> Result<Plan, Refusal>
-    ensures { HasPlan text.now (option_map (λ n. n.now) main.entry) result }
+/// The plan of the program's main stream.
+///
+/// The first rule that is broken refuses the text: those of its tokens, its tree, its elaboration,
+/// its flat graph, its rates, its balance, its start-up, and its schedule. `NoMemory` can come in
+/// place of any answer.
+pub fn compile(alloc: Global, text: &[u8], options: &Options) -> Result<Plan, Refusal>
+    ensures plan { HasPlan text.now (main_of options.now) result }
+    // No positive counts balance a graph that is answered to be inconsistent.
+    ensures inconsistent { (channel : ℕ) → result ≡ Err (refused.Inconsistent channel)
+        → HasNoBalance text.now (main_of options.now) }
 {
     match read_program(alloc, text) {
-        Ok(program) => compile_program(alloc, &program, main),
+        Ok(program) => compile_program(alloc, &program, options.main_name()),
         Err(refusal) => Err(refusal),
     }
 }
 
-// The plan of a program that was read.
-fn compile_program(alloc: Global, program: &Program, main: Option<&str>) -> Result<Plan, Refusal>
-    ensures { IsCompiled (program_view program.now) (option_map (λ n. n.now) main.entry) result }
+/// The main stream of a text, without its graph; or the refusal of the first rule that is broken on
+/// the way to it: of the text's tokens, its tree, its elaboration. `NoMemory` can come in place of
+/// any answer.
+pub fn stream_of(alloc: Global, text: &[u8], options: &Options) -> Result<Stream, Refusal>
+    ensures { HasStream text.now (main_of options.now) result }
 {
+    let program = match read_program(alloc, text) {
+        Ok(program) => program,
+        Err(refusal) => return Err(refusal),
+    };
+    match elaborate(alloc, &program, options.main_name()) {
+        Ok(stream) => Ok(stream),
+        Err(error) => Err(Refusal::from(error)),
+    }
+}
+
+// The plan of a program that was read, of whatever text spells it.
+fn compile_program(alloc: Global, program: &Program, main: Option<&str>) -> Result<Plan, Refusal>
+    ensures { (text : List ℕ) → Spells text (program_view program.now)
+        → HasPlan text (option_map (λ n. n.now) main.entry) result }
+{
+    // The nodes of a stream move items, which their rates stand on.
+    nodes_deal();
     let stream = elaborate(alloc, program, main)?;
     let graph = flatten(alloc, &stream)?;
     check_rates(alloc, graph.nodes())?;
     let round_counts = balance(alloc, &graph)?;
     let startup_counts = startup(alloc, &graph, &round_counts)?;
     let schedule = schedule(alloc, &graph, &startup_counts, &round_counts)?;
-    Ok(Plan {
-        graph,
-        round_counts,
-        startup_counts,
-        schedule,
-    })
+    Ok(Plan::new(graph, startup_counts, round_counts, schedule))
 }
 
+// The program that the text spells.
 fn read_program(alloc: Global, text: &[u8]) -> Result<Program, Refusal>
-    ensures read { IfOk result (λ program. IsText text.now (program_view program)) }
+    ensures read { IfOk result (λ program. Spells text.now (program_view program)) }
     ensures refused { IfErr result (λ e. IsReadRefusal text.now e) }
 {
     let tokens = match lex(alloc, text) {

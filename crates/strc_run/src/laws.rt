@@ -1,13 +1,31 @@
 // What the meaning of a text stands on, as laws about all texts.
 
-ghost use Rattle.strc_run.specs.Laws.{AcceptedOrRefused, OneStream};
+ghost use Rattle.strc_run.specs.Laws.{AcceptedOrRefused, OneStream, PlansAnswerTexts};
+
+use strc_parse::laws::{one_program, spelled_texts_are_readable};
+use strc_stage::laws::{one_startup, scheduled_or_refused};
+use strc_stream::laws::one_flat_graph;
 
 /// No text is both accepted and refused.
 pub fn accepted_or_refused()
     ensures { AcceptedOrRefused }
-{}
+{
+    one_program();
+    spelled_texts_are_readable();
+    one_flat_graph();
+    one_startup();
+    scheduled_or_refused();
+}
 
 /// A text is accepted with one stream.
 pub fn one_stream()
     ensures { OneStream }
+{
+    one_program();
+}
+
+/// What `run` answers for the plan that `compile` gives for a text is the answer of the stream
+/// equations of the text's main stream, or why there is none.
+pub fn plans_answer_texts()
+    ensures { PlansAnswerTexts }
 {}

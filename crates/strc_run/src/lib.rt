@@ -2,14 +2,16 @@
 // Gives a plan, its main stream's flat graph with the counts of start-up and of a round and with
 // its schedule, or the first refusal; and runs plans.
 // The theorem to rely on: `compile` refuses exactly where a layer does, and the outcome of a plan's
-// rounds is the answer of its stream's equations.
-// Stands on strc_lex, strc_parse, strc_elab, strc_graph, strc_rate, strc_balance, strc_startup and
-// strc_order, whose rules a text keeps, and on strc_sched, which runs schedules.
+// rounds is the answer of its stream's equations (`laws::plans_answer_texts`).
+// Stands on strc_lex, strc_parse, strc_elab, strc_flatten, strc_rate, strc_balance, strc_startup
+// and strc_order, whose rules a text keeps, on strc_stage, whose plans it gives, and on strc_sched,
+// which runs schedules.
 #![tactic(auto)]
 
 pub mod compile;
 pub mod laws;
-pub mod plan;
+pub mod options;
 mod rates;
 pub mod refusal;
 pub mod run;
+mod sentence;

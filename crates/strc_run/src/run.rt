@@ -1,17 +1,16 @@
 // The rounds of a plan.
 
-ghost use Rattle.std.specs.Prelude.{None};
-ghost use Rattle.strc_graph.specs.NodeView.{graph_view};
-ghost use Rattle.strc_admissible.specs.Planned.{IsPlanned};
-ghost use Rattle.strc_run.specs.Rounds.{IsRunOf};
+ghost use Rattle.std.specs.Prelude.{◌≡◌, None};
+ghost use Rattle.strc_stage.specs.Plans.{planning_of};
+ghost use Rattle.strc_run.specs.Rounds.{IsRunOf, plan_reads};
 
-use crate::plan::Plan;
 use std::alloc::Global;
 pub use strc_sched::outcome::{Outcome, Round};
 use strc_sched::plain::run_plain;
 pub use strc_sched::refusal::RunRefusal;
-pub use strc_sched::serving::reads_input;
+use strc_sched::serving;
 use strc_sched::serving::rounds_served;
+use strc_stage::plan::Plan;
 
 /// Start-up and so many rounds of a plan, on one thread; without a number as many as the input
 /// serves, at most 4,294,967,295. The outcome is the answer of the stream equations of whatever
@@ -26,24 +25,31 @@ pub fn run(
     input: &[i32],
     rounds: Option<u32>,
 ) -> Result<Outcome, RunRefusal>
-    requires planned { IsPlanned (graph_view plan.now.graph) plan.now.schedule }
-    ensures { IsRunOf (graph_view plan.now.graph) plan.now.schedule input.now rounds result }
+    ensures { IsRunOf (planning_of plan.now) input.now rounds result }
 {
     match rounds {
-        Some(count) => run_plain(alloc, &plan.graph, &plan.schedule, input, count),
+        Some(count) => run_plain(alloc, plan.graph(), plan.schedule(), input, count),
         None => run_served(alloc, plan, input),
     }
 }
 
 /// As many rounds as the input serves.
 fn run_served(alloc: Global, plan: &Plan, input: &[i32]) -> Result<Outcome, RunRefusal>
-    requires planned { IsPlanned (graph_view plan.now.graph) plan.now.schedule }
-    ensures { IsRunOf (graph_view plan.now.graph) plan.now.schedule input.now None result }
+    ensures { IsRunOf (planning_of plan.now) input.now None result }
 {
-    if !reads_input(&plan.graph) {
+    if !reads_input(plan) {
         return Err(RunRefusal::RoundsNeeded);
     }
+    let graph = plan.graph();
+    let schedule = plan.schedule();
     // An input that doesn't serve start-up is refused as one that doesn't serve 0 rounds.
-    let count = rounds_served(&plan.graph, &plan.schedule, input.len() as u64).unwrap_or(0);
-    run_plain(alloc, &plan.graph, &plan.schedule, input, count)
+    let count = rounds_served(graph, schedule, input.len() as u64).unwrap_or(0);
+    run_plain(alloc, graph, schedule, input, count)
+}
+
+/// Whether a node of the plan's graph reads the program's input.
+pub fn reads_input(plan: &Plan) -> bool
+    ensures { result ≡ plan_reads (planning_of plan.now) }
+{
+    serving::reads_input(plan.graph())
 }

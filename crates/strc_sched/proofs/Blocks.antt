@@ -1,21 +1,25 @@
--- Firings of an identity in a row come to one move of all their items.
+-- Firings in a row of a node that passes items on.
 use Rattle.std.proofs.Common.{◌≡◌, ◌≢◌, refl, sym, ap, ◌∙◌, ℕ, zero, suc, ◌+◌, ◌-◌, ◌^◌, ◌<◌, ◌≤◌}
 use Rattle.std.proofs.Common.{List, [], ◌∷◌, ◌++◌, length, get_or, set, take, drop, min, arith}
 use Rattle.std.proofs.Common.{ℤ, append-nil, append_assoc, Bool, true, false, ltb}
-use Rattle.std.specs.Prelude.{Some, slice_get, if◌then◌else◌}
+use Rattle.std.specs.Prelude.{Option, Some, slice_get, if◌then◌else◌}
 use Rattle.std.proofs.Math.Seq.{take-nil}
 use Rattle.std.proofs.lemmas.Bool.{le-leb, ltb-true, ltb-false}
 use Rattle.std.proofs.lemmas.List.{get_or-set_same, get_or-set_other, set-set, set_comm, set-get_or}
 use Rattle.std.proofs.lemmas.List.{length-set, length-append, length-drop}
 use Rattle.circular_buffer.specs.Buffer.{buffer}
+use Rattle.std.proofs.Common.{subst}
+use Rattle.strc_semantics.specs.declared.word.Word.{Word}
 use Rattle.strc_graph.specs.Graphs as graphs
+use Rattle.strc_graph.specs.Graphs.{NodeCode}
 use Rattle.strc_order.specs.Order.{repeated}
 use Rattle.strc_admissible.specs.Machine.{CircuitView, MachineView, Went, after_step}
 use Rattle.strc_admissible.specs.Machine.{next_step, order_run, then_go, one_more}
 use Rattle.strc_admissible.specs.Rings.{Ring, ring_at, at_port, items_at, shortened, extended}
 use Rattle.strc_admissible.specs.Rings.{moved}
-use Rattle.strc_admissible.specs.Steps.{Goes, if_found, identity_step}
+use Rattle.strc_admissible.specs.Steps.{Goes, if_found, identity_step, node_step}
 use Rattle.strc_admissible.specs.Wiring.{ports_at}
+use Rattle.strc_sched.specs.Blocks.{PassesOn, times}
 use Rattle.strc_sched.proofs.Done.{fields_kept, step_of}
 
 -- of an item and more of them as many join a list as there is room for
@@ -167,113 +171,146 @@ one_more_fits firing fits = by_test (ltb firing (2 ^ 64 - 1)) refl
     by_test true is = let less = ltb-true firing (2 ^ 64 - 1) is in omega arith
     by_test false is = fits
 
--- the machine after so many firings of an identity
-abbrev moved_on : (count node from to : ℕ) → MachineView → MachineView
-moved_on count node from to machine = record {
-  fields = machine.fields;
-  fired = set machine.fired node (counted count (get_or machine.fired node 0));
-  rings = moved (Some from) (Some to) count machine.rings;
-  words = machine.words;
-}
-
-module _ (circuit : CircuitView) (node from to : ℕ) (apart : from ≢ to)
-    (code : slice_get circuit.codes node ≡ Some graphs.Identity)
-    (input : at_port (ports_at circuit.inputs node) 0 ≡ Some from)
-    (output : at_port (ports_at circuit.outputs node) 0 ≡ Some to) where
+-- a change that a node makes of its rings whenever it fires and they are ready for it
+module _ (circuit : CircuitView) (node : ℕ) (code : NodeCode)
+    (here : slice_get circuit.codes node ≡ Some code) (change : List Ring → List Ring)
+    (Ready : ℕ → List Ring → Type 0)
+    (next : (left firing : ℕ) (rings : List Ring) → Ready (suc left) rings
+    → (node_step code firing [] (ports_at circuit.inputs node) (ports_at circuit.outputs node)
+    circuit.input rings ≡ Goes [] (change rings) []) × Ready left (change rings)) where
   -- one firing
-  one_firing : (machine : MachineView) → get_or machine.fields node [] ≡ []
-      → 0 < length (items_at machine.rings (Some from))
-      → after_step machine node (next_step circuit machine node)
+  one_firing : (fields : List (List ℤ)) (fired : List ℕ) (rings : List Ring) (words : List Word)
+      (left : ℕ) → get_or fields node [] ≡ [] → Ready (suc left) rings
+      → after_step (record { fields = fields; fired = fired; rings = rings; words = words }) node
+      (next_step circuit
+      (record { fields = fields; fired = fired; rings = rings; words = words }) node)
       ≡ Went (record {
-        fields = machine.fields;
-        fired = set machine.fired node (one_more (get_or machine.fired node 0));
-        rings = moved (Some from) (Some to) 1 machine.rings;
-        words = machine.words;
-      })
-  one_firing machine none some =
-      let fired = set machine.fired node (one_more (get_or machine.fired node 0)) in
-      let rings = moved (Some from) (Some to) 1 machine.rings in
-      ap (after_step machine node)
-      (step_of circuit machine node (get_or machine.fired node 0) graphs.Identity
-      (ports_at circuit.inputs node) (ports_at circuit.outputs node) code refl refl
-      ∙ ap (λ i. identity_step i (at_port (ports_at circuit.outputs node) 0) machine.rings) input
-      ∙ ap (λ o. identity_step (Some from) o machine.rings) output
-      ∙ ap (λ found. if_found found (Goes [] rings []))
-      (le-leb 1 (length (items_at machine.rings (Some from))) (omega arith)))
-      ∙ ap (λ fields. Went (record {
         fields = fields;
-        fired = fired;
-        rings = rings;
-        words = machine.words ++ [];
+        fired = set fired node (one_more (get_or fired node 0));
+        rings = change rings;
+        words = words;
+      })
+  one_firing fields fired rings words left none ready =
+      let machine : MachineView =
+      record { fields = fields; fired = fired; rings = rings; words = words } in
+      let count = set fired node (one_more (get_or fired node 0)) in
+      ap (after_step machine node)
+      (step_of circuit machine node (get_or fired node 0) code (ports_at circuit.inputs node)
+      (ports_at circuit.outputs node) here refl refl
+      ∙ ap (λ (own : List ℤ). node_step code (get_or fired node 0) own
+      (ports_at circuit.inputs node) (ports_at circuit.outputs node) circuit.input rings) none
+      ∙ (next left (get_or fired node 0) rings ready).0)
+      ∙ ap (λ (all : List (List ℤ)). Went (record {
+        fields = all;
+        fired = count;
+        rings = change rings;
+        words = words ++ [];
       }))
-      (sym (fields_kept machine.fields node none))
-      ∙ ap (λ words. Went (record {
-        fields = machine.fields;
-        fired = fired;
+      (sym (fields_kept fields node none))
+      ∙ ap (λ (all : List Word). Went (record {
+        fields = fields;
+        fired = count;
+        rings = change rings;
+        words = all;
+      }))
+      (append-nil words)
+
+  -- so many
+  pub passes : (count : ℕ) (rings : List Ring) → Ready count rings
+      → PassesOn circuit node count rings (times count change rings)
+  passes zero rings ready fields fired words none there fits =
+      let firing = get_or fired node 0 in
+      let same : counted 0 firing ≡ firing = omega arith in
+      ap (λ (all : List ℕ). Went (record {
+        fields = fields;
+        fired = all;
         rings = rings;
         words = words;
       }))
-      (append-nil machine.words)
-
-  -- so many
-  pub block_run : (count : ℕ) (machine : MachineView) → get_or machine.fields node [] ≡ []
-      → node < length machine.fired → get_or machine.fired node 0 < 2 ^ 64
-      → to < length machine.rings
-      → count ≤ length (items_at machine.rings (Some from))
-      → order_run circuit (repeated count (node ∷ [])) machine
-      ≡ Went (moved_on count node from to machine)
-  block_run zero machine none there fits given enough =
-      let firing = get_or machine.fired node 0 in
-      let same : counted 0 firing ≡ firing = omega arith in
-      ap (λ fired. Went (record {
-        fields = machine.fields;
-        fired = fired;
-        rings = machine.rings;
-        words = machine.words;
-      }))
-      (sym (ap (set machine.fired node) same ∙ set-get_or machine.fired node 0))
-      ∙ ap (λ rings. Went (record {
-        fields = machine.fields;
-        fired = set machine.fired node (counted 0 firing);
-        rings = rings;
-        words = machine.words;
-      }))
-      (sym (moved_none from to machine.rings))
-  block_run (suc count) machine none there fits given enough =
-      let firing = get_or machine.fired node 0 in
-      let rings = moved (Some from) (Some to) 1 machine.rings in
-      let next : MachineView = record {
-        fields = machine.fields;
-        fired = set machine.fired node (one_more firing);
-        rings = rings;
-        words = machine.words;
-      } in
-      let some : 0 < length (items_at machine.rings (Some from)) = omega arith in
-      let from_there = holds_items machine.rings from some in
-      let now = get_or-set_same machine.fired node (one_more firing) 0 there in
-      let fired_many = length-set machine.fired node (one_more firing) in
-      let rings_many = length_moved from to 1 machine.rings in
-      let left = ap (λ (r : Ring). length r.items)
-      (source_after from to apart machine.rings from_there)
-      ∙ length-drop 1 (ring_at machine.rings from).items in
+      (sym (ap (set fired node) same ∙ set-get_or fired node 0))
+  passes (suc count) rings ready fields fired words none there fits =
+      let firing = get_or fired node 0 in
+      let after = set fired node (one_more firing) in
+      let now = get_or-set_same fired node (one_more firing) 0 there in
+      let many = length-set fired node (one_more firing) in
       let more = one_more_fits firing fits in
       ap (then_go (order_run circuit (repeated count (node ∷ []))))
-      (one_firing machine none some)
-      ∙ block_run count next none (omega (arith, there, fired_many))
-      (omega (arith, now, more)) (omega (arith, given, rings_many)) (omega (arith, left, enough))
-      ∙ ap (λ fired. Went (record {
-        fields = machine.fields;
-        fired = fired;
-        rings = moved (Some from) (Some to) count rings;
-        words = machine.words;
+      (one_firing fields fired rings words count none ready)
+      ∙ passes count (change rings) (next count firing rings ready).1 fields after words none
+      (omega (arith, there, many)) (omega (arith, now, more))
+      ∙ ap (λ (all : List ℕ). Went (record {
+        fields = fields;
+        fired = all;
+        rings = times count change (change rings);
+        words = words;
       }))
-      (ap (λ n. set next.fired node (counted count n)) now
-      ∙ set-set machine.fired node (one_more firing) (counted count (one_more firing))
-      ∙ ap (set machine.fired node) (counted_more count firing fits))
-      ∙ ap (λ l. Went (record {
-        fields = machine.fields;
-        fired = set machine.fired node (counted (suc count) firing);
-        rings = l;
-        words = machine.words;
-      }))
-      (moved_more from to apart count machine.rings from_there given some)
+      (ap (λ n. set after node (counted count n)) now
+      ∙ set-set fired node (one_more firing) (counted count (one_more firing))
+      ∙ ap (set fired node) (counted_more count firing fits))
+
+-- ---- identities
+
+module _ (from to : ℕ) (apart : from ≢ to) where
+  pub moved_times : (count : ℕ) (rings : List Ring) → from < length rings → to < length rings
+      → count ≤ length (items_at rings (Some from))
+      → times count (moved (Some from) (Some to) 1) rings
+      ≡ moved (Some from) (Some to) count rings
+  moved_times zero rings from_there to_there enough = sym (moved_none from to rings)
+  moved_times (suc count) rings from_there to_there enough =
+      let some : 0 < length (items_at rings (Some from)) = omega (arith, enough) in
+      let after = moved (Some from) (Some to) 1 rings in
+      let many = length_moved from to 1 rings in
+      let left = left_after rings from_there in
+      moved_times count after (omega (arith, from_there, many)) (omega (arith, to_there, many))
+      (omega (arith, left, enough))
+      ∙ moved_more from to apart count rings from_there to_there some
+    where
+      left_after : (rings : List Ring) → from < length rings
+          → length (items_at (moved (Some from) (Some to) 1 rings) (Some from))
+          ≡ length (items_at rings (Some from)) - 1
+      left_after rings there =
+          ap (λ (r : Ring). length r.items) (source_after from to apart rings there)
+          ∙ length-drop 1 (ring_at rings from).items
+
+  record IsFull (count : ℕ) (rings : List Ring) : Type 0 where
+    pub from_there : from < length rings
+    pub to_there : to < length rings
+    pub enough : count ≤ length (items_at rings (Some from))
+
+  pub identity_passes : (circuit : CircuitView) (node count : ℕ) (rings : List Ring)
+      → slice_get circuit.codes node ≡ Some graphs.Identity
+      → at_port (ports_at circuit.inputs node) 0 ≡ Some from
+      → at_port (ports_at circuit.outputs node) 0 ≡ Some to
+      → from < length rings → to < length rings → count ≤ length (items_at rings (Some from))
+      → PassesOn circuit node count rings (moved (Some from) (Some to) count rings)
+  identity_passes circuit node count rings here input output from_there to_there enough =
+      subst (PassesOn circuit node count rings)
+      (moved_times count rings from_there to_there enough)
+      (passes circuit node graphs.Identity here (moved (Some from) (Some to) 1) IsFull next count
+      rings (record { from_there = from_there; to_there = to_there; enough = enough }))
+    where
+      next : (left firing : ℕ) (rings : List Ring) → IsFull (suc left) rings
+          → (node_step graphs.Identity firing [] (ports_at circuit.inputs node)
+          (ports_at circuit.outputs node) circuit.input rings
+          ≡ Goes [] (moved (Some from) (Some to) 1 rings) [])
+          × IsFull left (moved (Some from) (Some to) 1 rings)
+      next left firing rings full =
+          let enough = full.enough in
+          let some : 1 ≤ length (items_at rings (Some from)) = omega (arith, enough) in
+          let many = length_moved from to 1 rings in
+          let inner = full.from_there in
+          let outer = full.to_there in
+          let fewer = ap (λ (r : Ring). length r.items)
+          (source_after from to apart rings full.from_there)
+          ∙ length-drop 1 (ring_at rings from).items in (
+            ap (λ (i : Option ℕ). identity_step i (at_port (ports_at circuit.outputs node) 0) rings)
+                input
+                ∙ ap (λ (o : Option ℕ). identity_step (Some from) o rings) output
+                ∙ ap (λ found. if_found found (Goes [] (moved (Some from) (Some to) 1 rings) []))
+                (le-leb 1 (length (items_at rings (Some from))) some),
+            record {
+              from_there = omega (arith, inner, many);
+              to_there = omega (arith, outer, many);
+              enough = omega (arith, fewer, enough);
+            },
+          )

@@ -1,6 +1,7 @@
 -- The ports at which a graph's channels begin and end.
+use Rattle.std.proofs.Common.{◌∙◌, length, sym}
 use Rattle.std.proofs.Common.{◌≡◌, refl, ap, ℕ, zero, suc, ◌<◌, List, [], ◌∷◌, map, arith}
-use Rattle.std.specs.Prelude.{All, slice_get}
+use Rattle.std.specs.Prelude.{All, Option, Some, None, slice_get}
 use Rattle.std.specs.Option.{option_map_or}
 use Rattle.strc_graph.specs.Graphs as graphs
 use Rattle.strc_graph.specs.Graphs.{NodeCode, JoinsPorts}
@@ -8,8 +9,9 @@ use Rattle.strc_graph.specs.NodeView.{node_view, channel_view}
 use Rattle.strc_graph.specs.declared.graph.Channel.{Channel}
 use Rattle.strc_graph.specs.declared.graph.Node.{Node}
 use Rattle.strc_graph.specs.declared.graph.Port.{Port}
-use Rattle.strc_admissible.specs.Wiring.{HasPort}
-use Rattle.strc_sched.specs.Circuits.{source_of, target_of}
+use Rattle.strc_admissible.specs.Wiring.{HasPort, IsWired, PortRings}
+use Rattle.strc_sched.specs.Blocks.{AreAllApart}
+use Rattle.strc_sched.specs.Circuits.{IsBetween, source_of, target_of}
 
 -- a port of a node by its number
 port_there : (ports : NodeCode → ℕ) (nodes : List Node) (node port : ℕ)
@@ -49,3 +51,43 @@ ends_of_views (channel ∷ channels) =
       ap (λ (l : List Port). channel.target ∷ l) rest.0,
       ap (λ (l : List Port). channel.source ∷ l) rest.1,
     )
+
+-- ---- ports of one node are apart
+
+same_port : (ends : List Port) (number node port other : ℕ)
+    → slice_get ends number ≡ Some (record { node = node; port = port })
+    → slice_get ends number ≡ Some (record { node = node; port = other }) → port ≡ other
+same_port ends number node port other h k =
+    ap (λ (found : Option Port). option_map_or (λ (end : Port). end.port) found 0) (sym h ∙ k)
+
+node_of : (end : Port) (node port : ℕ)
+    → Some end ≡ Some (record { node = node; port = port }) → end.node ≡ node
+node_of end node port h =
+    ap (λ (found : Option Port). option_map_or (λ (e : Port). e.node) found 0) h
+
+-- no channel begins and ends there
+meets : (channels : List Channel) (number node port other : ℕ)
+    → slice_get (map target_of channels) number ≡ Some (record { node = node; port = port })
+    → slice_get (map source_of channels) number ≡ Some (record { node = node; port = other })
+    → All IsBetween channels → ⊥
+meets [] number node port other h k between = nowhere h
+  where
+    nowhere : ◌≡◌ {A = Option Port} None (Some (record { node = node; port = port })) → ⊥
+    nowhere e = cc
+meets (channel ∷ channels) zero node port other h k between =
+    between 0 channel (omega arith)
+    (node_of channel.source node other k ∙ sym (node_of channel.target node port h))
+meets (channel ∷ channels) (suc number) node port other h k between =
+    meets channels number node port other h k (λ i d less. between (suc i) d (omega arith))
+
+pub all_apart : (channels : List Channel) (inputs outputs : PortRings)
+    → IsWired (map target_of channels) inputs → IsWired (map source_of channels) outputs
+    → All IsBetween channels → AreAllApart inputs outputs
+all_apart channels inputs outputs into out between node = record {
+  one_input = λ port other number h k. same_port (map target_of channels) number node port other
+      (into.sound node port number h) (into.sound node other number k);
+  one_output = λ port other number h k. same_port (map source_of channels) number node port other
+      (out.sound node port number h) (out.sound node other number k);
+  apart = λ port other number h k. meets channels number node port other
+      (into.sound node port number h) (out.sound node other number k) between;
+}

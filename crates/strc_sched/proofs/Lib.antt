@@ -10,3 +10,7 @@ pub mod Counting
 pub mod ServedRounds
 pub mod Endings
 pub mod Blocks
+pub mod Moves
+pub mod Batching
+pub mod Turns
+pub mod TurnFirings

@@ -53,7 +53,7 @@ length-copied_out (carries ∷ carried) outputs items port rings =
     ∙ copied_length carries (at_port outputs port) items rings
 
 -- a list from a place on begins with the item there
-drop_at : {X : Type 0} (xs : List X) (place : ℕ) (d : X) → place < length xs
+pub drop_at : {X : Type 0} (xs : List X) (place : ℕ) (d : X) → place < length xs
     → drop place xs ≡ get_or xs place d ∷ drop (suc place) xs
 drop_at [] place d less = absurd (omega arith)
 drop_at (x ∷ xs) zero d less = refl

@@ -7,3 +7,4 @@ pub mod Plain
 pub mod Serving
 pub mod Sentences
 pub mod Blocks
+pub mod Batches

@@ -1,67 +1,92 @@
-// Firings of an identity that move their items in one block.
+// Firings of a node in a row that pass items on, at once.
 
-ghost use Rattle.std.specs.Prelude.{◌≡◌, [], ◌∷◌, IfSome, length};
-ghost use Rattle.strc_sched.specs.Blocks.{IsBlock};
+ghost use Rattle.std.specs.Prelude.{◌≡◌, ◌≢◌, ◌<◌, ◌≤◌, Some, length, true, false};
+ghost use Rattle.strc_admissible.specs.Rings.{items_at, moved};
+ghost use Rattle.strc_admissible.specs.Wiring.{ports_at};
+ghost use Rattle.strc_sched.specs.Blocks.{AreApart, HasPassed};
 ghost use Rattle.strc_sched.specs.Circuits.{circuit_view};
 ghost use Rattle.strc_sched.specs.Running.{HoldRings};
+ghost use Rattle.strc_sched.specs.Batches.{IsBatch};
 
+use crate::batches::{Batch, Kind};
 use crate::circuit::Circuit;
-use crate::movers::ring_of;
-use crate::ring::{Ring, count_at};
-use strc_graph::graph::Node;
-use strc_order::unit::Unit;
+use crate::dealing::{deal_turns, join_turns};
+use crate::pouring::move_across;
+use crate::ring::Ring;
+use std::alloc::AllocError;
+use strc_graph::graph::{Node, Splitter};
 
-/// An identity that fires some times in a row and finds all its items at the start.
-#[derive(Clone, Copy)]
-pub(crate) struct Block {
-    pub(crate) node: usize,
-    /// The ring at its input.
-    pub(crate) from: usize,
-    /// The ring at its output, another one.
-    pub(crate) to: usize,
-    pub(crate) count: usize,
+/// All firings of a batch at once, where its node passes items on and its rings hold them all.
+/// Whether it did; if not, it leaves all as it was.
+pub(crate) fn pass_at_once(
+    circuit: &Circuit,
+    batch: Batch,
+    rings: &mut [Ring],
+    items: &mut Vec<i32>,
+) -> Result<bool, AllocError>
+    requires batch { IsBatch (circuit_view circuit.now) batch }
+    requires inputs { HoldRings (length rings.old) circuit.now.inputs }
+    requires outputs { HoldRings (length rings.old) circuit.now.outputs }
+    requires input_nodes { length circuit.now.inputs ≡ length circuit.now.nodes.now }
+    requires output_nodes { length circuit.now.outputs ≡ length circuit.now.nodes.now }
+    ensures rings { length rings.new ≡ length rings.old }
+    ensures passed { HasPassed (circuit_view circuit.now) batch.node batch.turns result rings.old
+        rings.new }
+{
+    match batch.kind {
+        Kind::Identity { from, to } => Ok(pass_between(rings, from, to, batch.turns as usize)),
+        Kind::Dealer => deal_at_once(circuit, batch, rings, items),
+        Kind::Other => Ok(false),
+    }
 }
 
-/// A unit as a block, where it is one.
-pub(crate) fn block_of(circuit: &Circuit, unit: &Unit, rings: &[Ring]) -> Option<Block>
-    requires inputs { length circuit.now.inputs ≡ length circuit.now.nodes.now }
-    requires outputs { length circuit.now.outputs ≡ length circuit.now.nodes.now }
-    requires rings { HoldRings (length rings.now) circuit.now.inputs }
-    ensures block { IfSome result (IsBlock (circuit_view circuit.now) rings.now) }
-    ensures nodes { IfSome result (λ block. unit.now.nodes.items ≡ block.node ∷ []) }
-    ensures count { IfSome result (λ block. block.count ≡ unit.now.turns) }
+/// The same for an identity between two rings.
+fn pass_between(rings: &mut [Ring], from: usize, to: usize, count: usize) -> bool
+    requires from { from < length rings.old }
+    requires to { to < length rings.old }
+    requires apart { from ≢ to }
+    ensures rings { length rings.new ≡ length rings.old }
+    ensures all { result ≡ true → (count ≤ length (items_at rings.old (Some from)))
+        × (rings.new ≡ moved (Some from) (Some to) count rings.old) }
+    ensures none { result ≡ false → rings.new ≡ rings.old }
 {
-    if unit.nodes.len() == 1 {
-        block_at(circuit, rings, unit.nodes[0] as usize, unit.turns as usize)
-    } else {
-        None
+    if rings[from].len() < count {
+        return false;
     }
+    move_across(rings, from, to, count);
+    true
 }
 
-/// So many firings of a node as a block, where they are one.
-fn block_at(circuit: &Circuit, rings: &[Ring], node: usize, count: usize) -> Option<Block>
-    requires inputs { length circuit.now.inputs ≡ length circuit.now.nodes.now }
-    requires outputs { length circuit.now.outputs ≡ length circuit.now.nodes.now }
-    requires rings { HoldRings (length rings.now) circuit.now.inputs }
-    ensures block { IfSome result (IsBlock (circuit_view circuit.now) rings.now) }
-    ensures node { IfSome result (λ block. block.node ≡ node) }
-    ensures count { IfSome result (λ block. block.count ≡ count) }
+/// The same for a splitter or a joiner.
+fn deal_at_once(
+    circuit: &Circuit,
+    batch: Batch,
+    rings: &mut [Ring],
+    items: &mut Vec<i32>,
+) -> Result<bool, AllocError>
+    requires batch { IsBatch (circuit_view circuit.now) batch }
+    requires apart { AreApart (ports_at circuit.now.inputs batch.node)
+        (ports_at circuit.now.outputs batch.node) }
+    requires inputs { HoldRings (length rings.old) circuit.now.inputs }
+    requires outputs { HoldRings (length rings.old) circuit.now.outputs }
+    requires input_nodes { length circuit.now.inputs ≡ length circuit.now.nodes.now }
+    requires output_nodes { length circuit.now.outputs ≡ length circuit.now.nodes.now }
+    ensures rings { length rings.new ≡ length rings.old }
+    ensures passed { HasPassed (circuit_view circuit.now) batch.node batch.turns result rings.old
+        rings.new }
 {
-    if node >= circuit.nodes.len() {
-        return None;
+    let node = batch.node as usize;
+    let inputs = circuit.inputs.at(node);
+    let outputs = circuit.outputs.at(node);
+    let turns = batch.turns as usize;
+    match &circuit.nodes[node] {
+        Node::Splitter(splitter) => match splitter {
+            Splitter::Roundrobin(weights) => {
+                deal_turns(rings, weights, turns, inputs, outputs, items)
+            }
+            Splitter::Duplicate(_) => Ok(false),
+        },
+        Node::Joiner(weights) => join_turns(rings, weights, turns, inputs, outputs, items),
+        _ => Ok(false),
     }
-    let Node::Identity = &circuit.nodes[node] else {
-        return None;
-    };
-    let from = ring_of(circuit.inputs.at(node), 0)?;
-    let to = ring_of(circuit.outputs.at(node), 0)?;
-    if from == to || count_at(rings, Some(from)) < count {
-        return None;
-    }
-    Some(Block {
-        node,
-        from,
-        to,
-        count,
-    })
 }

@@ -1,10 +1,11 @@
 // What stays the same in a run: the nodes, the rings at their ports, and the program's input.
 
-ghost use Rattle.std.specs.Prelude.{◌≡◌, IfOk, map};
+ghost use Rattle.std.specs.Prelude.{◌≡◌, All, IfOk, map, true};
 ghost use Rattle.strc_graph.specs.Graphs as graphs;
 ghost use Rattle.strc_graph.specs.NodeView.{graph_view, node_view};
 ghost use Rattle.strc_admissible.specs.Circuits.{IsCircuit};
-ghost use Rattle.strc_sched.specs.Circuits.{circuit_view, source_of, target_of};
+ghost use Rattle.strc_sched.specs.Blocks.{AreAllApart};
+ghost use Rattle.strc_sched.specs.Circuits.{circuit_view, IsBetween, source_of, target_of};
 
 use crate::wiring::PortRings;
 use std::alloc::{AllocError, Global};
@@ -20,6 +21,8 @@ pub(crate) struct Circuit<'g> {
     pub(crate) outputs: PortRings,
     /// The program's input.
     pub(crate) input: &'g [i32],
+    /// Whether no channel is known to end at the node where it begins.
+    pub(crate) apart: bool,
 }
 
 impl<'g> Circuit<'g> {
@@ -33,6 +36,8 @@ impl<'g> Circuit<'g> {
             (circuit_view circuit)) }
         ensures input { IfOk result (λ circuit. circuit.input.now ≡ input.now) }
         ensures nodes { IfOk result (λ circuit. circuit.nodes.now ≡ graph.now.nodes) }
+        ensures apart { IfOk result (λ circuit. circuit.apart ≡ true
+            → AreAllApart circuit.inputs circuit.outputs) }
     {
         let nodes = graph.nodes();
         let channels = graph.channels();
@@ -45,6 +50,7 @@ impl<'g> Circuit<'g> {
             inputs,
             outputs,
             input,
+            apart: are_apart(channels),
         })
     }
 }
@@ -93,4 +99,16 @@ fn sources_of(alloc: Global, channels: &[Channel]) -> Result<Vec<Port>, AllocErr
         ends.push(channel.source)?;
     }
     Ok(ends)
+}
+
+/// Whether each channel ends at another node than it begins at.
+fn are_apart(channels: &[Channel]) -> bool
+    ensures { result ≡ true → All IsBetween channels.now }
+{
+    for channel in channels {
+        if channel.source.node == channel.target.node {
+            return false;
+        }
+    }
+    true
 }

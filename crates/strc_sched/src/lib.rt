@@ -8,14 +8,17 @@
 #![tactic(auto)]
 
 mod actor;
+mod batches;
 mod block;
 mod circuit;
+mod dealing;
 mod filter;
 mod machine;
 mod movers;
 pub mod outcome;
 mod passing;
 pub mod plain;
+mod pouring;
 mod reading;
 pub mod refusal;
 mod ring;

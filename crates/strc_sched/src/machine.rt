@@ -5,19 +5,19 @@ ghost use Rattle.strc_graph.specs.NodeView.{graph_view};
 ghost use Rattle.strc_order.specs.Greedy.{firings_of};
 ghost use Rattle.strc_order.specs.Order.{repeated};
 ghost use Rattle.strc_sched.specs.Actors.{AreActors, AreStartable, AreClosed};
-ghost use Rattle.strc_sched.specs.Blocks.{IsBlock};
 ghost use Rattle.strc_admissible.specs.Circuits.{IsCircuit, IsFirst};
 ghost use Rattle.strc_sched.specs.Circuits.{circuit_view};
 ghost use Rattle.strc_admissible.specs.Machine as spec;
+ghost use Rattle.strc_sched.specs.Batches.{AreBatches, FitsUnit, IsBatch};
 ghost use Rattle.strc_sched.specs.Running.{HasDone, HasGone, IsMachine, machine_view};
 
 use crate::actor::{Actor, start_actors};
-use crate::block::{Block, block_of};
+use crate::batches::{Batch, Order, batch_at};
+use crate::block::pass_at_once;
 use crate::circuit::Circuit;
 use crate::filter::fire_filter;
-use crate::movers::ring_of;
 use crate::passing::fire_passive;
-use crate::ring::{Ring, first_rings, move_items};
+use crate::ring::{Ring, first_rings};
 use std::alloc::Global;
 use strc_base::memory::NoMemory;
 use strc_graph::graph::{Graph, Node};
@@ -78,15 +78,18 @@ impl Machine {
         })
     }
 
-    /// Fires the nodes of units, each as often as its unit says, until one faults.
-    pub(crate) fn fire_units(&mut self, circuit: &Circuit, units: &[Unit]) -> Result<(), Stop>
+    /// Fires the nodes of an order's units, each as often as its unit says, until one faults.
+    pub(crate) fn fire_order(&mut self, circuit: &Circuit, order: &Order) -> Result<(), Stop>
         requires machine { IsMachine (circuit_view circuit.now) self.old }
+        requires batches { AreBatches (circuit_view circuit.now) order.now.units.now
+            order.now.batches.items }
         ensures machine { IsMachine (circuit_view circuit.now) self.new }
-        ensures gone { HasGone (spec.order_run (circuit_view circuit.now) (firings_of units.now)
-            (machine_view self.old)) result (machine_view self.old).words (machine_view self.new) }
+        ensures gone { HasGone (spec.order_run (circuit_view circuit.now)
+            (firings_of order.now.units.now) (machine_view self.old)) result
+            (machine_view self.old).words (machine_view self.new) }
     {
-        for unit in units {
-            match self.fire_unit(circuit, unit) {
+        for place in 0..order.units.len() {
+            match self.fire_unit(circuit, &order.units[place], order.batches[place]) {
                 Ok(()) => {}
                 Err(stop) => return Err(stop),
             }
@@ -94,37 +97,63 @@ impl Machine {
         Ok(())
     }
 
-    /// Fires a unit's nodes in turn, and the whole list a number of times; in one block where the
-    /// unit is one.
-    fn fire_unit(&mut self, circuit: &Circuit, unit: &Unit) -> Result<(), Stop>
+    /// Fires a unit's nodes in turn, and the whole list a number of times; as its batch, where it
+    /// has one.
+    fn fire_unit(
+        &mut self,
+        circuit: &Circuit,
+        unit: &Unit,
+        batch: Option<Batch>,
+    ) -> Result<(), Stop>
         requires machine { IsMachine (circuit_view circuit.now) self.old }
+        requires batch { FitsUnit (circuit_view circuit.now) unit.now batch }
         ensures machine { IsMachine (circuit_view circuit.now) self.new }
         ensures gone { HasGone (spec.order_run (circuit_view circuit.now)
             (repeated unit.now.turns unit.now.nodes.items) (machine_view self.old)) result
             (machine_view self.old).words (machine_view self.new) }
     {
-        match block_of(circuit, unit, &self.rings) {
-            Some(block) => self.fire_block(circuit, block),
+        match batch {
+            Some(batch) => self.fire_batch(circuit, batch),
             None => self.fire_turns(circuit, unit),
         }
     }
 
-    /// Fires an identity some times at once.
-    fn fire_block(&mut self, circuit: &Circuit, block: Block) -> Result<(), Stop>
+    /// Fires a batch's node so often; at once where it passes items on and finds them all.
+    fn fire_batch(&mut self, circuit: &Circuit, batch: Batch) -> Result<(), Stop>
         requires machine { IsMachine (circuit_view circuit.now) self.old }
-        requires block { IsBlock (circuit_view circuit.now) self.old.rings.items block }
+        requires batch { IsBatch (circuit_view circuit.now) batch }
         ensures machine { IsMachine (circuit_view circuit.now) self.new }
         ensures gone { HasGone (spec.order_run (circuit_view circuit.now)
-            (repeated block.count (block.node ∷ [])) (machine_view self.old)) result
+            (repeated batch.turns (batch.node ∷ [])) (machine_view self.old)) result
             (machine_view self.old).words (machine_view self.new) }
     {
-        let firing = self.fired[block.node];
-        self.fired[block.node] = firing.saturating_add(block.count as u64);
-        let (from, to) = (Some(block.from), Some(block.to));
-        match move_items(&mut self.rings, from, to, block.count, &mut self.items) {
-            Ok(()) => Ok(()),
+        match pass_at_once(circuit, batch, &mut self.rings, &mut self.items) {
+            Ok(true) => {
+                let place = batch.node as usize;
+                self.fired[place] = self.fired[place].saturating_add(u64::from(batch.turns));
+                Ok(())
+            }
+            Ok(false) => self.fire_alone(circuit, batch),
             Err(_) => Err(Stop::NoMemory),
         }
+    }
+
+    /// Fires a batch's node so often, one firing after another.
+    fn fire_alone(&mut self, circuit: &Circuit, batch: Batch) -> Result<(), Stop>
+        requires machine { IsMachine (circuit_view circuit.now) self.old }
+        requires batch { IsBatch (circuit_view circuit.now) batch }
+        ensures machine { IsMachine (circuit_view circuit.now) self.new }
+        ensures gone { HasGone (spec.order_run (circuit_view circuit.now)
+            (repeated batch.turns (batch.node ∷ [])) (machine_view self.old)) result
+            (machine_view self.old).words (machine_view self.new) }
+    {
+        for _turn in 0..batch.turns {
+            match self.fire_once(circuit, batch) {
+                Ok(()) => {}
+                Err(stop) => return Err(stop),
+            }
+        }
+        Ok(())
     }
 
     /// Fires a unit's nodes one by one.
@@ -172,15 +201,28 @@ impl Machine {
         if place >= circuit.nodes.len() {
             return Ok(());
         }
+        self.fire_once(circuit, batch_at(circuit, node))
+    }
+
+    /// Fires a batch's node once, where it finds its windows.
+    fn fire_once(&mut self, circuit: &Circuit, batch: Batch) -> Result<(), Stop>
+        requires machine { IsMachine (circuit_view circuit.now) self.old }
+        requires batch { IsBatch (circuit_view circuit.now) batch }
+        ensures machine { IsMachine (circuit_view circuit.now) self.new }
+        ensures gone { HasGone (spec.after_step (machine_view self.old) batch.node
+            (spec.next_step (circuit_view circuit.now) (machine_view self.old) batch.node)) result
+            (machine_view self.old).words (machine_view self.new) }
+    {
+        let place = batch.node as usize;
         let firing = self.fired[place];
-        match self.step(circuit, place, firing) {
+        match self.step(circuit, batch, firing) {
             Ok(true) => {
                 self.fired[place] = firing.saturating_add(1);
                 Ok(())
             }
             Ok(false) => Ok(()),
             Err(Halt::Fault(cause)) => Err(Stop::Fault {
-                node,
+                node: batch.node,
                 firing,
                 cause,
             }),
@@ -188,18 +230,17 @@ impl Machine {
         }
     }
 
-    /// One firing of a node, by its number. Whether it found its windows; if not, it leaves all as
-    /// it was.
-    fn step(&mut self, circuit: &Circuit, node: usize, firing: u64) -> Result<bool, Halt>
+    /// One firing of a batch's node, by its number. Whether it found its windows; if not, it leaves
+    /// all as it was.
+    fn step(&mut self, circuit: &Circuit, batch: Batch, firing: u64) -> Result<bool, Halt>
         requires machine { IsMachine (circuit_view circuit.now) self.old }
-        requires node { node < length circuit.now.nodes.now }
+        requires batch { IsBatch (circuit_view circuit.now) batch }
         ensures machine { IsMachine (circuit_view circuit.now) self.new }
         ensures fired { self.new.fired ≡ self.old.fired }
-        ensures step { HasDone (spec.step_at (circuit_view circuit.now) (machine_view self.old) node
-            firing) node result (machine_view self.old) (machine_view self.new) }
+        ensures step { HasDone (spec.step_at (circuit_view circuit.now) (machine_view self.old)
+            batch.node firing) batch.node result (machine_view self.old) (machine_view self.new) }
     {
-        let inputs = circuit.inputs.at(node);
-        let outputs = circuit.outputs.at(node);
+        let node = batch.node as usize;
         match &circuit.nodes[node] {
             Node::Filter(instance) => match &mut self.actors[node] {
                 Actor::Filter(actor) => fire_filter(
@@ -207,8 +248,8 @@ impl Machine {
                     firing,
                     actor,
                     &mut self.rings,
-                    ring_of(inputs, 0),
-                    ring_of(outputs, 0),
+                    batch.input,
+                    batch.output,
                     &mut self.words,
                 ),
                 Actor::Passive => unreachable!(),
@@ -216,8 +257,8 @@ impl Machine {
             passive => fire_passive(
                 passive,
                 firing,
-                inputs,
-                outputs,
+                circuit.inputs.at(node),
+                circuit.outputs.at(node),
                 circuit.input,
                 &mut self.rings,
                 &mut self.items,

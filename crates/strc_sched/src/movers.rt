@@ -1,7 +1,7 @@
 // Firings of the nodes that only pass items on: identities, readers, writers, splitters, joiners.
 // Each tells whether it found its windows; if not, it leaves all as it was.
 
-ghost use Rattle.std.specs.Prelude.{◌≡◌, ◌<◌, [], IfSome, length, sum};
+ghost use Rattle.std.specs.Prelude.{◌≡◌, ◌<◌, [], IfSome, OnOk, length, sum};
 ghost use Rattle.strc_graph.specs.NodeView.{splitter_view};
 ghost use Rattle.strc_admissible.specs.Rings as spec;
 ghost use Rattle.strc_admissible.specs.Rings.{at_port};
@@ -178,7 +178,7 @@ fn fire_roundrobin(
 }
 
 /// How many items a splitter deals in turn: all weights together.
-fn cycle_length(weights: &[u32]) -> u128
+pub(crate) fn cycle_length(weights: &[u32]) -> u128
     ensures length { result ≡ sum weights.now }
 {
     let mut length: u128 = 0;
@@ -188,7 +188,7 @@ fn cycle_length(weights: &[u32]) -> u128
     length
 }
 
-/// One firing of a joiner: as many items of each port as its weight, in turn.
+/// One firing of a joiner.
 pub(crate) fn fire_joiner(
     rings: &mut [Ring],
     weights: &[u32],
@@ -205,6 +205,24 @@ pub(crate) fn fire_joiner(
     if !have_weights(rings, weights, inputs) {
         return Ok(false);
     }
+    gather(rings, weights, inputs, output, items)?;
+    Ok(true)
+}
+
+/// As many items of each port as its weight, in turn, go to a port.
+pub(crate) fn gather(
+    rings: &mut [Ring],
+    weights: &[u32],
+    inputs: &[Option<usize>],
+    output: Option<usize>,
+    items: &mut Vec<i32>,
+) -> Result<(), AllocError>
+    requires inputs { AreRings (length rings.old) inputs.now }
+    requires output { IfSome output (λ number. number < length rings.old) }
+    ensures rings { length rings.new ≡ length rings.old }
+    ensures gathered { OnOk result (rings.new ≡ spec.gathered_in weights.now inputs.now output 0
+        rings.old) }
+{
     for port in 0..weights.len() {
         move_items(
             rings,
@@ -214,7 +232,7 @@ pub(crate) fn fire_joiner(
             items,
         )?;
     }
-    Ok(true)
+    Ok(())
 }
 
 /// Whether each port holds as many items as its weight.

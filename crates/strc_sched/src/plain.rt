@@ -3,15 +3,16 @@
 ghost use Rattle.std.specs.Prelude.{◌≡◌, ◌≤◌, take, length, IfOk, IfErr};
 ghost use Rattle.strc_graph.specs.NodeView.{graph_view};
 ghost use Rattle.strc_order.specs.Greedy.{firings_of};
-ghost use Rattle.strc_admissible.specs.Laws.{startup_order, round_order};
 ghost use Rattle.strc_admissible.specs.Machine as spec;
 ghost use Rattle.strc_admissible.specs.Planned.{IsPlanned};
 ghost use Rattle.strc_sched.specs.Circuits.{circuit_view};
 ghost use Rattle.strc_sched.specs.Plain.{AnswersGraph, IsEnding, IsPlainRefusal, IsStopped};
 ghost use Rattle.strc_sched.specs.Plain.{need_of};
 ghost use Rattle.strc_sched.specs.Running.{IsMachine, machine_view};
+ghost use Rattle.strc_sched.specs.Batches.{AreBatches};
 ghost use Rattle.strc_sched.specs.declared.refusal.RunRefusal.TheVariants as refused;
 
+use crate::batches::Order;
 use crate::circuit::Circuit;
 use crate::machine::{Machine, Stop};
 use crate::outcome::{Outcome, Round};
@@ -20,7 +21,6 @@ use crate::refusal::RunRefusal;
 use std::alloc::Global;
 use strc_graph::graph::Graph;
 use strc_order::parts::Schedule;
-use strc_order::unit::Unit;
 use strc_semantics::word::Word;
 
 /// Start-up and so many rounds of a schedule, on one thread: each channel is a ring as large as
@@ -55,28 +55,39 @@ pub fn run_plain(
     let Ok(circuit) = Circuit::new(alloc, graph, input) else {
         return Err(RunRefusal::NoMemory);
     };
+    let Ok(startup) = Order::new(alloc, &circuit, schedule.startup()) else {
+        return Err(RunRefusal::NoMemory);
+    };
+    let Ok(round) = Order::new(alloc, &circuit, schedule.round()) else {
+        return Err(RunRefusal::NoMemory);
+    };
     let Ok(machine) = Machine::new(alloc, graph, &circuit, schedule.sizes()) else {
         return Err(RunRefusal::NoMemory);
     };
-    run_machine(machine, &circuit, schedule, rounds)
+    run_orders(machine, &circuit, &startup, &round, rounds)
 }
 
-/// Start-up and so many rounds.
-fn run_machine(
+/// Start-up and so many rounds, in these orders.
+fn run_orders(
     machine: Machine,
     circuit: &Circuit,
-    schedule: &Schedule,
+    startup: &Order,
+    round: &Order,
     rounds: u32,
 ) -> Result<Outcome, RunRefusal>
     requires machine { IsMachine (circuit_view circuit.now) machine }
+    requires startup { AreBatches (circuit_view circuit.now) startup.now.units.now
+        startup.now.batches.items }
+    requires round { AreBatches (circuit_view circuit.now) round.now.units.now
+        round.now.batches.items }
     ensures ending { IfOk result (λ outcome. IsEnding outcome (spec.whole_run
-        (circuit_view circuit.now) (startup_order schedule.now) (round_order schedule.now) rounds
-        (machine_view machine))) }
+        (circuit_view circuit.now) (firings_of startup.now.units.now)
+        (firings_of round.now.units.now) rounds (machine_view machine))) }
     ensures memory { IfErr result (λ refusal. refusal ≡ refused.NoMemory) }
 {
     let mut started = machine;
-    match started.fire_units(circuit, schedule.startup()) {
-        Ok(()) => run_rounds(started, circuit, schedule.round(), rounds),
+    match started.fire_order(circuit, startup) {
+        Ok(()) => run_rounds(started, circuit, round, rounds),
         Err(stop) => stopped(started.into_words(), 0, Round::Startup, stop),
     }
 }
@@ -85,18 +96,21 @@ fn run_machine(
 fn run_rounds(
     machine: Machine,
     circuit: &Circuit,
-    order: &[Unit],
+    order: &Order,
     rounds: u32,
 ) -> Result<Outcome, RunRefusal>
     requires machine { IsMachine (circuit_view circuit.now) machine }
+    requires batches { AreBatches (circuit_view circuit.now) order.now.units.now
+        order.now.batches.items }
     ensures ending { IfOk result (λ outcome. IsEnding outcome (spec.rounds_run
-        (circuit_view circuit.now) (firings_of order.now) rounds 0 (machine_view machine))) }
+        (circuit_view circuit.now) (firings_of order.now.units.now) rounds 0
+        (machine_view machine))) }
     ensures memory { IfErr result (λ refusal. refusal ≡ refused.NoMemory) }
 {
     let mut running = machine;
     for round in 0..rounds {
         let before = running.word_count();
-        match running.fire_units(circuit, order) {
+        match running.fire_order(circuit, order) {
             Ok(()) => {}
             Err(stop) => return stopped(running.into_words(), before, Round::At(round), stop),
         }

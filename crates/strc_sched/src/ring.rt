@@ -1,10 +1,11 @@
 // The rings of a graph's channels: a queue of bounded size each.
 
-ghost use Rattle.std.specs.Prelude.{◌≡◌, ◌<◌, ◌++◌, take, length, map, IfSome, IfOk, OnOk};
+ghost use Rattle.std.specs.Prelude.{◌≡◌, ◌<◌, ◌++◌, take, drop, length, map, IfSome, IfOk, OnOk};
 ghost use Rattle.strc_graph.specs.NodeView.{channel_view};
 ghost use Rattle.strc_admissible.specs.Rings as spec;
 ghost use Rattle.strc_admissible.specs.Rings.{AreFirst, items_at};
 
+use crate::pouring::{extend, move_across, shorten};
 use circular_buffer::HeapCircularBuffer;
 use std::alloc::{AllocError, Global};
 use strc_graph::graph::Channel;
@@ -99,8 +100,7 @@ pub(crate) fn take_from(rings: &mut [Ring], port: Option<usize>, count: usize)
     ensures { rings.new ≡ spec.taken port count rings.old }
 {
     if let Some(number) = port {
-        let left = rings[number].len().saturating_sub(count);
-        rings[number].truncate_front(left);
+        shorten(&mut rings[number], count);
     }
 }
 
@@ -110,15 +110,22 @@ pub(crate) fn give_to(rings: &mut [Ring], port: Option<usize>, items: &[i32])
     ensures { rings.new ≡ spec.given port items.now rings.old }
 {
     if let Some(number) = port {
-        rings[number].fill_from_slice(items);
+        extend(&mut rings[number], items);
     }
 }
 
 /// The first of some items, so many or all.
-fn first_of(items: &[i32], count: usize) -> &[i32]
+pub(crate) fn first_of(items: &[i32], count: usize) -> &[i32]
     ensures { result.now ≡ take count items.now }
 {
     &items[..items.len().min(count)]
+}
+
+/// Some items without the first of them, so many or all.
+pub(crate) fn rest_of(items: &[i32], count: usize) -> &[i32]
+    ensures { result.now ≡ drop count items.now }
+{
+    &items[items.len().min(count)..]
 }
 
 /// The first items at a port.
@@ -138,8 +145,30 @@ pub(crate) fn copy_front(
     Ok(())
 }
 
-/// So many items go from the ring at one port to that at another, by way of a list of items.
+/// So many items go from the ring at one port to that at another, where they are two rings without
+/// a list of items between them.
 pub(crate) fn move_items(
+    rings: &mut [Ring],
+    from: Option<usize>,
+    to: Option<usize>,
+    count: usize,
+    items: &mut Vec<i32>,
+) -> Result<(), AllocError>
+    requires from { IfSome from (λ number. number < length rings.old) }
+    requires to { IfSome to (λ number. number < length rings.old) }
+    ensures { OnOk result (rings.new ≡ spec.moved from to count rings.old) }
+{
+    if let (Some(source), Some(target)) = (from, to) {
+        if source != target {
+            move_across(rings, source, target, count);
+            return Ok(());
+        }
+    }
+    move_by_list(rings, from, to, count, items)
+}
+
+/// The same by way of a list of items.
+fn move_by_list(
     rings: &mut [Ring],
     from: Option<usize>,
     to: Option<usize>,

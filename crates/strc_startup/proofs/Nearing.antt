@@ -1,13 +1,13 @@
 -- The nodes that wait are looked at one after another until none waits.
-use Rattle.std.proofs.Common.{◌≡◌, ◌∙◌, sym, subst, ℕ, zero, suc, ◌+◌, ◌*◌, ◌<◌, List, [], ◌∷◌}
-use Rattle.std.proofs.Common.{length, All, map, ap, option_map}
-use Rattle.std.proofs.Common.{Contains, Some, slice_get, slice_index_or, ◌⊎◌, inl, inr}
-use Rattle.std.proofs.Common.{IsPermutation, arith}
+use Rattle.std.proofs.Common.{◌≡◌, ◌∙◌, sym, subst, ℕ, ◌+◌, ◌*◌, ◌<◌, List, length, All, map, ap}
+use Rattle.std.proofs.Common.{true, false, option_map, Contains, Some, slice_get, slice_index_or}
+use Rattle.std.proofs.Common.{inl, inr, arith}
+use Rattle.std.proofs.lemmas.Bool.{true≢false}
 use Rattle.std.proofs.lemmas.List.{length-map}
-use Rattle.std.proofs.lemmas.List.Elements.{All-tail, Contains-append_cases}
 use Rattle.std.proofs.lemmas.List.Elements.{Contains-get_or}
-use Rattle.std.proofs.lemmas.List.Sorted.{All-permutation, Contains-permutation, length_permutation}
 use Rattle.std.proofs.lemmas.Option.{slice_get-get_or, slice_get-map, slice_get_within}
+use Rattle.strc_balance.specs.NumberSets.{has_number, IsWithout, AllNumbers, size_below}
+use Rattle.strc_balance.proofs.Membership.{without_cases, without_old, size_without}
 use Rattle.strc_balance.specs.Balance.{IsWithinLimit}
 use Rattle.strc_startup.specs.Startup.{IsMet, IsLeast}
 use Rattle.strc_startup.specs.Grouping.{IsGrouping, places_at}
@@ -25,30 +25,16 @@ pub record Nears (first : List ℕ) (channels : List ChannelRates) (counts waiti
         → IsBelow counts other
     pub served : (channel : ℕ) (rates : ChannelRates) → slice_get channels channel ≡ Some rates
         → Waits counts waiting rates
-    pub nodes : All (λ node. node < length counts) waiting
-
--- what waits, or the node that is taken
-taken_cases : (node : ℕ) (before after : List ℕ) → IsPermutation before (node ∷ after) → (own : ℕ)
-    → Contains before own → (own ≡ node) ⊎ Contains after own
-taken_cases node before after taken own there =
-    elim (Contains-append_cases (node ∷ []) after own
-    (Contains-permutation before (node ∷ after) own taken there)) [
-      | inl (zero, less, is) ↦ inl (sym is)
-      | inl (suc k, less, is) ↦ absurd (omega (arith, less))
-      | inr later ↦ inr later
-    ]
+    pub nodes : AllNumbers (λ node. node < length counts) waiting
 
 module _ (first : List ℕ) (channels : List ChannelRates) (counts before after : List ℕ)
     (node : ℕ) (nears : Nears first channels counts before)
-    (taken : IsPermutation before (node ∷ after)) where
-  both : All (λ n. n < length counts) (node ∷ after)
-  both = All-permutation (λ n. n < length counts) before (node ∷ after) taken nears.nodes
-
+    (there : has_number before node ≡ true) (taken : IsWithout node before after) where
   pub node_within : node < length counts
-  node_within = both 0 0 (omega arith)
+  node_within = nears.nodes node there
 
-  pub nodes_within : All (λ n. n < length counts) after
-  nodes_within = All-tail (λ n. n < length counts) node after both
+  pub nodes_within : AllNumbers (λ n. n < length counts) after
+  nodes_within n waits = nears.nodes n (without_old node before after taken n waits)
 
   module _ (lists : List (List ℕ))
       (incoming : IsGrouping lists (map (λ rates. rates.target) channels)) (raised waiting : List ℕ)
@@ -61,7 +47,7 @@ module _ (first : List ℕ) (channels : List ChannelRates) (counts before after 
         elim (nears.served channel rates is) [
           | inl met ↦ raises.kept rates (inl met)
           | inr waits ↦
-              elim (taken_cases node before after taken rates.target waits) [
+              elim (without_cases node before after taken rates.target waits) [
                 | inl same ↦ served channel rates
                     (subst (λ n. Contains (places_at lists n) channel) same
                     ((incoming channel rates.target).0 (slice_get-map (λ rates. rates.target)
@@ -80,8 +66,13 @@ module _ (first : List ℕ) (channels : List ChannelRates) (counts before after 
       nodes = raises.numbers;
     }
 
-    pub fewer_steps : 2 * room raised + length waiting < 2 * room counts + length before
-    fewer_steps = omega (arith, raises.steps, length_permutation before (node ∷ after) taken)
+    pub fewer_steps : 2 * room raised + size_below waiting (length raised)
+        < 2 * room counts + size_below before (length counts)
+    fewer_steps = omega (
+      arith,
+      raises.steps,
+      size_without node before after taken there (length counts) node_within,
+    )
 
 -- the channels of a node are channels
 pub listed_within : (lists : List (List ℕ)) (channels : List ChannelRates) (node : ℕ)
@@ -96,7 +87,8 @@ listed_within lists channels node groups k d within =
 
 -- where none waits, the counts are the least ones
 pub arrived : (first : List ℕ) (channels : List ChannelRates) (counts waiting : List ℕ)
-    → Nears first channels counts waiting → waiting ≡ [] → IsLeast first channels counts
+    → Nears first channels counts waiting → ((node : ℕ) → has_number waiting node ≡ false)
+    → IsLeast first channels counts
 arrived first channels counts waiting nears none = record {
   primed = record {
     each = nears.each;
@@ -105,12 +97,9 @@ arrived first channels counts waiting nears none = record {
         elim (nears.served k (slice_index_or channels k d)
         (slice_get-get_or channels k d within)) [
           | inl met ↦ met
-          | inr waits ↦ nobody (subst (λ l. Contains l (slice_index_or channels k d).target) none
-              waits)
+          | inr waits ↦ absurd (true≢false
+              (sym waits ∙ none (slice_index_or channels k d).target))
         ];
   };
   least = λ other primed. nears.below other primed.met primed.begun;
 }
-  where
-    nobody : {A : Type 0} {node : ℕ} → Contains [] node → A
-    nobody (k, less, is) = absurd (omega (arith, less))

@@ -1,16 +1,13 @@
 -- A count that is raised as far as a channel asks stays below all counts that prime, and what was
 -- met or waits stays so.
 use Rattle.std.proofs.Common.{◌≡◌, ◌≢◌, ◌∙◌, refl, sym, ap, subst, ℕ, ◌+◌, ◌-◌, ◌<◌, ◌≤◌, List}
-use Rattle.std.proofs.Common.{[], ◌∷◌}
-use Rattle.std.proofs.Common.{length, set, All, Contains, inl, inr}
-use Rattle.std.proofs.Common.{IsPermutation, arith}
+use Rattle.std.proofs.Common.{length, set, Contains, true, inl, inr, arith}
 use Rattle.std.proofs.lemmas.Bool.{cases_eq, cases_lt}
 use Rattle.std.proofs.lemmas.List.{get_or-set_same, get_or-set_other, length-set}
-use Rattle.std.proofs.lemmas.List.Elements.{All-contains, Contains-get_or, Contains-append_right}
-use Rattle.std.proofs.lemmas.List.Elements.{All-cons}
-use Rattle.std.proofs.lemmas.List.Sorted.{Contains-permutation, All-permutation}
-use Rattle.std.proofs.lemmas.List.Sorted.{length_permutation}
+use Rattle.std.proofs.lemmas.List.Elements.{All-contains}
 use Rattle.std.proofs.lemmas.List.Sums.{sum_by-set}
+use Rattle.strc_balance.specs.NumberSets.{has_number, IsWith, AllNumbers, size_below}
+use Rattle.strc_balance.proofs.Membership.{with_own, with_old, with_cases, size_with}
 use Rattle.strc_balance.specs.Balance.{count_at, count_limit, IsWithinLimit}
 use Rattle.strc_startup.specs.Startup.{IsMet, need, supply}
 use Rattle.strc_startup.specs.Waiting.{Waits}
@@ -20,7 +17,8 @@ use Rattle.strc_startup.proofs.Counting.{supply-le, need-le}
 
 -- nothing is raised
 pub raises_none : (channels : List ChannelRates) (counts waiting : List ℕ) → IsWithinLimit counts
-    → All (λ node. node < length counts) waiting → Raises channels counts waiting counts waiting
+    → AllNumbers (λ node. node < length counts) waiting
+    → Raises channels counts waiting counts waiting
 raises_none channels counts waiting within nodes = record {
   each = refl;
   grown = λ node. omega arith;
@@ -135,20 +133,15 @@ module _ (rates : ChannelRates) (counts : List ℕ) (count : ℕ)
       let sums = sum_by-set (λ c. count_limit - c) counts rates.source count 0 there in
       omega (arith, sums)
 
-  module _ (waiting queued : List ℕ) (pushed : IsPermutation (rates.source ∷ waiting) queued) where
-    source_waits : Contains queued rates.source
-    source_waits = Contains-permutation (rates.source ∷ waiting) queued rates.source pushed
-        (Contains-get_or (rates.source ∷ waiting) 0 0 (omega arith))
-
-    still_waits : (node : ℕ) → Contains waiting node → Contains queued node
-    still_waits node waits = Contains-permutation (rates.source ∷ waiting) queued node pushed
-        (Contains-append_right (rates.source ∷ []) waiting node waits)
+  module _ (waiting queued : List ℕ) (pushed : IsWith rates.source waiting queued) where
+    source_waits : has_number queued rates.source ≡ true
+    source_waits = with_own rates.source waiting queued pushed
 
     still_kept : (own : ChannelRates) → Waits counts waiting own → Waits after queued own
-    still_kept own (inr waits) = inr (still_waits own.target waits)
+    still_kept own (inr waits) = inr (with_old rates.source waiting queued pushed own.target waits)
     still_kept own (inl met) =
         elim (cases_eq own.target rates.source) [
-          | inl same ↦ inr (subst (Contains queued) (sym same) source_waits)
+          | inl same ↦ inr (ap (has_number queued) same ∙ source_waits)
           | inr apart ↦ inl (still_met own apart met)
         ]
 
@@ -156,12 +149,12 @@ module _ (rates : ChannelRates) (counts : List ℕ) (count : ℕ)
         → Waits after queued rates
     raised_serves enough =
         elim (cases_eq rates.target rates.source) [
-          | inl same ↦ inr (subst (Contains queued) (sym same) source_waits)
+          | inl same ↦ inr (ap (has_number queued) same ∙ source_waits)
           | inr apart ↦ inl (now_met apart enough)
         ]
 
     pub raised : (channels : List ChannelRates) → Contains channels rates → IsWithinLimit counts
-        → count ≤ count_limit → All (λ node. node < length counts) waiting
+        → count ≤ count_limit → AllNumbers (λ node. node < length counts) waiting
         → ((fewer : ℕ) → fewer < count
         → supply rates fewer < need rates (count_at counts rates.target))
         → Raises channels counts waiting after queued
@@ -172,13 +165,19 @@ module _ (rates : ChannelRates) (counts : List ℕ) (count : ℕ)
       below = λ other met less. raised_below other less (asked rates counts other count
           (All-contains (IsMet other) channels rates met here) less least);
       kept = still_kept;
-      numbers = subst (λ n. All (λ node. node < n) queued)
-          (sym (length-set counts rates.source count))
-          (All-permutation (λ node. node < length counts) (rates.source ∷ waiting) queued pushed
-          (All-cons (λ node. node < length counts) rates.source waiting there nodes));
+      numbers = λ node waits.
+          elim (with_cases rates.source waiting queued pushed node waits) [
+            | inl same ↦ omega (arith, there, same, length-set counts rates.source count)
+            | inr earlier ↦ omega (
+              arith,
+              nodes node earlier,
+              length-set counts rates.source count,
+            )
+          ];
       steps = omega (
         arith,
         raised_room few,
-        length_permutation (rates.source ∷ waiting) queued pushed,
+        size_with rates.source waiting queued pushed (length counts),
+        ap (size_below queued) (length-set counts rates.source count),
       );
     }

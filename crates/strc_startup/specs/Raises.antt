@@ -2,6 +2,7 @@
 use Rattle.std.specs.Prelude.{◌≡◌, ℕ, ◌+◌, ◌-◌, ◌*◌, ◌<◌, ◌≤◌, List, length, All}
 use Rattle.std.specs.List.{sum_by}
 use Rattle.strc_balance.specs.Balance.{count_at, count_limit, IsWithinLimit}
+use Rattle.strc_balance.specs.NumberSets.{AllNumbers, size_below}
 use Rattle.strc_startup.specs.Startup.{IsMet}
 use Rattle.strc_startup.specs.Waiting.{Waits}
 use Rattle.strc_startup.specs.declared.channel_rates.ChannelRates.{ChannelRates}
@@ -23,8 +24,9 @@ pub record Raises (channels : List ChannelRates) (before waited after waiting : 
     pub below : (other : List ℕ) → All (IsMet other) channels → IsBelow before other
         → IsBelow after other
     pub kept : (rates : ChannelRates) → Waits before waited rates → Waits after waiting rates
-    pub numbers : All (λ node. node < length after) waiting
-    pub steps : 2 * room after + length waiting ≤ 2 * room before + length waited
+    pub numbers : AllNumbers (λ node. node < length after) waiting
+    pub steps : 2 * room after + size_below waiting (length after)
+        ≤ 2 * room before + size_below waited (length before)
 
 -- no counts within the limit that are above these meet these channels
 abbrev pub IsUnbounded : List ChannelRates → (before : List ℕ) → Type 0

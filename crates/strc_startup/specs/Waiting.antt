@@ -1,5 +1,6 @@
 -- Nodes whose count was raised wait until what they need has come.
-use Rattle.std.specs.Prelude.{ℕ, ◌^◌, ◌<◌, ◌⊎◌, List, Contains}
+use Rattle.std.specs.Prelude.{◌≡◌, ℕ, ◌^◌, ◌<◌, ◌⊎◌, true, List}
+use Rattle.strc_balance.specs.NumberSets.{has_number}
 use Rattle.strc_startup.specs.Startup.{IsMet}
 use Rattle.strc_startup.specs.declared.channel_rates.ChannelRates.{ChannelRates}
 
@@ -27,4 +28,4 @@ pub record IsBounded (rates : ChannelRates) : Type 0 where
 
 -- a channel is met, or its target waits
 abbrev pub Waits : (counts waiting : List ℕ) → ChannelRates → Type 0
-Waits counts waiting rates = IsMet counts rates ⊎ Contains waiting rates.target
+Waits counts waiting rates = IsMet counts rates ⊎ (has_number waiting rates.target ≡ true)

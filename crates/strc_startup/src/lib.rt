@@ -12,4 +12,3 @@ pub mod laws;
 mod priming;
 pub mod rates;
 pub mod startup;
-mod waiting;

@@ -1,8 +1,9 @@
 // The least counts that prime channels, from each channel to the one before.
 
-ghost use Rattle.std.specs.Prelude.{◌≡◌, ◌<◌, ◌⊎◌, ℕ, length, All, IfOk, OnOk, Contains, Err};
-ghost use Rattle.std.specs.Prelude.{Some, slice_get};
+ghost use Rattle.std.specs.Prelude.{◌≡◌, ◌<◌, ℕ, length, All, IfOk, OnOk, Contains, Err};
+ghost use Rattle.std.specs.Prelude.{Some, slice_get, true};
 ghost use Rattle.strc_balance.specs.Balance.{IsWithinLimit};
+ghost use Rattle.strc_balance.specs.NumberSets.{has_number, AllNumbers};
 ghost use Rattle.strc_startup.specs.Raises.{Raises, IsUnbounded, IsBelow};
 ghost use Rattle.strc_startup.specs.Startup as spec;
 ghost use Rattle.strc_startup.specs.Waiting.{HasEnds, IsBounded, Pushes, Waits};
@@ -12,14 +13,15 @@ use crate::channel_rates::ChannelRates;
 use crate::error::StartupError;
 use crate::grouping::grouping_of;
 use crate::rates::targets_of;
-use crate::waiting::Waiting;
 use std::alloc::{AllocError, Global};
 use strc_balance::COUNT_LIMIT;
+use strc_balance::number_set::NumberSet;
 
 /// The least counts from these on that prime the channels.
 ///
 /// What a node needs raises the nodes before it at once as far as it asks; each raised node then
-/// asks in turn. So no count is ever above one that primes.
+/// asks in turn. So no count is ever above one that primes. Sources stand before their targets, but
+/// in feedback loops: the highest node asks first, when what it feeds is done.
 pub(crate) fn primed(
     alloc: Global,
     channels: &[ChannelRates],
@@ -44,16 +46,15 @@ pub(crate) fn primed(
 }
 
 /// So many nodes.
-fn all_nodes(alloc: Global, size: usize) -> Result<Waiting, AllocError>
-    ensures all { IfOk result (λ waiting. (node : ℕ) → node < size → Contains waiting node) }
-    ensures numbers { IfOk result (λ waiting. All (λ node. node < size) waiting) }
+fn all_nodes(alloc: Global, size: usize) -> Result<NumberSet, AllocError>
+    ensures all { IfOk result (λ nodes. (node : ℕ) → node < size → has_number nodes node ≡ true) }
+    ensures numbers { IfOk result (AllNumbers (λ node. node < size)) }
 {
-    let mut waiting = Waiting::new(alloc);
-    // The highest first, so that none has to move up.
-    for higher in 0..size {
-        waiting.add(size - higher - 1)?;
+    let mut nodes = NumberSet::with_capacity(alloc, size)?;
+    for node in 0..size {
+        nodes.add(node)?;
     }
-    Ok(waiting)
+    Ok(nodes)
 }
 
 /// Raises the sources of channels as far as their targets ask.
@@ -61,14 +62,14 @@ fn raise_sources(
     channels: &[ChannelRates],
     numbers: &[usize],
     counts: &mut [u32],
-    waiting: &mut Waiting,
+    waiting: &mut NumberSet,
 ) -> Result<(), StartupError>
     requires numbers { All (λ channel. channel < length channels.now) numbers.now }
     requires ends { All (HasEnds (length counts.old)) channels.now }
     requires pushes { All Pushes channels.now }
     requires bounds { All IsBounded channels.now }
     requires within { IsWithinLimit counts.old }
-    requires nodes { All (λ node. node < length counts.old) waiting.old }
+    requires nodes { AllNumbers (λ node. node < length counts.old) waiting.old }
     ensures raises { OnOk result (Raises channels.now counts.old waiting.old counts.new
         waiting.new) }
     ensures served { OnOk result ((channel : ℕ) (rates : ChannelRates)
@@ -87,14 +88,14 @@ fn raise_source(
     channels: &[ChannelRates],
     number: usize,
     counts: &mut [u32],
-    waiting: &mut Waiting,
+    waiting: &mut NumberSet,
 ) -> Result<(), StartupError>
     requires number { number < length channels.now }
     requires ends { All (HasEnds (length counts.old)) channels.now }
     requires pushes { All Pushes channels.now }
     requires bounds { All IsBounded channels.now }
     requires within { IsWithinLimit counts.old }
-    requires nodes { All (λ node. node < length counts.old) waiting.old }
+    requires nodes { AllNumbers (λ node. node < length counts.old) waiting.old }
     ensures raises { OnOk result (Raises channels.now counts.old waiting.old counts.new
         waiting.new) }
     ensures served { OnOk result ((rates : ChannelRates)

@@ -134,6 +134,15 @@ fn a_writer_that_fails_or_takes_nothing_is_told(rt: HostRuntime) -> Result<(), F
     Ok(())
 }
 
+// The text of a reader, or why there is none.
+fn whole_text<R: Read>(alloc: Global, reader: &mut R) -> Result<Vec<u8>, CliError> {
+    match read_text(alloc, reader) {
+        Ok(text) => Ok(text),
+        Err(TextFault::NoMemory) => Err(CliError::Memory),
+        Err(TextFault::Failed(_)) => Err(CliError::Read),
+    }
+}
+
 #[test]
 fn a_text_is_read_to_its_end_or_its_limit(rt: HostRuntime) -> Result<(), Fail> {
     let mut reader = Reader {
@@ -141,10 +150,10 @@ fn a_text_is_read_to_its_end_or_its_limit(rt: HostRuntime) -> Result<(), Fail> {
         at_once: 7,
         calls_left: 1000,
     };
-    let text = read_text(rt.alloc(), &mut reader)?;
+    let text = whole_text(rt.alloc(), &mut reader)?;
     assert_eq!(rt; text.as_slice(), MINIMAL.as_bytes());
     let endless = vec![in rt.alloc(); b' '; 2000000]?;
-    let text = read_text(rt.alloc(), &mut endless.as_slice())?;
+    let text = whole_text(rt.alloc(), &mut endless.as_slice())?;
     assert_eq!(rt; text.len(), 1048577);
     Ok(())
 }

@@ -3,7 +3,7 @@
 use std::alloc::{AllocError, Global};
 use std::test::Fail;
 use strc_cli::line::{Command, Line, LineFault};
-use strc_cli::words::{command, usage_error};
+use strc_cli::words::{asks_for_help, asks_for_version, command, usage_error};
 
 // What is asked for, in one line: the command and its values, `-` where one isn't given.
 fn told(alloc: Global, line: &Line) -> Result<String, AllocError> {
@@ -16,6 +16,7 @@ fn told(alloc: Global, line: &Line) -> Result<String, AllocError> {
         Command::Run { rounds: None, main } => format!(in alloc; "run {file} - {}", name_of(main)),
         Command::Check { main } => format!(in alloc; "check {file} {}", name_of(main)),
         Command::Plan { main } => format!(in alloc; "plan {file} {}", name_of(main)),
+        Command::Graph { main } => format!(in alloc; "graph {file} {}", name_of(main)),
     }
 }
 
@@ -28,7 +29,7 @@ fn name_of(name: &Option<String>) -> &str {
 
 #[test]
 fn each_form_is_understood(rt: HostRuntime) -> Result<(), Fail> {
-    let lines: [(&[&str], &str); 9] = [
+    let lines: [(&[&str], &str); 11] = [
         (&["strc"], "run - 5 -"),
         (&["strc", "run", "a.str"], "run a.str - -"),
         (&["strc", "run", "a.str", "--rounds=0"], "run a.str 0 -"),
@@ -49,6 +50,8 @@ fn each_form_is_understood(rt: HostRuntime) -> Result<(), Fail> {
         (&["strc", "check", "a.str", "--main", "M"], "check a.str M"),
         (&["strc", "plan", "a.str"], "plan a.str -"),
         (&["strc", "plan", "--main=M", "a.str"], "plan a.str M"),
+        (&["strc", "graph", "a.str"], "graph a.str -"),
+        (&["strc", "graph", "a.str", "--main", "M"], "graph a.str M"),
     ];
     for (words, wanted) in lines {
         let line = command(rt.alloc(), words)?;
@@ -80,5 +83,32 @@ fn other_words_are_not(rt: HostRuntime) -> Result<(), Fail> {
         let text = usage_error(rt.alloc(), words)?;
         assert!(rt; !text.as_str().is_empty(), "at {words:?}");
     }
+    Ok(())
+}
+
+#[test]
+fn help_is_no_mistake(rt: HostRuntime) -> Result<(), Fail> {
+    let lines: [(&[&str], bool, &str); 5] = [
+        (&["strc", "--help"], true, "Usage: strc <COMMAND>"),
+        (&["strc", "run", "--help"], true, "--rounds <N>"),
+        (&["strc", "graph", "-h"], true, "Graphviz"),
+        (&["strc", "plna", "a.str"], false, "plan"),
+        (&["strc", "run", "a.str", "--round", "3"], false, "--rounds"),
+    ];
+    for (words, help, part) in lines {
+        let fault = command(rt.alloc(), words).err();
+        assert_eq!(rt; fault, Some(LineFault::Words), "at {words:?}");
+        assert_eq!(rt; asks_for_help(rt.alloc(), words)?, help, "at {words:?}");
+        let text = usage_error(rt.alloc(), words)?;
+        assert!(rt; text.as_str().contains(part), "at {words:?}: {text}");
+    }
+    Ok(())
+}
+
+#[test]
+fn the_version_is_asked_for_anywhere(rt: HostRuntime) -> Result<(), Fail> {
+    assert!(rt; asks_for_version(&["strc", "--version"]));
+    assert!(rt; asks_for_version(&["strc", "run", "-V"]));
+    assert!(rt; !asks_for_version(&["strc", "run", "version"]));
     Ok(())
 }

@@ -6,6 +6,7 @@ use Rattle.strc_balance.specs.Balance.{HasRates, AreConnected}
 use Rattle.strc_balance.specs.Rates.{IsRated, equation_of, equations_of, size_of}
 use Rattle.strc_balance.proofs.Channels.{can_be}
 use Rattle.strc_balance.proofs.Rated.{graph_rates}
+use Rattle.strc_balance.proofs.GraphViews.{same_size, same_equations}
 use Rattle.strc_balance.proofs.condition.can_balance.Goals as goal
 
 pub are_connected-requires : goal.are_connected-requires
@@ -14,14 +15,11 @@ are_connected-requires c =
     let graph = graph_view parts in
     let nodes = c.nodes-nodes.result.now in
     let channels = c.channels.result.now in
-    let size : length nodes ≡ size_of graph = ap length c.nodes-nodes.ensures
-    ∙ sym (length-map parts.nodes node_view) in
-    let items =
-    c.in_ok-equations.ensures.equations
-    ∙ ap (λ ns. map (equation_of (map node_view ns)) (map channel_view channels))
-    c.nodes-nodes.ensures
-    ∙ ap (λ cs. map (equation_of (map node_view parts.nodes)) (map channel_view cs))
-    c.channels.ensures.channels in
+    let equations = c.in_ok-equations.equations.items in
+    let size = same_size parts nodes channels equations c.nodes-nodes.ensures
+    c.channels.ensures.channels c.in_ok-equations.ensures.equations in
+    let items = same_equations parts nodes channels equations c.nodes-nodes.ensures
+    c.channels.ensures.channels c.in_ok-equations.ensures.equations in
     let yes : IsTrue true = search rules in
     let rated : All IsRated (equations_of graph) =
     subst (All IsRated) (c.deref.ensures.value ∙ items) (c.if-not-are_rated.ensures.0 yes) in
@@ -35,14 +33,11 @@ returns c =
     let graph = graph_view parts in
     let nodes = c.nodes-nodes.result.now in
     let channels = c.channels.result.now in
-    let size : length nodes ≡ size_of graph = ap length c.nodes-nodes.ensures
-    ∙ sym (length-map parts.nodes node_view) in
-    let items =
-    c.in_ok-equations.ensures.equations
-    ∙ ap (λ ns. map (equation_of (map node_view ns)) (map channel_view channels))
-    c.nodes-nodes.ensures
-    ∙ ap (λ cs. map (equation_of (map node_view parts.nodes)) (map channel_view cs))
-    c.channels.ensures.channels in
+    let equations = c.in_ok-equations.equations.items in
+    let size = same_size parts nodes channels equations c.nodes-nodes.ensures
+    c.channels.ensures.channels c.in_ok-equations.ensures.equations in
+    let items = same_equations parts nodes channels equations c.nodes-nodes.ensures
+    c.channels.ensures.channels c.in_ok-equations.ensures.equations in
     let yes : IsTrue true = search rules in
     let rated : All IsRated (equations_of graph) =
     subst (All IsRated) (c.deref.ensures.value ∙ items) (c.if-not-are_rated.ensures.0 yes) in

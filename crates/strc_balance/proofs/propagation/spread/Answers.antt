@@ -1,9 +1,10 @@
-use Rattle.std.proofs.Common.{◌≡◌, ℕ, ◌<◌, ◌++◌, [], false, length, All, IfSome, Some}
-use Rattle.std.proofs.Common.{IsPermutation, sym, ap, subst, ◌∙◌, refl, arith}
+use Rattle.std.proofs.Common.{◌≡◌, ℕ, ◌<◌, false, length, IfSome, Some}
+use Rattle.std.proofs.Common.{sym, ap, subst, ◌∙◌, refl, arith}
 use Rattle.std.specs.List.{list_any}
 use Rattle.strc_balance.specs.declared.fraction.Fraction.{Fraction}
 use Rattle.strc_balance.specs.Balance as spec
-use Rattle.strc_balance.specs.Frontiers.{IsLargeOrMemory, CoversApart, found_passes}
+use Rattle.strc_balance.specs.Frontiers.{IsLargeOrMemory, Covers, CoversApart, found_passes, Adds}
+use Rattle.strc_balance.specs.NumberSets.{AllNumbers}
 use Rattle.strc_balance.proofs.Spreading.{first_given-within}
 use Rattle.strc_balance.proofs.Turns.{IsSpreading, spreading_start, spreading_next, spreading_done}
 use Rattle.strc_balance.proofs.Turns.{spreading_large}
@@ -11,14 +12,13 @@ use Rattle.strc_balance.proofs.propagation.spread.Goals as goal
 
 pub loop-turn-init : goal.loop-turn-init
 loop-turn-init c =
-    let frontier = c.add_all.new.self in
+    let frontier = c.add_all.new.frontier in
     let lists = c.in_ok-incidence.incidence in
-    let moved = subst (λ l. IsPermutation l frontier)
-    (ap (λ l. l ++ c.at.result.now) c.new-frontier.ensures ∙ ap (λ l. [] ++ l) c.at.ensures)
+    let moved = subst (λ l. Adds l c.in_ok-frontier.frontier frontier) c.at.ensures
     c.in_ok-add_all.ensures in
     let s = spreading_start c.args.size c.args.equations.now c.in_ok-fractions.fractions.items lists
-    frontier c.in_ok-fractions.ensures c.in_ok-incidence.ensures.listed
-    c.in_ok-incidence.ensures.numbers moved in
+    c.in_ok-frontier.frontier frontier c.in_ok-fractions.ensures c.in_ok-incidence.ensures.listed
+    c.in_ok-incidence.ensures.numbers c.in_ok-frontier.ensures moved in
     record {
       size = s.size_is;
       same = s.same;
@@ -109,7 +109,7 @@ loop-turn-preserved c =
     let found : ℕ × Fraction = (node, fraction) in
     let lists = c.in_ok-incidence.incidence in
     let middle = c.next_given.new.frontier in
-    let frontier = c.add_all-in-Ok-Some.new.self in
+    let frontier = c.add_all-in-Ok-Some.new.frontier in
     let i = c.loop-turn.invariant in
     let before : IsSpreading c.args.size c.loop-turn._turn equations fractions c.loop-turn.frontier
     =
@@ -132,10 +132,10 @@ loop-turn-preserved c =
     subst (λ l. CoversApart node middle l equations) value
     (subst (λ o. IfSome o (λ (q : ℕ × Fraction). CoversApart q.0 middle c.deref.result.now
     equations)) c.in-Ok-Some.field-0-is c.in-Ok-Some.ensures.covers) in
-    let numbers : All (λ k. k < length equations) middle =
-    subst (λ o. IfSome o (λ (q : ℕ × Fraction). All (λ k. k < length equations) middle))
+    let numbers : AllNumbers (λ k. k < length equations) middle =
+    subst (λ o. IfSome o (λ (q : ℕ × Fraction). AllNumbers (λ k. k < length equations) middle))
     c.in-Ok-Some.field-0-is c.in-Ok-Some.ensures.numbers in
-    let moved = subst (λ l. IsPermutation (middle ++ l) frontier) c.at-in-Ok-Some.ensures
+    let moved = subst (λ l. Adds l middle frontier) c.at-in-Ok-Some.ensures
     c.in_ok-add_all-in-Ok-Some.ensures in
     let s = spreading_next c.args.size c.loop-turn._turn equations fractions lists
     c.loop-turn.frontier middle frontier found (omega arith) c.requires.rates
@@ -150,3 +150,8 @@ loop-turn-preserved c =
           s.covers;
       numbers = s.numbers;
     }
+
+pub next_given-requires-clause-covers : goal.next_given-requires-clause-covers
+next_given-requires-clause-covers c =
+    subst (λ l. Covers c.loop-turn.frontier l c.args.equations.now) (sym c.deref.ensures.value)
+    c.loop-turn.invariant.covers

@@ -1,53 +1,60 @@
 use Rattle.std.proofs.Common.{ℕ, List, Option, length, ap, subst, sym, inl, inr}
-use Rattle.strc_cli.specs.Answering.{HasSize, IsAsked, IsAnswered, IsRun, ReadsInput, ReadsText}
-use Rattle.strc_cli.specs.Answering.{main_of}
+use Rattle.strc_stage.specs.Plans.{planning_of}
+use Rattle.strc_run.specs.Plans.{IsPlanOf}
+use Rattle.strc_cli.specs.Answering.{HasSize, IsAsked, IsAnswered, ReadsInput, main_of}
 use Rattle.strc_cli.specs.declared.answer.Answer.TheVariants as answer
 use Rattle.strc_cli.specs.declared.line.Command.{Command}
-use Rattle.strc_cli.proofs.PlanAnswers.{plan_size, reads_text, run_answered}
+use Rattle.strc_cli.proofs.PlanAnswers.{plan_size, reads_text}
 use Rattle.strc_cli.proofs.answer.answer_to.Goals as goal
 
 pub returns-in-Check-clause-answered : goal.returns-in-Check-clause-answered
 returns-in-Check-clause-answered g c =
     let text = c.args.text.now in
-    let plan = c.in-Ok.plan in
+    let plan = c.in-Ok-compile.plan in
     let bytes = g.I.Source.remaining c.args.input.now in
     let size : HasSize text (main_of c.args.command.now) (length plan.graph.nodes)
     (length plan.graph.channels) =
     subst
     (λ (main : Option (List ℕ)). HasSize text main (length plan.graph.nodes)
     (length plan.graph.channels))
-    c.main_name.ensures (plan_size text _ plan c.in-Ok.ensures) in
+    c.in-Ok.ensures (plan_size text _ plan c.in-Ok-compile.ensures.plan) in
     subst
     (λ (command : Command). IsAsked text command bytes
     (answer.Checked (length c.nodes.result.now) (length c.channels.result.now)))
     (sym c.in-Check.is)
-    (rw (c.nodes.ensures, c.channels.ensures.channels, ← ap main_of c.in-Check.is) size)
+    (rw (
+      c.nodes.ensures,
+      c.channels.ensures.channels,
+      c.graph.ensures,
+      c.graph-in-Check.ensures,
+      ← ap main_of c.in-Check.is,
+    ) size)
 
 pub returns-in-Run-clause-answered : goal.returns-in-Run-clause-answered
 returns-in-Run-clause-answered g c =
     let text = c.args.text.now in
-    let bytes = g.I.Source.remaining c.args.input.now in
-    let rounds = c.in-Run.rounds in
-    let result = c.run_plan.result in
-    let runs : IsRun text (main_of c.args.command.now) rounds bytes result =
-    subst (λ (main : Option (List ℕ)). IsRun text main rounds bytes result) c.main_name.ensures
-    (c.run_plan.ensures.run text _ c.in-Ok.ensures) in
-    subst (λ (command : Command). IsAnswered text command bytes result) (sym c.in-Run.is)
-    (run_answered text rounds _ bytes result
-    (subst (λ (main : Option (List ℕ)). IsRun text main rounds bytes result)
-    (ap main_of c.in-Run.is) runs))
+    let plan = planning_of c.in-Ok-compile.plan in
+    let is : IsPlanOf text (main_of c.args.command.now) plan =
+    subst (λ (main : Option (List ℕ)). IsPlanOf text main plan) c.in-Ok.ensures
+    c.in-Ok-compile.ensures.plan in
+    subst
+    (λ (command : Command). IsAnswered text command (g.I.Source.remaining c.args.input.now)
+    c.run_plan.result)
+    (sym c.in-Run.is)
+    (c.run_plan.ensures.run text _
+    (subst (λ (main : Option (List ℕ)). IsPlanOf text main plan) (ap main_of c.in-Run.is) is))
 
 pub returns-in-Run-clause-unread : goal.returns-in-Run-clause-unread
 returns-in-Run-clause-unread g c =
     let text = c.args.text.now in
-    let bytes = g.I.Source.remaining c.args.input.now in
+    let plan = planning_of c.in-Ok-compile.plan in
+    let is : IsPlanOf text (main_of c.args.command.now) plan =
+    subst (λ (main : Option (List ℕ)). IsPlanOf text main plan) c.in-Ok.ensures
+    c.in-Ok-compile.ensures.plan in
     elim c.run_plan.ensures.unread [
       | inl same ↦ inl same
       | inr reads ↦ inr (subst (ReadsInput text) (sym c.in-Run.is)
-          (subst (ReadsText text) (ap main_of c.in-Run.is)
-          (subst (ReadsText text) c.main_name.ensures
-          (reads_text text _ c.in-Ok.plan c.in-Ok.ensures c.in-Run.rounds bytes reads))))
+          (reads_text text _ plan
+          (subst (λ (main : Option (List ℕ)). IsPlanOf text main plan) (ap main_of c.in-Run.is)
+          is) c.in-Run.rounds (g.I.Source.remaining c.args.input.now) reads))
     ]
-
-pub run_plan-requires : goal.run_plan-requires
-run_plan-requires g c = c.in-Ok.ensures.planned

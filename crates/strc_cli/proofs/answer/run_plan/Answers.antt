@@ -1,25 +1,26 @@
 use Rattle.std.proofs.Common.{ℤ, List, Result, subst, sym}
-use Rattle.strc_graph.specs.NodeView.{graph_view}
-use Rattle.strc_cli.specs.Answering.{IsRun}
+use Rattle.strc_stage.specs.Plans.{planning_of}
+use Rattle.strc_cli.specs.Answering.{IsAnswered}
 use Rattle.strc_cli.specs.Input.{IsRunAnswer}
 use Rattle.strc_cli.specs.declared.answer.Answer.{Answer}
 use Rattle.strc_cli.specs.declared.answer.Stop.{Stop}
 use Rattle.strc_cli.specs.declared.execute.CliError.{CliError}
+use Rattle.strc_cli.specs.declared.line.Command.TheVariants as command
 use Rattle.strc_cli.proofs.PlanAnswers.{input_run, stopped_run}
 use Rattle.strc_cli.proofs.answer.run_plan.Goals as goal
 
 pub returns-in-Ok-clause-run : goal.returns-in-Ok-clause-run
 returns-in-Ok-clause-run g c = λ text main is.
-    input_run text main c.args.plan.now is c.args.rounds (g.I.Source.remaining c.args.input.now)
+    input_run text main (planning_of c.args.plan.now) is c.args.rounds
+    (g.I.Source.remaining c.args.input.now) c.plans_answer_texts.ensures
     c.in-Ok.numbers c.run_numbers.result c.in-Ok.ensures.numbers
-    (subst (λ (input : List ℤ). IsRunAnswer (graph_view c.args.plan.now.graph)
-    c.args.plan.now.schedule input c.args.rounds c.run_numbers.result) c.deref.ensures.value
-    c.run_numbers.ensures)
+    (subst (λ (input : List ℤ). IsRunAnswer (planning_of c.args.plan.now) input c.args.rounds
+    c.run_numbers.result) c.deref.ensures.value c.run_numbers.ensures)
 
 pub returns-in-Err-clause-run : goal.returns-in-Err-clause-run
 returns-in-Err-clause-run g c = λ text main is.
     subst (λ (result : Result (Result Answer Stop) CliError).
-    IsRun text main c.args.rounds (g.I.Source.remaining c.args.input.now) result)
+    IsAnswered text (command.Run c.args.rounds main) (g.I.Source.remaining c.args.input.now) result)
     (sym c.unread.ensures)
-    (stopped_run text main c.args.plan.now is c.args.rounds
+    (stopped_run text main (planning_of c.args.plan.now) is c.args.rounds
     (g.I.Source.remaining c.args.input.now) c.in-Err.stop c.in-Err.ensures.numbers)

@@ -5,7 +5,8 @@ use Rattle.strc_cli.proofs.input.read_numbers.Given as goal
 
 abbrev pub invariant-loop-numbers : goal.invariant-loop-numbers
 invariant-loop-numbers g l = record {
-  read : HasRead (g.I.Source.remaining l.initial.input) (g.I.Source.remaining l.input) (reading_of l.numbers);
+  read : HasRead (g.I.Source.remaining l.initial.input) (g.I.Source.remaining l.input)
+      (reading_of l.numbers);
   steady : g.I.Source.has_failed l.input ≡ g.I.Source.has_failed l.initial.input;
 }
 

@@ -15,5 +15,8 @@ returns c =
     let checks =
     one_added _ _ _ _ _ c.in_ok-subcommand-2.ensures c.in_ok-check_command.ensures.local
     c.in_ok-check_command.ensures.app runs in
-    last_added _ _ c.subcommand-3.result _ _ c.subcommand-3.ensures
-    c.in_ok-plan_command.ensures.local c.in_ok-plan_command.ensures.app checks
+    let plans =
+    one_added _ _ _ _ _ c.in_ok-subcommand-3.ensures c.in_ok-plan_command.ensures.local
+    c.in_ok-plan_command.ensures.app checks in
+    last_added _ _ c.subcommand-4.result _ _ c.subcommand-4.ensures
+    c.in_ok-graph_command.ensures.local c.in_ok-graph_command.ensures.app plans

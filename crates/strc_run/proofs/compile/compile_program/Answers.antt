@@ -1,49 +1,51 @@
-use Rattle.std.proofs.Common.{List, map, refl, sym, ap, ◌∙◌, subst, Err}
+use Rattle.std.proofs.Common.{List, map, sym, ap, ◌∙◌, subst, Err}
 use Rattle.std.specs.List.{AllByRecursion}
 use Rattle.strc_graph.specs.Graphs.{NodeCode}
 use Rattle.strc_stream.specs.View.{stream_view}
 use Rattle.strc_graph.specs.NodeView.{node_view, graph_view}
-use Rattle.strc_run.specs.Compiling.{refusal_of, balance_refusal_of}
 use Rattle.strc_run.specs.Rates.{rates_checked}
-use Rattle.strc_run.specs.Scheduling.{startup_refusal_of, schedule_refusal_of}
+use Rattle.strc_run.specs.Reports.{refusal_of, balance_refusal_of, startup_refusal_of}
+use Rattle.strc_run.specs.Reports.{schedule_refusal_of}
 use Rattle.strc_run.specs.Verdicts.{IsRefusal}
 use Rattle.strc_run.proofs.Refusals.{elaboration_refused, graph_refused, rates_refused}
 use Rattle.strc_run.proofs.Refusals.{balance_refused, startup_refused, schedule_refused}
-use Rattle.strc_run.proofs.Refusals.{which_deadlock, refusal_told}
+use Rattle.strc_run.proofs.Refusals.{plan_told, refusal_told, which_deadlock}
 use Rattle.strc_run.proofs.RatedGraphs.{IsChecked, flat_is_rated, stream_checked}
-use Rattle.strc_run.proofs.PlannedGraphs.{graph_is_planned}
+use Rattle.strc_run.proofs.PlannedGraphs.{graph_has_plan}
 use Rattle.strc_run.proofs.compile.compile_program.Goals as goal
 
 pub returns-in_err-stream : goal.returns-in_err-stream
-returns-in_err-stream c =
+returns-in_err-stream c = λ text spells.
     refusal_told _ _ c.from_residual.result
     (refusal_of c.in_err-stream.field-0.0) c.from_residual.ensures.1
-    (elaboration_refused _ _ c.in_err-stream.field-0.0 c.in_err-stream.ensures.verdict)
+    (elaboration_refused _ _ _ spells c.in_err-stream.field-0.0 c.in_err-stream.ensures.verdict)
 
 pub returns-in_err-graph : goal.returns-in_err-graph
-returns-in_err-graph c =
+returns-in_err-graph c = λ text spells.
     let elaborates = c.in_ok-stream.ensures.verdict in
     let sound = c.in_ok-stream.ensures.sound in
     refusal_told _ _ c.from_residual-in_err-graph.result
     (refusal_of c.in_err-graph.field-0.0) c.from_residual-in_err-graph.ensures.1
-    (graph_refused _ _ _ elaborates c.in_err-graph.field-0.0
+    (graph_refused _ _ _ spells _ elaborates c.in_err-graph.field-0.0
     (c.in_err-graph.ensures.verdict sound.closed.typed))
 
 pub returns-in_err-check_rates : goal.returns-in_err-check_rates
-returns-in_err-check_rates c =
+returns-in_err-check_rates c = λ text spells.
     let elaborates = c.in_ok-stream.ensures.verdict in
     let sound = c.in_ok-stream.ensures.sound in
     let same = ap (map node_view) c.nodes.ensures ∙ c.in_ok-graph.ensures.nodes in
     refusal_told _ _ c.from_residual-in_err-check_rates.result c.in_err-check_rates.field-0.0
     c.from_residual-in_err-check_rates.ensures.1
-    (rates_refused _ _ (stream_view c.in_ok-stream.stream) elaborates c.in_err-check_rates.field-0.0
+    (rates_refused _ _ _ spells (stream_view c.in_ok-stream.stream) elaborates
+    c.in_err-check_rates.field-0.0
     (c.in_ok-graph.ensures.verdict sound.closed.typed)
     (subst (λ (l : List NodeCode). IsRefusal (rates_checked 0 l) c.in_err-check_rates.field-0.0)
     same c.in_err-check_rates.ensures))
 
 pub balance-requires-clause-rates : goal.balance-requires-clause-rates
 balance-requires-clause-rates c =
-    flat_is_rated (stream_view c.in_ok-stream.stream) (graph_view c.in_ok-graph.graph)
+    flat_is_rated c.nodes_deal.ensures
+    (stream_view c.in_ok-stream.stream) (graph_view c.in_ok-graph.graph)
     c.in_ok-stream.ensures.sound c.in_ok-graph.ensures.graph c.in_ok-graph.ensures.nodes
     (ap (rates_checked 0) (sym (ap (map node_view) c.nodes.ensures))
     ∙ c.in_ok-check_rates.ensures)
@@ -54,7 +56,7 @@ balance-requires-clause-connected c =
     c.in_ok-graph.ensures.connected sound.closed.typed
 
 pub returns-in_err-round_counts : goal.returns-in_err-round_counts
-returns-in_err-round_counts c =
+returns-in_err-round_counts c = λ text spells.
     let elaborates = c.in_ok-stream.ensures.verdict in
     let sound = c.in_ok-stream.ensures.sound in
     let rates = ap (rates_checked 0) (sym
@@ -63,20 +65,23 @@ returns-in_err-round_counts c =
     refusal_told _ _ c.from_residual-in_err-round_counts.result
     (balance_refusal_of c.in_err-round_counts.field-0.0)
     c.from_residual-in_err-round_counts.ensures.1
-    (balance_refused _ _ (stream_view c.in_ok-stream.stream) elaborates
-    (graph_view c.in_ok-graph.graph) c.in_err-round_counts.field-0.0
+    (balance_refused _ _ _ spells (stream_view c.in_ok-stream.stream) elaborates
+    (graph_view c.in_ok-graph.graph)
     (c.in_ok-graph.ensures.verdict sound.closed.typed) rates
-    (c.in_ok-graph.ensures.graph sound.closed.typed) c.in_err-round_counts.ensures.verdict)
+    (c.in_ok-graph.ensures.graph sound.closed.typed) c.in_err-round_counts.field-0.0
+    c.in_err-round_counts.ensures.verdict
+    (λ channel is. c.in_err-round_counts.ensures.inconsistent channel (ap Err is)))
 
 pub startup-requires : goal.startup-requires
 startup-requires c =
-    flat_is_rated (stream_view c.in_ok-stream.stream) (graph_view c.in_ok-graph.graph)
+    flat_is_rated c.nodes_deal.ensures
+    (stream_view c.in_ok-stream.stream) (graph_view c.in_ok-graph.graph)
     c.in_ok-stream.ensures.sound c.in_ok-graph.ensures.graph c.in_ok-graph.ensures.nodes
     (ap (rates_checked 0) (sym (ap (map node_view) c.nodes.ensures))
     ∙ c.in_ok-check_rates.ensures)
 
 pub returns-in_err-startup_counts : goal.returns-in_err-startup_counts
-returns-in_err-startup_counts c =
+returns-in_err-startup_counts c = λ text spells.
     let elaborates = c.in_ok-stream.ensures.verdict in
     let sound = c.in_ok-stream.ensures.sound in
     let rates = ap (rates_checked 0) (sym
@@ -85,16 +90,17 @@ returns-in_err-startup_counts c =
     refusal_told _ _ c.from_residual-in_err-startup_counts.result
     (startup_refusal_of c.in_err-startup_counts.field-0.0)
     c.from_residual-in_err-startup_counts.ensures.1
-    (startup_refused _ _ (stream_view c.in_ok-stream.stream) elaborates
-    (graph_view c.in_ok-graph.graph) c.in_ok-round_counts.round_counts
+    (startup_refused _ _ _ spells (stream_view c.in_ok-stream.stream) elaborates
+    (graph_view c.in_ok-graph.graph)
     (c.in_ok-graph.ensures.verdict sound.closed.typed) rates
-    (c.in_ok-graph.ensures.graph sound.closed.typed) c.in_ok-round_counts.ensures.verdict
-    c.in_err-startup_counts.field-0.0
+    (c.in_ok-graph.ensures.graph sound.closed.typed) c.in_ok-round_counts.round_counts
+    c.in_ok-round_counts.ensures.verdict c.in_err-startup_counts.field-0.0
     (λ is. c.in_err-startup_counts.ensures.unbounded (ap Err is)))
 
 pub schedule-requires-clause-rated : goal.schedule-requires-clause-rated
 schedule-requires-clause-rated c =
-    flat_is_rated (stream_view c.in_ok-stream.stream) (graph_view c.in_ok-graph.graph)
+    flat_is_rated c.nodes_deal.ensures
+    (stream_view c.in_ok-stream.stream) (graph_view c.in_ok-graph.graph)
     c.in_ok-stream.ensures.sound c.in_ok-graph.ensures.graph c.in_ok-graph.ensures.nodes
     (ap (rates_checked 0) (sym (ap (map node_view) c.nodes.ensures))
     ∙ c.in_ok-check_rates.ensures)
@@ -105,7 +111,7 @@ schedule-requires-clause-connected c =
     c.in_ok-graph.ensures.connected sound.closed.typed
 
 pub returns-in_err-schedule : goal.returns-in_err-schedule
-returns-in_err-schedule c =
+returns-in_err-schedule c = λ text spells.
     let elaborates = c.in_ok-stream.ensures.verdict in
     let sound = c.in_ok-stream.ensures.sound in
     let rates = ap (rates_checked 0) (sym
@@ -118,9 +124,10 @@ returns-in_err-schedule c =
     let told = c.in_err-schedule.ensures in
     refusal_told _ _ c.from_residual-in_err-schedule.result (schedule_refusal_of broken)
     c.from_residual-in_err-schedule.ensures.1
-    (schedule_refused _ _ (stream_view c.in_ok-stream.stream) elaborates graph counts
+    (schedule_refused _ _ _ spells (stream_view c.in_ok-stream.stream) elaborates graph
     (c.in_ok-graph.ensures.verdict sound.closed.typed) rates
-    (c.in_ok-graph.ensures.graph sound.closed.typed) c.in_ok-round_counts.ensures.verdict startup broken
+    (c.in_ok-graph.ensures.graph sound.closed.typed) counts
+    c.in_ok-round_counts.ensures.verdict startup broken
     (record {
       least = c.in_ok-startup_counts.ensures.least;
       within = c.in_ok-startup_counts.ensures.within;
@@ -129,51 +136,60 @@ returns-in_err-schedule c =
     (λ is. (told.before (ap Err is), told.round (ap Err is))))
     (λ channel is. told.limit channel (ap Err is)))
 
-pub returns : goal.returns
-returns c =
-    let elaborates = c.in_ok-stream.ensures.verdict in
+pub new-requires : goal.new-requires
+new-requires c =
     let sound = c.in_ok-stream.ensures.sound in
     let graph = graph_view c.in_ok-graph.graph in
-    let startup = c.in_ok-startup_counts.startup_counts in
-    let round = c.in_ok-round_counts.round_counts in
     let nodes = c.in_ok-graph.ensures.nodes in
     let checks = ap (rates_checked 0) (sym (ap (map node_view) c.nodes.ensures))
     ∙ c.in_ok-check_rates.ensures in
-    record {
-      stream = stream_view c.in_ok-stream.stream;
-      compiles = record {
-        elaborates = elaborates;
+    graph_has_plan graph
+    (subst (AllByRecursion IsChecked) (sym nodes)
+    (stream_checked c.nodes_deal.ensures (stream_view c.in_ok-stream.stream) sound
+    (ap (rates_checked 0) (sym nodes) ∙ checks)))
+    c.in_ok-schedule.schedule c.in_ok-startup_counts.startup_counts
+    c.in_ok-round_counts.round_counts
+    (flat_is_rated c.nodes_deal.ensures (stream_view c.in_ok-stream.stream) graph sound
+    c.in_ok-graph.ensures.graph nodes checks)
+    (record {
+      least = c.in_ok-startup_counts.ensures.least;
+      within = c.in_ok-startup_counts.ensures.within;
+    })
+    (record {
+      least = c.in_ok-round_counts.ensures.least;
+      within = c.in_ok-round_counts.ensures.within;
+    })
+    (record {
+      is = c.in_ok-schedule.ensures.schedule;
+      within = c.in_ok-schedule.ensures.within;
+    })
+
+pub returns : goal.returns
+returns c = λ text spells.
+    let sound = c.in_ok-stream.ensures.sound in
+    let nodes = c.in_ok-graph.ensures.nodes in
+    let checks = ap (rates_checked 0) (sym (ap (map node_view) c.nodes.ensures))
+    ∙ c.in_ok-check_rates.ensures in
+    plan_told text _ c.new.result _ c.new.ensures (record {
+      accepted = record {
+        program = _;
+        spells = spells;
+        stream = stream_view c.in_ok-stream.stream;
+        elaborates = c.in_ok-stream.ensures.verdict;
         runs = c.in_ok-graph.ensures.verdict sound.closed.typed;
         rates = ap (rates_checked 0) (sym nodes) ∙ checks;
-        graph = graph;
         flat = c.in_ok-graph.ensures.graph sound.closed.typed;
-        counts = round;
-        balances = c.in_ok-round_counts.ensures.verdict;
-        startup = startup;
-        starts = record {
+        round = c.in_ok-round_counts.ensures.verdict;
+        startup = record {
           least = c.in_ok-startup_counts.ensures.least;
           within = c.in_ok-startup_counts.ensures.within;
         };
-        schedule = c.in_ok-schedule.schedule;
-        scheduled = record {
+        schedule = record {
           is = c.in_ok-schedule.ensures.schedule;
           within = c.in_ok-schedule.ensures.within;
         };
       };
-      nodes = nodes;
-      graph = refl;
       whole = c.in_ok-graph.ensures.program sound.closed;
-      planned = graph_is_planned graph
-          (subst (AllByRecursion IsChecked) (sym nodes)
-          (stream_checked (stream_view c.in_ok-stream.stream) sound
-          (ap (rates_checked 0) (sym nodes) ∙ checks)))
-          c.in_ok-schedule.schedule startup round
-          (flat_is_rated (stream_view c.in_ok-stream.stream) graph sound
-          c.in_ok-graph.ensures.graph nodes checks)
-          c.in_ok-startup_counts.ensures.least c.in_ok-startup_counts.ensures.within
-          c.in_ok-round_counts.ensures.least c.in_ok-round_counts.ensures.within
-          c.in_ok-schedule.ensures.schedule;
-      counts = refl;
-      startup = refl;
-      schedule = refl;
-    }
+      nodes = nodes;
+      loops = c.in_ok-graph.ensures.loops;
+    })

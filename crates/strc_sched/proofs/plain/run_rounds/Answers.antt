@@ -9,9 +9,9 @@ use Rattle.strc_sched.proofs.plain.run_rounds.Goals as goal
 pub returns-in-Err-clause-ending : goal.returns-in-Err-clause-ending
 returns-in-Err-clause-ending c =
     let circuit = circuit_view c.args.circuit.now in
-    let order = firings_of c.args.order.now in
+    let order = firings_of c.args.order.now.units.now in
     let now = machine_view c.loop-round.running in
-    let after = machine_view c.fire_units.new.self in
+    let after = machine_view c.fire_order.new.self in
     ended_in c.in-Err.stop c.stopped.result c.loop-round.round now.words
     (order_run circuit order now) after
     (take c.word_count-before.result c.into_words.result.items)
@@ -26,11 +26,11 @@ returns-in-Err-clause-ending c =
 pub loop-round-preserved : goal.loop-round-preserved
 loop-round-preserved c =
     let circuit = circuit_view c.args.circuit.now in
-    let order = firings_of c.args.order.now in
+    let order = firings_of c.args.order.now.units.now in
     record {
-      machine = c.fire_units.ensures.machine;
+      machine = c.fire_order.ensures.machine;
       rest = c.loop-round.invariant.rest
           ∙ rounds_next circuit order c.args.rounds c.loop-round.round c.loop-round-test.true
-          (machine_view c.loop-round.running) (machine_view c.fire_units.new.self)
+          (machine_view c.loop-round.running) (machine_view c.fire_order.new.self)
           c.in-Ok.ensures.gone.0;
     }

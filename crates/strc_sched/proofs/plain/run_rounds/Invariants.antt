@@ -8,8 +8,8 @@ use Rattle.strc_sched.proofs.plain.run_rounds.Given as goal
 abbrev pub invariant-loop-round : goal.invariant-loop-round
 invariant-loop-round l = record {
   machine : IsMachine (circuit_view l.circuit) l.running;
-  rest : rounds_run (circuit_view l.circuit) (firings_of l.order) l.fn.rounds 0
+  rest : rounds_run (circuit_view l.circuit) (firings_of l.order.units.now) l.fn.rounds 0
       (machine_view l.fn.machine)
-      ≡ rounds_run (circuit_view l.circuit) (firings_of l.order) (l.fn.rounds - l.round) l.round
-      (machine_view l.running);
+      ≡ rounds_run (circuit_view l.circuit) (firings_of l.order.units.now)
+      (l.fn.rounds - l.round) l.round (machine_view l.running);
 }

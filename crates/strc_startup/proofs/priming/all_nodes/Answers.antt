@@ -1,26 +1,24 @@
-use Rattle.std.proofs.Common.{ℕ, ◌-◌, ◌<◌, ◌∷◌, [], Contains, sym, subst, inl, inr, arith}
+use Rattle.std.proofs.Common.{◌∙◌, ap, inl, inr, arith}
 use Rattle.std.proofs.lemmas.Bool.{cases_eq}
-use Rattle.std.proofs.lemmas.List.Elements.{All-cons, Contains-get_or, Contains-append_right}
-use Rattle.std.proofs.lemmas.List.Sorted.{All-permutation, Contains-permutation}
+use Rattle.strc_balance.specs.NumberSets.{has_number}
+use Rattle.strc_balance.proofs.Membership.{with_own, with_old, with_cases}
 use Rattle.strc_startup.proofs.priming.all_nodes.Goals as goal
 
-pub loop-higher-preserved : goal.loop-higher-preserved
-loop-higher-preserved c =
-    let own : ℕ = c.args.size - c.loop-higher.higher - 1 in
-    let before = c.loop-higher.waiting in
+pub loop-node-preserved : goal.loop-node-preserved
+loop-node-preserved c =
+    let before = c.loop-node.nodes in
     let after = c.add.new.self in
-    let pushed = c.in_ok-add.ensures in
-    let within : own < c.args.size = omega arith in
+    let own = c.loop-node.node in
     record {
-      all = λ node least less.
+      all = λ node less.
           elim (cases_eq node own) [
-            | inl same ↦ Contains-permutation (own ∷ before) after node pushed
-                (subst (Contains (own ∷ before)) (sym same)
-                (Contains-get_or (own ∷ before) 0 0 (omega arith)))
-            | inr apart ↦ Contains-permutation (own ∷ before) after node pushed
-                (Contains-append_right (own ∷ []) before node
-                (c.loop-higher.invariant.all node (omega arith) less))
+            | inl same ↦ ap (has_number after) same ∙ with_own own before after c.in_ok-add.ensures
+            | inr apart ↦ with_old own before after c.in_ok-add.ensures node
+                (c.loop-node.invariant.all node (omega (arith, less, apart)))
           ];
-      numbers = All-permutation (λ node. node < c.args.size) (own ∷ before) after pushed
-          (All-cons (λ node. node < c.args.size) own before within c.loop-higher.invariant.numbers);
+      numbers = λ node has.
+          elim (with_cases own before after c.in_ok-add.ensures node has) [
+            | inl same ↦ omega (arith, same)
+            | inr earlier ↦ omega (arith, c.loop-node.invariant.numbers node earlier)
+          ];
     }

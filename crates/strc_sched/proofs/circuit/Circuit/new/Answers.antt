@@ -7,7 +7,7 @@ use Rattle.strc_graph.specs.declared.graph.Node.{Node}
 use Rattle.strc_graph.specs.declared.graph.Channel.{Channel}
 use Rattle.strc_admissible.specs.Wiring.{HasPort, IsWired}
 use Rattle.strc_sched.specs.Circuits.{source_of, target_of}
-use Rattle.strc_sched.proofs.CircuitPorts.{ends_there, ends_of_views}
+use Rattle.strc_sched.proofs.CircuitPorts.{all_apart, ends_there, ends_of_views}
 use Rattle.strc_sched.proofs.circuit.Circuit.new.Goals as goal
 
 pub wired-requires : goal.wired-requires
@@ -69,3 +69,13 @@ returns-clause-circuit c =
           ∙ ap length c.nodes-nodes.ensures
           ∙ sym (length-map nodes node_view);
     }
+
+pub returns-clause-apart : goal.returns-clause-apart
+returns-clause-apart c =
+    λ apart. all_apart c.channels-channels.result.now c.in_ok-inputs.inputs
+    c.in_ok-outputs.outputs
+    (subst (λ ends. IsWired ends c.in_ok-inputs.inputs)
+    (c.deref-2.ensures.value ∙ c.in_ok-targets.ensures) c.in_ok-inputs.ensures.wired)
+    (subst (λ ends. IsWired ends c.in_ok-outputs.outputs)
+    (c.deref-4.ensures.value ∙ c.in_ok-sources.ensures) c.in_ok-outputs.ensures.wired)
+    (c.are_apart.ensures apart)

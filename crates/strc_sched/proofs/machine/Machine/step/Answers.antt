@@ -6,6 +6,7 @@ use Rattle.strc_graph.specs.NodeView.{node_view}
 use Rattle.strc_graph.specs.declared.graph.Node.{Node}
 use Rattle.strc_graph.specs.declared.graph.Node.TheVariants as node
 use Rattle.strc_admissible.specs.Rings.{at_port}
+use Rattle.strc_admissible.specs.Wiring.{ports_at}
 use Rattle.strc_sched.specs.Actors.{IsActorOf, fields_of}
 use Rattle.strc_sched.specs.Answers.{HasStepped}
 use Rattle.strc_sched.specs.Circuits.{circuit_view}
@@ -18,29 +19,38 @@ use Rattle.strc_sched.proofs.machine.Machine.step.Goals as goal
 
 pub fire_filter-requires-clause-actor : goal.fire_filter-requires-clause-actor
 fire_filter-requires-clause-actor c =
+    let there : c.args.batch.node < length c.args.circuit.now.nodes.now =
+    let e = c.requires.batch.node in
+    let l = length-map c.args.circuit.now.nodes.now node_view in omega arith in
     let filter : Node = node.Filter c.in-Filter.instance in
     subst (IsActorOf (node_view filter)) c.in-Filter-index_mut.is
     (actor_at c.args.circuit.now.nodes.now c.args.self.now.actors.items c.requires.machine.actors
-    c.args.node c.index-circuit-node.result filter c.index_mut.result.now c.requires.node
+    c.args.batch.node c.index-circuit-node.result filter c.index_mut.result.now there
     c.in-Filter.is c.index_mut.ensures.value)
 
 pub unreachable-requires : goal.unreachable-requires
 unreachable-requires c =
+    let there : c.args.batch.node < length c.args.circuit.now.nodes.now =
+    let e = c.requires.batch.node in
+    let l = length-map c.args.circuit.now.nodes.now node_view in omega arith in
     let filter : Node = node.Filter c.in-Filter.instance in
     subst (IsActorOf (node_view filter)) c.in-Passive.is
     (actor_at c.args.circuit.now.nodes.now c.args.self.now.actors.items c.requires.machine.actors
-    c.args.node c.index-circuit-node.result filter c.index_mut.result.now c.requires.node
+    c.args.batch.node c.index-circuit-node.result filter c.index_mut.result.now there
     c.in-Filter.is c.index_mut.ensures.value)
 
 pub returns-in-Filter-index_mut-clause-machine : goal.returns-in-Filter-index_mut-clause-machine
 returns-in-Filter-index_mut-clause-machine c =
+    let there : c.args.batch.node < length c.args.circuit.now.nodes.now =
+    let e = c.requires.batch.node in
+    let l = length-map c.args.circuit.now.nodes.now node_view in omega arith in
     let filter : Node = node.Filter c.in-Filter.instance in
     let rings = c.args.self.now.rings in
     machine_after (circuit_view c.args.circuit.now) c.args.self.now _ c.requires.machine
-    (actor_set _ c.args.self.now.actors.items c.args.node (node_view filter)
+    (actor_set _ c.args.self.now.actors.items c.args.batch.node (node_view filter)
     (actor.Filter c.fire_filter.new.actor) c.requires.machine.actors
-    (code_at c.args.circuit.now.nodes.now c.args.node c.index-circuit-node.result filter
-    c.requires.node c.in-Filter.is) c.fire_filter.ensures.actor)
+    (code_at c.args.circuit.now.nodes.now c.args.batch.node c.index-circuit-node.result filter
+    there c.in-Filter.is) c.fire_filter.ensures.actor)
     refl
     (ap length (with_items_is rings c.fire_filter.new.rings
     (c.fire_filter.ensures.rings ∙ ap length c.deref_mut.ensures.value ∙ sym rings.ok.0))
@@ -48,26 +58,29 @@ returns-in-Filter-index_mut-clause-machine c =
 
 pub returns-in-Filter-index_mut-clause-step : goal.returns-in-Filter-index_mut-clause-step
 returns-in-Filter-index_mut-clause-step c =
+    let there : c.args.batch.node < length c.args.circuit.now.nodes.now =
+    let e = c.requires.batch.node in
+    let l = length-map c.args.circuit.now.nodes.now node_view in omega arith in
     let filter : Node = node.Filter c.in-Filter.instance in
     let actors = c.args.self.now.actors.items in
-    let number = c.args.node in
+    let number = c.args.batch.node in
     let rings = c.args.self.now.rings in
     let kept = c.in-Filter-index_mut.actor in
     let circuit = circuit_view c.args.circuit.now in
     let before = machine_view c.args.self.now in
     let here = code_at c.args.circuit.now.nodes.now number c.index-circuit-node.result filter
-    c.requires.node c.in-Filter.is in
+    there c.in-Filter.is in
     let less : number < length actors =
     let e = c.requires.machine.actors.each in
-    let l = length-map c.args.circuit.now.nodes.now node_view in let n = c.requires.node in
+    let l = length-map c.args.circuit.now.nodes.now node_view in
     omega arith in
     let after = fields_set actors number (actor.Filter c.fire_filter.new.actor) in
     done_by _ c.fire_filter.result number before _ c.fire_filter.new.actor.state.fields
     (subst (λ step. HasStepped step c.fire_filter.result (get_or before.fields number [])
     c.fire_filter.new.actor.state.fields before.rings
     (with_items rings c.fire_filter.new.rings).items before.words c.fire_filter.new.words.items)
-    (sym (step_of circuit before number c.args.firing (node_view filter) c.at-inputs.result.now
-    c.at-outputs.result.now here c.at-inputs.ensures c.at-outputs.ensures))
+    (sym (step_of circuit before number c.args.firing (node_view filter)
+    (ports_at circuit.inputs number) (ports_at circuit.outputs number) here refl refl))
     (stepped_filter c.fire_filter.result before.words c.fire_filter.new.words.items rings.items
     c.deref_mut.result.now (with_items rings c.fire_filter.new.rings).items
     c.fire_filter.new.rings c.deref_mut.ensures.value
@@ -75,23 +88,27 @@ returns-in-Filter-index_mut-clause-step c =
     (c.fire_filter.ensures.rings ∙ ap length c.deref_mut.ensures.value ∙ sym rings.ok.0)))
     (filter_of c.in-Filter.instance.code) c.args.firing (get_or before.fields number [])
     kept.state.fields c.fire_filter.new.actor.state.fields
-    (at_port c.at-inputs.result.now 0) c.ring_of.result
-    (at_port c.at-outputs.result.now 0) c.ring_of-in-Filter-index_mut.result
+    (at_port (ports_at circuit.inputs number) 0) c.args.batch.input
+    (at_port (ports_at circuit.outputs number) 0) c.args.batch.output
     (sym (fields_at actors number c.index_mut.result.now less c.index_mut.ensures.value
     ∙ ap fields_of c.in-Filter-index_mut.is))
-    c.ring_of.ensures c.ring_of-in-Filter-index_mut.ensures c.fire_filter.ensures.step))
+    c.requires.batch.input c.requires.batch.output c.fire_filter.ensures.step))
     refl after
 
 pub returns-in_default : goal.returns-in_default
 returns-in_default c =
-    let passive = get_or c.args.circuit.now.nodes.now c.args.node c.index-circuit-node.result in
+    let there : c.args.batch.node < length c.args.circuit.now.nodes.now =
+    let e = c.requires.batch.node in
+    let l = length-map c.args.circuit.now.nodes.now node_view in omega arith in
+    let passive = get_or c.args.circuit.now.nodes.now c.args.batch.node
+    c.index-circuit-node.result in
     let actors = c.args.self.now.actors.items in
-    let number = c.args.node in
+    let number = c.args.batch.node in
     let rings = c.args.self.now.rings in
     let circuit = circuit_view c.args.circuit.now in
     let before = machine_view c.args.self.now in
     let here = code_at c.args.circuit.now.nodes.now number c.index-circuit-node.result passive
-    c.requires.node refl in
+    there refl in
     let none = passive_kept circuit.codes actors c.requires.machine.actors number
     (node_view passive) here (passive_of passive c.in_default.not-Filter) in
     let left = with_items_is rings c.fire_passive.new.rings
@@ -108,13 +125,13 @@ returns-in_default c =
           [] before.rings (with_items rings c.fire_passive.new.rings).items before.words
           c.fire_passive.new.words.items)
           (sym (step_of circuit before number c.args.firing (node_view passive)
-          c.at-inputs.result.now c.at-outputs.result.now here c.at-inputs.ensures
-          c.at-outputs.ensures))
+          c.at.result.now c.at-in_default.result.now here c.at.ensures
+          c.at-in_default.ensures))
           (stepped_passive c.fire_passive.result before.words c.fire_passive.new.words.items
           rings.items c.deref_mut-in_default.result.now
           (with_items rings c.fire_passive.new.rings).items c.fire_passive.new.rings
           c.deref_mut-in_default.ensures.value (sym left) (node_view passive) c.args.firing
-          (get_or before.fields number []) c.at-inputs.result.now c.at-outputs.result.now
+          (get_or before.fields number []) c.at.result.now c.at-in_default.result.now
           circuit.input none c.fire_passive.ensures.step))
           refl (fields_kept before.fields number none);
     }

@@ -1,0 +1,29 @@
+use Rattle.std.proofs.Common.{◌+◌, ◌*◌, arith}
+use Rattle.strc_balance.proofs.Words.{has_bit, in_words}
+use Rattle.strc_balance.proofs.number_set.highest_of.Goals as goal
+
+pub overflow_mul-result : goal.overflow_mul-result
+overflow_mul-result c =
+    let words = c.args.words.now in
+    let used = c.args.used.now in
+    let word = c.in-Some.last * 64 + c.highest_bit.result in
+    let has = has_bit used c.in-Some.last c.highest_bit.result c.highest_bit.ensures.within
+    c.highest_bit.ensures.there in
+    omega (arith, in_words words used c.requires word has, c.requires.few)
+
+pub offset_bounds-words-word : goal.offset_bounds-words-word
+offset_bounds-words-word c =
+    let words = c.args.words.now in
+    let used = c.args.used.now in
+    let word = c.in-Some.last * 64 + c.highest_bit.result in
+    let has = has_bit used c.in-Some.last c.highest_bit.result c.highest_bit.ensures.within
+    c.highest_bit.ensures.there in
+    omega (arith, in_words words used c.requires word has, c.requires.few)
+
+pub bounds-words-word : goal.bounds-words-word
+bounds-words-word c =
+    let used = c.args.used.now in
+    let word = c.in-Some.last * 64 + c.highest_bit.result in
+    let has = has_bit used c.in-Some.last c.highest_bit.result c.highest_bit.ensures.within
+    c.highest_bit.ensures.there in
+    in_words c.args.words.now used c.requires word has

@@ -1,0 +1,85 @@
+// Hints on how a refusal can be mended.
+
+use crate::message::Message;
+use crate::nearest::nearest_name;
+use crate::source::Source;
+use std::alloc::Global;
+use strc_base::memory::NoMemory;
+use strc_run::refusal::Refusal;
+
+/// A hint, where there is one that helps.
+pub(crate) fn push_hint(
+    alloc: Global,
+    message: &mut Message,
+    source: Source<'_>,
+    refusal: &Refusal,
+) -> Result<(), NoMemory> {
+    if let Refusal::UnknownName { name } = refusal {
+        return push_nearest(alloc, message, source, name.as_bytes());
+    }
+    let hint = hint_of(refusal);
+    if hint.is_empty() {
+        return Ok(());
+    }
+    message.hint()?;
+    Ok(message.add(hint)?)
+}
+
+/// The declared name that is most like one that isn't.
+fn push_nearest(
+    alloc: Global,
+    message: &mut Message,
+    source: Source<'_>,
+    name: &[u8],
+) -> Result<(), NoMemory> {
+    match nearest_name(alloc, source.tokens, name)? {
+        Some(nearest) => {
+            message.hint()?;
+            message.add(b"did you mean ")?;
+            message.quoted(nearest)?;
+            Ok(message.add(b"?")?)
+        }
+        None => Ok(()),
+    }
+}
+
+/// How a refusal can be mended; nothing where the sentence says enough.
+fn hint_of(refusal: &Refusal) -> &'static [u8] {
+    match refusal {
+        Refusal::NoMain => b"the main stream is one like `void->void pipeline Main { .. }`",
+        Refusal::ManyMains => b"name the one that is to run with --main NAME",
+        Refusal::BadWeights { .. } => {
+            b"one weight for each child, from 0 to 65,536, and not all of them 0"
+        }
+        Refusal::TypeMismatch { .. } => {
+            b"see what each child takes and gives, and that conditions are truth values"
+        }
+        Refusal::DepthLimit => b"a stream that adds itself needs a condition that ends it",
+        Refusal::TwoOutputs => b"one FileWriter, or one filter with print or println, is allowed",
+        Refusal::ConstFault { .. } => {
+            b"look at rates, lengths, initialisers, init, and the loops of composite streams"
+        }
+        _ => rate_hint(refusal),
+    }
+}
+
+/// How rates, weights and loops can be mended.
+fn rate_hint(refusal: &Refusal) -> &'static [u8] {
+    match refusal {
+        Refusal::RateUnknown { .. } => {
+            b"each way through the body has to push and pop the same, in loops of fixed length"
+        }
+        Refusal::PeekOutside { .. } => b"declare a greater peek; places count from 0",
+        Refusal::RateLimit { .. } => {
+            b"rates are from 0 to 65,536, and work moves at least one item on a side that has items"
+        }
+        Refusal::Inconsistent { .. } => {
+            b"on each way from a split to its join a round has to bring as many items as are taken"
+        }
+        Refusal::CountsTooLarge => b"the rates at the two ends of each channel need smaller ratios",
+        Refusal::StartupUnbounded | Refusal::Deadlock { .. } => {
+            b"a feedback loop needs enough enqueued items for its first firings"
+        }
+        _ => b"",
+    }
+}

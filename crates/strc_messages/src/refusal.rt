@@ -1,0 +1,176 @@
+// What a person reads of a refusal.
+
+use crate::expected::{Expected, expected_after};
+use crate::hints::push_hint;
+use crate::message::{Extent, Message};
+use crate::nodes::{push_channel, push_node};
+use crate::places::place_of_refusal;
+use crate::sentences::plain_sentence;
+use crate::source::Source;
+use std::alloc::Global;
+use strc_base::memory::NoMemory;
+use strc_graph::graph::Graph;
+use strc_lex::lexer::lex;
+use strc_lex::token::Token;
+use strc_run::refusal::Refusal;
+
+/// What a person reads of a text's refusal: the place in the file, one sentence, the source line
+/// with a mark under the place, and where it helps a hint; a line feed ends the message.
+///
+/// `main` is the main stream that was asked for.
+pub fn refusal_message(
+    alloc: Global,
+    file: &str,
+    text: &[u8],
+    main: Option<&str>,
+    refusal: &Refusal,
+) -> Result<Vec<u8>, NoMemory> {
+    let tokens = tokens_of(alloc, text);
+    let source = Source {
+        file,
+        text,
+        tokens: &tokens,
+        main,
+    };
+    let graph = if names_nodes(refusal) {
+        source.graph(alloc)
+    } else {
+        None
+    };
+    write_message(alloc, source, graph.as_ref(), refusal)
+}
+
+/// The text's tokens; none where it has none.
+fn tokens_of(alloc: Global, text: &[u8]) -> Vec<Token> {
+    match lex(alloc, text) {
+        Ok(tokens) => tokens,
+        Err(_) => Vec::new(alloc),
+    }
+}
+
+/// Whether a refusal names a node or a channel.
+fn names_nodes(refusal: &Refusal) -> bool {
+    match refusal {
+        Refusal::RateUnknown { .. }
+        | Refusal::RateMismatch { .. }
+        | Refusal::PeekOutside { .. }
+        | Refusal::RateLimit { .. }
+        | Refusal::Inconsistent { .. }
+        | Refusal::BufferLimit { .. } => true,
+        _ => false,
+    }
+}
+
+fn write_message(
+    alloc: Global,
+    source: Source<'_>,
+    graph: Option<&Graph>,
+    refusal: &Refusal,
+) -> Result<Vec<u8>, NoMemory> {
+    let place = place_of_refusal(source, graph, refusal);
+    let mut message = source.begin(alloc, place)?;
+    push_sentence(alloc, &mut message, source, graph, refusal)?;
+    source.excerpt(&mut message, place)?;
+    push_hint(alloc, &mut message, source, refusal)?;
+    Ok(message.end()?)
+}
+
+/// The sentence.
+fn push_sentence(
+    alloc: Global,
+    message: &mut Message,
+    source: Source<'_>,
+    graph: Option<&Graph>,
+    refusal: &Refusal,
+) -> Result<(), NoMemory> {
+    match refusal {
+        Refusal::Parse { token } => push_syntax(alloc, message, source, *token),
+        Refusal::UnknownName { name } => {
+            message.quoted(name.as_bytes())?;
+            Ok(message.add(b" isn't declared here")?)
+        }
+        Refusal::RateMismatch {
+            node,
+            declared,
+            counted,
+        } => push_mismatch(message, graph, *node, *declared, *counted),
+        Refusal::RateUnknown { node }
+        | Refusal::PeekOutside { node }
+        | Refusal::RateLimit { node } => {
+            push_node(message, graph, *node)?;
+            Ok(message.add(plain_sentence(source, refusal))?)
+        }
+        Refusal::Inconsistent { channel } | Refusal::BufferLimit { channel } => {
+            push_channel(message, graph, *channel)?;
+            Ok(message.add(plain_sentence(source, refusal))?)
+        }
+        _ => Ok(message.add(plain_sentence(source, refusal))?),
+    }
+}
+
+/// What stands where it can't, and what could.
+fn push_syntax(
+    alloc: Global,
+    message: &mut Message,
+    source: Source<'_>,
+    token: usize,
+) -> Result<(), NoMemory> {
+    let place = source.token_place(token);
+    if token < source.tokens.len() {
+        message.quoted(source.bytes(place))?;
+        message.add(b" can't stand here")?;
+    } else {
+        message.add(b"the text ends too soon")?;
+    }
+    let beginning = source.bytes(Extent {
+        at: 0,
+        length: place.at,
+    });
+    match expected_after(alloc, beginning, token)? {
+        Some(expected) => push_expected(message, &expected),
+        None => Ok(()),
+    }
+}
+
+/// What could stand there: kinds of things first, then tokens.
+fn push_expected(message: &mut Message, expected: &Expected) -> Result<(), NoMemory> {
+    let mut said = false;
+    for (is, words) in [
+        (expected.statement, "a statement"),
+        (expected.expression && !expected.statement, "an expression"),
+        (expected.name && !expected.expression, "a name"),
+        (expected.operator, "an operator"),
+    ] {
+        if is {
+            message.add(separator(said))?;
+            message.add(words.as_bytes())?;
+            said = true;
+        }
+    }
+    for token in &expected.tokens {
+        message.add(separator(said))?;
+        message.quoted(token)?;
+        said = true;
+    }
+    Ok(())
+}
+
+/// What stands before one of several things.
+fn separator(said: bool) -> &'static [u8] {
+    if said { b", " } else { b"; expected " }
+}
+
+/// A filter whose text doesn't push or pop what it declares.
+fn push_mismatch(
+    message: &mut Message,
+    graph: Option<&Graph>,
+    node: usize,
+    declared: u32,
+    counted: u32,
+) -> Result<(), NoMemory> {
+    push_node(message, graph, node)?;
+    message.add(b" declares a rate of ")?;
+    message.number(u64::from(declared))?;
+    message.add(b", and its statements come to ")?;
+    Ok(message.number(u64::from(counted))?)
+}

@@ -1,0 +1,101 @@
+-- The text of a picture of a flat graph, as Graphviz reads it.
+use Rattle.std.specs.Prelude.{ℕ, zero, suc, List, [], ◌∷◌, ◌++◌, codes, decimal, length}
+use Rattle.std.specs.Prelude.{slice_get, slice_index_or}
+use Rattle.std.specs.Option.{option_map_or}
+use Rattle.strc_graph.specs.declared.graph.Channel.{Channel}
+use Rattle.strc_graph.specs.declared.graph.Node.{Node}
+use Rattle.strc_graph.specs.Rates.{pushes_at, pops_at}
+use Rattle.strc_graph.specs.NodeView.{node_view, GraphParts, node_names}
+use Rattle.strc_stream.specs.Instances.{Stream}
+use Rattle.strc_picture.specs.Marks.{marks_of}
+use Rattle.strc_picture.specs.declared.marks.Mark.{Mark}
+use Rattle.strc_picture.specs.declared.marks.Mark.TheVariants as mark
+use Rattle.strc_picture.specs.declared.marks.Construct.{Construct}
+use Rattle.strc_picture.specs.declared.marks.Construct.TheVariants as construct
+
+-- what is written of the nodes: their names, and how often each fires in a round and before the
+-- first one
+pub record Nodes : Type 0 where
+  pub names : List (List ℕ)
+  pub round : List ℕ
+  pub startup : List ℕ
+
+-- nothing, where a node doesn't fire before the first round
+abbrev pub startup_words : ℕ → List ℕ
+startup_words zero = []
+startup_words (suc count) = codes ", " ++ decimal (suc count) ++ codes " before"
+
+-- the line of a node
+abbrev pub node_line : Nodes → (node : ℕ) → List ℕ
+node_line nodes node =
+    codes "  n" ++ decimal node ++ codes " [label=\"" ++ slice_index_or nodes.names node []
+    ++ codes "\\n" ++ decimal (slice_index_or nodes.round node 0) ++ codes " a round"
+    ++ startup_words (slice_index_or nodes.startup node 0) ++ codes "\"];\n"
+
+abbrev pub label_of : Construct → List ℕ
+label_of construct.SplitJoin = codes "split-join"
+label_of construct.FeedbackLoop = codes "feedback loop"
+
+-- the lines that open a box, and that close one
+abbrev pub open_lines : (box : ℕ) → Construct → List ℕ
+open_lines box kind =
+    codes "  subgraph cluster_" ++ decimal box ++ codes " {\n  label=\"" ++ label_of kind
+    ++ codes "\";\n"
+
+abbrev pub close_line : List ℕ
+close_line = codes "  }\n"
+
+-- the lines of marks, the next node and the next box having these numbers
+abbrev pub mark_lines : Nodes → (node box : ℕ) → List Mark → List ℕ
+mark_lines nodes node box [] = []
+mark_lines nodes node box (mark.Node ∷ marks) =
+    node_line nodes node ++ mark_lines nodes (suc node) box marks
+mark_lines nodes node box (mark.Open kind ∷ marks) =
+    open_lines box kind ++ mark_lines nodes node (suc box) marks
+mark_lines nodes node box (mark.Close ∷ marks) = close_line ++ mark_lines nodes node box marks
+
+-- what a firing of `work` pushes at a port, or pops: firing 1, since firing 0 may be a prework's
+abbrev pub push_rate : List Node → (node port : ℕ) → ℕ
+push_rate nodes node port =
+    option_map_or (λ n. pushes_at (node_view n) 1 port) (slice_get nodes node) 0
+
+abbrev pub pop_rate : List Node → (node port : ℕ) → ℕ
+pop_rate nodes node port =
+    option_map_or (λ n. pops_at (node_view n) 1 port) (slice_get nodes node) 0
+
+-- nothing, where no items are enqueued on a channel
+abbrev pub enqueued_words : (count : ℕ) → List ℕ
+enqueued_words zero = []
+enqueued_words (suc count) = codes "\\n" ++ decimal (suc count) ++ codes " enqueued"
+
+-- the rates at a channel's ends, by `work`
+abbrev pub rate_words : List Node → Channel → List ℕ
+rate_words nodes channel =
+    codes " [taillabel=\"" ++ decimal (push_rate nodes channel.source.node channel.source.port)
+    ++ codes "\", headlabel=\"" ++ decimal (pop_rate nodes channel.target.node channel.target.port)
+
+-- the size of its buffer, and how many items are enqueued on it
+abbrev pub size_words : Channel → (size : ℕ) → List ℕ
+size_words channel size =
+    codes "\", label=\"size " ++ decimal size ++ enqueued_words (length channel.enqueued.items)
+    ++ codes "\"];\n"
+
+-- the line of a channel
+abbrev pub channel_line : List Node → Channel → (size : ℕ) → List ℕ
+channel_line nodes channel size =
+    codes "  n" ++ decimal channel.source.node ++ codes " -> n" ++ decimal channel.target.node
+    ++ rate_words nodes channel ++ size_words channel size
+
+-- the lines of channels with buffers of these sizes
+abbrev pub channel_lines : List Node → List Channel → (sizes : List ℕ) → List ℕ
+channel_lines nodes (channel ∷ channels) (size ∷ sizes) =
+    channel_line nodes channel size ++ channel_lines nodes channels sizes
+channel_lines nodes channels sizes = []
+
+-- the picture of a stream's flat graph with its counts and the sizes of its buffers
+abbrev pub picture_text : Stream → GraphParts → (startup round sizes : List ℕ) → List ℕ
+picture_text stream graph startup round sizes =
+    codes "digraph strc {\n  node [shape=box];\n"
+    ++ mark_lines (record { names = node_names graph; round = round; startup = startup }) 0 0
+    (marks_of stream)
+    ++ channel_lines graph.nodes graph.channels sizes ++ codes "}\n"

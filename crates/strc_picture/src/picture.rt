@@ -1,0 +1,45 @@
+// The whole picture.
+
+ghost use Rattle.std.specs.Prelude.{◌≡◌, IfOk, length};
+ghost use Rattle.strc_stream.specs.View.{stream_view};
+ghost use Rattle.strc_picture.specs.Pictures.{picture_text};
+
+use crate::channels::push_channels;
+use crate::marks;
+use crate::nodes::{Counted, push_marks};
+use crate::text::push_bytes;
+use std::alloc::{AllocError, Global};
+use strc_graph::graph::Graph;
+use strc_stream::stream::Stream;
+
+/// A picture of a stream's flat graph as Graphviz reads it (`dot -Tsvg`): a box with the name of
+/// each node, how often it fires in a round and, where it does, before the first one; a line for
+/// each channel, with what a firing of `work` pushes and pops at its ends, the size of its buffer,
+/// and how many items are enqueued on it. Split-joins and feedback loops stand in boxes. Each
+/// channel has a size.
+pub fn picture(
+    alloc: Global,
+    stream: &Stream,
+    graph: &Graph,
+    startup: &[u32],
+    round: &[u32],
+    sizes: &[u32],
+) -> Result<Vec<u8>, AllocError>
+    requires { length sizes.now ≡ length graph.now.channels }
+    ensures { IfOk result (λ text. text.items ≡ picture_text (stream_view stream.now) graph.now
+        startup.now round.now sizes.now) }
+{
+    let mut marks = Vec::new(alloc);
+    marks::push_marks(stream, &mut marks)?;
+    let counted = Counted {
+        graph,
+        startup,
+        round,
+    };
+    let mut text = Vec::new(alloc);
+    push_bytes(&mut text, b"digraph strc {\n  node [shape=box];\n")?;
+    push_marks(&mut text, counted, &marks)?;
+    push_channels(&mut text, graph.nodes(), graph.channels(), sizes)?;
+    push_bytes(&mut text, b"}\n")?;
+    Ok(text)
+}

@@ -1,0 +1,22 @@
+-- Which stream a text means.
+use Rattle.std.specs.Prelude.{◌≡◌, ℕ, List, Option, Result, Ok, Err}
+use Rattle.strc_syntax.specs.Tree.{Declaration}
+use Rattle.strc_parse.specs.Texts.{Spells}
+use Rattle.strc_elab.specs.Elaboration.{elaborated}
+use Rattle.strc_stream.specs.Instances as instances
+use Rattle.strc_stream.specs.View.{stream_view}
+use Rattle.strc_stream.specs.declared.stream.Stream.{Stream}
+use Rattle.strc_run.specs.declared.refusal.Refusal.{Refusal}
+use Rattle.strc_run.specs.Refuses.{IsTrueOf}
+
+-- the text spells a program, and its main stream is this one
+pub record IsStreamOf (text : List ℕ) (main : Option (List ℕ)) (stream : instances.Stream) : Type 0
+  where
+    pub program : List Declaration
+    pub spells : Spells text program
+    pub elaborates : elaborated program main ≡ Ok stream
+
+-- an answer is the text's main stream, or the refusal that holds
+abbrev pub HasStream : List ℕ → Option (List ℕ) → Result Stream Refusal → Type 0
+HasStream text main (Ok stream) = IsStreamOf text main (stream_view stream)
+HasStream text main (Err refused) = IsTrueOf text main refused

@@ -1,0 +1,56 @@
+-- What the rounds of a text come to: the answer of the stream equations of its main stream.
+use Rattle.std.specs.Prelude.{◌≡◌, ℕ, ◌<◌, ◌≤◌, ℤ, Bool, true, false, List, length, Option}
+use Rattle.std.specs.Prelude.{unwrap_or, Result, Ok, Err}
+use Rattle.std.specs.List.{list_any}
+use Rattle.strc_graph.specs.Graphs.{reads_input}
+use Rattle.strc_stream.specs.Flattening.{tree_of, nodes_of}
+use Rattle.strc_stream.specs.Instances.{Stream}
+use Rattle.strc_sched.specs.Plain.{IsAnswer}
+use Rattle.strc_sched.specs.declared.outcome.Outcome.{Outcome}
+use Rattle.strc_sched.specs.declared.refusal.RunRefusal.{RunRefusal}
+use Rattle.strc_sched.specs.declared.refusal.RunRefusal.TheVariants as refused
+use Rattle.strc_stage.specs.Plans.{Planning}
+use Rattle.strc_run.specs.Accepts.{Accepts}
+use Rattle.strc_run.specs.Rounds.{IsCount, is_bounded, need_of}
+
+-- whether a stream has a reader of the program's input
+abbrev pub has_reader : Stream → Bool
+has_reader stream = list_any reads_input (nodes_of stream)
+
+-- the text is accepted, and the outcome is the answer of its stream's equations, at the counts and
+-- in the orders of its schedule, for so many rounds as are asked for or as the input serves
+pub record RunsText (text : List ℕ) (main : Option (List ℕ)) (plan : Planning) (input : List ℤ)
+    (asked : Option ℕ) (outcome : Outcome) : Type 0 where
+  pub accepted : Accepts text main plan
+  pub bounded : is_bounded asked (nodes_of accepted.stream) ≡ true
+  pub rounds : ℕ
+  pub count : IsCount (need_of plan) (length input) asked rounds
+  pub enough : need_of plan rounds ≤ length input
+  pub answer : IsAnswer (tree_of accepted.stream) plan.schedule input rounds
+      (length (nodes_of accepted.stream)) outcome
+
+-- the text is accepted, and its rounds read so many items, where there are fewer
+pub record LacksInput (text : List ℕ) (main : Option (List ℕ)) (plan : Planning) (input : List ℤ)
+    (asked : Option ℕ) (need got : ℕ) : Type 0 where
+  pub accepted : Accepts text main plan
+  pub bounded : is_bounded asked (nodes_of accepted.stream) ≡ true
+  pub needed : need ≡ need_of plan (unwrap_or asked 0)
+  pub had : got ≡ length input
+  pub short : got < need
+
+-- the text is accepted, and nobody says how many rounds are run, where a number is needed
+pub record NeedsRounds (text : List ℕ) (main : Option (List ℕ)) (plan : Planning)
+    (asked : Option ℕ) : Type 0 where
+  pub accepted : Accepts text main plan
+  pub unbounded : is_bounded asked (nodes_of accepted.stream) ≡ false
+
+-- how the rounds of an accepted text are answered: with their outcome, or with why they aren't run
+abbrev pub IsTextRun : List ℕ → Option (List ℕ) → Planning → List ℤ → (asked : Option ℕ)
+    → Result Outcome RunRefusal → Type 0
+IsTextRun text main plan input asked (Ok outcome) = RunsText text main plan input asked outcome
+IsTextRun text main plan input asked (Err (refused.InputShort need got)) =
+    LacksInput text main plan input asked need got
+IsTextRun text main plan input asked (Err refused.RoundsNeeded) =
+    NeedsRounds text main plan asked
+IsTextRun text main plan input asked (Err refused.NoMemory) = Accepts text main plan
+IsTextRun text main plan input asked (Err refusal) = ⊥

@@ -1,0 +1,40 @@
+use Rattle.std.proofs.Common.{◌∙◌, sym, subst, ◌-◌, ◌+◌, ◌∷◌, [], Err}
+use Rattle.strc_order.specs.Order.{repeated}
+use Rattle.strc_sched.specs.Circuits.{circuit_view}
+use Rattle.strc_sched.specs.Running.{HasGone, machine_view}
+use Rattle.strc_sched.proofs.Going.{goes_on, goes_so, one_node, stops_so, turns_left}
+use Rattle.strc_sched.proofs.machine.Machine.fire_alone.Goals as goal
+
+pub returns-in-Err-clause-gone : goal.returns-in-Err-clause-gone
+returns-in-Err-clause-gone c =
+    let circuit = circuit_view c.args.circuit.now in
+    let turns = c.args.batch.turns in
+    let node = c.args.batch.node in
+    let turn = c.loop-turn._turn in
+    let left = repeated (turns - (turn + 1)) (node ∷ []) in
+    let now = machine_view c.loop-turn.self in
+    stops_so circuit (repeated turns (node ∷ [])) (node ∷ []) left (machine_view c.args.self.now)
+    now (machine_view c.fire_once.new.self) c.in-Err.stop
+    (goes_so circuit (repeated turns (node ∷ [])) (repeated (turns - turn) (node ∷ [])) _
+    (machine_view c.args.self.now) now (turns_left turns turn (node ∷ []) c.loop-turn-test.true)
+    c.loop-turn.invariant.goes)
+    (subst (λ progress. HasGone progress (Err c.in-Err.stop) now.words
+    (machine_view c.fire_once.new.self)) (sym (one_node circuit node now)) c.in-Err.ensures.gone)
+
+pub loop-turn-preserved : goal.loop-turn-preserved
+loop-turn-preserved c =
+    let circuit = circuit_view c.args.circuit.now in
+    let turns = c.args.batch.turns in
+    let node = c.args.batch.node in
+    let turn = c.loop-turn._turn in
+    let left = repeated (turns - (turn + 1)) (node ∷ []) in
+    let now = machine_view c.loop-turn.self in
+    record {
+      machine = c.fire_once.ensures.machine;
+      goes = goes_on circuit (repeated turns (node ∷ [])) (node ∷ []) left
+          (machine_view c.args.self.now) now (machine_view c.fire_once.new.self)
+          (goes_so circuit (repeated turns (node ∷ [])) (repeated (turns - turn) (node ∷ [])) _
+          (machine_view c.args.self.now) now
+          (turns_left turns turn (node ∷ []) c.loop-turn-test.true) c.loop-turn.invariant.goes)
+          (one_node circuit node now ∙ c.in-Ok.ensures.gone.0) c.in-Ok.ensures.gone.1;
+    }

@@ -1,0 +1,160 @@
+// A plan: what a program is run by.
+
+ghost use Rattle.std.specs.Prelude.{◌≡◌, length};
+ghost use Rattle.strc_graph.specs.NodeView.{graph_view};
+ghost use Rattle.strc_admissible.specs.Planned.{IsPlanned};
+ghost use Rattle.strc_stage.specs.Origins.{origin_at};
+ghost use Rattle.strc_stage.specs.Plans.{HasRound, HasSchedule, HasStartup, IsPlan, planning_of};
+
+use std::marker::Model;
+use strc_balance::counts::Counts;
+use strc_graph::graph::Graph;
+use strc_order::parts::Schedule;
+
+/// A flat graph, how often each of its nodes fires before the first round and in each round, and
+/// the schedule of these firings (Lee and Messerschmitt 1987: a periodic admissible sequential
+/// schedule), as they are before and after fission and fusion. No node is split and no units are
+/// joined yet, so both are the same.
+#[derive(Drop)]
+pub struct Plan {
+    graph: Graph,
+    startup_counts: Counts,
+    round_counts: Counts,
+    schedule: Schedule,
+}
+
+impl Model for Plan {
+    ghost use Rattle.std.specs.Coded.{codes};
+    ghost use Rattle.strc_graph.specs.contracts.graph.Node as node;
+    ghost use Rattle.strc_graph.specs.contracts.graph.Channel as channel;
+    ghost use Rattle.strc_stage.specs.Plans.{IsPlan, PlanParts, planning_of, parts_of};
+
+    ghost Value = { PlanParts };
+
+    ghost coded = { Prim.hlevel (codes, node.the_row.coded, channel.the_row.coded) };
+
+    ghost view = { λ p. parts_of p.graph p.startup_counts p.round_counts p.schedule };
+
+    ghost invariant = { λ p. IsPlan (planning_of (parts_of p.graph p.startup_counts p.round_counts
+        p.schedule)) };
+}
+
+/// Where a node of the graph after fission comes from.
+#[derive(Clone, Copy, Debug, PartialEq, Eq)]
+pub struct Origin {
+    /// The node of the graph before fission whose firings it does.
+    pub node: u32,
+    /// Which of that node's firings in a round it does first, counted from 0.
+    pub first_firing: u32,
+}
+
+impl Plan {
+    ghost use Rattle.strc_stage.specs.Plans.{parts_of};
+
+    /// The plan of a graph whose nodes fire so often before the first round and in each, in the
+    /// order of this schedule.
+    ///
+    /// The graph's filters start without a fault, `check` is Ok for each, and there are no
+    /// scatters, copies or gathers; the counts are the graph's least ones, as `startup` and
+    /// `balance` give them, and the schedule is that of these counts, as `schedule` gives it.
+    pub fn new(
+        graph: Graph,
+        startup_counts: Counts,
+        round_counts: Counts,
+        schedule: Schedule,
+    ) -> Plan
+        requires { IsPlan (planning_of (parts_of graph startup_counts round_counts schedule)) }
+        ensures { result ≡ parts_of graph startup_counts round_counts schedule }
+    {
+        Plan {
+            graph,
+            startup_counts,
+            round_counts,
+            schedule,
+        }
+    }
+
+    /// The flat graph before fission.
+    pub fn graph(&self) -> &Graph
+        ensures { result.now ≡ self.now.graph }
+    {
+        &self.graph
+    }
+
+    /// How often each node of `graph` fires before the first round: the least counts that prime it.
+    pub fn startup_counts(&self) -> &Counts
+        ensures counts { result.now ≡ self.now.startup_counts }
+        ensures least { HasStartup (graph_view self.now.graph) result.now }
+        ensures nodes { length result.now ≡ length self.now.graph.nodes }
+    {
+        &self.startup_counts
+    }
+
+    /// How often each node of `graph` fires in a round: the least counts that balance it.
+    pub fn round_counts(&self) -> &Counts
+        ensures counts { result.now ≡ self.now.round_counts }
+        ensures least { HasRound (graph_view self.now.graph) result.now }
+        ensures nodes { length result.now ≡ length self.now.graph.nodes }
+    {
+        &self.round_counts
+    }
+
+    /// The schedule of these firings, before fission and fusion.
+    pub fn schedule(&self) -> &Schedule
+        ensures schedule { result.now ≡ self.now.schedule }
+        ensures is { HasSchedule (graph_view self.now.graph) self.now.startup_counts
+            self.now.round_counts result.now }
+        ensures planned { IsPlanned (graph_view self.now.graph) result.now }
+    {
+        &self.schedule
+    }
+
+    /// The size of the buffer of each channel of `graph` under `schedule`, in items, from 0 to
+    /// 16,777,216.
+    pub fn sizes(&self) -> &[u32]
+        ensures sizes { result.now ≡ self.now.schedule.sizes }
+        ensures channels { length result.now ≡ length self.now.graph.channels }
+    {
+        self.schedule.sizes()
+    }
+
+    /// The graph after fission, which is what is run. No node is split, so it is `graph`.
+    pub fn transformed_graph(&self) -> &Graph
+        ensures { result.now ≡ self.now.graph }
+    {
+        &self.graph
+    }
+
+    /// The schedule of `transformed_graph`, after fission and fusion. No units are joined, so it is
+    /// `schedule`.
+    pub fn transformed_schedule(&self) -> &Schedule
+        ensures schedule { result.now ≡ self.now.schedule }
+        ensures planned { IsPlanned (graph_view self.now.graph) result.now }
+    {
+        &self.schedule
+    }
+
+    /// The size of the buffer of each channel of `transformed_graph` under `transformed_schedule`,
+    /// in items, from 0 to 16,777,216: that of `sizes`.
+    pub fn transformed_sizes(&self) -> &[u32]
+        ensures sizes { result.now ≡ self.now.schedule.sizes }
+        ensures channels { length result.now ≡ length self.now.graph.channels }
+    {
+        self.transformed_schedule().sizes()
+    }
+
+    /// Where a node of `transformed_graph` comes from: itself and its first firing, since no node
+    /// is split. `None` where there is no such node.
+    pub fn origin(&self, node: u32) -> Option<Origin>
+        ensures { result ≡ origin_at (length self.now.graph.nodes) node }
+    {
+        if (node as usize) < self.graph.nodes().len() {
+            Some(Origin {
+                node,
+                first_firing: 0,
+            })
+        } else {
+            None
+        }
+    }
+}
