@@ -1,9 +1,11 @@
 // Want of memory.
 
 use std::alloc::{AllocError, AllocFailed};
+use thiserror::Error;
 
 /// An allocation was refused.
-#[derive(Clone, Copy, Debug, PartialEq, Eq)]
+#[derive(Clone, Copy, Debug, PartialEq, Eq, Error)]
+#[error("the machine has no more memory to give")]
 pub struct NoMemory;
 
 impl From<AllocError> for NoMemory {

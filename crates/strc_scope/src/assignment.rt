@@ -11,7 +11,7 @@ ghost use Rattle.strc_scope.specs.Simple.{IsSimple, IsPlain};
 use crate::evaluation::{place_of, value};
 use crate::store::Store;
 use strc_lex::token::Name;
-use strc_semantics::evaluation::both_value;
+use strc_semantics::evaluation::binary_value;
 use strc_semantics::fault::Cause;
 use strc_syntax::tree::{AssignOperator, BinaryOperator, Expr, Stmt};
 
@@ -52,11 +52,11 @@ fn assign(
     let given = value(expression, store)?;
     let new = match operator {
         AssignOperator::Set => given,
-        AssignOperator::Add => both_value(BinaryOperator::Add, old, given)?,
-        AssignOperator::Subtract => both_value(BinaryOperator::Subtract, old, given)?,
-        AssignOperator::Multiply => both_value(BinaryOperator::Multiply, old, given)?,
-        AssignOperator::Divide => both_value(BinaryOperator::Divide, old, given)?,
-        AssignOperator::Remainder => both_value(BinaryOperator::Remainder, old, given)?,
+        AssignOperator::Add => binary_value(BinaryOperator::Add, old, given)?,
+        AssignOperator::Subtract => binary_value(BinaryOperator::Subtract, old, given)?,
+        AssignOperator::Multiply => binary_value(BinaryOperator::Multiply, old, given)?,
+        AssignOperator::Divide => binary_value(BinaryOperator::Divide, old, given)?,
+        AssignOperator::Remainder => binary_value(BinaryOperator::Remainder, old, given)?,
     };
     store.variables.set(name, 0, new);
     Ok(())
@@ -114,7 +114,7 @@ fn join_element(
     let place = place_of(name, index, store)?;
     let old = store.variables.cell(name, place);
     let given = value(expression, store)?;
-    let new = both_value(operator, old, given)?;
+    let new = binary_value(operator, old, given)?;
     store.variables.set(name, place, new);
     Ok(())
 }

@@ -9,7 +9,7 @@ ghost use Rattle.strc_scope.specs.Saying.{store_of, Evaluates};
 use crate::store::Store;
 use strc_lex::token::Name;
 use strc_semantics::arithmetic;
-use strc_semantics::evaluation::{both_value, decides, is_true, unary_value};
+use strc_semantics::evaluation::{binary_value, decides, is_true, unary_value};
 use strc_semantics::fault::Cause;
 use strc_syntax::tree::{Expr, StepOperator};
 
@@ -51,7 +51,7 @@ pub fn value(expression: &Expr, store: &mut Store) -> Result<i32, Cause>
                 return Ok(left);
             }
             let right = value(right, store)?;
-            both_value(*operator, left, right)
+            binary_value(*operator, left, right)
         }
         Expr::Conditional(condition, chosen, other) => {
             let test = value(condition, store)?;

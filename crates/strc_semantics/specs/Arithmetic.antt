@@ -63,10 +63,11 @@ unary_value unary.Negate value = wrapped (neg_ℤ value)
 unary_value unary.Not value = flipped value
 unary_value unary.Complement value = int_bit_not w32 value
 
--- the value of an operator between its operands, or its fault; truth values are 0 and 1
+-- the value of an operator between its operands where both count, or its fault; truth values are 0
+-- and 1. A left side of `||` or `&&` that doesn't decide leaves the value to the right one
 abbrev pub binary_value : BinaryOperator → ℤ → ℤ → Result ℤ Cause
-binary_value binary.LogicalOr left right = Ok (int_bit_or w32 left right)
-binary_value binary.LogicalAnd left right = Ok (int_bit_and w32 left right)
+binary_value binary.LogicalOr left right = Ok right
+binary_value binary.LogicalAnd left right = Ok right
 binary_value binary.Or left right = Ok (int_bit_or w32 left right)
 binary_value binary.ExclusiveOr left right = Ok (int_bit_xor w32 left right)
 binary_value binary.And left right = Ok (int_bit_and w32 left right)

@@ -14,17 +14,11 @@ decides binary.LogicalOr left = is_true left
 decides binary.LogicalAnd left = not (is_true left)
 decides _ left = false
 
--- the value of an operator, where both sides count
-abbrev pub both_value : BinaryOperator → ℤ → ℤ → Result ℤ Cause
-both_value binary.LogicalOr left right = Ok right
-both_value binary.LogicalAnd left right = Ok right
-both_value operator left right = binary_value operator left right
-
 -- the value of an operator, whose right side counts only where it is needed
 abbrev pub sides_value : BinaryOperator → ℤ → Result ℤ Cause → Result ℤ Cause
 sides_value operator left right =
     if decides operator left then Ok left else result_and_then right
-    (λ value. both_value operator left value)
+    (λ value. binary_value operator left value)
 
 -- the value of a constant expression; what can't stand in one faults
 abbrev pub constant_value : tree.Expr → Result ℤ Cause

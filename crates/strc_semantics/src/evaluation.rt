@@ -27,7 +27,7 @@ pub fn constant_value(value: &Expr) -> Result<i32, Cause>
                     return Ok(left);
                 }
                 match constant_value(right) {
-                    Ok(right) => both_value(*operator, left, right),
+                    Ok(right) => binary_value(*operator, left, right),
                     Err(cause) => Err(cause),
                 }
             }
@@ -82,8 +82,8 @@ pub fn unary_value(operator: UnaryOperator, value: i32) -> i32
 }
 
 /// The value of an operator, where both sides count.
-pub fn both_value(operator: BinaryOperator, left: i32, right: i32) -> Result<i32, Cause>
-    ensures { result ≡ constants.both_value operator left right }
+pub fn binary_value(operator: BinaryOperator, left: i32, right: i32) -> Result<i32, Cause>
+    ensures { result ≡ spec.binary_value operator left right }
 {
     match operator {
         BinaryOperator::LogicalOr | BinaryOperator::LogicalAnd => Ok(right),

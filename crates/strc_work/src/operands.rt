@@ -137,9 +137,10 @@ pub fn binary_step(operator: BinaryOperator, into: u32, left: u32, right: u32) -
     ensures alone { spelled result End ≡ spec.one result }
 {
     match operator {
-        BinaryOperator::LogicalOr | BinaryOperator::Or => Inst::Or(into, left, right),
+        BinaryOperator::LogicalOr | BinaryOperator::LogicalAnd => Inst::Copy(into, right),
+        BinaryOperator::Or => Inst::Or(into, left, right),
         BinaryOperator::ExclusiveOr => Inst::ExclusiveOr(into, left, right),
-        BinaryOperator::LogicalAnd | BinaryOperator::And => Inst::And(into, left, right),
+        BinaryOperator::And => Inst::And(into, left, right),
         BinaryOperator::Equal => Inst::Equal(into, left, right),
         BinaryOperator::NotEqual => Inst::NotEqual(into, left, right),
         BinaryOperator::Less => Inst::Less(into, left, right),
