@@ -149,37 +149,39 @@ module _ (tree : Stream NodeCode) (graph : Graph) (program : IsProgram tree grap
     -- ---- the program's input
 
     -- from a reader's port its firing takes an item
-    rest_read : (other : ℕ) → slice_get graph.nodes other ≡ Some FileReader
+    rest_read : (other : ℕ) (text : List ℕ)
+        → slice_get graph.nodes other ≡ Some (FileReader text)
         → (same : Bool) → eqb other node ≡ same
         → drop (cond same (pops_at code firing 0) 0) (now.queues other 0)
         ≡ drop (next.runs other).fired input
     unfolding after_firing
-    rest_read other reader true e =
+    rest_read other text reader true e =
         let here = eqb-true other node e in
-        let is_reader : code ≡ FileReader = same_Some code FileReader
+        let is_reader : code ≡ FileReader text = same_Some code (FileReader text)
         (sym there ∙ ap (slice_get graph.nodes) (sym here) ∙ reader) in
         let one : (now.runs other).fired + 1 ≡ suc firing = omega (
           arith,
           ap (λ (n : ℕ). (now.runs n).fired) here,
         ) in
         ap (λ (own : NodeCode). drop (pops_at own firing 0) (now.queues other 0)) is_reader
-        ∙ ap (drop 1) (stands.reads other reader)
+        ∙ ap (drop 1) (stands.reads other text reader)
         ∙ drop-drop 1 (now.runs other).fired input
         ∙ ap (λ (n : ℕ). drop n input) one
         ∙ sym (ap (λ (own : Run (List ℤ) Cause Word). drop own.fired input) (run_here other here))
-    rest_read other reader false e =
-        stands.reads other reader
+    rest_read other text reader false e =
+        stands.reads other text reader
         ∙ sym (ap (λ (own : Run (List ℤ) Cause Word). drop own.fired input)
         (run_other other (eqb-false other node e)))
 
-    next_reads : (other : ℕ) → slice_get graph.nodes other ≡ Some FileReader
+    next_reads : (other : ℕ) (text : List ℕ)
+        → slice_get graph.nodes other ≡ Some (FileReader text)
         → next.queues other 0 ≡ drop (next.runs other).fired input
     unfolding moved added
-    next_reads other reader =
+    next_reads other text reader =
         ap (λ (source : Source). drop (cond (eqb other node) (pops_at code firing 0) 0)
-        (now.queues other 0) ++ added node pushes source.origin) (program.inputs other reader)
+        (now.queues other 0) ++ added node pushes source.origin) (program.inputs other text reader)
         ∙ append-nil (drop (cond (eqb other node) (pops_at code firing 0) 0) (now.queues other 0))
-        ∙ rest_read other reader (eqb other node) refl
+        ∙ rest_read other text reader (eqb other node) refl
 
     -- ---- words
 

@@ -35,7 +35,7 @@ use Rattle.strc_admissible.proofs.Windows.{rates_there}
 
 -- a graph's input port is one by which items come in
 port_comes : (code : NodeCode) (port : ℕ) → port < input_ports code → port < ports_in code
-port_comes FileReader port less = absurd (omega (arith, less))
+port_comes (FileReader text) port less = absurd (omega (arith, less))
 port_comes code port less = less
 
 -- how often a node can fire
@@ -69,10 +69,10 @@ module _ (graph : Graph) (schedule : ScheduleParts) (planned : IsPlanned graph s
       (supplied : items_read graph.nodes (counts_at schedule rounds) ≤ length input) where
     run_supplied : IsSupplied graph input
         (after none_fired (run_order graph schedule planned rounds))
-    run_supplied node reads =
+    run_supplied node text reads =
         omega (
           arith,
-          all_supplied graph schedule planned tree input rounds program supplied node reads,
+          all_supplied graph schedule planned tree input rounds program supplied node text reads,
           tally_run graph schedule planned rounds node,
         )
 

@@ -105,7 +105,8 @@ module _ (tree : Stream NodeCode) (graph : Graph) (program : IsProgram tree grap
       (node_fired code firing state (sees_of code firing (now.queues node)))) (sym step_is)
       (node_matches inputs outputs machine.rings placed (now.queues node) code alone firing state
       input shows
-      (λ reader. stands.reads node (there ∙ ap Some (is_reader code reader))))
+      (λ reader. let reads = is_reader code reader in
+      stands.reads node reads.0 (there ∙ ap Some reads.1)))
 
   -- a firing that finds its windows or doesn't
   abbrev found_progress : Bool → generic.Fired (List ℤ) Cause Word

@@ -147,14 +147,14 @@ module _ (inputs outputs : List (Option ℕ)) (rings : List Ring)
       (steps.Goes [] (moved (at_port inputs 0) (at_port outputs 0) 1 rings) [])
       (test_same inputs outputs rings placed queue 1 (shows.holds 0 refl))
       (refl, refl, pass_moves (shows.holds 0 refl))
-  node_matches FileReader alone number fields input shows reads =
+  node_matches (FileReader text) alone number fields input shows reads =
       tests_match inputs outputs (rate_at_0 1) rings (leb 1 (length (queue 0)))
       (nat_lt number (length input))
       (generic.Fired.Fires [] (at_port_0 (take 1 (queue 0))) [])
       (steps.Goes [] (given (at_port outputs 0) (take 1 (drop number input)) rings) [])
       (reader_test number input (queue 0) (reads refl))
       (refl, refl, reader_moves number input (shows.empty 0 refl) (reads refl))
-  node_matches FileWriter alone number fields input shows reads =
+  node_matches (FileWriter text) alone number fields input shows reads =
       tests_match inputs outputs (rate_at_0 1) rings (leb 1 (length (queue 0)))
       (nat_le 1 (length (at 0)))
       (generic.Fired.Fires [] (λ port. []) (map line_of (take 1 (queue 0))))

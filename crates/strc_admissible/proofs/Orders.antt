@@ -45,8 +45,9 @@ pub counted_is : (counts : Firings) (order : List ℕ)
 counted_is counts order = fun_ext (λ node. counted-tally order counts node
     ∙ ap (λ (n : ℕ). counts node + n) (tally_is order node))
 
-pub is_reader : (code : NodeCode) → reads_input code ≡ true → code ≡ FileReader
-is_reader FileReader reads = refl
+pub is_reader : (code : NodeCode) → reads_input code ≡ true
+    → (text : List ℕ) × (code ≡ FileReader text)
+is_reader (FileReader text) reads = (text, refl)
 is_reader code reads = absurd (true≢false (sym reads))
 
 -- the nodes of an order are those of a graph
@@ -56,7 +57,8 @@ AreNodes graph order = (node : ℕ) → 0 < tally order node → node < length g
 -- no reader fires more often than its input has items
 abbrev pub IsSupplied : Graph → (input : List ℤ) → (counts : Firings) → Type 0
 IsSupplied graph input counts =
-    (node : ℕ) → slice_get graph.nodes node ≡ Some FileReader → counts node ≤ length input
+    (node : ℕ) (text : List ℕ) → slice_get graph.nodes node ≡ Some (FileReader text)
+    → counts node ≤ length input
 
 module _ (tree : Stream NodeCode) (graph : Graph) (input : List ℤ) (program : IsProgram tree graph)
     (each : (node : ℕ) (code : NodeCode) → slice_get graph.nodes node ≡ Some code
@@ -74,12 +76,13 @@ module _ (tree : Stream NodeCode) (graph : Graph) (input : List ℤ) (program : 
       let code = get_or graph.nodes node Identity in
       let there = slice_get-get_or graph.nodes node Identity within in (
         is_ready tree graph input program each counts node code there finds
-            (λ reads. let more = supplied node (there ∙ ap Some (is_reader code reads)) in
+            (λ reads. let reader = is_reader code reads in
+            let more = supplied node reader.0 (there ∙ ap Some reader.1) in
             omega (arith, more, once)),
         subst (λ (now : Firings). IsGenericOrder now order) (sym (raised_is counts node))
             (generic_order (fired counts 1 node) order later
             (λ other some. nodes other (omega (arith, some)))
-            (λ other reads. omega (arith, supplied other reads))),
+            (λ other text reads. omega (arith, supplied other text reads))),
       )
 
   -- the front of an order is one

@@ -125,8 +125,8 @@ module _ (graph : Graph) (schedule : ScheduleParts) (planned : IsPlanned graph s
   module _ (tree : Stream NodeCode) (input : List ℤ) (rounds : ℕ) (program : IsProgram tree graph)
       (supplied : items_read graph.nodes (counts_at schedule rounds) ≤ length input) where
     pub all_supplied : IsSupplied graph input (rounds_on at_startup rounds in_round)
-    all_supplied node reads =
-        let firings = reader_reads graph.nodes node (counts_at schedule rounds) program.one_input
+    all_supplied node text reads =
+        let firings = reader_reads graph.nodes node (counts_at schedule rounds) text program.one_input
         reads in
         let same = ap (λ (counts : Firings). counts node) (counts_are rounds) in
         omega (arith, supplied, firings, same)
@@ -138,9 +138,9 @@ module _ (graph : Graph) (schedule : ScheduleParts) (planned : IsPlanned graph s
     generic_startup =
         generic_order tree graph input program planned.unfissioned none_fired
         (startup_order schedule) startup_finds startup_nodes
-        (λ node reads. omega (
+        (λ node text reads. omega (
           arith,
-          all_supplied node reads,
+          all_supplied node text reads,
           planned.schedule.startup_order.all node,
         ))
 
@@ -149,10 +149,10 @@ module _ (graph : Graph) (schedule : ScheduleParts) (planned : IsPlanned graph s
     generic_round q less =
         generic_order tree graph input program planned.unfissioned
         (rounds_on at_startup q in_round) (round_order schedule) (round_finds q) round_nodes
-        (λ node reads.
+        (λ node text reads.
         let more : suc q * in_round node ≤ rounds * in_round node =
         mul-le-mul_right (in_round node) (omega (arith, less)) in
-        omega (arith, all_supplied node reads, planned.schedule.round_order.all node, more))
+        omega (arith, all_supplied node text reads, planned.schedule.round_order.all node, more))
 
     pub orders_find : orders.IsSchedule node_meaning (flat tree) input
         (tally (startup_order schedule)) (tally (round_order schedule)) (startup_order schedule)

@@ -183,9 +183,9 @@ module _ (tree : Stream NodeCode) (graph : Graph) (program : IsProgram tree grap
           ∙ extended_all channel.enqueued (buffer [] size)
           (subst (λ (l : List ℤ). length l ≤ size) comes (fit.items number channel listed))
           ∙ ap (λ (l : List ℤ). buffer l size) (sym comes);
-      reads = λ node reader.
+      reads = λ node text reader.
           ap (λ (source : Source). arrived input (λ v. begun node_meaning ((flat tree).code v))
-          source) (program.inputs node reader);
+          source) (program.inputs node text reader);
       words = first.words ∙ sym (words_none count (λ node. []) (λ node less. refl));
       silent = λ node code listed silent. refl;
     }

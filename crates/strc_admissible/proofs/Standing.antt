@@ -37,7 +37,7 @@ pub record Stands (graph : Graph) (sizes : List ℕ) (input : List ℤ) (now : Q
   pub rings : (number : ℕ) (channel : Channel) → slice_get graph.channels number ≡ Some channel
       → ring_at machine.rings number
       ≡ buffer (now.queues channel.target.node channel.target.port) (slice_index sizes number)
-  pub reads : (node : ℕ) → slice_get graph.nodes node ≡ Some FileReader
+  pub reads : (node : ℕ) (text : List ℕ) → slice_get graph.nodes node ≡ Some (FileReader text)
       → now.queues node 0 ≡ drop (now.runs node).fired input
   pub words : machine.words ≡ words_below (length graph.nodes) (λ node. (now.runs node).words)
   pub silent : (node : ℕ) (code : NodeCode) → slice_get graph.nodes node ≡ Some code

@@ -30,10 +30,10 @@ rates_there graph number channel there =
     ∙ ap (option_map (rates_of_channel graph.nodes)) there
 
 -- a reader takes an item with each firing
-reader_total : (n : ℕ) → total (pops_at FileReader) n 0 ≡ n
+reader_total : (text : List ℕ) (n : ℕ) → total (pops_at (FileReader text)) n 0 ≡ n
 unfolding total
-reader_total zero = refl
-reader_total (suc n) = omega (arith, reader_total n)
+reader_total text zero = refl
+reader_total text (suc n) = omega (arith, reader_total text n)
 
 pub both_hold : (a b : Bool) → a && b ≡ true → (a ≡ true) × (b ≡ true)
 both_hold true b e = (refl, e)
@@ -68,7 +68,7 @@ module _ (tree : Stream NodeCode) (graph : Graph) (input : List ℤ) (program : 
 
   idle_reaches : (node port : ℕ) (code : NodeCode) → reads_input code ≡ false
       → port < ports_in code → carries_in code port ≡ false → Reaches code node port
-  idle_reaches node port FileReader inner less none = absurd (true≢false inner)
+  idle_reaches node port (FileReader text) inner less none = absurd (true≢false inner)
   idle_reaches node port code inner less none =
       let idle = idle_port code port less none in
       omega (
@@ -81,11 +81,11 @@ module _ (tree : Stream NodeCode) (graph : Graph) (input : List ℤ) (program : 
       → reads_input code ≡ true → port < ports_in code → counts node < length input
       → Reaches code node port
   unfolding orders.supply orders.supply_of
-  reader_reaches node zero FileReader there reads less some =
-      subst (λ (source : Source). total (pops_at FileReader) (counts node) 0 + 1
+  reader_reaches node zero (FileReader text) there reads less some =
+      subst (λ (source : Source). total (pops_at (FileReader text)) (counts node) 0 + 1
       ≤ orders.supply node_meaning (flat tree) input counts source)
-      (sym (program.inputs node there)) (omega (arith, reader_total (counts node), some))
-  reader_reaches node (suc port) FileReader there reads less some = absurd (omega arith)
+      (sym (program.inputs node text there)) (omega (arith, reader_total text (counts node), some))
+  reader_reaches node (suc port) (FileReader text) there reads less some = absurd (omega arith)
   reader_reaches node port code there reads less some = absurd (true≢false (sym reads))
 
   port_reaches : (node port : ℕ) (code : NodeCode) → slice_get graph.nodes node ≡ Some code

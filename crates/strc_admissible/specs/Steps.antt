@@ -106,9 +106,9 @@ node_step (graphs.Filter name filter) number fields inputs outputs input rings =
     filter_step filter number fields (at_port inputs 0) (at_port outputs 0) rings
 node_step graphs.Identity number fields inputs outputs input rings =
     identity_step (at_port inputs 0) (at_port outputs 0) rings
-node_step graphs.FileReader number fields inputs outputs input rings =
+node_step (graphs.FileReader text) number fields inputs outputs input rings =
     reader_step number (at_port outputs 0) input rings
-node_step graphs.FileWriter number fields inputs outputs input rings =
+node_step (graphs.FileWriter text) number fields inputs outputs input rings =
     writer_step (at_port inputs 0) rings
 node_step (graphs.Splitter splitter) number fields inputs outputs input rings =
     splitter_step splitter (at_port inputs 0) outputs rings

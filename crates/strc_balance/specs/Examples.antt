@@ -61,7 +61,8 @@ row first second third fourth =
 abbrev pub split_join : (splitter first second joiner : NodeCode) → Graph
 split_join splitter first second joiner =
     record {
-      nodes = graphs.FileReader ∷ splitter ∷ first ∷ second ∷ joiner ∷ graphs.FileWriter ∷ [];
+      nodes =
+          graphs.FileReader [] ∷ splitter ∷ first ∷ second ∷ joiner ∷ graphs.FileWriter [] ∷ [];
       channels =
           channel 0 0 1 0 ∷ channel 1 0 2 0 ∷ channel 1 1 3 0 ∷ channel 2 0 4 0 ∷ channel 3 0 4 1
           ∷ channel 4 0 5 0 ∷ [];

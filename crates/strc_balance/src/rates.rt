@@ -76,8 +76,8 @@ fn fires_by_rounds(node: &Node) -> bool
         Node::Scatter(_) | Node::Copy(_, _) | Node::Gather(_) => true,
         Node::Filter(_)
         | Node::Identity
-        | Node::FileReader
-        | Node::FileWriter
+        | Node::FileReader(_)
+        | Node::FileWriter(_)
         | Node::Splitter(_)
         | Node::Joiner(_) => false,
     }

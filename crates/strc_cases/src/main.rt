@@ -14,8 +14,8 @@ use std::thread::Builder;
 use std::{fs, io, thread};
 use strc_cli::device::Told;
 use strc_cli::explain::execute_explained;
-use strc_cli::line::{Command, LineFault};
-use strc_cli::words::command;
+use strc_command::line::{Command, LineFault};
+use strc_command::words::command;
 
 // The status of a command line that isn't understood, as of the program's.
 const WORDS: u8 = 1;

@@ -1,25 +1,27 @@
 // The constants of a filter: the parameters and the surrounding numbers that its text may name.
 
-ghost use Rattle.std.specs.Prelude.{◌≡◌, [], ◌∷◌, OnOk, OnErr, reverse};
+ghost use Rattle.std.specs.Prelude.{◌≡◌, ◌-◌, ◌<◌, suc, [], ◌∷◌, OnOk, OnErr, Some, length};
+ghost use Rattle.std.specs.Prelude.{slice_get};
 
 use std::alloc::Global;
 use std::marker::Model;
 use strc_base::memory::NoMemory;
+use strc_base::scope_map::ScopeMap;
 use strc_lex::token::Name;
 
 /// Names with their values. Contracts see the list of the pairs, the one pushed last first: it
-/// hides earlier ones of its name.
+/// hides earlier ones of its name. A look-up takes expected constant time.
 #[derive(Drop)]
 pub struct Constants {
-    pairs: Vec<(Name, i32)>,
+    values: ScopeMap<i32>,
 }
 
 impl Model for Constants {
-    ghost use Rattle.std.specs.Prelude.{List, ℕ, ℤ, reverse};
+    ghost use Rattle.std.specs.Prelude.{List, ℕ, ℤ};
 
     ghost Value = { List (List ℕ × ℤ) };
 
-    ghost view = { λ c. reverse c.pairs.items };
+    ghost view = { λ c. c.values };
 }
 
 impl Constants {
@@ -30,38 +32,38 @@ impl Constants {
         ensures { result ≡ [] }
     {
         Constants {
-            pairs: Vec::new(alloc),
+            values: ScopeMap::new(alloc),
         }
     }
 
     /// One more constant.
-    pub fn push(&mut self, name: Name, value: i32) -> Result<(), NoMemory>
-        ensures ok { OnOk result (self.new ≡ record { 0 = name; 1 = value } ∷ self.old) }
+    pub fn push(&mut self, name: &Name, value: i32) -> Result<(), NoMemory>
+        ensures ok { OnOk result (self.new ≡ record { 0 = name.now; 1 = value } ∷ self.old) }
         ensures err { OnErr result (self.new ≡ self.old) }
     {
-        self.pairs.push((name, value))?;
-        Ok(())
+        self.values.declare(name, value)
     }
 
-    /// The names with their values, the one pushed first first.
-    pub fn pairs(&self) -> &[(Name, i32)]
-        ensures { self.now ≡ reverse result.now }
+    /// How many constants there are, hidden ones too.
+    pub fn len(&self) -> u32
+        ensures { result ≡ length self.now }
     {
-        self.pairs.as_slice()
+        self.values.len()
+    }
+
+    /// The name of a constant with its value: the one pushed first has the number 0.
+    pub fn at(&self, number: u32) -> (&[u8], i32)
+        requires { number < length self.now }
+        ensures { slice_get self.now (length self.now - suc number)
+            ≡ Some (record { 0 = result.0.now; 1 = result.1 }) }
+    {
+        self.values.at(number)
     }
 
     /// The value of the last constant of this name.
     pub fn value_of(&self, name: &Name) -> Option<i32>
         ensures { result ≡ value_named self.now name.now }
     {
-        let mut i = self.pairs.len();
-        while i > 0 {
-            i -= 1;
-            let pair = &self.pairs[i];
-            if pair.0.is(name) {
-                return Some(pair.1);
-            }
-        }
-        None
+        self.values.value_of(name)
     }
 }

@@ -16,7 +16,7 @@ use Rattle.strc_cli.specs.declared.answer.Answer.{Answer}
 use Rattle.strc_cli.specs.declared.answer.Answer.TheVariants as answer
 use Rattle.strc_cli.specs.declared.answer.Stop.{Stop}
 use Rattle.strc_cli.specs.declared.answer.Stop.TheVariants as stop
-use Rattle.strc_cli.specs.declared.line.Command.TheVariants as command
+use Rattle.strc_command.specs.declared.line.Command.TheVariants as command
 use Rattle.strc_cli.specs.declared.input.ReadStop.{ReadStop}
 use Rattle.strc_cli.specs.declared.input.ReadStop.TheVariants as read
 use Rattle.strc_cli.specs.Answering.{HasSize, IsAnswered, IsInput, ReadsText, WritesNumbers}

@@ -20,15 +20,9 @@ use Rattle.strc_cli.specs.declared.answer.Answer.{Answer}
 use Rattle.strc_cli.specs.declared.answer.Answer.TheVariants as answer
 use Rattle.strc_cli.specs.declared.answer.Stop.{Stop}
 use Rattle.strc_cli.specs.declared.answer.Stop.TheVariants as stop
-use Rattle.strc_cli.specs.declared.line.Command.{Command}
-use Rattle.strc_cli.specs.declared.line.Command.TheVariants as command
-
--- the name of the main stream that a command gives
-abbrev pub main_of : Command → Option (List ℕ)
-main_of (command.Run rounds main) = option_map string_bytes main
-main_of (command.Check main) = option_map string_bytes main
-main_of (command.Plan main) = option_map string_bytes main
-main_of (command.Graph main) = option_map string_bytes main
+use Rattle.strc_command.specs.Lines.{main_of}
+use Rattle.strc_command.specs.declared.line.Command.{Command}
+use Rattle.strc_command.specs.declared.line.Command.TheVariants as command
 
 -- the bytes of the input, where they are known, write these numbers; or the word of this number
 -- writes none

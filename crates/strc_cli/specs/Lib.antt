@@ -2,6 +2,5 @@ pub mod Answering
 pub mod Drawing
 pub mod Executes
 pub mod Input
-pub mod Lines
 pub mod Output
 pub mod Statuses

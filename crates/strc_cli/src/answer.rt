@@ -5,7 +5,8 @@ ghost use Rattle.std.specs.Option.{option_map};
 ghost use Rattle.strc_stage.specs.Plans.{planning_of};
 ghost use Rattle.strc_run.specs.Plans as plans;
 ghost use Rattle.strc_run.specs.Rounds.{plan_reads};
-ghost use Rattle.strc_cli.specs.Answering.{AnswersPlan, IsAnswered, ReadsInput, main_of};
+ghost use Rattle.strc_cli.specs.Answering.{AnswersPlan, IsAnswered, ReadsInput};
+ghost use Rattle.strc_command.specs.Lines.{main_of};
 ghost use Rattle.strc_cli.specs.Input as spec;
 ghost use Rattle.strc_cli.specs.Input.{IsInputOf, IsRunAnswer};
 
@@ -13,7 +14,7 @@ use crate::device::Source;
 use crate::drawing::drawn;
 use crate::execute::CliError;
 use crate::input::{ReadStop, read_numbers};
-use crate::line::Command;
+use strc_command::line::Command;
 use std::alloc::{AllocError, Global};
 use strc_run::compile::{Plan, compile};
 use strc_run::laws::plans_answer_texts;

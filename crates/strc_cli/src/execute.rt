@@ -8,7 +8,7 @@ ghost use Rattle.strc_cli.specs.Executes.{Executes, TellsAnswer, Writes, device_
 
 use crate::answer::{Answer, Stop, answer_to};
 use crate::device::{Sink, Source};
-use crate::line::Command;
+use strc_command::line::Command;
 use crate::output::{check_text, outcome_text, plan_text, stop_text};
 use std::alloc::{AllocError, Global};
 use strc_run::refusal::Refusal;

@@ -7,7 +7,7 @@ ghost use Rattle.strc_cli.specs.Executes.{Executes, device_of};
 use crate::answer::{Answer, Stop, answer_to, main_name};
 use crate::device::{Sink, Source};
 use crate::execute::{CliError, Status, tell};
-use crate::line::Command;
+use strc_command::line::Command;
 use std::alloc::Global;
 use strc_base::memory::NoMemory;
 use strc_messages::fault::{FaultSite, bad_input_message, fault_message, not_run_message};

@@ -1,13 +1,13 @@
-// Takes the words of the command line, a program's text and its input.
+// Takes a command, a program's text and its input.
 // Gives the printed numbers, or one named fault and the numbers before its round; or how large the
 // program's graph is, or how often its nodes fire and how large its buffers are; or one named
 // refusal.
 // The theorem to rely on: `execute` reports exactly the answer of a text and a command: an outcome
 // of its rounds that is the answer of its stream's equations, the size of its graph, its plan, or a
 // refusal that holds.
-// Stands on strc_run, which compiles and runs a text, on strc_stage, whose plan it writes, on
-// strc_input, which reads its input's numbers, on strc_sched, strc_graph and strc_semantics, of
-// whose outcomes, nodes, words and faults it writes, and on clap for the command line.
+// Stands on strc_command, whose commands it carries out, on strc_run, which compiles and runs a
+// text, on strc_stage, whose plan it writes, on strc_input, which reads its input's numbers, and on
+// strc_sched, strc_graph and strc_semantics, of whose outcomes, nodes, words and faults it writes.
 #![tactic(auto)]
 
 mod answer;
@@ -16,8 +16,8 @@ mod drawing;
 pub mod execute;
 pub mod explain;
 mod input;
-pub mod line;
 mod output;
 pub mod program_text;
 mod text;
-pub mod words;
+
+pub use strc_command::{line, words};

@@ -17,7 +17,7 @@ use Rattle.strc_elab.specs.Elaboration.{Setting, Progress, inside, stmt_run, stm
 use Rattle.strc_scope.specs.Answers.{IsRefusal}
 use Rattle.strc_elab.specs.Loops.{for_looped, names_after_block}
 use Rattle.strc_scope.specs.declared.error.ElabError.{ElabError}
-use Rattle.strc_elab.proofs.Refusals.{first_refused}
+use Rattle.strc_weights.proofs.Refusals.{first_refused}
 
 -- ---- names
 

@@ -13,17 +13,19 @@ use Rattle.strc_stream.specs.declared.stream.Stream.{Stream}
 use Rattle.strc_scope.specs.Answers.{IsRefusal}
 use Rattle.strc_scope.specs.declared.error.ElabError.{ElabError}
 use Rattle.strc_scope.specs.declared.error.ElabError.TheVariants as refused
-use Rattle.strc_elab.specs.Answering.{split_view, join_view, part_view}
+use Rattle.strc_elab.specs.Answering.{join_view, part_view}
+use Rattle.strc_weights.specs.Splits.{split_view}
 use Rattle.strc_elab.specs.Elaboration as spec
-use Rattle.strc_elab.specs.Elaboration.{where_kept, is_as_written, loop_made, splitjoin_made}
-use Rattle.strc_elab.specs.Elaboration.{any_side, inputs_in, outputs_in}
+use Rattle.strc_elab.specs.Elaboration.{where_kept, loop_made, splitjoin_made}
+use Rattle.strc_weights.specs.Sides.{is_as_written}
+use Rattle.strc_weights.specs.Sides.{any_side, inputs_in, outputs_in}
 use Rattle.strc_elab.specs.Making.{made_as}
-use Rattle.strc_elab.specs.Weights as weights
-use Rattle.strc_elab.specs.Weights.{weighted, loop_weights, loop_splitter, input_written}
-use Rattle.strc_elab.specs.Weights.{output_written, split_dealt, join_dealt}
-use Rattle.strc_elab.specs.declared.weights.Split.{Split}
-use Rattle.strc_elab.proofs.Refusals.{first_refused, second_refused, both_done}
-use Rattle.strc_elab.proofs.Refusals.{then_done}
+use Rattle.strc_weights.specs.Weights as weights
+use Rattle.strc_weights.specs.Weights.{weighted, loop_weights, loop_splitter, input_written}
+use Rattle.strc_weights.specs.Weights.{output_written, split_dealt, join_dealt}
+use Rattle.strc_weights.specs.declared.weights.Split.{Split}
+use Rattle.strc_weights.proofs.Refusals.{first_refused, second_refused, both_done}
+use Rattle.strc_weights.proofs.Refusals.{then_done}
 
 -- split-joins
 pub splitjoin_done : (declaration : ℕ) (written : Option StreamType) (types : List StreamType)

@@ -1,14 +1,12 @@
 pub mod Bodies
 pub mod Children
 pub mod Composites
-pub mod Dealing
 pub mod Doubles
 pub mod Examples
 pub mod Keeping
 pub mod Levels
 pub mod LoopRuns
 pub mod NameTables
-pub mod Refusals
 pub mod SoundBodies
 pub mod SoundMaking
 pub mod SoundRows
@@ -18,4 +16,3 @@ pub mod Tallies
 pub mod Turns
 pub mod TypeRows
 pub mod Views
-pub mod WeightsMeet

@@ -11,7 +11,7 @@ use Rattle.strc_elab.specs.Elaboration.{Progress, turned, looped}
 use Rattle.strc_scope.specs.Answers.{IsRefusal}
 use Rattle.strc_scope.specs.declared.error.ElabError.{ElabError}
 use Rattle.strc_scope.specs.declared.error.ElabError.TheVariants as refused
-use Rattle.strc_elab.proofs.Refusals.{refused_same, first_refused, second_refused}
+use Rattle.strc_weights.proofs.Refusals.{refused_same, first_refused, second_refused}
 use Rattle.strc_semantics.specs.declared.fault.TheConstants.{TURN_LIMIT}
 use Rattle.strc_elab.proofs.Turns.{turn_limit_is}
 

@@ -18,7 +18,8 @@ use Rattle.strc_scope.specs.Statements.{eval_checked}
 use Rattle.strc_scope.specs.Texts.{Place, Text}
 use Rattle.strc_elab.specs.Elaboration.{Tally, Elaborated, Setting, Progress, child_found}
 use Rattle.strc_elab.specs.Elaboration.{child_run}
-use Rattle.strc_elab.specs.Elaboration.{child_added, may_add, passes_items, may_have, may_split}
+use Rattle.strc_elab.specs.Elaboration.{child_added, may_add, may_have, may_split}
+use Rattle.strc_weights.specs.Sides.{passes_items}
 use Rattle.strc_elab.specs.Elaboration.{may_join, is_loop, splitter_evaluated, values_evaluated}
 use Rattle.strc_elab.specs.Elaboration.{composed}
 use Rattle.strc_elab.proofs.Keeping.{Keeps}

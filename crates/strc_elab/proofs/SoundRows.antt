@@ -11,7 +11,8 @@ use Rattle.strc_stream.specs.Instances.{Stream, in_a_row}
 use Rattle.strc_stream.specs.Types.{IsWellTyped, AreWellTyped, AreEach, input_of}
 use Rattle.strc_stream.specs.Types.{output_of}
 use Rattle.strc_stream.specs.Types.{inputs_of, outputs_of, last_output}
-use Rattle.strc_elab.specs.Elaboration.{same_item, follows, last_given, inputs_in, outputs_in}
+use Rattle.strc_elab.specs.Elaboration.{follows}
+use Rattle.strc_weights.specs.Sides.{same_item, last_given, inputs_in, outputs_in}
 use Rattle.strc_elab.specs.Sound.{IsInstance}
 
 -- what is made: a well-typed stream of instances, with its types

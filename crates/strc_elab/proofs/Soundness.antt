@@ -26,16 +26,20 @@ use Rattle.strc_stream.specs.Instances.{Stream}
 use Rattle.strc_stream.specs.Instances as instance
 use Rattle.strc_stream.specs.Types.{IsWellTyped}
 use Rattle.strc_elab.specs.Elaboration.{filter_limit, Tally, Elaborated, Setting, Progress}
-use Rattle.strc_elab.specs.Elaboration.{same_item, stmts_run, started_as, instance_of}
-use Rattle.strc_elab.specs.Elaboration.{is_as_written, initial_progress, as_written, pipeline_made}
-use Rattle.strc_elab.specs.Elaboration.{splitjoin_made, loop_made, composite_made, inputs_in}
-use Rattle.strc_elab.specs.Elaboration.{outputs_in, composite_elaborated, given_elaborated}
+use Rattle.strc_elab.specs.Elaboration.{stmts_run, started_as, instance_of}
+use Rattle.strc_weights.specs.Sides.{same_item}
+use Rattle.strc_elab.specs.Elaboration.{initial_progress, as_written, pipeline_made}
+use Rattle.strc_weights.specs.Sides.{is_as_written}
+use Rattle.strc_elab.specs.Elaboration.{splitjoin_made, loop_made, composite_made}
+use Rattle.strc_weights.specs.Sides.{inputs_in}
+use Rattle.strc_elab.specs.Elaboration.{composite_elaborated, given_elaborated}
+use Rattle.strc_weights.specs.Sides.{outputs_in}
 use Rattle.strc_elab.specs.Elaboration.{text_elaborated, stream_elaborated, level_limit, types_of}
 use Rattle.strc_elab.specs.Elaboration.{can_be_main, mains_from, only_main, named_main, main_of}
 use Rattle.strc_elab.specs.Elaboration.{main_elaborated, not_doubled, doubled_from, elaborated}
 use Rattle.strc_elab.specs.Sound.{IsInstance, IsElaborated}
-use Rattle.strc_elab.specs.Weights.{Split, weighted, split_dealt, join_dealt, input_written}
-use Rattle.strc_elab.specs.Weights.{output_written, loop_weights, loop_splitter}
+use Rattle.strc_weights.specs.Weights.{Split, weighted, split_dealt, join_dealt, input_written}
+use Rattle.strc_weights.specs.Weights.{output_written, loop_weights, loop_splitter}
 use Rattle.strc_elab.proofs.Keeping.{stmts_kept}
 use Rattle.strc_elab.proofs.SoundBodies.{MakesSound, keeps_sound}
 use Rattle.strc_elab.proofs.SoundMaking.{IsSound, IsSoundlyMade, composite_sound}
@@ -101,8 +105,8 @@ text_sound setting makes (FilterText name filter) tally =
 text_sound setting makes (CompositeText written kind block) tally =
     body_sound setting makes written kind block tally
 text_sound setting makes IdentityText tally = given_sound instance.Identity tally tt (tt, tt)
-text_sound setting makes ReaderText tally = given_sound instance.FileReader tally tt (tt, tt)
-text_sound setting makes WriterText tally = given_sound instance.FileWriter tally tt (tt, tt)
+text_sound setting makes (ReaderText text) tally = given_sound (instance.FileReader text) tally tt (tt, tt)
+text_sound setting makes (WriterText text) tally = given_sound (instance.FileWriter text) tally tt (tt, tt)
 
 pub stream_sound : (program : List Declaration) (levels : ℕ) (place : Place) (text : Text)
     (tally : Tally) → IfOk (stream_elaborated program levels place text tally) IsSoundlyMade

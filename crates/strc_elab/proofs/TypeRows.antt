@@ -1,9 +1,9 @@
--- Types of streams in a row, from the first and the last one.
-use Rattle.std.proofs.Common.{◌≡◌, suc, ◌-◌, ◌≤◌, List, [], ◌∷◌, length, get_or, Some}
+-- What a child that is added follows.
+use Rattle.std.proofs.Common.{◌≡◌, suc, ◌-◌, ◌≤◌, List, [], ◌∷◌, length, get_or}
 use Rattle.std.proofs.Common.{refl, ap, ◌∙◌, arith}
 use Rattle.strc_syntax.specs.declared.tree.StreamType.{StreamType}
-use Rattle.strc_elab.specs.Elaboration.{same_item, follows, last_given}
-use Rattle.strc_elab.specs.TypeRows.{row_types}
+use Rattle.strc_elab.specs.Elaboration.{follows}
+use Rattle.strc_weights.specs.Sides.{same_item}
 
 -- one more takes what the last one gives
 pub follows_last : (types : List StreamType) (next other : StreamType) → 1 ≤ length types
@@ -16,23 +16,3 @@ follows_last (first ∷ second ∷ rest) next other some =
     omega arith in
     follows_last (second ∷ rest) next other inner
     ∙ ap (λ k. same_item (get_or (first ∷ second ∷ rest) k other).output next.input) same
-
-last_given-is : (first : StreamType) (rest : List StreamType) (other : StreamType)
-    → (get_or (first ∷ rest) (length (first ∷ rest) - 1) other).output
-    ≡ last_given first.output rest
-last_given-is first [] other = refl
-last_given-is first (second ∷ rest) other =
-    let same : length (first ∷ second ∷ rest) - 1 ≡ suc (length (second ∷ rest) - 1) =
-    omega arith in
-    ap (λ k. (get_or (first ∷ second ∷ rest) k other).output) same
-    ∙ last_given-is second rest other
-
-pub row_types-ends : (types : List StreamType) (other : StreamType) → 2 ≤ length types
-    → Some (record {
-      input = (get_or types 0 other).input;
-      output = (get_or types (length types - 1) other).output;
-    }) ≡ row_types types
-row_types-ends [] other some = absurd (omega arith)
-row_types-ends (first ∷ rest) other some =
-    ap (λ given. Some (record { input = first.input; output = given }))
-    (last_given-is first rest other)

@@ -28,8 +28,10 @@ use Rattle.strc_check.specs.Typing.{TypedNames, names_after}
 use Rattle.strc_semantics.specs.declared.fault.Cause.{Cause}
 use Rattle.strc_semantics.specs.declared.fault.Cause.TheVariants as causes
 use Rattle.strc_check.specs.declared.types.ValueType.TheVariants as kind
-use Rattle.strc_elab.specs.Weights.{Split, ToEach, InTurn, weighted, split_dealt, join_dealt}
-use Rattle.strc_elab.specs.Weights.{input_written, output_written, loop_weights, loop_splitter}
+use Rattle.strc_weights.specs.Weights.{Split, ToEach, InTurn, weighted, split_dealt, join_dealt}
+use Rattle.strc_weights.specs.Weights.{input_written, output_written, loop_weights, loop_splitter}
+use Rattle.strc_weights.specs.Sides.{same_item, passes_items, is_as_written, last_given, inputs_in}
+use Rattle.strc_weights.specs.Sides.{outputs_in, any_side}
 use Rattle.strc_stream.specs.Instances.{Stream, in_a_row}
 use Rattle.strc_stream.specs.Instances as instance
 use Rattle.strc_stream.specs.Types.{side, is_int, input_of, output_of}
@@ -164,16 +166,24 @@ unnamed_found setting names text store = record {
   store = store;
 }
 
+-- a built-in child: it stands in the same declaration, and its text names nothing
+abbrev pub built_in_found : Setting → Text → Store → Found
+built_in_found setting text store = record {
+  place = record { declaration = setting.place.declaration; constants = [] };
+  text = text;
+  store = store;
+}
+
 abbrev pub child_found : Setting → TypedNames → tree.Child → Store → Result Found ElabError
 child_found setting names (tree.Named name arguments) store =
     named_found setting names name (declared_from 0 setting.program name)
     (unwrap_or arguments []) store
 child_found setting names (tree.Identity brackets) store =
-    Ok (unnamed_found setting names IdentityText store)
+    Ok (built_in_found setting IdentityText store)
 child_found setting names (tree.FileReader text) store =
-    Ok (unnamed_found setting names ReaderText store)
+    Ok (built_in_found setting (ReaderText text) store)
 child_found setting names (tree.FileWriter text) store =
-    Ok (unnamed_found setting names WriterText store)
+    Ok (built_in_found setting (WriterText text) store)
 child_found setting names (tree.AnonymousFilter types members) store =
     Ok (unnamed_found setting names (FilterText None (anonymous types members)) store)
 child_found setting names (tree.AnonymousComposite written kind block) store =
@@ -188,13 +198,6 @@ abbrev pub is_loop : CompositeKind → Bool
 is_loop composite.Feedbackloop = true
 is_loop _ = false
 
--- one type is the other
-abbrev pub same_item : ItemType → ItemType → Bool
-same_item item.Int item.Int = true
-same_item item.Void item.Void = true
-same_item item.Int item.Void = false
-same_item item.Void item.Int = false
-
 -- what one more child of a pipeline takes is what the last one gives
 abbrev pub follows : List StreamType → StreamType → Bool
 follows [] next = true
@@ -205,10 +208,6 @@ follows (first ∷ second ∷ rest) next = follows (second ∷ rest) next
 abbrev pub may_add : CompositeKind → List StreamType → StreamType → Bool
 may_add composite.Pipeline types next = follows types next
 may_add _ types next = true
-
--- items come in and go out
-abbrev pub passes_items : StreamType → Bool
-passes_items types = is_int types.input && is_int types.output
 
 -- the store and the tally after a child
 abbrev pub tallied : Progress → Store → Tally → Progress
@@ -387,12 +386,6 @@ instance_of place filter =
 abbrev pub filter_types : Filter → StreamType
 filter_types filter = record { input = filter.input; output = filter.output }
 
--- one type is the other, where one is written
-abbrev pub is_as_written : Option StreamType → StreamType → Bool
-is_as_written None found = true
-is_as_written (Some written) found = same_item written.input found.input
-    && same_item written.output found.output
-
 -- a body before it runs
 abbrev pub initial_progress : CompositeKind → Tally → Progress
 initial_progress kind tally = record {
@@ -419,11 +412,6 @@ as_written declaration written found stream progress =
       tally = record { turns = progress.store.traffic.turns; filters = progress.filters };
     }))
 
--- what streams in a row give, behind one that gives this
-abbrev pub last_given : ItemType → List StreamType → ItemType
-last_given given [] = given
-last_given given (next ∷ rest) = last_given next.output rest
-
 -- a pipeline has a child
 abbrev pub pipeline_made : (declaration : ℕ) → Option StreamType → List StreamType → Progress
     → Result Elaborated ElabError
@@ -432,16 +420,6 @@ pipeline_made declaration written (first ∷ rest) progress =
     as_written declaration written
     (record { input = first.input; output = last_given first.output rest })
     (instance.Pipeline (in_a_row progress.children)) progress
-
--- what streams side by side take, and what they give: items where one of them does
-abbrev pub inputs_in : List StreamType → List ItemType
-inputs_in types = map (λ (t : StreamType). t.input) types
-
-abbrev pub outputs_in : List StreamType → List ItemType
-outputs_in types = map (λ (t : StreamType). t.output) types
-
-abbrev pub any_side : List ItemType → ItemType
-any_side sides = side (list_any is_int sides)
 
 -- a split-join has a child, a splitter and a joiner, whose weights are allowed
 abbrev pub splitjoin_made : (declaration : ℕ) → Option StreamType → List StreamType → Option Split
@@ -509,8 +487,8 @@ text_elaborated setting (FilterText name filter) tally =
 text_elaborated setting (CompositeText written kind block) tally =
     composite_elaborated setting written kind block tally
 text_elaborated setting IdentityText tally = given_elaborated instance.Identity tally
-text_elaborated setting ReaderText tally = given_elaborated instance.FileReader tally
-text_elaborated setting WriterText tally = given_elaborated instance.FileWriter tally
+text_elaborated setting (ReaderText text) tally = given_elaborated (instance.FileReader text) tally
+text_elaborated setting (WriterText text) tally = given_elaborated (instance.FileWriter text) tally
 
 -- a stream that may have so many levels, its own among them
 abbrev pub stream_elaborated : List Declaration → (levels : ℕ) → Place → Text → Tally

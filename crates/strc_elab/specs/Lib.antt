@@ -1,4 +1,3 @@
-pub mod Weights
 pub mod Elaboration
 pub mod Examples
 pub mod Tasks
@@ -6,6 +5,5 @@ pub mod Tallies
 pub mod Loops
 pub mod Names
 pub mod Answering
-pub mod TypeRows
 pub mod Making
 pub mod Sound

@@ -25,8 +25,8 @@ text_view (text.Filter name types members) =
 text_view (text.Composite written kind block) =
     texts.CompositeText written kind (block_view block.now)
 text_view text.Identity = texts.IdentityText
-text_view text.Reader = texts.ReaderText
-text_view text.Writer = texts.WriterText
+text_view (text.Reader between) = texts.ReaderText between.now
+text_view (text.Writer between) = texts.WriterText between.now
 
 -- the program of a task
 abbrev pub program_of : Task → List Declaration

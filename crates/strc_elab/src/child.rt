@@ -15,7 +15,7 @@ use crate::body::Body;
 use crate::declared::{declared, text_of};
 use crate::progress::Progress;
 use crate::task::{Elaborated, Task, Text};
-use crate::types::passes_items;
+use strc_weights::types::passes_items;
 use std::alloc::Global;
 use strc_base::memory::NoMemory;
 use strc_check::constants::Constants;
@@ -46,9 +46,9 @@ impl<F: Fn(Task) -> Result<Elaborated, ElabError>> Body<'_, F> {
         match child {
             Child::Named(name, Some(arguments)) => self.named(role, name, arguments, progress),
             Child::Named(name, None) => self.named(role, name, &[], progress),
-            Child::Identity(_) => self.unnamed(role, Text::Identity, progress),
-            Child::FileReader(_) => self.unnamed(role, Text::Reader, progress),
-            Child::FileWriter(_) => self.unnamed(role, Text::Writer, progress),
+            Child::Identity(_) => self.built_in(role, Text::Identity, progress),
+            Child::FileReader(text) => self.built_in(role, Text::Reader(text), progress),
+            Child::FileWriter(text) => self.built_in(role, Text::Writer(text), progress),
             Child::Filter(types, members) => {
                 self.unnamed(role, Text::Filter(None, *types, members), progress)
             }
@@ -138,7 +138,7 @@ impl<F: Fn(Task) -> Result<Elaborated, ElabError>> Body<'_, F> {
             let value = self
                 .place()
                 .eval_checked(ValueType::Int, &arguments[number], store)?;
-            bound.push(parameter.copy()?, value)?;
+            bound.push(parameter, value)?;
         }
         Ok(bound)
     }
@@ -159,6 +159,20 @@ impl<F: Fn(Task) -> Result<Elaborated, ElabError>> Body<'_, F> {
             &progress.store.variables,
             self.task.constants,
         )?;
+        self.elaborated(role, self.task.declaration, &constants, text, progress)
+    }
+
+    /// Elaborates a built-in child: it stands in the same declaration, and its text names nothing.
+    fn built_in(&self, role: Role, text: Text, progress: &mut Progress) -> Result<(), ElabError>
+        requires { IsReady self.now.task (F.pre self.now.elaborate) (F.post self.now.elaborate) }
+        ensures runs { Runs (spec.found_run (setting_of self.now.task) role
+            (Ok (spec.built_in_found (setting_of self.now.task) (text_view text.entry)
+            (store_of progress.old.store)))
+            (progress_of progress.old)) result (progress_of progress.new) }
+        ensures names { OnOk result (progress.new.store.variables.names
+            ≡ progress.old.store.variables.names) }
+    {
+        let constants = Constants::new(self.task.alloc);
         self.elaborated(role, self.task.declaration, &constants, text, progress)
     }
 

@@ -12,7 +12,7 @@ ghost use Rattle.strc_elab.specs.Tasks.{IsReady, setting_of};
 use crate::body::Body;
 use crate::progress::Progress;
 use crate::task::{Elaborated, Task};
-use crate::weights::Split;
+use strc_weights::weights::Split;
 use strc_check::types::ValueType;
 use strc_scope::error::ElabError;
 use strc_scope::store::Store;

@@ -8,15 +8,16 @@ ghost use Rattle.strc_stream.specs.Instances as instances;
 ghost use Rattle.strc_stream.specs.Types as stream_types;
 ghost use Rattle.strc_stream.specs.View.{stream_view};
 ghost use Rattle.strc_scope.specs.Answers.{IsVerdict};
-ghost use Rattle.strc_elab.specs.Answering.{progress_of, split_view, join_view, part_view};
+ghost use Rattle.strc_elab.specs.Answering.{progress_of, join_view, part_view};
+ghost use Rattle.strc_weights.specs.Splits.{split_view};
 ghost use Rattle.strc_elab.specs.Elaboration as spec;
 ghost use Rattle.strc_elab.specs.Making.{made_as, IsLoopOf};
 ghost use Rattle.strc_elab.specs.Tasks.{elaborated_view};
 
 use crate::progress::Progress;
 use crate::task::{Elaborated, Task};
-use crate::types::{any_side, inputs_in, is_as_written, outputs_in, side, types_in_a_row};
-use crate::weights::{
+use strc_weights::types::{any_side, inputs_in, is_as_written, outputs_in, side, types_in_a_row};
+use strc_weights::weights::{
     input_written, join_dealt, loop_splitter, loop_weights, output_written, split_dealt,
 };
 use std::alloc::Global;

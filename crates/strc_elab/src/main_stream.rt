@@ -11,7 +11,7 @@ ghost use Rattle.strc_elab.specs.Names.{place_from};
 ghost use Rattle.strc_scope.specs.Texts as texts;
 
 use crate::declared::declared;
-use crate::types::is_as_written;
+use strc_weights::types::is_as_written;
 use indexmap::IndexMap;
 use strc_scope::error::ElabError;
 use strc_syntax::tree::{Decl, ItemType, StreamTree, StreamType};

@@ -5,8 +5,8 @@ ghost use Rattle.strc_elab.specs.Elaboration as spec;
 ghost use Rattle.strc_elab.specs.Answering.{progress_of};
 
 use crate::task::Tally;
-use crate::types::same_item;
-use crate::weights::Split;
+use strc_weights::types::same_item;
+use strc_weights::weights::Split;
 use strc_scope::store::Store;
 use strc_stream::stream::Stream;
 use strc_syntax::tree::{CompositeKind, Role, StreamType};

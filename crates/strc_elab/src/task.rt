@@ -3,7 +3,7 @@
 use indexmap::IndexMap;
 use std::alloc::Global;
 use strc_check::constants::Constants;
-use strc_lex::token::Name;
+use strc_lex::token::{Name, StringLiteral};
 use strc_stream::stream::Stream;
 use strc_syntax::tree::{CompositeKind, Decl, ItemType, Member, Stmt, StreamType};
 
@@ -13,8 +13,9 @@ pub(crate) enum Text<'a> {
     Filter(Option<&'a Name>, StreamType, &'a [Member]),
     Composite(Option<StreamType>, CompositeKind, &'a [Stmt]),
     Identity,
-    Reader,
-    Writer,
+    /// What stands between the brackets.
+    Reader(&'a StringLiteral),
+    Writer(&'a StringLiteral),
 }
 
 /// How many turns all loops have made, and how many filters there are, so far.

@@ -18,7 +18,7 @@ use crate::progress::Progress;
 use crate::task::{Elaborated, Tally, Task, Text};
 use std::alloc::{AllocError, Global};
 use strc_graph::instance::Instance;
-use strc_lex::token::Name;
+use strc_lex::token::{Name, StringLiteral};
 use strc_scope::error::ElabError;
 use strc_scope::steps::at_declaration;
 use strc_scope::store::Store;
@@ -132,15 +132,15 @@ impl Task<'_> {
         })
     }
 
-    /// What gives the program's input.
-    fn reader(&self) -> Result<Elaborated, ElabError>
+    /// What gives the program's input, with the text between its brackets.
+    fn reader(&self, text: &StringLiteral) -> Result<Elaborated, ElabError>
         ensures { IsVerdict elaborated_view
-            (spec.text_elaborated (setting_of self.now) texts.ReaderText
+            (spec.text_elaborated (setting_of self.now) (texts.ReaderText text.now)
             (tally_of self.now)) result }
     {
         let tally = self.tally.one_more()?;
         Ok(Elaborated {
-            stream: Stream::FileReader,
+            stream: Stream::FileReader(text.copy()?),
             types: StreamType {
                 input: ItemType::Void,
                 output: ItemType::Int,
@@ -149,15 +149,15 @@ impl Task<'_> {
         })
     }
 
-    /// What writes each item.
-    fn writer(&self) -> Result<Elaborated, ElabError>
+    /// What writes each item, with the text between its brackets.
+    fn writer(&self, text: &StringLiteral) -> Result<Elaborated, ElabError>
         ensures { IsVerdict elaborated_view
-            (spec.text_elaborated (setting_of self.now) texts.WriterText
+            (spec.text_elaborated (setting_of self.now) (texts.WriterText text.now)
             (tally_of self.now)) result }
     {
         let tally = self.tally.one_more()?;
         Ok(Elaborated {
-            stream: Stream::FileWriter,
+            stream: Stream::FileWriter(text.copy()?),
             types: StreamType {
                 input: ItemType::Int,
                 output: ItemType::Void,
@@ -200,8 +200,8 @@ impl<F: Fn(Task) -> Result<Elaborated, ElabError>> Body<'_, F> {
             Text::Filter(name, types, members) => self.task.filter(name, types, members),
             Text::Composite(written, kind, block) => self.composite(written, kind, block),
             Text::Identity => self.task.identity(),
-            Text::Reader => self.task.reader(),
-            Text::Writer => self.task.writer(),
+            Text::Reader(text) => self.task.reader(text),
+            Text::Writer(text) => self.task.writer(text),
         }
     }
 

@@ -15,8 +15,8 @@ mutual
   pub some_node : (stream : instances.Stream) → HasNodes stream → 0 < length (nodes_of stream)
   some_node (Filter name filter) has = omega arith
   some_node Identity has = omega arith
-  some_node FileReader has = omega arith
-  some_node FileWriter has = omega arith
+  some_node (FileReader text) has = omega arith
+  some_node (FileWriter text) has = omega arith
   some_node (Pipeline children) has = some_in_row children has.0 has.1
   some_node (SplitJoin splitter children joiner) has =
       let some = some_in_row children has.0 has.1 in
@@ -51,8 +51,8 @@ mutual
   pub typed_has_nodes : (stream : instances.Stream) → IsWellTyped stream → HasNodes stream
   typed_has_nodes (Filter name filter) typed = tt
   typed_has_nodes Identity typed = tt
-  typed_has_nodes FileReader typed = tt
-  typed_has_nodes FileWriter typed = tt
+  typed_has_nodes (FileReader text) typed = tt
+  typed_has_nodes (FileWriter text) typed = tt
   typed_has_nodes (Pipeline children) typed = (typed.0, typed_have_nodes children typed.1)
   typed_has_nodes (SplitJoin splitter children joiner) typed =
       (typed.0, each_have_nodes children typed.1)

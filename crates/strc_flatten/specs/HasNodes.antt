@@ -8,8 +8,8 @@ abbrev mutual
   pub HasNodes : Stream → Type 0
   HasNodes (Filter name filter) = Unit {0}
   HasNodes Identity = Unit {0}
-  HasNodes FileReader = Unit {0}
-  HasNodes FileWriter = Unit {0}
+  HasNodes (FileReader text) = Unit {0}
+  HasNodes (FileWriter text) = Unit {0}
   HasNodes (Pipeline children) = HasFirst children × HaveNodes children
   HasNodes (SplitJoin splitter children joiner) = HasFirst children × HaveNodes children
   HasNodes (FeedbackLoop joiner body splitter loop enqueued) = HasNodes body × HasNodes loop

@@ -50,8 +50,8 @@ pub(crate) fn wire(
         Stream::Filter(instance) => {
             push(alloc, gives_items(instance), first, 0, target, channels)?;
         }
-        Stream::Identity | Stream::FileReader => push(alloc, true, first, 0, target, channels)?,
-        Stream::FileWriter => {}
+        Stream::Identity | Stream::FileReader(_) => push(alloc, true, first, 0, target, channels)?,
+        Stream::FileWriter(_) => {}
         Stream::Pipeline(children) => wire_row(alloc, first, children, target, channels)?,
         Stream::SplitJoin(splitter, children, joiner) => {
             let inner = first + splitter_count(splitter);

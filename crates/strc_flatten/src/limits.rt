@@ -58,10 +58,10 @@ fn reads_input(node: &Node) -> bool
     ensures { result ≡ graphs.reads_input (node_view node.now) }
 {
     match node {
-        Node::FileReader => true,
+        Node::FileReader(_) => true,
         Node::Filter(_)
         | Node::Identity
-        | Node::FileWriter
+        | Node::FileWriter(_)
         | Node::Splitter(_)
         | Node::Joiner(_)
         | Node::Scatter(_)
@@ -76,9 +76,9 @@ fn gives_words(node: &Node) -> bool
 {
     match node {
         Node::Filter(instance) | Node::Copy(instance, _) => instance.code.prints(),
-        Node::FileWriter => true,
+        Node::FileWriter(_) => true,
         Node::Identity
-        | Node::FileReader
+        | Node::FileReader(_)
         | Node::Splitter(_)
         | Node::Joiner(_)
         | Node::Scatter(_)

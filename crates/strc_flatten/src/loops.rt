@@ -26,7 +26,7 @@ pub(crate) fn push_loops(
         ≡ loops.old.items ++ outer_loops first (stream_view stream.now)) }
 {
     match stream {
-        Stream::Filter(_) | Stream::Identity | Stream::FileReader | Stream::FileWriter => {
+        Stream::Filter(_) | Stream::Identity | Stream::FileReader(_) | Stream::FileWriter(_) => {
             loops.push(None)?;
         }
         Stream::Pipeline(children) => push_row(first, children, loops)?,

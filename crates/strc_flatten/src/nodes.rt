@@ -22,8 +22,8 @@ pub(crate) fn collect(alloc: Global, stream: &Stream, nodes: &mut Vec<Node>) -> 
             nodes.push(Node::Filter(instance.copy(alloc)?))?;
         }
         Stream::Identity => nodes.push(Node::Identity)?,
-        Stream::FileReader => nodes.push(Node::FileReader)?,
-        Stream::FileWriter => nodes.push(Node::FileWriter)?,
+        Stream::FileReader(text) => nodes.push(Node::FileReader(text.copy()?))?,
+        Stream::FileWriter(text) => nodes.push(Node::FileWriter(text.copy()?))?,
         Stream::Pipeline(children) => collect_row(alloc, children, nodes)?,
         Stream::SplitJoin(splitter, children, joiner) => {
             push_splitter(alloc, splitter, nodes)?;

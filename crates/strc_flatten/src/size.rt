@@ -17,7 +17,7 @@ pub(crate) fn size(stream: &Stream) -> u32
     ensures { result ≡ size_of (stream_view stream.now) }
 {
     match stream {
-        Stream::Filter(_) | Stream::Identity | Stream::FileReader | Stream::FileWriter => 1,
+        Stream::Filter(_) | Stream::Identity | Stream::FileReader(_) | Stream::FileWriter(_) => 1,
         Stream::Pipeline(children) => row_size(children),
         Stream::SplitJoin(splitter, children, joiner) => {
             splitter_count(splitter) + row_size(children) + joiner_count(joiner)

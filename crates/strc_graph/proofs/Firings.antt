@@ -103,11 +103,11 @@ node_keeps_rates (graphs.Filter name filter) alone pushes =
 node_keeps_rates graphs.Identity alone pushes =
     keeps_by graphs.Identity (λ firing fields seen whole.
     at_0 (seen 0) 1 (whole 0 (omega arith)))
-node_keeps_rates graphs.FileReader alone pushes =
-    keeps_by graphs.FileReader (λ firing fields seen whole.
+node_keeps_rates (graphs.FileReader text) alone pushes =
+    keeps_by (graphs.FileReader text) (λ firing fields seen whole.
     at_0 (seen 0) 1 (whole 0 (omega arith)))
-node_keeps_rates graphs.FileWriter alone pushes =
-    keeps_by graphs.FileWriter (λ firing fields seen whole port. refl)
+node_keeps_rates (graphs.FileWriter text) alone pushes =
+    keeps_by (graphs.FileWriter text) (λ firing fields seen whole port. refl)
 node_keeps_rates (graphs.Splitter (Duplicate carried)) alone pushes =
     keeps_by (graphs.Splitter (Duplicate carried)) (λ firing fields seen whole port.
     one_or_none (slice_index_or carried port false) (seen 0) (whole 0 (omega arith)))
@@ -130,8 +130,8 @@ pub takes_within : (code : NodeCode) → fires_by_rounds code ≡ false → (fir
 takes_within (graphs.Filter name filter) alone firing zero = omega arith
 takes_within (graphs.Filter name filter) alone firing (suc port) = omega arith
 takes_within graphs.Identity alone firing port = omega arith
-takes_within graphs.FileReader alone firing port = omega arith
-takes_within graphs.FileWriter alone firing port = omega arith
+takes_within (graphs.FileReader text) alone firing port = omega arith
+takes_within (graphs.FileWriter text) alone firing port = omega arith
 takes_within (graphs.Splitter splitter) alone firing port = omega arith
 takes_within (graphs.Joiner weights) alone firing port = omega arith
 takes_within (graphs.Scatter fission) alone firing port = absurd (cc)
@@ -179,8 +179,8 @@ pub windows_settle : (code : NodeCode) (firing port : ℕ)
     → window_at code (suc firing) port ≡ window_at code 1 port
 windows_settle (graphs.Filter name filter) firing port = refl
 windows_settle graphs.Identity firing port = refl
-windows_settle graphs.FileReader firing port = refl
-windows_settle graphs.FileWriter firing port = refl
+windows_settle (graphs.FileReader text) firing port = refl
+windows_settle (graphs.FileWriter text) firing port = refl
 windows_settle (graphs.Splitter splitter) firing port = refl
 windows_settle (graphs.Joiner weights) firing port = refl
 windows_settle (graphs.Scatter fission) firing port = refl
@@ -192,8 +192,8 @@ pub pops_settle : (code : NodeCode) → fires_by_rounds code ≡ false → (firi
     → pops_at code (suc firing) port ≡ pops_at code 1 port
 pops_settle (graphs.Filter name filter) alone firing port = refl
 pops_settle graphs.Identity alone firing port = refl
-pops_settle graphs.FileReader alone firing port = refl
-pops_settle graphs.FileWriter alone firing port = refl
+pops_settle (graphs.FileReader text) alone firing port = refl
+pops_settle (graphs.FileWriter text) alone firing port = refl
 pops_settle (graphs.Splitter splitter) alone firing port = refl
 pops_settle (graphs.Joiner weights) alone firing port = refl
 pops_settle (graphs.Scatter fission) alone firing port = refl
@@ -205,8 +205,8 @@ pub pushes_settle : (code : NodeCode) (firing port : ℕ)
     → pushes_at code (suc firing) port ≡ pushes_at code 1 port
 pushes_settle (graphs.Filter name filter) firing port = refl
 pushes_settle graphs.Identity firing port = refl
-pushes_settle graphs.FileReader firing port = refl
-pushes_settle graphs.FileWriter firing port = refl
+pushes_settle (graphs.FileReader text) firing port = refl
+pushes_settle (graphs.FileWriter text) firing port = refl
 pushes_settle (graphs.Splitter splitter) firing port = refl
 pushes_settle (graphs.Joiner weights) firing port = refl
 pushes_settle (graphs.Scatter fission) firing port = refl

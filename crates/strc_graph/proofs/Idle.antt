@@ -43,7 +43,7 @@ pub same_or_idle : (code : NodeCode) (port : ℕ) (left right : ℕ → Source) 
     → (carries_in code port ≡ true → left port ≡ right port)
     → (reads_input code ≡ true → left 0 ≡ right 0)
     → (left port ≡ right port) ⊎ IsIdle node_meaning code port
-same_or_idle FileReader port left right less same read =
+same_or_idle (FileReader text) port left right less same read =
     inl (input_port port left right less (read refl))
 same_or_idle code port left right less same read =
     graph_port code port (left port) (right port) less same

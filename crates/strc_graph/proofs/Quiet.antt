@@ -427,8 +427,8 @@ node_silent (graphs.Filter name filter) firing fields seen silent =
     fired_silent (fired filter (body_at firing) fields (seen 0))
     (firing_quiet filter (body_at firing) fields (seen 0) silent)
 node_silent graphs.Identity firing fields seen silent = refl
-node_silent graphs.FileReader firing fields seen silent = refl
-node_silent graphs.FileWriter firing fields seen silent = absurd (cc)
+node_silent (graphs.FileReader text) firing fields seen silent = refl
+node_silent (graphs.FileWriter text) firing fields seen silent = absurd (cc)
 node_silent (graphs.Splitter splitter) firing fields seen silent = refl
 node_silent (graphs.Joiner weights) firing fields seen silent = refl
 node_silent (graphs.Scatter fission) firing fields seen silent = refl

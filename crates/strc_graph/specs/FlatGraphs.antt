@@ -42,7 +42,7 @@ IsFed graph node port = (number : ℕ) × (channel : Channel)
 -- reads, and one node prints
 pub record IsProgram (tree : trees.Stream NodeCode) (graph : Graph) : Type 0 where
   pub flat : IsFlat tree graph
-  pub inputs : (node : ℕ) → slice_get graph.nodes node ≡ Some FileReader
+  pub inputs : (node : ℕ) (text : List ℕ) → slice_get graph.nodes node ≡ Some (FileReader text)
       → (trees.flat tree).source node 0 ≡ program_input
   pub fed : (node port : ℕ) → takes_at graph.nodes node port ≡ true → IsFed graph node port
   pub one_input : count_by reads_input graph.nodes ≤ 1

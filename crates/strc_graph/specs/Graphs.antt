@@ -23,8 +23,8 @@ pub data SplitterCode : Type 0 where
 pub data NodeCode : Type 0 where
   Filter : (name : Option (List ℕ)) (filter : filters.Filter) → NodeCode
   Identity : NodeCode
-  FileReader : NodeCode
-  FileWriter : NodeCode
+  FileReader : (text : List ℕ) → NodeCode
+  FileWriter : (text : List ℕ) → NodeCode
   Splitter : (splitter : SplitterCode) → NodeCode
   Joiner : (weights : List ℕ) → NodeCode
   Scatter : (fission : Fission) → NodeCode
@@ -40,8 +40,8 @@ filter_name None = codes "filter"
 abbrev pub node_name : NodeCode → List ℕ
 node_name (Filter name filter) = filter_name name
 node_name Identity = codes "Identity"
-node_name FileReader = codes "FileReader"
-node_name FileWriter = codes "FileWriter"
+node_name (FileReader text) = codes "FileReader"
+node_name (FileWriter text) = codes "FileWriter"
 node_name (Splitter splitter) = codes "split"
 node_name (Joiner weights) = codes "join"
 node_name (Scatter fission) = codes "scatter"
@@ -58,8 +58,8 @@ ports_of item.Void = 0
 abbrev pub input_ports : NodeCode → ℕ
 input_ports (Filter name filter) = ports_of filter.input
 input_ports Identity = 1
-input_ports FileReader = 0
-input_ports FileWriter = 1
+input_ports (FileReader text) = 0
+input_ports (FileWriter text) = 1
 input_ports (Splitter splitter) = 1
 input_ports (Joiner weights) = length weights
 input_ports (Scatter fission) = 1
@@ -73,8 +73,8 @@ splitter_ports (Roundrobin weights) = length weights
 abbrev pub output_ports : NodeCode → ℕ
 output_ports (Filter name filter) = ports_of filter.output
 output_ports Identity = 1
-output_ports FileReader = 1
-output_ports FileWriter = 0
+output_ports (FileReader text) = 1
+output_ports (FileWriter text) = 0
 output_ports (Splitter splitter) = splitter_ports splitter
 output_ports (Joiner weights) = 1
 output_ports (Scatter fission) = fission.ways
@@ -92,14 +92,14 @@ outputs_at nodes node = option_map_or output_ports (slice_get nodes node) 0
 
 -- whether a node takes the program's input
 abbrev pub reads_input : NodeCode → Bool
-reads_input FileReader = true
+reads_input (FileReader text) = true
 reads_input _ = false
 
 -- whether a firing of a node can write words
 abbrev pub gives_words : NodeCode → Bool
 gives_words (Filter name filter) = filter_prints filter
 gives_words (Copy name filter fission) = filter_prints filter
-gives_words FileWriter = true
+gives_words (FileWriter text) = true
 gives_words _ = false
 
 -- channels

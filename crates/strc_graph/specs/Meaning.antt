@@ -26,7 +26,7 @@ node_fields _ = []
 -- the number of ports by which items come in: those of the graph, and a reader's for the program's
 -- input
 abbrev pub ports_in : NodeCode → ℕ
-ports_in FileReader = 1
+ports_in (FileReader text) = 1
 ports_in code = input_ports code
 
 -- a firing's outcome, as the generic layer has it
@@ -55,8 +55,8 @@ abbrev pub node_fired : NodeCode → (firing : ℕ) → (fields : List ℤ) → 
 node_fired (Filter name filter) firing fields seen =
     as_fired (filters.fired filter (body_at firing) fields (seen 0))
 node_fired Identity firing fields seen = passes (at_port_0 (seen 0))
-node_fired FileReader firing fields seen = passes (at_port_0 (seen 0))
-node_fired FileWriter firing fields seen = Fires [] (λ port. []) (map line_of (seen 0))
+node_fired (FileReader text) firing fields seen = passes (at_port_0 (seen 0))
+node_fired (FileWriter text) firing fields seen = Fires [] (λ port. []) (map line_of (seen 0))
 node_fired (Splitter splitter) firing fields seen = passes (split splitter (seen 0))
 node_fired (Joiner weights) firing fields seen = passes (at_port_0 (one_cycle weights 0 seen))
 node_fired _ firing fields seen = passes (λ port. [])

@@ -17,8 +17,8 @@ splitter_view (splitter.Roundrobin weights) = graphs.Roundrobin weights.items
 abbrev pub node_view : Node → graphs.NodeCode
 node_view (node.Filter instance) = graphs.Filter instance.name (filter_of instance.code)
 node_view node.Identity = graphs.Identity
-node_view node.FileReader = graphs.FileReader
-node_view node.FileWriter = graphs.FileWriter
+node_view (node.FileReader text) = graphs.FileReader text
+node_view (node.FileWriter text) = graphs.FileWriter text
 node_view (node.Splitter splitter) = graphs.Splitter (splitter_view splitter)
 node_view (node.Joiner weights) = graphs.Joiner weights.items
 node_view (node.Scatter fission) = graphs.Scatter fission

@@ -85,8 +85,8 @@ copy_pops fission firing =
 abbrev pub window_at : NodeCode → (firing port : ℕ) → ℕ
 window_at (graphs.Filter name filter) firing port = rate_at_0 (filter_window filter firing) port
 window_at graphs.Identity firing port = rate_at_0 1 port
-window_at graphs.FileReader firing port = rate_at_0 1 port
-window_at graphs.FileWriter firing port = rate_at_0 1 port
+window_at (graphs.FileReader text) firing port = rate_at_0 1 port
+window_at (graphs.FileWriter text) firing port = rate_at_0 1 port
 window_at (graphs.Splitter splitter) firing port = rate_at_0 (splitter_pops splitter) port
 window_at (graphs.Joiner weights) firing port = slice_index weights port
 window_at (graphs.Scatter fission) firing port =
@@ -99,8 +99,8 @@ window_at (graphs.Gather fission) firing port =
 abbrev pub pops_at : NodeCode → (firing port : ℕ) → ℕ
 pops_at (graphs.Filter name filter) firing port = rate_at_0 (filter_pops filter firing) port
 pops_at graphs.Identity firing port = rate_at_0 1 port
-pops_at graphs.FileReader firing port = rate_at_0 1 port
-pops_at graphs.FileWriter firing port = rate_at_0 1 port
+pops_at (graphs.FileReader text) firing port = rate_at_0 1 port
+pops_at (graphs.FileWriter text) firing port = rate_at_0 1 port
 pops_at (graphs.Splitter splitter) firing port = rate_at_0 (splitter_pops splitter) port
 pops_at (graphs.Joiner weights) firing port = slice_index weights port
 pops_at (graphs.Scatter fission) firing port = rate_at_0 (round_pops fission) port
@@ -112,8 +112,8 @@ pops_at (graphs.Gather fission) firing port =
 abbrev pub pushes_at : NodeCode → (firing port : ℕ) → ℕ
 pushes_at (graphs.Filter name filter) firing port = rate_at_0 (filter_pushes filter firing) port
 pushes_at graphs.Identity firing port = rate_at_0 1 port
-pushes_at graphs.FileReader firing port = rate_at_0 1 port
-pushes_at graphs.FileWriter firing port = 0
+pushes_at (graphs.FileReader text) firing port = rate_at_0 1 port
+pushes_at (graphs.FileWriter text) firing port = 0
 pushes_at (graphs.Splitter splitter) firing port = splitter_pushes splitter port
 pushes_at (graphs.Joiner weights) firing port = rate_at_0 (sum weights) port
 pushes_at (graphs.Scatter fission) firing port =

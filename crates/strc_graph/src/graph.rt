@@ -6,6 +6,7 @@ ghost use Rattle.strc_graph.specs.NodeView.{node_view};
 
 use crate::instance::Instance;
 use std::marker::Model;
+use strc_lex::token::StringLiteral;
 use strc_syntax::tree::ItemType;
 
 /// A node: what fires.
@@ -14,10 +15,10 @@ pub enum Node {
     Filter(Instance),
     /// What comes in goes out, item by item.
     Identity,
-    /// It gives the program's input.
-    FileReader,
-    /// It writes each item.
-    FileWriter,
+    /// It gives the program's input; what stands between its brackets.
+    FileReader(StringLiteral),
+    /// It writes each item; what stands between its brackets.
+    FileWriter(StringLiteral),
     Splitter(Splitter),
     /// It takes so many items of each port in turn.
     Joiner(Vec<u32>),
@@ -163,8 +164,8 @@ fn name_of(node: &Node) -> &[u8]
     match node {
         Node::Filter(instance) | Node::Copy(instance, _) => instance_name(instance),
         Node::Identity => b"Identity",
-        Node::FileReader => b"FileReader",
-        Node::FileWriter => b"FileWriter",
+        Node::FileReader(_) => b"FileReader",
+        Node::FileWriter(_) => b"FileWriter",
         Node::Splitter(_) => b"split",
         Node::Joiner(_) => b"join",
         Node::Scatter(_) => b"scatter",
@@ -188,8 +189,8 @@ pub fn input_ports(node: &Node) -> usize
 {
     match node {
         Node::Filter(instance) | Node::Copy(instance, _) => ports_of(instance.code.tree().input),
-        Node::FileReader => 0,
-        Node::Identity | Node::FileWriter | Node::Splitter(_) | Node::Scatter(_) => 1,
+        Node::FileReader(_) => 0,
+        Node::Identity | Node::FileWriter(_) | Node::Splitter(_) | Node::Scatter(_) => 1,
         Node::Joiner(weights) => weights.len(),
         Node::Gather(fission) => fission.ways as usize,
     }
@@ -201,8 +202,8 @@ pub fn output_ports(node: &Node) -> usize
 {
     match node {
         Node::Filter(instance) | Node::Copy(instance, _) => ports_of(instance.code.tree().output),
-        Node::FileWriter => 0,
-        Node::Identity | Node::FileReader | Node::Joiner(_) | Node::Gather(_) => 1,
+        Node::FileWriter(_) => 0,
+        Node::Identity | Node::FileReader(_) | Node::Joiner(_) | Node::Gather(_) => 1,
         Node::Splitter(Splitter::Duplicate(carried)) => carried.len(),
         Node::Splitter(Splitter::Roundrobin(weights)) => weights.len(),
         Node::Scatter(fission) => fission.ways as usize,

@@ -22,7 +22,7 @@ pub fn window_at(node: &Node, firing: u64, port: usize) -> u128
         Node::Filter(instance) => {
             rate_at_0(u128::from(instance.code.window(body_at(firing))), port)
         }
-        Node::Identity | Node::FileReader | Node::FileWriter => rate_at_0(1, port),
+        Node::Identity | Node::FileReader(_) | Node::FileWriter(_) => rate_at_0(1, port),
         Node::Splitter(splitter) => rate_at_0(splitter_pops(splitter), port),
         Node::Joiner(weights) => weight_at(weights, port),
         Node::Scatter(fission) => rate_at_0(scatter_window(*fission), port),
@@ -41,7 +41,7 @@ pub fn pops_at(node: &Node, firing: u64, port: usize) -> u128
             item_count(instance.code.rates(body_at(firing)).pop),
             port,
         ),
-        Node::Identity | Node::FileReader | Node::FileWriter => rate_at_0(1, port),
+        Node::Identity | Node::FileReader(_) | Node::FileWriter(_) => rate_at_0(1, port),
         Node::Splitter(splitter) => rate_at_0(splitter_pops(splitter), port),
         Node::Joiner(weights) => weight_at(weights, port),
         Node::Scatter(fission) => {
@@ -62,8 +62,8 @@ pub fn pushes_at(node: &Node, firing: u64, port: usize) -> u128
             item_count(instance.code.rates(body_at(firing)).push),
             port,
         ),
-        Node::Identity | Node::FileReader => rate_at_0(1, port),
-        Node::FileWriter => 0,
+        Node::Identity | Node::FileReader(_) => rate_at_0(1, port),
+        Node::FileWriter(_) => 0,
         Node::Splitter(splitter) => splitter_pushes(splitter, port),
         Node::Joiner(weights) => rate_at_0(total(weights), port),
         Node::Scatter(fission) => scatter_pushes(*fission, port),

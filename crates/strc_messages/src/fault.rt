@@ -1,9 +1,10 @@
 // What a person reads of a run that ends early, or that isn't run.
 
-use crate::message::Message;
+use strc_source::message::Message;
 use crate::nodes::push_node;
 use crate::places::place_of_node;
-use crate::source::Source;
+use crate::program::graph_of;
+use strc_source::source::Source;
 use std::alloc::Global;
 use strc_base::memory::NoMemory;
 use strc_graph::graph::Graph;
@@ -41,7 +42,7 @@ pub fn fault_message(
         tokens: &tokens,
         main,
     };
-    let graph = source.graph(alloc);
+    let graph = graph_of(alloc, source);
     write_fault(alloc, source, graph.as_ref(), site)
 }
 

@@ -1,8 +1,8 @@
 // Hints on how a refusal can be mended.
 
-use crate::message::Message;
-use crate::nearest::nearest_name;
-use crate::source::Source;
+use strc_source::message::Message;
+use strc_source::nearest::nearest_name;
+use strc_source::source::Source;
 use std::alloc::Global;
 use strc_base::memory::NoMemory;
 use strc_run::refusal::Refusal;

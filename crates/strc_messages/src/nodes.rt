@@ -1,6 +1,6 @@
 // Nodes and channels as a person knows them.
 
-use crate::message::Message;
+use strc_source::message::Message;
 use std::alloc::AllocError;
 use strc_graph::graph::Graph;
 use strc_graph::rates::{pops_at, pushes_at};

@@ -1,8 +1,8 @@
 // Which part of a text a refusal is about.
 
-use crate::declarations::{declaration_named, declaration_numbered, first_keyword};
-use crate::message::Extent;
-use crate::source::Source;
+use strc_source::declarations::{declaration_named, declaration_numbered, first_keyword};
+use strc_source::message::Extent;
+use strc_source::source::Source;
 use strc_graph::graph::Graph;
 use strc_lex::token::Keyword;
 use strc_run::refusal::Refusal;

@@ -1,12 +1,15 @@
 // What a person reads of a refusal.
 
-use crate::expected::{Expected, expected_after};
+use strc_source::expected::{Expected, expected_after};
 use crate::hints::push_hint;
-use crate::message::{Extent, Message};
+use strc_source::message::{Extent, Message};
 use crate::nodes::{push_channel, push_node};
 use crate::places::place_of_refusal;
+use crate::program::graph_of;
 use crate::sentences::plain_sentence;
-use crate::source::Source;
+use crate::stuck::push_stuck_loop;
+use strc_source::source::Source;
+use strc_source::statement::{refused_statement, refused_use};
 use std::alloc::Global;
 use strc_base::memory::NoMemory;
 use strc_graph::graph::Graph;
@@ -33,7 +36,7 @@ pub fn refusal_message(
         main,
     };
     let graph = if names_nodes(refusal) {
-        source.graph(alloc)
+        graph_of(alloc, source)
     } else {
         None
     };
@@ -56,7 +59,8 @@ fn names_nodes(refusal: &Refusal) -> bool {
         | Refusal::PeekOutside { .. }
         | Refusal::RateLimit { .. }
         | Refusal::Inconsistent { .. }
-        | Refusal::BufferLimit { .. } => true,
+        | Refusal::BufferLimit { .. }
+        | Refusal::Deadlock { .. } => true,
         _ => false,
     }
 }
@@ -67,21 +71,41 @@ fn write_message(
     graph: Option<&Graph>,
     refusal: &Refusal,
 ) -> Result<Vec<u8>, NoMemory> {
-    let place = place_of_refusal(source, graph, refusal);
+    let part = refused_part(alloc, source, refusal)?;
+    let place = match part {
+        Some(part) => Some(part),
+        None => place_of_refusal(source, graph, refusal),
+    };
     let mut message = source.begin(alloc, place)?;
-    push_sentence(alloc, &mut message, source, graph, refusal)?;
+    push_sentence(alloc, &mut message, source, graph, refusal, part.is_some())?;
     source.excerpt(&mut message, place)?;
     push_hint(alloc, &mut message, source, refusal)?;
     Ok(message.end()?)
 }
 
-/// The sentence.
+/// The statement, or the use of a name, that a refusal is about, where it can be told.
+fn refused_part(
+    alloc: Global,
+    source: Source<'_>,
+    refusal: &Refusal,
+) -> Result<Option<Extent>, NoMemory> {
+    match refusal {
+        Refusal::UnknownName { name } => refused_use(alloc, source, name.as_bytes()),
+        Refusal::TypeMismatch { stream } | Refusal::BadArguments { stream } => {
+            refused_statement(alloc, source, *stream)
+        }
+        _ => Ok(None),
+    }
+}
+
+/// The sentence; whether it is about a statement.
 fn push_sentence(
     alloc: Global,
     message: &mut Message,
     source: Source<'_>,
     graph: Option<&Graph>,
     refusal: &Refusal,
+    in_statement: bool,
 ) -> Result<(), NoMemory> {
     match refusal {
         Refusal::Parse { token } => push_syntax(alloc, message, source, *token),
@@ -98,13 +122,17 @@ fn push_sentence(
         | Refusal::PeekOutside { node }
         | Refusal::RateLimit { node } => {
             push_node(message, graph, *node)?;
-            Ok(message.add(plain_sentence(source, refusal))?)
+            Ok(message.add(plain_sentence(source, refusal, in_statement))?)
         }
         Refusal::Inconsistent { channel } | Refusal::BufferLimit { channel } => {
             push_channel(message, graph, *channel)?;
-            Ok(message.add(plain_sentence(source, refusal))?)
+            Ok(message.add(plain_sentence(source, refusal, in_statement))?)
         }
-        _ => Ok(message.add(plain_sentence(source, refusal))?),
+        Refusal::Deadlock { .. } => {
+            message.add(plain_sentence(source, refusal, in_statement))?;
+            Ok(push_stuck_loop(alloc, message, graph)?)
+        }
+        _ => Ok(message.add(plain_sentence(source, refusal, in_statement))?),
     }
 }
 

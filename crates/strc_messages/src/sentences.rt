@@ -1,15 +1,26 @@
 // The sentences that need nothing but the refusal.
 
-use crate::source::Source;
+use strc_source::source::Source;
 use strc_run::refusal::Refusal;
 use strc_semantics::fault::Cause;
 
 /// What is said of a refusal; of one that names a node or a channel, what follows their names.
-pub(crate) fn plain_sentence(source: Source<'_>, refusal: &Refusal) -> &'static [u8] {
+/// `in_statement`: it is said of a statement, and else of a whole declaration.
+pub(crate) fn plain_sentence(
+    source: Source<'_>,
+    refusal: &Refusal,
+    in_statement: bool,
+) -> &'static [u8] {
     match refusal {
         Refusal::Lex { at } => lexical_sentence(source.text, *at),
         Refusal::ConstFault { cause } => fault_sentence(*cause),
         Refusal::NoMain => no_main(source.main),
+        Refusal::TypeMismatch { .. } if in_statement => {
+            b"a type, a kind or a part in this statement isn't the one that must be there"
+        }
+        Refusal::BadArguments { .. } if in_statement => {
+            b"the stream that is added here gets another number of arguments than it has parameters"
+        }
         Refusal::TypeMismatch { .. } | Refusal::BadArguments { .. } | Refusal::BadWeights { .. } =>
             { declaration_sentence(refusal) }
         Refusal::RateUnknown { .. } => b" pushes or pops a number of items that can't be counted",

@@ -37,8 +37,8 @@ pushes_alike : (node : NodeCode) (port : ℕ) → has_prework node ≡ false
 pushes_alike (graphs.Filter name filter) port none =
     ap (λ r. rate_at_0 (item_count (push_rate r)) port) (no_rates filter.members none)
 pushes_alike graphs.Identity port none = refl
-pushes_alike graphs.FileReader port none = refl
-pushes_alike graphs.FileWriter port none = refl
+pushes_alike (graphs.FileReader text) port none = refl
+pushes_alike (graphs.FileWriter text) port none = refl
 pushes_alike (graphs.Splitter splitter) port none = refl
 pushes_alike (graphs.Joiner weights) port none = refl
 pushes_alike (graphs.Scatter fission) port none = refl
@@ -50,8 +50,8 @@ pops_alike : (node : NodeCode) (port : ℕ) → has_prework node ≡ false
 pops_alike (graphs.Filter name filter) port none each =
     ap (λ r. rate_at_0 (item_count (pop_rate r)) port) (no_rates filter.members none)
 pops_alike graphs.Identity port none each = refl
-pops_alike graphs.FileReader port none each = refl
-pops_alike graphs.FileWriter port none each = refl
+pops_alike (graphs.FileReader text) port none each = refl
+pops_alike (graphs.FileWriter text) port none each = refl
 pops_alike (graphs.Splitter splitter) port none each = refl
 pops_alike (graphs.Joiner weights) port none each = refl
 pops_alike (graphs.Scatter fission) port none each = refl
@@ -63,8 +63,8 @@ windows_alike : (node : NodeCode) (port : ℕ) → has_prework node ≡ false
 windows_alike (graphs.Filter name filter) port none =
     ap (λ r. rate_at_0 (window_size r) port) (no_rates filter.members none)
 windows_alike graphs.Identity port none = refl
-windows_alike graphs.FileReader port none = refl
-windows_alike graphs.FileWriter port none = refl
+windows_alike (graphs.FileReader text) port none = refl
+windows_alike (graphs.FileWriter text) port none = refl
 windows_alike (graphs.Splitter splitter) port none = refl
 windows_alike (graphs.Joiner weights) port none = refl
 windows_alike (graphs.Scatter fission) port none = refl

@@ -34,7 +34,7 @@ pub(crate) fn push_marks(stream: &Stream, marks: &mut Vec<Mark>) -> Result<(), A
         ≡ marks.old.items ++ marks_of (stream_view stream.now)) }
 {
     match stream {
-        Stream::Filter(_) | Stream::Identity | Stream::FileReader | Stream::FileWriter => {
+        Stream::Filter(_) | Stream::Identity | Stream::FileReader(_) | Stream::FileWriter(_) => {
             marks.push(Mark::Node)?;
         }
         Stream::Pipeline(children) => push_row(children, marks)?,

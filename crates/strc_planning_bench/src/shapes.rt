@@ -5,6 +5,7 @@ use std::fmt;
 use std::fmt::{Display, Formatter, Write};
 use strc_graph::condition::is_graph;
 use strc_graph::graph::{Channel, Graph, Node, Port, Splitter};
+use strc_lex::token::StringLiteral;
 
 /// What a graph looks like. Its first three nodes raise the rate: each node behind them fires
 /// 1,000,000 times in a round.
@@ -136,7 +137,9 @@ fn raised(alloc: Global) -> Result<Parts, AllocError> {
         nodes: Vec::new(alloc),
         channels: Vec::new(alloc),
     };
-    parts.nodes.push(Node::FileReader)?;
+    parts
+        .nodes
+        .push(Node::FileReader(StringLiteral::new(Vec::new(alloc))))?;
     parts.add_joiner(1, 999)?;
     parts.join((0, 0), (1, 0))?;
     parts.add_joiner(1, 999)?;

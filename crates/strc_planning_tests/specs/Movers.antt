@@ -5,8 +5,8 @@ use Rattle.strc_graph.specs.Graphs.{NodeCode}
 -- a node is no filter, and none of a filter's fission
 abbrev pub PassesOn : NodeCode → Type 0
 PassesOn graphs.Identity = Unit {0}
-PassesOn graphs.FileReader = Unit {0}
-PassesOn graphs.FileWriter = Unit {0}
+PassesOn (graphs.FileReader text) = Unit {0}
+PassesOn (graphs.FileWriter text) = Unit {0}
 PassesOn (graphs.Splitter splitter) = Unit {0}
 PassesOn (graphs.Joiner weights) = Unit {0}
 PassesOn code = ⊥

@@ -301,8 +301,8 @@ fn passes_on(node: &Node) -> bool
 {
     match node {
         Node::Identity
-        | Node::FileReader
-        | Node::FileWriter
+        | Node::FileReader(_)
+        | Node::FileWriter(_)
         | Node::Splitter(_)
         | Node::Joiner(_) => true,
         Node::Filter(_) | Node::Scatter(_) | Node::Copy(_, _) | Node::Gather(_) => false,

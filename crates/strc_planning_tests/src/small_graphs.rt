@@ -7,6 +7,7 @@ use strc_balance::condition::can_balance;
 use strc_balance::error::BalanceError;
 use strc_graph::condition::is_graph;
 use strc_graph::graph::{Channel, Fission, Graph, Node, Port, Splitter};
+use strc_lex::token::StringLiteral;
 
 /// What a node is. A port that no channel uses lets a node stand for a filter of any rates.
 #[derive(Clone, Copy)]
@@ -32,8 +33,8 @@ pub(crate) type Case = (&'static [Kind], &'static [Ends], &'static str);
 /// A node of this kind.
 pub(crate) fn node_of(alloc: Global, kind: Kind) -> Result<Node, AllocError> {
     match kind {
-        Kind::Reader => Ok(Node::FileReader),
-        Kind::Writer => Ok(Node::FileWriter),
+        Kind::Reader => Ok(Node::FileReader(StringLiteral::new(Vec::new(alloc)))),
+        Kind::Writer => Ok(Node::FileWriter(StringLiteral::new(Vec::new(alloc)))),
         Kind::Identity => Ok(Node::Identity),
         Kind::Join(first, second) => joiner(alloc, first, second),
         Kind::Split(first, second) => splitter(alloc, first, second),

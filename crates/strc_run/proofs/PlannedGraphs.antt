@@ -20,8 +20,8 @@ use Rattle.strc_run.proofs.RatedGraphs.{IsChecked, checked_at}
 never_fissioned : (code : NodeCode) → IsInstance code → fires_by_rounds code ≡ false
 never_fissioned (graphs.Filter name filter) is = refl
 never_fissioned graphs.Identity is = refl
-never_fissioned graphs.FileReader is = refl
-never_fissioned graphs.FileWriter is = refl
+never_fissioned (graphs.FileReader text) is = refl
+never_fissioned (graphs.FileWriter text) is = refl
 never_fissioned (graphs.Splitter splitter) is = refl
 never_fissioned (graphs.Joiner weights) is = refl
 never_fissioned code is = absurd is

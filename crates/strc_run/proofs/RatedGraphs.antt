@@ -71,10 +71,10 @@ code_pushes number (graphs.Filter name filter) port is deals e carries =
 code_pushes number graphs.Identity port is deals e carries =
     let first : port ≡ 0 = let lt = below port 1 carries in omega (arith, lt) in
     subst (λ p. 0 < pushes_by_work graphs.Identity p) (sym first) (omega arith)
-code_pushes number graphs.FileReader port is deals e carries =
+code_pushes number (graphs.FileReader text) port is deals e carries =
     let first : port ≡ 0 = let lt = below port 1 carries in omega (arith, lt) in
-    subst (λ p. 0 < pushes_by_work graphs.FileReader p) (sym first) (omega arith)
-code_pushes number graphs.FileWriter port is deals e carries =
+    subst (λ p. 0 < pushes_by_work (graphs.FileReader text) p) (sym first) (omega arith)
+code_pushes number (graphs.FileWriter text) port is deals e carries =
     absurd (let lt = below port 0 carries in omega (arith, lt))
 code_pushes number (graphs.Splitter (Duplicate carried)) port is deals e carries =
     duplicated carried port carries
@@ -95,11 +95,11 @@ code_pops number (graphs.Filter name filter) port is deals e carries =
 code_pops number graphs.Identity port is deals e carries =
     let first : port ≡ 0 = let lt = below port 1 carries in omega (arith, lt) in
     subst (λ p. 0 < pops_by_work graphs.Identity p) (sym first) (omega arith)
-code_pops number graphs.FileReader port is deals e carries =
+code_pops number (graphs.FileReader text) port is deals e carries =
     absurd (let lt = below port 0 carries in omega (arith, lt))
-code_pops number graphs.FileWriter port is deals e carries =
+code_pops number (graphs.FileWriter text) port is deals e carries =
     let first : port ≡ 0 = let lt = below port 1 carries in omega (arith, lt) in
-    subst (λ p. 0 < pops_by_work graphs.FileWriter p) (sym first) (omega arith)
+    subst (λ p. 0 < pops_by_work (graphs.FileWriter text) p) (sym first) (omega arith)
 code_pops number (graphs.Splitter (Duplicate carried)) port is deals e carries =
     let first : port ≡ 0 = let lt = below port 1 carries in omega (arith, lt) in
     subst (λ p. 0 < pops_by_work (graphs.Splitter (Duplicate carried)) p) (sym first) (omega arith)

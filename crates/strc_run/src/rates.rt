@@ -34,8 +34,8 @@ fn check_node(alloc: Global, number: usize, node: &Node) -> Result<(), Refusal>
             Err(error) => Err(told_of_node(number, error)),
         },
         Node::Identity
-        | Node::FileReader
-        | Node::FileWriter
+        | Node::FileReader(_)
+        | Node::FileWriter(_)
         | Node::Splitter(_)
         | Node::Joiner(_)
         | Node::Scatter(_)

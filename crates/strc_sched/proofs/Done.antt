@@ -197,8 +197,8 @@ passive_fields code actor passive is = by_actor actor is
         no_filter : (code : NodeCode) → IsPassive code → IsActorOf code (kinds.Filter kept) → ⊥
         no_filter (graphs.Filter name filter) passive is = passive
         no_filter graphs.Identity passive is = is
-        no_filter graphs.FileReader passive is = is
-        no_filter graphs.FileWriter passive is = is
+        no_filter (graphs.FileReader text) passive is = is
+        no_filter (graphs.FileWriter text) passive is = is
         no_filter (graphs.Splitter splitter) passive is = is
         no_filter (graphs.Joiner weights) passive is = is
         no_filter (graphs.Scatter fission) passive is = is
@@ -228,8 +228,8 @@ pub passive_of : (node : Node) → ((x : Instance) → node ≡ nodes.Filter x �
     → IsPassive (node_view node)
 passive_of (nodes.Filter x) never = never x refl
 passive_of nodes.Identity never = tt
-passive_of nodes.FileReader never = tt
-passive_of nodes.FileWriter never = tt
+passive_of (nodes.FileReader text) never = tt
+passive_of (nodes.FileWriter text) never = tt
 passive_of (nodes.Splitter splitter) never = tt
 passive_of (nodes.Joiner weights) never = tt
 passive_of (nodes.Scatter fission) never = tt

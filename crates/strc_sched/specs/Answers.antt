@@ -43,5 +43,5 @@ IsPassive code = Unit {0}
 
 -- nor a writer
 abbrev pub IsMover : NodeCode → Type 0
-IsMover graphs.FileWriter = ⊥
+IsMover (graphs.FileWriter text) = ⊥
 IsMover code = IsPassive code

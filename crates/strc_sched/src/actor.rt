@@ -44,8 +44,8 @@ fn start_actor(alloc: Global, node: &Node) -> Result<Actor, NoMemory>
     match node {
         Node::Filter(instance) => Ok(Actor::Filter(start_filter(alloc, &instance.code)?)),
         Node::Identity
-        | Node::FileReader
-        | Node::FileWriter
+        | Node::FileReader(_)
+        | Node::FileWriter(_)
         | Node::Splitter(_)
         | Node::Joiner(_)
         | Node::Scatter(_)

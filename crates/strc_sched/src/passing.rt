@@ -30,7 +30,7 @@ pub(crate) fn fire_passive(
     ensures step { HasStepped (steps.node_step (node_view node.now) firing [] inputs.now outputs.now
         input.now rings.old) result [] [] rings.old rings.new words.old.items words.new.items }
 {
-    if let Node::FileWriter = node {
+    if let Node::FileWriter(_) = node {
         return fire_writer(rings, ring_of(inputs, 0), words);
     }
     match fire_mover(node, firing, inputs, outputs, input, rings, items) {
@@ -58,13 +58,13 @@ fn fire_mover(
 {
     match node {
         Node::Identity => fire_identity(rings, ring_of(inputs, 0), ring_of(outputs, 0), items),
-        Node::FileReader => Ok(fire_reader(rings, firing, ring_of(outputs, 0), input)),
+        Node::FileReader(_) => Ok(fire_reader(rings, firing, ring_of(outputs, 0), input)),
         Node::Splitter(splitter) => {
             fire_splitter(rings, splitter, ring_of(inputs, 0), outputs, items)
         }
         Node::Joiner(weights) => fire_joiner(rings, weights, inputs, ring_of(outputs, 0), items),
         Node::Filter(_)
-        | Node::FileWriter
+        | Node::FileWriter(_)
         | Node::Scatter(_)
         | Node::Copy(_, _)
         | Node::Gather(_) => Ok(false),

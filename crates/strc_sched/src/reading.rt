@@ -33,7 +33,7 @@ pub(crate) fn reader_of(nodes: &[Node]) -> Option<usize>
         ≡ count_of result counts }
 {
     for node in 0..nodes.len() {
-        if let Node::FileReader = nodes[node] {
+        if let Node::FileReader(_) = nodes[node] {
             return Some(node);
         }
     }

@@ -1,7 +1,8 @@
 -- What an anonymous stream sees, from the outermost variable inwards.
 use Rattle.std.proofs.Common.{◌≡◌, ℕ, zero, suc, ◌+◌, ◌-◌, ◌<◌, ℤ, Bool, true, false, ◌||◌, List}
 use Rattle.std.proofs.Common.{[], ◌∷◌, ◌++◌, length, drop, take, Some, cond, eqb, ⊎_elim, refl, sym}
-use Rattle.std.proofs.Common.{ap, ◌∙◌, arith, Vec}
+use Rattle.std.proofs.Common.{ap, ◌∙◌, arith, Vec, drop-cons}
+use Rattle.std.proofs.lemmas.Option.{get_or_from_slice_get}
 use Rattle.std.specs.Prelude.{bytes_eq, slice_get}
 use Rattle.std.specs.declared.alloc.Global.{Global}
 use Rattle.std.proofs.lemmas.Bool.Decides.{eqb_tells}
@@ -282,3 +283,29 @@ pub captures_next : (names : TypedNames) (variables : Variables) (number : ℕ)
 captures_next names variables number constants counts below =
     let x = item_at names (length names - suc number) (omega arith) in
     seen_more names variables number x.0 constants counts below x.1
+
+-- the constants from one on, counted from the last
+pub further_constants : (constants : Constants) (number : ℕ) (one : List ℕ × ℤ)
+    → slice_get constants (length constants - suc number) ≡ Some one
+    → number < length constants → drop (length constants - (number + 1)) constants
+    ≡ one ∷ drop (length constants - number) constants
+further_constants constants number one at below =
+    let k : ℕ = length constants - suc number in
+    let same : length constants - (number + 1) ≡ k = omega arith in
+    let next : suc k ≡ length constants - number = omega (arith, below) in
+    let inside : k < length constants = omega (arith, below) in
+    ap (λ n. drop n constants) same
+    ∙ drop-cons constants k one inside
+    ∙ ap (λ x. x ∷ drop (suc k) constants) (get_or_from_slice_get constants k one one at)
+    ∙ ap (λ n. one ∷ drop n constants) next
+
+-- those that stay of them
+pub further_unshadowed : (hidden : List (List ℕ)) (constants : Constants) (number : ℕ)
+    (one : List ℕ × ℤ) → slice_get constants (length constants - suc number) ≡ Some one
+    → number < length constants
+    → unshadowed hidden (drop (length constants - (number + 1)) constants)
+    ≡ cond (has_name hidden one.0)
+    (unshadowed hidden (drop (length constants - number) constants))
+    (one ∷ unshadowed hidden (drop (length constants - number) constants))
+further_unshadowed hidden constants number one at below =
+    ap (unshadowed hidden) (further_constants constants number one at below)

@@ -27,8 +27,8 @@ pub data Text : Type 0 where
   FilterText : (name : Option (List ℕ)) (filter : Filter) → Text
   CompositeText : (written : Option StreamType) (kind : CompositeKind) (block : tree.Stmts) → Text
   IdentityText : Text
-  ReaderText : Text
-  WriterText : Text
+  ReaderText : (text : List ℕ) → Text
+  WriterText : (text : List ℕ) → Text
 
 -- members in a row as a list
 abbrev pub listed : tree.Members → List tree.Member

@@ -40,9 +40,11 @@ fn unshadowed(
         (plain_names variables.now.names) constants.now) }
 {
     let mut left = Constants::new(alloc);
-    for (name, value) in constants.pairs() {
-        if !variables.names().has_since(0, name) {
-            left.push(name.copy()?, *value)?;
+    for number in 0..constants.len() {
+        let (name, value) = constants.at(number);
+        let name = Name::new(name.to_vec(alloc)?);
+        if !variables.names().has_since(0, &name) {
+            left.push(&name, value)?;
         }
     }
     Ok(left)
@@ -65,7 +67,7 @@ fn capture(
     if kind == ValueType::Int {
         let name = Name::new(name.to_vec(alloc)?);
         if !variables.names().has_since(number + 1, &name) {
-            captures.push(name, variables.first_cell(number))?;
+            captures.push(&name, variables.first_cell(number))?;
         }
     }
     Ok(())

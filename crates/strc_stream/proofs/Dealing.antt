@@ -65,8 +65,8 @@ mutual
   deal : (stream : Stream) → IsWellTyped stream → AllByRecursion Deals (nodes_of stream)
   deal (Filter name filter) typed = (tt, tt)
   deal Identity typed = (tt, tt)
-  deal FileReader typed = (tt, tt)
-  deal FileWriter typed = (tt, tt)
+  deal (FileReader text) typed = (tt, tt)
+  deal (FileWriter text) typed = (tt, tt)
   deal (Pipeline children) typed = row_deals children typed.1
   deal (SplitJoin splitter children joiner) typed =
       both Deals (splitter_nodes splitter ++ row_nodes children) (joiner_nodes joiner)

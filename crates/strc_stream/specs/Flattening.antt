@@ -19,8 +19,8 @@ abbrev mutual
   pub tree_of : Stream → trees.Stream NodeCode
   tree_of (Filter name filter) = trees.One (graphs.Filter name filter)
   tree_of Identity = trees.One graphs.Identity
-  tree_of FileReader = trees.Reader graphs.FileReader
-  tree_of FileWriter = trees.One graphs.FileWriter
+  tree_of (FileReader text) = trees.Reader (graphs.FileReader text)
+  tree_of (FileWriter text) = trees.One (graphs.FileWriter text)
   tree_of (Pipeline children) = trees.Pipeline (trees_of children)
   tree_of (SplitJoin splitter children joiner) = trees.SplitJoin (option_map graphs.Splitter splitter)
       (trees_of children) (option_map graphs.Joiner joiner)
@@ -61,8 +61,8 @@ abbrev mutual
   pub nodes_of : Stream → List NodeCode
   nodes_of (Filter name filter) = graphs.Filter name filter ∷ []
   nodes_of Identity = graphs.Identity ∷ []
-  nodes_of FileReader = graphs.FileReader ∷ []
-  nodes_of FileWriter = graphs.FileWriter ∷ []
+  nodes_of (FileReader text) = graphs.FileReader text ∷ []
+  nodes_of (FileWriter text) = graphs.FileWriter text ∷ []
   nodes_of (Pipeline children) = row_nodes children
   nodes_of (SplitJoin splitter children joiner) =
       splitter_nodes splitter ++ row_nodes children ++ joiner_nodes joiner

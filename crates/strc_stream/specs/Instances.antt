@@ -10,8 +10,8 @@ mutual
     -- a filter with its constants put in, by its declared name; an anonymous one has none
     Filter : (name : Option (List ℕ)) (filter : filters.Filter) → Stream
     Identity : Stream
-    FileReader : Stream
-    FileWriter : Stream
+    FileReader : (text : List ℕ) → Stream
+    FileWriter : (text : List ℕ) → Stream
     Pipeline : (children : Streams) → Stream
     -- one whose input is void has no splitter, and one whose output is void has no joiner
     SplitJoin : (splitter : Option SplitterCode) (children : Streams) (joiner : Option (List ℕ))

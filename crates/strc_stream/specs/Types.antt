@@ -29,8 +29,8 @@ abbrev mutual
   pub input_of : Stream → ItemType
   input_of (Filter name filter) = filter.input
   input_of Identity = item.Int
-  input_of FileReader = item.Void
-  input_of FileWriter = item.Int
+  input_of (FileReader text) = item.Void
+  input_of (FileWriter text) = item.Int
   input_of (Pipeline children) = first_input children
   input_of (SplitJoin splitter children joiner) = side_at splitter
   input_of (FeedbackLoop joiner body splitter loop enqueued) = side (carries_in (Joiner joiner) 0)
@@ -45,8 +45,8 @@ abbrev mutual
   pub output_of : Stream → ItemType
   output_of (Filter name filter) = filter.output
   output_of Identity = item.Int
-  output_of FileReader = item.Int
-  output_of FileWriter = item.Void
+  output_of (FileReader text) = item.Int
+  output_of (FileWriter text) = item.Void
   output_of (Pipeline children) = last_output item.Void children
   output_of (SplitJoin splitter children joiner) = side_at joiner
   output_of (FeedbackLoop joiner body splitter loop enqueued) = side (splitter_carries splitter 0)
@@ -115,8 +115,8 @@ abbrev mutual
   pub IsWellTyped : Stream → Type 0
   IsWellTyped (Filter name filter) = Unit {0}
   IsWellTyped Identity = Unit {0}
-  IsWellTyped FileReader = Unit {0}
-  IsWellTyped FileWriter = Unit {0}
+  IsWellTyped (FileReader text) = Unit {0}
+  IsWellTyped (FileWriter text) = Unit {0}
   IsWellTyped (Pipeline children) = HasFirst children × AreWellTyped children
   IsWellTyped (SplitJoin splitter children joiner) = HasFirst children × AreEach children
       × IsSplit splitter (inputs_of children) × IsJoined joiner (outputs_of children)

@@ -13,8 +13,8 @@ abbrev mutual
   pub stream_view : Stream → instances.Stream
   stream_view (stream.Filter instance) = instances.Filter instance.name (filter_of instance.code)
   stream_view stream.Identity = instances.Identity
-  stream_view stream.FileReader = instances.FileReader
-  stream_view stream.FileWriter = instances.FileWriter
+  stream_view (stream.FileReader text) = instances.FileReader text
+  stream_view (stream.FileWriter text) = instances.FileWriter text
   stream_view (stream.Pipeline' shape children) = instances.Pipeline (row_view children)
   stream_view (stream.SplitJoin' splitter shape children joiner) =
       instances.SplitJoin (option_map splitter_view splitter) (row_view children)

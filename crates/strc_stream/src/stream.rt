@@ -2,6 +2,7 @@
 
 use strc_graph::graph::Splitter;
 use strc_graph::instance::Instance;
+use strc_lex::token::StringLiteral;
 
 /// A stream, with its constants put in (StreamIt specification 2.1, "Streams").
 #[derive(Drop)]
@@ -10,10 +11,10 @@ pub enum Stream {
     Filter(Instance),
     /// What comes in goes out, item by item.
     Identity,
-    /// What gives the program's input.
-    FileReader,
-    /// What writes each item.
-    FileWriter,
+    /// What gives the program's input; what stands between its brackets.
+    FileReader(StringLiteral),
+    /// What writes each item; what stands between its brackets.
+    FileWriter(StringLiteral),
     /// Streams in a row: what one gives is what the next one takes.
     Pipeline(Vec<Stream>),
     /// Streams side by side, between a splitter, where they take items, and a joiner, where they

@@ -6,7 +6,7 @@ use std::io::{ErrorKind, Read, Write};
 use std::test::Fail;
 use strc_cli::device::{Sink, Source, Told};
 use strc_cli::execute::{CliError, Status, execute};
-use strc_cli::line::Command;
+use strc_command::line::Command;
 use strc_cli::program_text::{TextFault, read_text};
 
 // A source and a printer in a pipeline.

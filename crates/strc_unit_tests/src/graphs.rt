@@ -7,7 +7,7 @@ use std::test::Fail;
 use strc_flatten::flatten::flatten;
 use strc_graph::graph::{Graph, Splitter};
 use strc_graph::instance::Instance;
-use strc_lex::token::Name;
+use strc_lex::token::{Name, StringLiteral};
 use strc_stream::stream::Stream;
 
 /// A stream of the only filter in a text, with a name or without one.
@@ -78,9 +78,9 @@ fn pipelines_are_rows(rt: HostRuntime) -> Result<(), Fail> {
 /// A program that reads, a stream in the middle, and a writer.
 fn between(alloc: Global, stream: Stream) -> Result<Stream, AllocError> {
     let mut children = Vec::new(alloc);
-    children.push(Stream::FileReader)?;
+    children.push(Stream::FileReader(StringLiteral::new(Vec::new(alloc))))?;
     children.push(stream)?;
-    children.push(Stream::FileWriter)?;
+    children.push(Stream::FileWriter(StringLiteral::new(Vec::new(alloc))))?;
     Ok(Stream::Pipeline(children))
 }
 

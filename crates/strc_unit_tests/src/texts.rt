@@ -27,7 +27,7 @@ pub(crate) fn code(alloc: Global, text: &str) -> Result<Code, Fail> {
     };
     let mut constants = Constants::new(alloc);
     let limit = Name::new(Vec::from_slice(alloc, b"limit")?);
-    if constants.push(limit, 8).is_err() {
+    if constants.push(&limit, 8).is_err() {
         return Err(Fail::from("NoMemory"));
     }
     match lower(alloc, filter, &constants) {

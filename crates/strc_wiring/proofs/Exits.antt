@@ -24,8 +24,8 @@ mutual
   exit (Filter name filter) first target is =
       wire_ends (is_int filter.output) first 0 target (ap is_int is)
   exit Identity first target is = wire_ends true first 0 target refl
-  exit FileReader first target is = wire_ends true first 0 target refl
-  exit FileWriter first target is = absurd (no_items is)
+  exit (FileReader text) first target is = wire_ends true first 0 target refl
+  exit (FileWriter text) first target is = absurd (no_items is)
   exit (Pipeline children) first target is = row_exit children first target is
   exit (SplitJoin splitter children joiner) first target is =
       let inner = first + length (splitter_nodes splitter) in

@@ -51,9 +51,9 @@ module _ (nodes : List NodeCode) (source : ℕ → ℕ → Source) where
     }
     inlet Identity first before at is =
         record { taken = takes nodes first 0 graphs.Identity at.0; comes = at.1 }
-    inlet FileReader first before at is = absurd (no_items is)
-    inlet FileWriter first before at is =
-        record { taken = takes nodes first 0 graphs.FileWriter at.0; comes = at.1 }
+    inlet (FileReader text) first before at is = absurd (no_items is)
+    inlet (FileWriter text) first before at is =
+        record { taken = takes nodes first 0 (graphs.FileWriter text) at.0; comes = at.1 }
     inlet (Pipeline children) first before at is = row_inlet children first before at is
     inlet (SplitJoin None children joiner) first before at is = absurd (no_items is)
     inlet (SplitJoin (Some splitter) children joiner) first before at is = record {

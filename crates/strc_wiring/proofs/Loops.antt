@@ -31,8 +31,8 @@ mutual
       → length (outer_loops first stream) ≡ length (nodes_of stream)
   loops_are_by_node (Filter name filter) first = refl
   loops_are_by_node Identity first = refl
-  loops_are_by_node FileReader first = refl
-  loops_are_by_node FileWriter first = refl
+  loops_are_by_node (FileReader text) first = refl
+  loops_are_by_node (FileWriter text) first = refl
   loops_are_by_node (Pipeline children) first = row_is_by_node children first
   loops_are_by_node (SplitJoin splitter children joiner) first =
       both _ _ (splitter_nodes splitter ++ row_nodes children) (joiner_nodes joiner)

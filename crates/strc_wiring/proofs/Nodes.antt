@@ -45,8 +45,8 @@ mutual
   pub nodes_are_codes : (stream : Stream) → IsWellTyped stream → nodes_of stream ≡ codes_of stream
   nodes_are_codes (Filter name filter) typed = refl
   nodes_are_codes Identity typed = refl
-  nodes_are_codes FileReader typed = refl
-  nodes_are_codes FileWriter typed = refl
+  nodes_are_codes (FileReader text) typed = refl
+  nodes_are_codes (FileWriter text) typed = refl
   nodes_are_codes (Pipeline children) typed = row_is_codes children typed.0 typed.1
   nodes_are_codes (SplitJoin splitter children joiner) typed =
       append_assoc (splitter_nodes splitter) (row_nodes children) (joiner_nodes joiner)

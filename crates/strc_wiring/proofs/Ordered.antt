@@ -131,8 +131,8 @@ mutual
   spans (Filter name filter) first target =
       node_wire (is_int filter.output) first (first + 1) target refl
   spans Identity first target = node_wire true first (first + 1) target refl
-  spans FileReader first target = node_wire true first (first + 1) target refl
-  spans FileWriter first target = none _ _ (inl (omega arith))
+  spans (FileReader text) first target = node_wire true first (first + 1) target refl
+  spans (FileWriter text) first target = none _ _ (inl (omega arith))
   spans (Pipeline children) first target = row_spans children first target
   spans (SplitJoin splitter children joiner) first target =
       let inner = first + length (splitter_nodes splitter) in

@@ -33,8 +33,8 @@ abbrev mutual
   pub outlet : (first : ℕ) → Stream → Source
   outlet first (Filter name filter) = from first 0
   outlet first Identity = from first 0
-  outlet first FileReader = from first 0
-  outlet first FileWriter = from first 0
+  outlet first (FileReader text) = from first 0
+  outlet first (FileWriter text) = from first 0
   outlet first (Pipeline children) = row_outlet first children
   outlet first (SplitJoin splitter children joiner) =
       joiner_outlet (first + length (splitter_nodes splitter) + length (row_nodes children)) joiner
@@ -77,8 +77,8 @@ mutual
       → (layout (tree_of stream)).outlet first 0 ≡ outlet first stream
   outlet_is (Filter name filter) typed first = refl
   outlet_is Identity typed first = refl
-  outlet_is FileReader typed first = refl
-  outlet_is FileWriter typed first = refl
+  outlet_is (FileReader text) typed first = refl
+  outlet_is (FileWriter text) typed first = refl
   outlet_is (Pipeline children) typed first = row_outlet_is children typed.0 typed.1 first
   outlet_is (SplitJoin splitter children joiner) typed first =
       joiner_outlet_is joiner _

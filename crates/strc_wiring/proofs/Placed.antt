@@ -31,8 +31,8 @@ module _ (nodes : List NodeCode) (source : ℕ → ℕ → Source) where
     pub Placed : (first : ℕ) → Source → Stream → Type 0
     Placed first before (Filter name filter) = IsNode first before (graphs.Filter name filter)
     Placed first before Identity = IsNode first before graphs.Identity
-    Placed first before FileReader = IsNode first program_input graphs.FileReader
-    Placed first before FileWriter = IsNode first before graphs.FileWriter
+    Placed first before (FileReader text) = IsNode first program_input (graphs.FileReader text)
+    Placed first before (FileWriter text) = IsNode first before (graphs.FileWriter text)
     Placed first before (Pipeline children) = PlacedRow first before children
     Placed first before (SplitJoin splitter children joiner) =
         PlacedSplitter first before splitter

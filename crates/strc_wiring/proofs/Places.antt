@@ -33,11 +33,11 @@ module _ (nodes : List NodeCode) (source : ℕ → ℕ → Source) where
     ap (λ (f : ℕ → Source). f 0) (node_source nodes source code first before sits),
   )
 
-  reader_placed : (first : ℕ) (before : ℕ → Source)
-      → Sits nodes source (layout (tree_of FileReader)) first before
-      → Placed nodes source first (before 0) FileReader
+  reader_placed : (text : List ℕ) (first : ℕ) (before : ℕ → Source)
+      → Sits nodes source (layout (tree_of (FileReader text))) first before
+      → Placed nodes source first (before 0) (FileReader text)
   unfolding layout node_layout source_at_0
-  reader_placed first before sits =
+  reader_placed text first before sits =
       (sits.codes.0, ap (λ (f : ℕ → Source). f 0) sits.sources.0)
 
   splitter_placed : (splitter : Option SplitterCode) (first : ℕ) (before : ℕ → Source)
@@ -109,8 +109,8 @@ module _ (nodes : List NodeCode) (source : ℕ → ℕ → Source) where
     placed (Filter name filter) typed first before sits =
         node_placed (graphs.Filter name filter) first before sits
     placed Identity typed first before sits = node_placed graphs.Identity first before sits
-    placed FileReader typed first before sits = reader_placed first before sits
-    placed FileWriter typed first before sits = node_placed graphs.FileWriter first before sits
+    placed (FileReader text) typed first before sits = reader_placed text first before sits
+    placed (FileWriter text) typed first before sits = node_placed (graphs.FileWriter text) first before sits
     placed (Pipeline children) typed first before sits =
         row_placed children typed.0 typed.1 first before sits
     placed (SplitJoin splitter children joiner) typed first before sits =

@@ -13,25 +13,26 @@ use Rattle.strc_wiring.proofs.Placed.{Placed, PlacedRow, PlacedBranches}
 
 module _ (nodes : List NodeCode) (source : ℕ → ℕ → Source) where
   abbrev pub IsReader : ℕ → NodeCode → Type 0
-  IsReader number code = code ≡ graphs.FileReader → source number 0 ≡ program_input
+  IsReader number code =
+      (text : List ℕ) → code ≡ graphs.FileReader text → source number 0 ≡ program_input
 
   no_splitter : (splitter : Option SplitterCode) (first : ℕ)
       → Numbered IsReader first (splitter_nodes splitter)
   no_splitter None first = tt
-  no_splitter (Some splitter) first = (λ is. absurd (cc), tt)
+  no_splitter (Some splitter) first = (λ text is. absurd (cc), tt)
 
   no_joiner : (joiner : Option (List ℕ)) (first : ℕ)
       → Numbered IsReader first (joiner_nodes joiner)
   no_joiner None first = tt
-  no_joiner (Some weights) first = (λ is. absurd (cc), tt)
+  no_joiner (Some weights) first = (λ text is. absurd (cc), tt)
 
   mutual
     pub readers : (stream : Stream) (first : ℕ) (before : Source)
         → Placed nodes source first before stream → Numbered IsReader first (nodes_of stream)
-    readers (Filter name filter) first before at = (λ is. absurd (cc), tt)
-    readers Identity first before at = (λ is. absurd (cc), tt)
-    readers FileReader first before at = (λ is. at.1, tt)
-    readers FileWriter first before at = (λ is. absurd (cc), tt)
+    readers (Filter name filter) first before at = (λ text is. absurd (cc), tt)
+    readers Identity first before at = (λ text is. absurd (cc), tt)
+    readers (FileReader text) first before at = (λ given is. at.1, tt)
+    readers (FileWriter text) first before at = (λ given is. absurd (cc), tt)
     readers (Pipeline children) first before at = row_readers children first before at
     readers (SplitJoin splitter children joiner) first before at =
         join IsReader (splitter_nodes splitter ++ row_nodes children) (joiner_nodes joiner) first
@@ -47,11 +48,11 @@ module _ (nodes : List NodeCode) (source : ℕ → ℕ → Source) where
         let past_split : second ≡ suc split = omega arith in
         join IsReader (graphs.Joiner joiner ∷ nodes_of body)
         (graphs.Splitter splitter ∷ nodes_of loop) first (
-          λ is. absurd (cc),
+          λ text is. absurd (cc),
           subst (λ n. Numbered IsReader n (nodes_of body)) next (readers body (first + 1) _ at.2),
         )
         (subst (λ n. Numbered IsReader n (graphs.Splitter splitter ∷ nodes_of loop)) to_split (
-          λ is. absurd (cc),
+          λ text is. absurd (cc),
           subst (λ n. Numbered IsReader n (nodes_of loop)) past_split (readers loop second _ at.4),
         ))
 

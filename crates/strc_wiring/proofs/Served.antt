@@ -70,8 +70,8 @@ mutual
       (λ port carries. inl (filter_port filter.input first port carries), tt)
   served Identity typed first target =
       (λ port carries. inl (refl, only_port port carries, refl), tt)
-  served FileReader typed first target = (λ port carries. absurd (no_port port carries), tt)
-  served FileWriter typed first target =
+  served (FileReader text) typed first target = (λ port carries. absurd (no_port port carries), tt)
+  served (FileWriter text) typed first target =
       (λ port carries. inl (refl, only_port port carries, refl), tt)
   served (Pipeline children) typed first target = row_served children typed.1 first target
   served (SplitJoin splitter children joiner) typed first target =

@@ -173,13 +173,13 @@ all_served stream closed node port (inr ends) = ends_number (wires 0 stream None
 pub wires_are_programs : WiresArePrograms
 wires_are_programs stream closed one_input one_output = record {
   flat = wires_are_flat stream closed.typed;
-  inputs = λ node reads.
+  inputs = λ node text reads.
       let plain : 0 + node ≡ node = omega arith in
       let P = IsReader (nodes_of stream) (source_at stream) in
-      subst (λ n. P n graphs.FileReader) plain
-      (numbered_get P (nodes_of stream) 0 node graphs.FileReader
+      subst (λ n. P n (graphs.FileReader text)) plain
+      (numbered_get P (nodes_of stream) 0 node (graphs.FileReader text)
       (readers (nodes_of stream) (source_at stream) stream 0 nothing
-      (whole_placed stream closed.typed)) reads) refl;
+      (whole_placed stream closed.typed)) reads) text refl;
   fed = λ node port takes. all_served stream closed node port
       (whole_served stream closed.typed node port takes);
   one_input = one_input;

@@ -48,10 +48,10 @@ module _ (nodes : List NodeCode) (source : ℕ → ℕ → Source) where
     comes Identity typed first before target at there =
         wire_comes nodes source true first 0 target (λ e. gives nodes first 0 graphs.Identity at.0)
         (λ e. there refl)
-    comes FileReader typed first before target at there =
+    comes (FileReader text) typed first before target at there =
         wire_comes nodes source true first 0 target
-        (λ e. gives nodes first 0 graphs.FileReader at.0) (λ e. there refl)
-    comes FileWriter typed first before target at there = tt
+        (λ e. gives nodes first 0 (graphs.FileReader text) at.0) (λ e. there refl)
+    comes (FileWriter text) typed first before target at there = tt
     comes (Pipeline children) typed first before target at there =
         row_comes children typed.1 first before target at there
     comes (SplitJoin splitter children joiner) typed first before target at there =

@@ -60,8 +60,8 @@ abbrev mutual
   pub wires : (first : ℕ) → Stream → Option Target → List Channel
   wires first (Filter name filter) target = wire (is_int filter.output) first 0 target
   wires first Identity target = wire true first 0 target
-  wires first FileReader target = wire true first 0 target
-  wires first FileWriter target = []
+  wires first (FileReader text) target = wire true first 0 target
+  wires first (FileWriter text) target = []
   wires first (Pipeline children) target = row_wires first children target
   wires first (SplitJoin splitter children joiner) target =
       splitter_wires first splitter children

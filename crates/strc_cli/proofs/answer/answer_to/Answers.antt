@@ -1,9 +1,10 @@
 use Rattle.std.proofs.Common.{ℕ, List, Option, length, ap, subst, sym, inl, inr}
 use Rattle.strc_stage.specs.Plans.{planning_of}
 use Rattle.strc_run.specs.Plans.{IsPlanOf}
-use Rattle.strc_cli.specs.Answering.{HasSize, IsAsked, IsAnswered, ReadsInput, main_of}
+use Rattle.strc_cli.specs.Answering.{HasSize, IsAsked, IsAnswered, ReadsInput}
+use Rattle.strc_command.specs.Lines.{main_of}
 use Rattle.strc_cli.specs.declared.answer.Answer.TheVariants as answer
-use Rattle.strc_cli.specs.declared.line.Command.{Command}
+use Rattle.strc_command.specs.declared.line.Command.{Command}
 use Rattle.strc_cli.proofs.PlanAnswers.{plan_size, reads_text}
 use Rattle.strc_cli.proofs.answer.answer_to.Goals as goal
 

@@ -20,7 +20,7 @@ use Rattle.strc_elab.proofs.Bodies.{statement_names_left, stmts_go_on, names_go_
 use Rattle.strc_elab.proofs.Bodies.{seen_condition, for_runs}
 use Rattle.strc_elab.proofs.LoopRuns.{Test, Step, test_refused, loop_ends, turn_refused}
 use Rattle.strc_elab.proofs.LoopRuns.{body_refused, loop_goes_on, loop_over}
-use Rattle.strc_elab.proofs.Refusals.{refused_same, first_refused, second_refused, both_done}
+use Rattle.strc_weights.proofs.Refusals.{refused_same, first_refused, second_refused, both_done}
 use Rattle.strc_elab.proofs.body.Body.+body.Goals as goal
 
 pub inside-returns-clause-runs : goal.inside-returns-clause-runs

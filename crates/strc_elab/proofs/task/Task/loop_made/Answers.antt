@@ -4,12 +4,13 @@ use Rattle.std.proofs.lemmas.Result.{err_from_is_err_and}
 use Rattle.strc_graph.specs.NodeView.{splitter_view}
 use Rattle.strc_stream.specs.Types.{side}
 use Rattle.strc_scope.specs.Answers.{IsRefusal}
-use Rattle.strc_elab.specs.Answering.{progress_of, split_view}
-use Rattle.strc_elab.specs.Weights.{weighted, loop_weights, loop_splitter, input_written}
-use Rattle.strc_elab.specs.Weights.{output_written}
+use Rattle.strc_elab.specs.Answering.{progress_of}
+use Rattle.strc_weights.specs.Splits.{split_view}
+use Rattle.strc_weights.specs.Weights.{weighted, loop_weights, loop_splitter, input_written}
+use Rattle.strc_weights.specs.Weights.{output_written}
 use Rattle.strc_elab.proofs.Composites.{loop_starts, joiner_refused, splitter_refused}
 use Rattle.strc_elab.proofs.Composites.{types_refused}
-use Rattle.strc_elab.proofs.Refusals.{refused_same}
+use Rattle.strc_weights.proofs.Refusals.{refused_same}
 use Rattle.strc_elab.proofs.task.Task.loop_made.Goals as goal
 
 pub returns-in_err-joiner-in-Some-Some : goal.returns-in_err-joiner-in-Some-Some

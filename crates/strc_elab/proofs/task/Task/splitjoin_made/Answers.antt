@@ -1,9 +1,10 @@
 use Rattle.std.proofs.Common.{◌≡◌, length, option_map, Ok, sym, ap, ◌∙◌, subst, rules}
 use Rattle.strc_graph.specs.NodeView.{splitter_view}
-use Rattle.strc_elab.specs.Answering.{progress_of, split_view, join_view}
+use Rattle.strc_elab.specs.Answering.{progress_of, join_view}
+use Rattle.strc_weights.specs.Splits.{split_view}
 use Rattle.strc_elab.specs.Elaboration as spec
-use Rattle.strc_elab.specs.Elaboration.{inputs_in, outputs_in, any_side}
-use Rattle.strc_elab.specs.Weights.{split_dealt, join_dealt}
+use Rattle.strc_weights.specs.Sides.{inputs_in, outputs_in, any_side}
+use Rattle.strc_weights.specs.Weights.{split_dealt, join_dealt}
 use Rattle.strc_elab.proofs.Composites.{splitjoin_done}
 use Rattle.strc_elab.proofs.task.Task.splitjoin_made.Goals as goal
 

@@ -1,0 +1,4 @@
+pub mod CommandWords
+pub mod FaultlessWords
+pub mod LineWords
+pub mod Parsers

@@ -1,0 +1,93 @@
+-- What the reading of a line's matches has found.
+use Rattle.std.proofs.Common.{◌≡◌, ◌∙◌, ◌^◌, ◌<◌, ℕ, refl, sym, subst, true, List, Option, Some}
+use Rattle.std.proofs.Common.{None, Result, Ok, Err, is_some, codes, inl, inr}
+use Rattle.std.specs.Prelude.{option_map}
+use Rattle.std.specs.Str.Parse.{ExplainsUnsignedError, HasUnsignedDigitsIfOk, ParsesUnsigned}
+use Rattle.std.specs.declared.num.ParseIntError.{ParseIntError}
+use Rattle.std.specs.Box.{box_value}
+use Rattle.clap.specs.Matches.{TriesOne, found_of, subcommand_name_of}
+use Rattle.clap.specs.Simple.{subcommand_rows_of}
+use Rattle.clap.specs.declared.parser.matches.ArgMatches.{ArgMatches}
+use Rattle.clap.specs.declared.parser.matches.ArgMatches.TheViews.{out-ArgMatches, out-SubCommand}
+use Rattle.clap.specs.Walk.{Row, Text, first_of, one_of, rows_of}
+use Rattle.strc_command.specs.Lines.{IsCommand, IsKnown, IsNumberOf}
+
+some_same : {A : Type 0} (one other : A) → Some one ≡ Some other → one ≡ other
+some_same one other is = cc
+
+-- the name and the rows of what was met
+met_both : {B : Type 0} (met : Option B) (name : B → Text) (rows : B → List Row) (text : Text)
+    (all : List Row) → option_map name met ≡ Some text
+    → option_map (λ (p : Text × List Row). p.1)
+    (option_map {U = Text × List Row} (λ b. (name b, rows b)) met) ≡ Some all
+    → option_map {U = Text × List Row} (λ b. (name b, rows b)) met ≡ Some (text, all)
+met_both None name rows text all named found = cc
+met_both (Some b) name rows text all named found =
+    rw (some_same _ _ named, some_same _ _ found) refl
+
+pub subcommand_met : (matches : ArgMatches) (name : Text) (rows : List Row)
+    → subcommand_name_of matches ≡ Some name
+    → option_map (λ (p : Text × List Row). p.1) (subcommand_rows_of matches) ≡ Some rows
+    → subcommand_rows_of matches ≡ Some (name, rows)
+subcommand_met matches name rows =
+    met_both (out-ArgMatches matches).subcommand (λ b. (out-SubCommand (box_value b)).name.now)
+    (λ b. rows_of (found_of (out-SubCommand (box_value b)).matches)) name rows
+
+-- a command that was met is one that has this name and these rows
+same_met : (met : Option (Text × List Row)) (name : Text) (found : List Row)
+    → met ≡ Some (name, found)
+    → (command : IsCommand met)
+    → ◌≡◌ {A = Text × List Row} (command.name, command.rows) (name, found)
+same_met met name found is command = some_same _ _ (sym command.is ∙ is)
+
+pub no_file : (met : Option (Text × List Row)) (name : Text) (found : List Row)
+    → met ≡ Some (name, found)
+    → first_of (codes "FILE") found ≡ None → IsCommand met → ⊥
+no_file met name found is none command =
+    let given : is_some (first_of (codes "FILE") found) ≡ true =
+    subst (λ (p : Text × List Row). is_some (first_of (codes "FILE") p.1) ≡ true)
+    (same_met met name found is command) command.file in
+    cc
+
+pub not_known : (met : Option (Text × List Row)) (name : Text) (found : List Row)
+    → met ≡ Some (name, found)
+    → (IsKnown name found → ⊥) → IsCommand met → ⊥
+not_known met name found is none command =
+    none
+    (subst (λ (p : Text × List Row). IsKnown p.0 p.1) (same_met met name found is command)
+    command.known)
+
+-- `run` with a text that is no number is no subcommand that is known
+pub no_number : (name : Text) (rows : List Row) → name ≡ codes "run"
+    → ((number : Option ℕ) → IsNumberOf (one_of (codes "rounds") rows) number → ⊥)
+    → IsKnown name rows → ⊥
+no_number name rows run none (inl (is, (number, reads))) = none number reads
+no_number name rows run none (inr (inl is)) = cc
+no_number name rows run none (inr (inr (inl is))) = cc
+no_number name rows run none (inr (inr (inr is))) = cc
+
+-- how a text is read as a number of 32 bits
+abbrev pub Gives : Text → Result ℕ ParseIntError → Type 0
+Gives text result = ParsesUnsigned 32 10 text result × ExplainsUnsignedError 10 text result
+    × HasUnsignedDigitsIfOk text result
+
+-- what is read of a text that may be given
+pub reads : (given : Option Text) (number : Option ℕ)
+    → (given ≡ None → ◌≡◌ {A = Result (Option ℕ) ParseIntError} (Ok number) (Ok None))
+    → ((text : Text) → given ≡ Some text → TriesOne Gives text (Ok number))
+    → IsNumberOf given number
+reads None None none some = tt
+reads None (Some number) none some = let bad = none refl in cc
+reads (Some text) (Some number) none some =
+    let parsed = some text refl in
+    (parsed.0.0.0, sym parsed.0.1, subst (λ (n : ℕ). n < 2 ^ 32) (sym parsed.0.1) parsed.0.0.1)
+reads (Some text) None none some = some text refl
+
+pub reads_none : (given : Option Text) (error : ParseIntError)
+    → (given ≡ None → ◌≡◌ {A = Result (Option ℕ) ParseIntError} (Err error) (Ok None))
+    → ((text : Text) → given ≡ Some text → TriesOne Gives text (Err error)) → (number : Option ℕ)
+    → IsNumberOf given number → ⊥
+reads_none None error none some number is = let bad = none refl in cc
+reads_none (Some text) error none some (Some number) is =
+    (some text refl).0 (is.0, subst (λ (n : ℕ). n < 2 ^ 32) (sym is.1) is.2)
+reads_none (Some text) error none some None is = is

@@ -1,0 +1,135 @@
+-- What the words of a command line ask for. After the program's name they are
+-- `run FILE [--rounds N] [--main NAME]`, `check FILE [--main NAME]`, `plan FILE [--main NAME]` or
+-- `graph FILE [--main NAME]`, and are read as the crate `clap` reads the words of a command:
+-- `strc_app` describes ours.
+use Rattle.std.specs.Prelude.{◌≡◌, ◌⊎◌, ℕ, ◌<◌, ◌^◌, pos, true, List, []}
+use Rattle.std.specs.Prelude.{Option, Some, None, IsSome, option_map, string_bytes, codes}
+use Rattle.std.specs.Str.Parse.{IsNumeral, digits_value, without_leading_plus}
+use Rattle.clap.specs.Walk.{Row, Rule, Text, first_of, one_of}
+use Rattle.clap.specs.Simple.{App, new_app, new_rule, on_top, subcommand_of, with_rule}
+use Rattle.clap.specs.Simple.{with_subcommand}
+use Rattle.clap.specs.Faults.{fault_of}
+use Rattle.clap.specs.Kinds.{Kinds}
+use Rattle.clap.specs.declared.builder.value_parser.ValueParser.TheVariants.{Signed}
+use Rattle.clap.specs.declared.error.kind.ErrorKind.{ErrorKind}
+use Rattle.clap.specs.declared.error.kind.ErrorKind.TheVariants.{OutOfMemory}
+use Rattle.strc_command.specs.declared.line.Line.{Line}
+use Rattle.strc_command.specs.declared.line.LineFault.{LineFault}
+use Rattle.strc_command.specs.declared.line.LineFault.TheVariants as fault
+use Rattle.strc_command.specs.declared.line.Command.{Command}
+use Rattle.strc_command.specs.declared.line.Command.TheVariants as command
+
+-- the name of the main stream that a command gives
+abbrev pub main_of : Command → Option (List ℕ)
+main_of (command.Run rounds main) = option_map string_bytes main
+main_of (command.Check main) = option_map string_bytes main
+main_of (command.Plan main) = option_map string_bytes main
+main_of (command.Graph main) = option_map string_bytes main
+
+-- without words the text comes from standard input, and five rounds are run
+abbrev pub default_line : Line
+default_line = record { file = None; command = command.Run (Some 5) None }
+
+-- FILE, which has to be given
+abbrev pub file_rule : Rule
+file_rule = record (new_rule (codes "FILE")) { required = true }
+
+-- `--rounds N`, a number of 32 bits
+abbrev pub rounds_rule : Rule
+rounds_rule = record (new_rule (codes "rounds")) {
+  long = Some (codes "rounds");
+  value_names = 1;
+  parser = Some (Signed (pos 0) (pos 4294967295));
+}
+
+-- `--main NAME`
+abbrev pub main_rule : Rule
+main_rule = record (new_rule (codes "main")) { long = Some (codes "main"); value_names = 1 }
+
+-- the words of `run`
+abbrev pub run_app : App
+run_app = with_rule (with_rule (with_rule (new_app (codes "run")) file_rule) rounds_rule) main_rule
+
+-- the words of `check`
+abbrev pub check_app : App
+check_app = with_rule (with_rule (new_app (codes "check")) file_rule) main_rule
+
+-- the words of `plan`
+abbrev pub plan_app : App
+plan_app = with_rule (with_rule (new_app (codes "plan")) file_rule) main_rule
+
+-- the words of `graph`
+abbrev pub graph_app : App
+graph_app = with_rule (with_rule (new_app (codes "graph")) file_rule) main_rule
+
+-- the words of the program, which wants a subcommand
+abbrev pub strc_app : App
+strc_app =
+    let strc = on_top (λ shape. record shape { subcommand_required = true })
+    (new_app (codes "strc")) in
+    with_subcommand (with_subcommand (with_subcommand (with_subcommand strc run_app.top)
+    check_app.top) plan_app.top) graph_app.top
+
+-- decimal digits, with a plus sign before them or none, that write this number of 32 bits
+abbrev pub Writes32 : Text → ℕ → Type 0
+Writes32 text number =
+    let digits = without_leading_plus text in
+    IsNumeral 10 digits × (digits_value 10 digits ≡ number) × (number < 2 ^ 32)
+
+-- a number is there where a text is, and is what the text writes
+abbrev pub IsNumberOf : Option Text → Option ℕ → Type 0
+IsNumberOf None None = Unit {0}
+IsNumberOf (Some text) (Some number) = Writes32 text number
+IsNumberOf text number = ⊥
+
+-- this command is that of the name and of what was found for its options, whatever its main stream;
+-- `run` alone has a number of rounds
+abbrev pub IsCommandOf : Text → List Row → Command → Type 0
+IsCommandOf name rows (command.Run rounds main) =
+    (name ≡ codes "run") × IsNumberOf (one_of (codes "rounds") rows) rounds
+IsCommandOf name rows (command.Check main) = name ≡ codes "check"
+IsCommandOf name rows (command.Plan main) = name ≡ codes "plan"
+IsCommandOf name rows (command.Graph main) = name ≡ codes "graph"
+
+-- the line has what was found for a subcommand's FILE and options
+pub record IsLineOf (name : Text) (rows : List Row) (line : Line) : Type 0 where
+  pub given : IsSome line.file
+  pub file : option_map string_bytes line.file ≡ first_of (codes "FILE") rows
+  pub command : IsCommandOf name rows line.command
+  pub main : main_of line.command ≡ first_of (codes "main") rows
+
+-- a subcommand was met, and the line has what was found for its arguments
+abbrev pub IsLineIn : Option (Text × List Row) → Line → Type 0
+IsLineIn met line =
+    (name : Text) × (rows : List Row) × (met ≡ Some (name, rows)) × IsLineOf name rows line
+
+-- the name is that of a subcommand: `run`, with a number where one is given, `check`, `plan` or
+-- `graph`
+abbrev pub IsKnown : Text → List Row → Type 0
+IsKnown name rows =
+    ((name ≡ codes "run")
+    × ((number : Option ℕ) × IsNumberOf (one_of (codes "rounds") rows) number))
+    ⊎ ((name ≡ codes "check") ⊎ ((name ≡ codes "plan") ⊎ (name ≡ codes "graph")))
+
+-- one of the subcommands was met, with a FILE
+pub record IsCommand (met : Option (Text × List Row)) : Type 0 where
+  pub name : Text
+  pub rows : List Row
+  pub is : met ≡ Some (name, rows)
+  pub known : IsKnown name rows
+  pub file : IsSome (first_of (codes "FILE") rows)
+
+-- the kinds of error that the words may come to, other than out of memory; none where the words are
+-- taken
+abbrev pub faults : List Text → Kinds
+faults words = fault_of strc_app words
+
+-- the words are taken, and ask for this line
+pub record AsksFor (words : List Text) (line : Line) : Type 0 where
+  pub faultless : faults words ≡ []
+  pub asked : IsLineIn (subcommand_of strc_app words) line
+
+-- how a kind of error is reported
+abbrev pub fault_by : ErrorKind → LineFault
+fault_by OutOfMemory = fault.Memory
+fault_by kind = fault.Words

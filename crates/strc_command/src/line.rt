@@ -1,0 +1,50 @@
+// What a command line asks for.
+
+use thiserror::Error;
+
+/// What the program is to do.
+#[derive(Drop)]
+pub enum Command {
+    /// Run the program for so many rounds, or for as many as its input allows.
+    Run {
+        /// 0 to 4,294,967,295 rounds, where a number is given.
+        rounds: Option<u32>,
+        /// The name of the main stream, where one is given.
+        main: Option<String>,
+    },
+    /// Tell how large the program's flat graph is.
+    Check {
+        /// The name of the main stream, where one is given.
+        main: Option<String>,
+    },
+    /// Tell how often each node fires before the first round and in a round, and how large the
+    /// buffer of each channel is.
+    Plan {
+        /// The name of the main stream, where one is given.
+        main: Option<String>,
+    },
+    /// Draw the program's flat graph, as a text for Graphviz.
+    Graph {
+        /// The name of the main stream, where one is given.
+        main: Option<String>,
+    },
+}
+
+/// A line of words that was understood.
+#[derive(Drop)]
+pub struct Line {
+    /// The file of the program's text; without one it comes from standard input.
+    pub file: Option<String>,
+    pub command: Command,
+}
+
+/// Why a line of words was not understood.
+#[derive(Clone, Copy, Debug, PartialEq, Eq, Error)]
+pub enum LineFault {
+    /// The words are none that the program knows.
+    #[error("the words are no command of strc: `strc --help` lists them")]
+    Words,
+    /// Memory ran out.
+    #[error("the machine has no more memory to give for the words of the command line")]
+    Memory,
+}

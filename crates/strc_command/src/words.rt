@@ -1,0 +1,233 @@
+// The words of the command line.
+
+ghost use Rattle.std.specs.Prelude.{◌≡◌, ◌≢◌, ◌<◌, ◌≤◌, IfErr, IfOk, Ok, Err, [], false, length};
+ghost use Rattle.std.specs.Prelude.{option_map, string_bytes};
+ghost use Rattle.clap.specs.Words.{app_of, found_of, kind_of, rows_of, rule_of, subcommand_rows_of};
+ghost use Rattle.clap.specs.Walk.{texts};
+ghost use Rattle.clap.specs.declared.builder.command.Command.TheViews.{out-Command as fields_of};
+ghost use Rattle.strc_command.specs.Lines.{main_of};
+ghost use Rattle.strc_command.specs.Lines.{AsksFor, IsCommand, IsCommandOf, IsKnown, IsLineIn};
+ghost use Rattle.strc_command.specs.Lines.{check_app, default_line, fault_by, faults, file_rule};
+ghost use Rattle.strc_command.specs.Lines.{graph_app, main_rule, plan_app, rounds_rule, run_app};
+ghost use Rattle.strc_command.specs.Lines.{strc_app};
+
+use crate::line::{Command, Line, LineFault};
+use clap::error::ErrorKind;
+use clap::{Arg, ArgMatches, Error, value_parser};
+use std::alloc::{AllocError, Global};
+
+/// What `--version` says behind the program's name.
+pub const VERSION: &str = "0.9.0";
+
+// How many rounds the program runs with no words after its name.
+const BARE_ROUNDS: u32 = 5;
+
+/// Reads the words of a command line, the program's name first.
+///
+/// With no words after the name the text comes from standard input and runs for 5 rounds.
+/// Words that the program doesn't know, or a number past its bounds, are `Words`.
+pub fn command<'a>(alloc: Global, words: &'a [&'a str]) -> Result<Line, LineFault>
+    ensures bare { length words.now ≤ 1 → result ≡ Ok default_line }
+    ensures told { 1 < length words.now → IfOk result (AsksFor (texts words.now)) }
+    ensures refused { result ≡ Err LineFault.Words → faults (texts words.now) ≢ [] }
+{
+    if words.len() <= 1 {
+        return Ok(Line {
+            file: None,
+            command: Command::Run {
+                rounds: Some(BARE_ROUNDS),
+                main: None,
+            },
+        });
+    }
+    let Ok(parser) = parser(alloc) else {
+        return Err(LineFault::Memory);
+    };
+    match parser.try_get_matches_from(words) {
+        Ok(matches) => line_of(alloc, &matches),
+        Err(error) => Err(fault_of(&error)),
+    }
+}
+
+/// What is wrong with words that `command` doesn't understand, and how the program is called.
+pub fn usage_error<'a>(alloc: Global, words: &'a [&'a str]) -> Result<String, AllocError> {
+    match parser(alloc)?.try_get_matches_from(words) {
+        Ok(_) => Ok(String::new(alloc)),
+        Err(error) => error.to_string(alloc),
+    }
+}
+
+/// Whether words that `command` doesn't understand ask for help, so that what `usage_error` says of
+/// them is no error.
+pub fn asks_for_help<'a>(alloc: Global, words: &'a [&'a str]) -> Result<bool, AllocError> {
+    match parser(alloc)?.try_get_matches_from(words) {
+        Ok(_) => Ok(false),
+        Err(error) => Ok(!error.use_stderr()),
+    }
+}
+
+/// Whether words ask for the version, wherever they do so.
+pub fn asks_for_version(words: &[&str]) -> bool {
+    words
+        .iter()
+        .any(|word| *word == "--version" || *word == "-V")
+}
+
+// The words that the program knows.
+fn parser<'a>(alloc: Global) -> Result<clap::Command<'a>, AllocError>
+    ensures { IfOk result (λ parser. app_of parser ≡ strc_app) }
+{
+    clap::Command::new(alloc, "strc")
+        .about("A compiler of StreamIt programs")
+        .subcommand_required(true)
+        .subcommand(run_command(alloc)?)?
+        .subcommand(check_command(alloc)?)?
+        .subcommand(plan_command(alloc)?)?
+        .subcommand(graph_command(alloc)?)
+}
+
+// The words `run FILE [--rounds N] [--main NAME]`.
+fn run_command<'a>(alloc: Global) -> Result<clap::Command<'a>, AllocError>
+    ensures app { IfOk result (λ run. app_of run ≡ run_app) }
+    ensures local { IfOk result (λ run. (fields_of run).has_globals ≡ false) }
+{
+    clap::Command::new(alloc, "run")
+        .about("Runs a StreamIt program")
+        .arg(file_argument(alloc))?
+        .arg(rounds_option(alloc))?
+        .arg(main_option(alloc))
+}
+
+// The words `check FILE [--main NAME]`.
+fn check_command<'a>(alloc: Global) -> Result<clap::Command<'a>, AllocError>
+    ensures app { IfOk result (λ check. app_of check ≡ check_app) }
+    ensures local { IfOk result (λ check. (fields_of check).has_globals ≡ false) }
+{
+    clap::Command::new(alloc, "check")
+        .about("Checks a StreamIt program")
+        .arg(file_argument(alloc))?
+        .arg(main_option(alloc))
+}
+
+// The words `plan FILE [--main NAME]`.
+fn plan_command<'a>(alloc: Global) -> Result<clap::Command<'a>, AllocError>
+    ensures app { IfOk result (λ plan. app_of plan ≡ plan_app) }
+    ensures local { IfOk result (λ plan. (fields_of plan).has_globals ≡ false) }
+{
+    clap::Command::new(alloc, "plan")
+        .about("Tells how often each node of a StreamIt program fires")
+        .arg(file_argument(alloc))?
+        .arg(main_option(alloc))
+}
+
+// The words `graph FILE [--main NAME]`.
+fn graph_command<'a>(alloc: Global) -> Result<clap::Command<'a>, AllocError>
+    ensures app { IfOk result (λ graph. app_of graph ≡ graph_app) }
+    ensures local { IfOk result (λ graph. (fields_of graph).has_globals ≡ false) }
+{
+    clap::Command::new(alloc, "graph")
+        .about("Draws the flat graph of a StreamIt program, for Graphviz")
+        .arg(file_argument(alloc))?
+        .arg(main_option(alloc))
+}
+
+fn file_argument<'a>(alloc: Global) -> Arg<'a>
+    ensures rule { rule_of result ≡ file_rule }
+    ensures local { result.global ≡ false }
+{
+    Arg::new(alloc, "FILE")
+        .required(true)
+        .help("The file of the program's text")
+}
+
+fn rounds_option<'a>(alloc: Global) -> Arg<'a>
+    ensures rule { rule_of result ≡ rounds_rule }
+    ensures local { result.global ≡ false }
+{
+    Arg::new(alloc, "rounds")
+        .long("rounds")
+        .value_name("N")
+        .value_parser(value_parser!(u32))
+        .help("How many rounds to run after start-up")
+}
+
+fn main_option<'a>(alloc: Global) -> Arg<'a>
+    ensures rule { rule_of result ≡ main_rule }
+    ensures local { result.global ≡ false }
+{
+    Arg::new(alloc, "main")
+        .long("main")
+        .value_name("NAME")
+        .help("The main stream, where several could be it")
+}
+
+// The line that the matches of the words are.
+fn line_of(alloc: Global, matches: &ArgMatches) -> Result<Line, LineFault>
+    ensures told { IfOk result (IsLineIn (subcommand_rows_of matches.now)) }
+    ensures refused { result ≡ Err LineFault.Words
+        → IsCommand (subcommand_rows_of matches.now) → ⊥ }
+{
+    let Some((name, found)) = matches.subcommand() else {
+        return Err(LineFault::Words);
+    };
+    let Some(file) = found.get_str("FILE") else {
+        return Err(LineFault::Words);
+    };
+    let file = owned(alloc, file)?;
+    let main = owned_if_given(alloc, found.get_str("main"))?;
+    match command_of(name, found, main) {
+        Ok(command) => Ok(Line {
+            file: Some(file),
+            command,
+        }),
+        Err(fault) => Err(fault),
+    }
+}
+
+// The command of this name, with what was found for its options.
+fn command_of(name: &str, found: &ArgMatches, main: Option<String>) -> Result<Command, LineFault>
+    ensures told { IfOk result (λ command. IsCommandOf name.now (rows_of (found_of found.now))
+        command × (main_of command ≡ option_map string_bytes main)) }
+    ensures refused { IfErr result (λ fault. IsKnown name.now (rows_of (found_of found.now)) → ⊥) }
+{
+    match name {
+        "run" => match found.try_get_one::<u32>("rounds") {
+            Ok(rounds) => Ok(Command::Run { rounds, main }),
+            Err(_) => Err(LineFault::Words),
+        },
+        "check" => Ok(Command::Check { main }),
+        "plan" => Ok(Command::Plan { main }),
+        "graph" => Ok(Command::Graph { main }),
+        _ => Err(LineFault::Words),
+    }
+}
+
+fn owned_if_given(alloc: Global, text: Option<&str>) -> Result<Option<String>, LineFault>
+    ensures same { IfOk result (λ owned.
+        option_map string_bytes owned ≡ option_map (λ given. given.now) text.entry) }
+    ensures memory { IfErr result (λ fault. fault ≡ LineFault.Memory) }
+{
+    match text {
+        Some(text) => Ok(Some(owned(alloc, text)?)),
+        None => Ok(None),
+    }
+}
+
+fn owned(alloc: Global, text: &str) -> Result<String, LineFault>
+    ensures same { IfOk result (λ owned. string_bytes owned ≡ text.now) }
+    ensures memory { IfErr result (λ fault. fault ≡ LineFault.Memory) }
+{
+    match String::from_str(alloc, text) {
+        Ok(text) => Ok(text),
+        Err(_) => Err(LineFault::Memory),
+    }
+}
+
+fn fault_of(error: &Error) -> LineFault
+    ensures { result ≡ fault_by (kind_of error.now) }
+{
+    match error.kind() {
+        ErrorKind::OutOfMemory => LineFault::Memory,
+        _ => LineFault::Words,
+    }
+}

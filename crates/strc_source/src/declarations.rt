@@ -1,0 +1,118 @@
+// Where the declarations of a text stand, by its tokens.
+
+use crate::message::Extent;
+use strc_lex::token::{Keyword, Punctuation, Span, Token, TokenKind};
+
+/// The bytes of a token.
+pub fn extent_of(span: Span) -> Extent {
+    Extent {
+        at: span.start,
+        length: span.end.saturating_sub(span.start),
+    }
+}
+
+/// The name of a declaration, by the declaration's number.
+pub fn declaration_numbered(tokens: &[Token], number: usize) -> Option<Extent> {
+    let place = place_numbered(tokens, number)?;
+    Some(extent_of(tokens.get(place)?.span))
+}
+
+/// Which token the name of a declaration is, by the declaration's number.
+fn place_numbered(tokens: &[Token], number: usize) -> Option<usize> {
+    let mut seen: usize = 0;
+    let mut depth: usize = 0;
+    for place in 0..tokens.len() {
+        depth = depth_after(&tokens[place].kind, depth);
+        if depth == 0 && is_declared(tokens, place) {
+            if seen == number {
+                return Some(place);
+            }
+            seen = seen.saturating_add(1);
+        }
+    }
+    None
+}
+
+/// The tokens of a declaration behind its name, by the declaration's number: from the first one to
+/// before the last brace's next one.
+pub fn body_of(tokens: &[Token], number: usize) -> Option<(usize, usize)> {
+    let start = place_numbered(tokens, number)?;
+    let mut depth: usize = 0;
+    for place in start..tokens.len() {
+        let outer = depth;
+        depth = depth_after(&tokens[place].kind, depth);
+        if outer == 1 && depth == 0 {
+            return Some((start, place + 1));
+        }
+    }
+    None
+}
+
+/// The name of a declaration, where it is declared.
+pub fn declaration_named(tokens: &[Token], name: &[u8]) -> Option<Extent> {
+    let mut depth: usize = 0;
+    for place in 0..tokens.len() {
+        depth = depth_after(&tokens[place].kind, depth);
+        if depth == 0 && is_declared(tokens, place) && is_name(&tokens[place], name) {
+            return Some(extent_of(tokens[place].span));
+        }
+    }
+    None
+}
+
+/// The first token that is a name and is this one.
+pub fn first_use(tokens: &[Token], name: &[u8]) -> Option<Extent> {
+    for token in tokens {
+        if is_name(token, name) {
+            return Some(extent_of(token.span));
+        }
+    }
+    None
+}
+
+/// The first such keyword from a place on.
+pub fn first_keyword(tokens: &[Token], keyword: Keyword) -> Option<Extent> {
+    for token in tokens {
+        if let TokenKind::Keyword(found) = token.kind {
+            if found == keyword {
+                return Some(extent_of(token.span));
+            }
+        }
+    }
+    None
+}
+
+/// In how many braces what follows a token stands.
+fn depth_after(kind: &TokenKind, depth: usize) -> usize {
+    match kind {
+        TokenKind::Punctuation(Punctuation::OpenBrace) => depth.saturating_add(1),
+        TokenKind::Punctuation(Punctuation::CloseBrace) => depth.saturating_sub(1),
+        _ => depth,
+    }
+}
+
+/// Whether a token is the name that a kind of stream stands before.
+fn is_declared(tokens: &[Token], place: usize) -> bool {
+    if place == 0 || place >= tokens.len() {
+        return false;
+    }
+    match (&tokens[place - 1].kind, &tokens[place].kind) {
+        (TokenKind::Keyword(kind), TokenKind::Name(_)) => is_stream_kind(*kind),
+        _ => false,
+    }
+}
+
+fn is_stream_kind(keyword: Keyword) -> bool {
+    match keyword {
+        Keyword::Filter | Keyword::Pipeline | Keyword::Splitjoin | Keyword::Feedbackloop => true,
+        _ => false,
+    }
+}
+
+/// Whether a token is this name.
+pub fn is_name(token: &Token, name: &[u8]) -> bool {
+    match &token.kind {
+        TokenKind::Name(found) => found.as_bytes() == name,
+        _ => false,
+    }
+}

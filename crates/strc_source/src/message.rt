@@ -1,0 +1,112 @@
+// A message as it is built: the place in the file, one sentence, the source line with a mark, and
+// where it helps a hint.
+
+use crate::place::{line_before, line_from, place_of};
+use itoa::Buffer;
+use std::alloc::{AllocError, Global};
+
+/// How many bytes of a source line are shown before its mark, and how many from it on.
+const SHOWN: usize = 100;
+
+/// A part of a text: where it begins, and how many bytes it has.
+#[derive(Clone, Copy)]
+pub struct Extent {
+    pub at: usize,
+    pub length: usize,
+}
+
+/// A message as it is built.
+#[derive(Drop)]
+pub struct Message {
+    bytes: Vec<u8>,
+}
+
+impl Message {
+    /// A message of a file, at a place of its text where there is one.
+    pub fn begin(
+        alloc: Global,
+        file: &str,
+        text: &[u8],
+        place: Option<Extent>,
+    ) -> Result<Message, AllocError> {
+        let mut message = Message {
+            bytes: Vec::new(alloc),
+        };
+        message.add(file.as_bytes())?;
+        if let Some(extent) = place {
+            let place = place_of(text, extent.at);
+            message.add(b":")?;
+            message.number(place.line as u64)?;
+            message.add(b":")?;
+            message.number(place.column as u64)?;
+        }
+        message.add(b": ")?;
+        Ok(message)
+    }
+
+    /// More of the sentence.
+    pub fn add(&mut self, bytes: &[u8]) -> Result<(), AllocError> {
+        self.bytes.extend_from_slice(bytes)?;
+        Ok(())
+    }
+
+    /// A number in decimal.
+    pub fn number(&mut self, number: u64) -> Result<(), AllocError> {
+        let mut buffer = Buffer::new();
+        self.add(buffer.format(number).as_bytes())
+    }
+
+    /// A name or a token as it is written, in quotes.
+    pub fn quoted(&mut self, name: &[u8]) -> Result<(), AllocError> {
+        self.add(b"`")?;
+        self.add(name)?;
+        self.add(b"`")
+    }
+
+    /// The source line of a place with a mark below it, on lines of their own.
+    pub fn excerpt(&mut self, text: &[u8], extent: Extent) -> Result<(), AllocError> {
+        let before = line_before(text, extent.at);
+        let before = &before[before.len().saturating_sub(SHOWN)..];
+        let rest = line_from(text, extent.at);
+        let rest = &rest[..rest.len().min(SHOWN)];
+        self.add(b"\n    ")?;
+        self.add(before)?;
+        self.add(rest)?;
+        self.add(b"\n    ")?;
+        self.blank(before)?;
+        self.mark(extent.length.min(rest.len()))
+    }
+
+    /// As much room as these bytes take: a tab for a tab, and none inside of a character.
+    fn blank(&mut self, bytes: &[u8]) -> Result<(), AllocError> {
+        for byte in bytes {
+            match *byte {
+                b'\t' => self.bytes.push(b'\t')?,
+                0x80..=0xbf => {}
+                _ => self.bytes.push(b' ')?,
+            }
+        }
+        Ok(())
+    }
+
+    /// A mark of this length, at least of one.
+    fn mark(&mut self, length: usize) -> Result<(), AllocError> {
+        self.add(b"^")?;
+        for _more in 1..length {
+            self.bytes.push(b'~')?;
+        }
+        Ok(())
+    }
+
+    /// A hint begins, on a line of its own.
+    pub fn hint(&mut self) -> Result<(), AllocError> {
+        self.add(b"\nhint: ")
+    }
+
+    /// The whole message, with the end of its last line.
+    pub fn end(self) -> Result<Vec<u8>, AllocError> {
+        let Message { mut bytes } = self;
+        bytes.push(b'\n')?;
+        Ok(bytes)
+    }
+}

@@ -1,0 +1,4 @@
+pub mod Dealing
+pub mod Refusals
+pub mod TypeRows
+pub mod WeightsMeet

@@ -1,0 +1,3 @@
+pub mod Sides
+pub mod Weights
+pub mod Splits
