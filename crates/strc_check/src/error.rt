@@ -1,21 +1,47 @@
 // Why a filter isn't accepted.
 
 use std::alloc::{AllocError, AllocFailed};
+use std::fmt;
 use strc_base::memory::NoMemory;
 use strc_lex::token::Name;
 use strc_semantics::fault::Cause;
+use thiserror::Error;
 
 /// Why a filter isn't lowered: the first rule that it breaks, in order of the text.
-#[derive(Debug, Drop)]
+#[derive(Debug, Drop, Error)]
 pub enum LowerError {
     /// A name that isn't declared.
+    #[error("{text} isn't declared", text = spelled(.name))]
     UnknownName { name: Name },
     /// A type, kind or part isn't the one that must stand there.
+    #[error("a type, a kind or a part of a filter doesn't fit where it stands")]
     TypeMismatch,
     /// A number that must be known faults when it is computed, or can't be the length of an array.
+    #[error("a number that must be known faults, or can't be the length of an array: {cause}")]
     ConstFault { cause: Cause },
     /// Memory was refused.
+    #[error("out of memory")]
     NoMemory,
+}
+
+/// A name as it stands in a text.
+#[derive(Drop)]
+struct NameText<'a> {
+    name: &'a Name,
+}
+
+/// A name as it stands in a text.
+fn spelled(name: &Name) -> NameText<'_> {
+    NameText { name }
+}
+
+impl fmt::Display for NameText<'_> {
+    fn fmt<W: fmt::Write>(&self, f: &mut fmt::Formatter<W>) -> fmt::Result {
+        for byte in self.name.as_bytes() {
+            f.write_char(char::from(*byte))?;
+        }
+        Ok(())
+    }
 }
 
 impl From<NoMemory> for LowerError {

@@ -1,6 +1,7 @@
 // How a firing can end without a result.
 
-use std::fmt;
+use std::{error, fmt};
+use thiserror::Error;
 
 /// How many turns the loops of one firing, of one start or of one elaboration may make: one more is
 /// the fault `Turns`.
@@ -35,11 +36,15 @@ impl fmt::Display for Cause {
     }
 }
 
+impl error::Error for Cause {}
+
 /// Why a firing stopped.
-#[derive(Clone, Copy, Debug, PartialEq, Eq)]
+#[derive(Clone, Copy, Debug, PartialEq, Eq, Error)]
 pub enum Halt {
     /// The program is at fault.
+    #[error("a firing faults: {0}")]
     Fault(Cause),
     /// There was no room for a printed word.
+    #[error("out of memory for the words that a firing prints")]
     NoMemory,
 }
