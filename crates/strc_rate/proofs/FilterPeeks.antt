@@ -8,12 +8,13 @@ use Rattle.strc_semantics.specs.declared.body.Body.{Body}
 use Rattle.strc_semantics.specs.Filters.{body_block, body_rates, push_rate, pop_rate, peek_rate}
 use Rattle.strc_semantics.specs.Filters.{window_size}
 use Rattle.strc_semantics.specs.Firing.{Port, Store, no_traffic, port_of, store_at}
-use Rattle.strc_rate.specs.Counts.{stmts_counts}
+use Rattle.strc_peeks.specs.Counts.{stmts_counts}
 use Rattle.strc_rate.specs.Rates.{within_limit, are_within_limit, body_sights, none_popped, checked}
-use Rattle.strc_rate.specs.Safe.{StmtsAreSafe, ClosedPeeksNeverFault}
-use Rattle.strc_rate.proofs.Results.{and_first, and_second}
-use Rattle.strc_rate.proofs.Readiness.{Ready}
-use Rattle.strc_rate.proofs.SafePeeks.{stmts_safe}
+use Rattle.strc_peeks.specs.Safe.{StmtsAreSafe}
+use Rattle.strc_rate.specs.Safe.{ClosedPeeksNeverFault}
+use Rattle.strc_peeks.proofs.Results.{and_first, and_second}
+use Rattle.strc_peeks.proofs.Readiness.{Ready}
+use Rattle.strc_peeks.proofs.SafePeeks.{stmts_safe}
 use Rattle.strc_rate.proofs.KeptRates.{limited, accepted_by, OfBodies, of_filters}
 
 -- each run of a block from no traffic is safe, before a window that is whole

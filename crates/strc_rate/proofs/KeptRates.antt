@@ -20,16 +20,16 @@ use Rattle.strc_semantics.specs.Firing.{Port, Store, stmts_done, no_traffic, por
 use Rattle.strc_work.proofs.FilterRuns.{body_closed}
 use Rattle.strc_rate.specs.declared.rates.RateError.{RateError}
 use Rattle.strc_rate.specs.declared.rates.RateError.TheVariants.{RateLimit, RateMismatch}
-use Rattle.strc_rate.specs.Counts.{Counts, stmts_counts}
-use Rattle.strc_rate.specs.Peeks.{PeekBounds}
+use Rattle.strc_peeks.specs.Counts.{Counts, stmts_counts}
+use Rattle.strc_peeks.specs.Peeks.{PeekBounds}
 use Rattle.strc_base.specs.Results.{result_and_then}
 use Rattle.strc_rate.specs.Rates.{BodyRates, within_limit, are_within_limit, same_rate}
 use Rattle.strc_rate.specs.Rates.{with_closed_peeks, counted, body_sights, body_checked, work_lacks}
 use Rattle.strc_rate.specs.Rates.{work_checked, some_prework, prework_checked, then_work, checked}
 use Rattle.strc_rate.specs.Kept.{CheckedRatesAreKept}
-use Rattle.strc_rate.proofs.Results.{and_first, and_second}
-use Rattle.strc_rate.proofs.CountedMoves.{Moves, Counted}
-use Rattle.strc_rate.proofs.StatementCounts.{stmts_counted}
+use Rattle.strc_peeks.proofs.Results.{and_first, and_second}
+use Rattle.strc_peeks.proofs.CountedMoves.{Moves, Counted}
+use Rattle.strc_peeks.proofs.StatementCounts.{stmts_counted}
 
 -- a declared rate is at most 65,536
 pub limited : (rate : ℤ) → within_limit rate ≡ true → item_count rate ≤ 65536

@@ -1,5 +1,3 @@
-pub mod Counts
-pub mod Peeks
 pub mod Rates
 pub mod Kept
 pub mod Safe

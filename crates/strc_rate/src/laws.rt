@@ -1,18 +1,12 @@
 // What the counted rates of a filter stand on, as laws about all filters.
 
-ghost use Rattle.strc_rate.specs.Kept.{CheckedRatesAreKept, TurnsAreLeast};
+ghost use Rattle.strc_rate.specs.Kept.{CheckedRatesAreKept};
 ghost use Rattle.strc_rate.specs.Safe.{ClosedPeeksNeverFault};
 
 /// Where the rates of a filter of known names are accepted, each firing without a fault pops and
 /// pushes exactly the declared rates.
 pub fn rates_are_kept()
     ensures { CheckedRatesAreKept }
-{}
-
-/// A counted loop makes as many turns as are told: its condition holds in each of them, and not
-/// behind the last one.
-pub fn turns_are_least()
-    ensures { TurnsAreLeast }
 {}
 
 /// Where the rates of a filter of known names are accepted, each peek that its text closes finds

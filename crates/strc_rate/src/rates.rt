@@ -9,14 +9,15 @@ ghost use Rattle.strc_rate.specs.Kept.{KeepsRates};
 ghost use Rattle.strc_rate.specs.Safe.{HasSafePeeks};
 ghost use Rattle.strc_rate.specs.Verdicts.{IsVerdict, body_view, rates_view};
 
-use crate::peeks::check_peeks_in_block;
-use crate::sight::{PeekBounds, PopInterval};
 use std::alloc::{AllocError, AllocFailed, Global};
 use strc_base::memory::NoMemory;
 use strc_interval::interval_scope::IntervalScope;
+use strc_peeks::peeks::check_peeks_in_block;
+use strc_peeks::sight::{PeekBounds, PopInterval};
 use strc_semantics::body::Body;
 use strc_syntax::tree::ItemType;
 use strc_work::code::{Code, DeclaredRates};
+use thiserror::Error;
 
 // The highest rate that may be declared.
 const RATE_LIMIT: i32 = 65536;
@@ -43,17 +44,22 @@ pub struct Rates {
 }
 
 /// Why a filter's rates aren't accepted.
-#[derive(Clone, Copy, Debug, PartialEq, Eq)]
+#[derive(Clone, Copy, Debug, PartialEq, Eq, Error)]
 pub enum RateError {
     /// A rate is below 0 or above 65,536, or a work has rate 0 on a side with items.
+    #[error("a rate isn't from 0 to 65536, or it is 0 on a side of the work that has items")]
     RateLimit,
     /// What a body pushes or pops can't be counted from its text.
+    #[error("what a firing pushes or pops can't be counted from the text")]
     RateUnknown,
     /// A declared rate isn't the counted one, which is saturated at 65,537.
+    #[error("a rate of {declared} is declared, and the text has {counted}")]
     RateMismatch { declared: u32, counted: u32 },
     /// A peek can't be within its window.
+    #[error("a peek lies past the items that a firing may look at: declare a larger peek rate")]
     PeekOutside,
     /// Memory was refused.
+    #[error("out of memory")]
     NoMemory,
 }
 

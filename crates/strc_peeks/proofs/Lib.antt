@@ -1,0 +1,16 @@
+pub mod Scopes
+pub mod Counting
+pub mod Sighting
+pub mod Results
+pub mod Keeping
+pub mod Unwritten
+pub mod LoopTurns
+pub mod LoopParts
+pub mod CountedLoops
+pub mod CountedMoves
+pub mod StatementCounts
+pub mod IntervalValues
+pub mod Readiness
+pub mod SafeValues
+pub mod SafeLoops
+pub mod SafePeeks

@@ -1,0 +1,455 @@
+-- A closed peek never faults, in any firing of a filter whose rates are accepted.
+use Rattle.std.proofs.Common.{◌≡◌, refl, sym, subst, ◌∙◌, ℕ, suc, ◌≤◌, true, List, [], ◌∷◌, length}
+use Rattle.std.proofs.Common.{Option, Some, None, arith}
+use Rattle.std.specs.Prelude.{bytes_eq, is_some}
+use Rattle.std.specs.Option.{IfSome}
+use Rattle.std.specs.Result.{IfOk}
+use Rattle.std.proofs.lemmas.Result.{IfOk-weaker}
+use Rattle.strc_base.specs.Results.{result_and_then}
+use Rattle.strc_syntax.specs.Tree as tree
+use Rattle.strc_semantics.specs.Arithmetic.{is_true}
+use Rattle.strc_semantics.specs.Scoping.{Scope, cells_of, size_of, names_after}
+use Rattle.strc_semantics.specs.Closed.{AreClosedVariables, IsClosedStmt, AreClosed}
+use Rattle.strc_semantics.specs.Firing.{Port, Store, cells_named, value_of, initial_cells}
+use Rattle.strc_semantics.specs.Firing.{declared_in, condition_value, turn_limit, inside, stmt_done}
+use Rattle.strc_peeks.proofs.Scopes.{scope_of}
+use Rattle.strc_interval.specs.Constant.{constant}
+use Rattle.strc_interval.specs.Loops.{Locals, Loop, locals_after, counted_loop, shadows}
+use Rattle.strc_interval.specs.Loops.{expr_writes, option_writes, variables_write, stmt_writes}
+use Rattle.strc_interval.specs.Loops.{stmts_write}
+use Rattle.strc_peeks.specs.Counts.{no_items, one_push, sequence, require_zero, repeated}
+use Rattle.strc_peeks.specs.Counts.{branch_counts, expr_counts, option_counts, variables_counts}
+use Rattle.strc_peeks.specs.Counts.{turns_counts, stmt_counts, stmts_counts}
+use Rattle.strc_interval.specs.Intervals.{Intervals, intervals_after, with_interval, turns_interval}
+use Rattle.strc_peeks.specs.Peeks.{PopInterval, advance, in_turns}
+use Rattle.strc_interval.specs.Intervals.{names_of}
+use Rattle.strc_peeks.specs.Safe.{ExprIsSafe, OptionIsSafe, VariablesAreSafe, LoopIsSafe}
+use Rattle.strc_peeks.specs.Safe.{UnlessCounted, intervals_in, popped_in, StmtIsSafe, StmtsAreSafe}
+use Rattle.strc_peeks.proofs.Results.{or_first, or_second, then_ok, both_ok}
+use Rattle.strc_peeks.proofs.Keeping.{same_refl}
+use Rattle.strc_peeks.proofs.Unwritten.{TurnsFree, unless_hidden}
+use Rattle.strc_peeks.proofs.LoopTurns.{no_moves}
+use Rattle.strc_peeks.proofs.LoopParts.{constant_told, cells_sized, Seen}
+use Rattle.strc_peeks.proofs.CountedLoops.{HasValue, Known, loop_known}
+use Rattle.strc_peeks.proofs.CountedMoves.{stays}
+use Rattle.strc_peeks.proofs.StatementCounts.{Parts, inside_parts, begins_by, stmt_counted}
+use Rattle.strc_peeks.proofs.Readiness.{Ready, Fixed, both_first, both_second, side_some}
+use Rattle.strc_peeks.proofs.Readiness.{nothing_some, names_after_intervals, known_before}
+use Rattle.strc_peeks.proofs.Readiness.{ready_value, ready_still, ready_stmt, ready_inside}
+use Rattle.strc_peeks.proofs.Readiness.{ready_initial, ready_condition, repeated_some}
+use Rattle.strc_peeks.proofs.SafeValues.{IsWhole, match_by, expr_safe}
+use Rattle.strc_peeks.proofs.SafeLoops.{loop_safe, fixed_with, names_with, turn_writes, ready_turn}
+use Rattle.strc_peeks.proofs.SafeLoops.{counted_safe}
+
+option_safe : (window : ℕ) (port : Port) → IsWhole window port
+    → (value : Option tree.Expr) (intervals : Intervals) (popped : PopInterval) (store : Store)
+    → is_some (option_counts value) ≡ true → Fixed intervals (λ name. option_writes name value)
+    → Ready intervals popped store → OptionIsSafe window port intervals popped value store
+option_safe window port whole None intervals popped store counted fixed ready = tt
+option_safe window port whole (Some value) intervals popped store counted fixed ready =
+    expr_safe window port whole value intervals popped store counted fixed ready
+
+variables_safe : (window : ℕ) (port : Port) → IsWhole window port
+    → (cells : ℕ) (variables : List tree.Variable) (names : Scope) (intervals : Intervals)
+    (popped : PopInterval) (store : Store) → AreClosedVariables names cells variables
+    → is_some (variables_counts variables) ≡ true
+    → Fixed intervals (λ name. variables_write name variables) → Ready intervals popped store
+    → VariablesAreSafe window port intervals popped cells variables store
+variables_safe window port whole cells [] names intervals popped store closed counted fixed ready =
+    tt
+variables_safe window port whole cells (first ∷ rest) names intervals popped store closed counted
+    fixed ready =
+    let first_counted = both_first (option_counts first.initial) _ counted in
+    let rest_counted = both_second (option_counts first.initial) (variables_counts rest) counted in
+    let first_fixed : Fixed intervals (λ name. option_writes name first.initial) =
+    λ n e. or_first (option_writes n first.initial) _ (fixed n e) in
+    let only = first ∷ [] in (
+      option_safe window port whole first.initial intervals popped store first_counted first_fixed
+          ready,
+      IfOk-weaker (initial_cells port cells first.initial store)
+          (λ given. Ready (record { 0 = first.name; 1 = None } ∷ intervals)
+          (advance popped (option_counts first.initial)) (declared_in given.1 first.name given.0)) _
+          (λ given h. variables_safe window port whole cells rest
+          (record { 0 = first.name; 1 = cells } ∷ names)
+          (record { 0 = first.name; 1 = None } ∷ intervals)
+          (advance popped (option_counts first.initial))
+          (declared_in given.1 first.name given.0) closed.2 rest_counted
+          (λ n e. let before = known_before intervals (tree.Declare tree.Int only) n e in
+          unless_hidden (bytes_eq first.name n) (variables_write n rest)
+          (or_second (option_writes n first.initial) _ (fixed n before.0))
+          (or_first (bytes_eq first.name n) _ before.1)) h)
+          (ready_initial port cells first.name first.initial intervals popped store closed.1
+          first_counted first_fixed ready),
+    )
+
+ready_free : (intervals : Intervals) (popped : PopInterval) → TurnsFree (Ready intervals popped)
+ready_free intervals popped store n ready =
+    record {
+      with_closed_peeks = ready.with_closed_peeks;
+      holds = ready.holds;
+      within =
+          ready.within;
+    }
+
+-- what `for` writes behind its first part
+fixed_inner : (intervals : Intervals) (first : tree.Stmt) (condition : Option tree.Expr)
+    (step body : tree.Stmt) → Fixed intervals
+    (λ name. stmt_writes name (tree.For first condition step body))
+    → Fixed (intervals_after intervals first) (turn_writes condition step body)
+fixed_inner intervals first condition step body fixed name known =
+    let before = known_before intervals first name known in
+    unless_hidden (shadows name first) (turn_writes condition step body name)
+    (or_second (stmt_writes name first) _ (fixed name before.0)) before.1
+
+-- a statement that is safe wherever it is counted
+abbrev IsSafe : (window : ℕ) → Port → tree.Stmt → Type 0
+IsSafe window port s =
+    (intervals : Intervals) (popped : PopInterval) (store : Store)
+    → is_some (stmt_counts (names_of intervals) s) ≡ true
+    → Fixed intervals (λ name. stmt_writes name s) → Ready intervals popped store
+    → StmtIsSafe window port intervals popped s store
+
+-- the turns of a `for` that isn't a counted loop: nothing is popped in them
+other_turns_safe : (window : ℕ) (port : Port) → IsWhole window port
+    → (condition : Option tree.Expr) (step body : tree.Stmt) (names : Scope) (intervals : Intervals)
+    (popped : PopInterval) (begun : Store) → IsClosedStmt names step → IsClosedStmt names body
+    → is_some (sequence (require_zero (option_counts condition))
+    (sequence (require_zero (stmt_counts (names_of intervals) step))
+    (require_zero (stmt_counts (names_of intervals) body)))) ≡ true
+    → Fixed intervals (turn_writes condition step body) → Ready intervals popped begun
+    → IsSafe window port step → IsSafe window port body
+    → LoopIsSafe (suc turn_limit) (λ s. OptionIsSafe window port intervals popped condition s)
+    (λ s. StmtIsSafe window port intervals popped body s
+    × IfOk (inside (stmt_done port body) s)
+    (λ after. StmtIsSafe window port intervals popped step after)) (condition_value port condition)
+    (λ turn. result_and_then (inside (stmt_done port body) turn) (inside (stmt_done port step)))
+    begun
+other_turns_safe window port whole condition step body names intervals popped begun closed_step
+    closed_body counted fixed ready safe_step safe_body =
+    let x = option_counts condition in
+    let y = stmt_counts (names_of intervals) step in
+    let z = stmt_counts (names_of intervals) body in
+    let none_x = both_first (require_zero x) _ counted in
+    let rest = both_second (require_zero x) (sequence (require_zero y) (require_zero z)) counted in
+    let none_y = both_first (require_zero y) _ rest in
+    let none_z = both_second (require_zero y) (require_zero z) rest in
+    let fixed_condition : Fixed intervals (λ name. option_writes name condition) =
+    λ n e. or_first (option_writes n condition) _ (fixed n e) in
+    let fixed_step : Fixed intervals (λ name. stmt_writes name step) =
+    λ n e. or_first (stmt_writes n step) _
+    (or_second (option_writes n condition) _ (fixed n e)) in
+    let fixed_body : Fixed intervals (λ name. stmt_writes name body) =
+    λ n e. or_second (stmt_writes n step) _
+    (or_second (option_writes n condition) _ (fixed n e)) in
+    let behind_body : (s : Store) → Ready intervals popped s
+    → IfOk (inside (stmt_done port body) s) (Ready intervals popped) =
+    λ s r. IfOk-weaker (inside (stmt_done port body) s) (Ready intervals (advance popped z)) _
+    (λ after h. ready_still intervals popped z after none_z h)
+    (ready_inside port body names intervals popped s closed_body
+    (nothing_some z none_z) fixed_body r) in
+    loop_safe (Ready intervals popped) (λ s. OptionIsSafe window port intervals popped condition s)
+    (λ s. StmtIsSafe window port intervals popped body s
+    × IfOk (inside (stmt_done port body) s)
+    (λ after. StmtIsSafe window port intervals popped step after))
+    (condition_value port condition) (λ turn. result_and_then
+    (inside (stmt_done port body) turn) (inside (stmt_done port step)))
+    (ready_free intervals popped)
+    (λ s r. option_safe window port whole condition intervals popped s
+    (nothing_some x none_x) fixed_condition r)
+    (λ s r. (
+      safe_body intervals popped s (nothing_some z none_z) fixed_body r,
+      IfOk-weaker (inside (stmt_done port body) s) (Ready intervals popped) _
+          (λ after h. safe_step intervals popped after (nothing_some y none_y) fixed_step h)
+          (behind_body s r),
+    ))
+    (λ s r. IfOk-weaker (condition_value port condition s)
+    (λ given. Ready intervals (advance popped x) given.1) _
+    (λ given h. ready_still intervals popped x given.1 none_x h)
+    (ready_condition port condition intervals popped s (nothing_some x none_x) fixed_condition r))
+    (λ s r.
+    then_ok (inside (stmt_done port body) s) (inside (stmt_done port step)) (Ready intervals popped)
+    (Ready intervals popped) (behind_body s r)
+    (λ middle h. IfOk-weaker (inside (stmt_done port step) middle)
+    (Ready intervals (advance popped y)) _
+    (λ after k. ready_still intervals popped y after none_y k)
+    (ready_inside port step names intervals popped middle closed_step
+    (nothing_some y none_y) fixed_step h)))
+    (suc turn_limit) begun ready
+
+-- the turns of a counted loop
+counted_turns_safe : (window : ℕ) (port : Port) (locals : Locals) (first : tree.Stmt)
+    (condition : Option tree.Expr) (step body : tree.Stmt) (loop : Loop) (names : Scope)
+    (intervals : Intervals) (popped : PopInterval) (begun : Store)
+    → Known locals first condition step body loop → HasValue loop.name loop.start begun
+    → IsClosedStmt names step → IsClosedStmt names body
+    → is_some (repeated loop.turns (stmt_counts (names_of intervals) body)) ≡ true
+    → Fixed intervals (turn_writes condition step body) → Ready intervals popped begun
+    → IsSafe window port body → LoopIsSafe (suc turn_limit) (λ s. Unit {0})
+    (λ s. StmtIsSafe window port (with_interval intervals loop.name (turns_interval loop))
+    (in_turns popped loop.turns (stmt_counts (names_of intervals) body)) body s × Unit {0})
+    (condition_value port condition) (λ turn. result_and_then (inside (stmt_done port body) turn)
+    (inside (stmt_done port step))) begun
+counted_turns_safe window port locals first condition step body loop names intervals popped begun
+    known begins closed_step closed_body counted fixed ready safe_body =
+    let z = stmt_counts (names_of intervals) body in
+    let scope = scope_of begun.variables in
+    let size : length (cells_named begun.variables loop.name) ≡ size_of scope loop.name =
+    cells_sized begun.variables loop.name in
+    let some : 1 ≤ length (cells_named begun.variables loop.name) = begins.some in
+    let sized : 1 ≤ size_of scope loop.name = omega arith in
+    let parts : Parts scope z (inside (stmt_done port body)) =
+    inside_parts port body names scope z closed_body
+    (λ s is. stmt_counted port body (names_of intervals) names s closed_body
+    (subst (Seen (names_of intervals)) (sym is) ready.with_closed_peeks)) in
+    let fixed_body : Fixed intervals (λ name. stmt_writes name body) =
+    λ n e. or_second (stmt_writes n step) _
+    (or_second (option_writes n condition) _ (fixed n e)) in
+    counted_safe known port names scope closed_body closed_step sized z parts begun
+    (λ s. StmtIsSafe window port (with_interval intervals loop.name (turns_interval loop))
+    (in_turns popped loop.turns z) body s × Unit {0})
+    (λ t s lt here.
+    let some_body = repeated_some loop.turns t z lt counted in (
+      safe_body (with_interval intervals loop.name (turns_interval loop))
+          (in_turns popped loop.turns z) s
+          (subst (λ l. is_some (stmt_counts l body) ≡ true)
+          (sym (names_with intervals loop.name (turns_interval loop))) some_body)
+          (fixed_with intervals loop.name (turns_interval loop)
+          (λ name. stmt_writes name body) known.unwritten fixed_body)
+          (ready_turn known port names scope closed_body closed_step sized z parts begun intervals
+          popped t s lt some_body fixed ready here),
+      tt,
+    ))
+    (record {
+      at = record {
+        shape = refl;
+        value =
+            begins.value_is ∙ sym (no_moves loop.start loop.move);
+        so_far = stays begun.traffic;
+      };
+      same =
+          same_refl _ begun.variables;
+    })
+
+for_turns_safe : (window : ℕ) (port : Port) → IsWhole window port
+    → (locals : Locals) (first : tree.Stmt) (condition : Option tree.Expr) (step body : tree.Stmt)
+    (told : Option Loop) (names : Scope) (intervals : Intervals) (popped : PopInterval)
+    (begun : Store) → IfSome told (λ loop. Known locals first condition step body loop
+    × HasValue loop.name loop.start begun) → IsClosedStmt names step → IsClosedStmt names body
+    → is_some (turns_counts told (option_counts condition) (stmt_counts (names_of intervals) step)
+    (stmt_counts (names_of intervals) body)) ≡ true
+    → Fixed intervals (turn_writes condition step body) → Ready intervals popped begun
+    → IsSafe window port step → IsSafe window port body
+    → LoopIsSafe (suc turn_limit) (λ s. UnlessCounted told
+    (OptionIsSafe window port intervals popped condition s))
+    (λ s. StmtIsSafe window port (intervals_in told intervals)
+    (popped_in told popped (stmt_counts (names_of intervals) body)) body s
+    × UnlessCounted told (IfOk (inside (stmt_done port body) s)
+    (λ after. StmtIsSafe window port intervals popped step after))) (condition_value port condition)
+    (λ turn. result_and_then (inside (stmt_done port body) turn) (inside (stmt_done port step)))
+    begun
+for_turns_safe window port whole locals first condition step body None names intervals popped begun
+    known closed_step closed_body counted fixed ready safe_step safe_body =
+    other_turns_safe window port whole condition step body names intervals popped begun closed_step
+    closed_body counted fixed ready safe_step safe_body
+for_turns_safe window port whole locals first condition step body
+    (Some loop) names intervals popped begun known closed_step closed_body counted fixed ready
+    safe_step safe_body =
+    counted_turns_safe window port locals first condition step body loop names intervals popped
+    begun known.0 known.1 closed_step closed_body counted fixed ready safe_body
+
+mutual
+  -- each closed peek that a statement runs finds its item
+  pub stmt_safe : (window : ℕ) (port : Port) → IsWhole window port
+      → (s : tree.Stmt) (names : Scope) (intervals : Intervals) (popped : PopInterval)
+      (store : Store) → IsClosedStmt names s → is_some (stmt_counts (names_of intervals) s) ≡ true
+      → Fixed intervals (λ name. stmt_writes name s) → Ready intervals popped store
+      → StmtIsSafe window port intervals popped s store
+  stmt_safe window port whole tree.Empty names intervals popped store closed counted fixed ready =
+      tt
+  stmt_safe window port whole (tree.Compose statement) names intervals popped store closed counted
+      fixed ready = tt
+  stmt_safe window port whole (tree.Block body) names intervals popped store closed counted fixed
+      ready = stmts_safe window port whole body names intervals popped store closed counted fixed
+      ready
+  stmt_safe window port whole (tree.Declare kind variables) names intervals popped store closed
+      counted fixed ready = variables_safe window port whole
+      (cells_of kind) variables names intervals popped store closed counted fixed ready
+  stmt_safe window port whole (tree.Evaluate value) names intervals popped store closed counted
+      fixed ready = expr_safe window port whole value intervals popped store counted fixed ready
+  stmt_safe window port whole (tree.Assign name operator value) names intervals popped store closed
+      counted fixed ready = expr_safe window port whole value intervals popped store counted
+      (λ n e. or_second (bytes_eq name n) _ (fixed n e)) ready
+  stmt_safe window port whole (tree.AssignElement name index operator value) names intervals popped
+      store closed counted fixed ready =
+      let fixed_index : Fixed intervals (λ n. expr_writes n index) =
+      λ n e. or_first (expr_writes n index) _ (or_second (bytes_eq name n) _ (fixed n e)) in
+      let fixed_value : Fixed intervals (λ n. expr_writes n value) =
+      λ n e. or_second (expr_writes n index) _ (or_second (bytes_eq name n) _ (fixed n e)) in
+      let index_counted = both_first (expr_counts index) _ counted in
+      let value_counted = both_second (expr_counts index) (expr_counts value) counted in (
+        expr_safe window port whole index intervals popped store index_counted fixed_index ready,
+        IfOk-weaker (value_of port index store)
+            (λ at. Ready intervals (advance popped (expr_counts index)) at.1) _
+            (λ at h. expr_safe window port whole value intervals
+            (advance popped (expr_counts index)) at.1 value_counted fixed_value h)
+            (ready_value port index intervals popped store index_counted fixed_index ready),
+      )
+  stmt_safe window port whole (tree.If condition chosen) names intervals popped store closed counted
+      fixed ready =
+      let later = advance popped (expr_counts condition) in
+      let fixed_condition : Fixed intervals (λ n. expr_writes n condition) =
+      λ n e. or_first (expr_writes n condition) _ (fixed n e) in
+      let fixed_chosen : Fixed intervals (λ n. stmt_writes n chosen) =
+      λ n e. or_second (expr_writes n condition) _ (fixed n e) in
+      let first_counted = both_first (expr_counts condition) _ counted in
+      let rest_counted = both_second (expr_counts condition)
+      (branch_counts (constant condition) (stmt_counts (names_of intervals) chosen)
+      (Some no_items)) counted in (
+        expr_safe window port whole condition intervals popped store first_counted fixed_condition
+            ready,
+        IfOk-weaker (value_of port condition store)
+            (λ test. Ready intervals later test.1 × IfSome (constant condition) (λ v. test.0 ≡ v)) _
+            (λ test h.
+            match_by (is_true test.0) (StmtIsSafe window port intervals later chosen test.1)
+            (Unit {0})
+            (λ e. stmt_safe window port whole chosen names intervals later test.1 closed.1
+            ((side_some (constant condition) test.0 (stmt_counts (names_of intervals) chosen)
+            (Some no_items) h.1 rest_counted).0 e) fixed_chosen h.0) (λ e. tt))
+            (both_ok (value_of port condition store) _ _
+            (ready_value port condition intervals popped store first_counted fixed_condition
+            ready) (constant_told port condition store)),
+      )
+  stmt_safe window port whole (tree.IfElse condition chosen other) names intervals popped store
+      closed counted fixed ready =
+      let later = advance popped (expr_counts condition) in
+      let fixed_condition : Fixed intervals (λ n. expr_writes n condition) =
+      λ n e. or_first (expr_writes n condition) _ (fixed n e) in
+      let fixed_chosen : Fixed intervals (λ n. stmt_writes n chosen) =
+      λ n e. or_first (stmt_writes n chosen) _
+      (or_second (expr_writes n condition) _ (fixed n e)) in
+      let fixed_other : Fixed intervals (λ n. stmt_writes n other) =
+      λ n e. or_second (stmt_writes n chosen) _
+      (or_second (expr_writes n condition) _ (fixed n e)) in
+      let first_counted = both_first (expr_counts condition) _ counted in
+      let rest_counted = both_second (expr_counts condition)
+      (branch_counts (constant condition) (stmt_counts (names_of intervals) chosen)
+      (stmt_counts (names_of intervals) other)) counted in (
+        expr_safe window port whole condition intervals popped store first_counted fixed_condition
+            ready,
+        IfOk-weaker (value_of port condition store)
+            (λ test. Ready intervals later test.1 × IfSome (constant condition) (λ v. test.0 ≡ v)) _
+            (λ test h.
+            let some = side_some (constant condition) test.0
+            (stmt_counts (names_of intervals) chosen)
+            (stmt_counts (names_of intervals) other) h.1 rest_counted in
+            match_by (is_true test.0) (StmtIsSafe window port intervals later chosen test.1)
+            (StmtIsSafe window port intervals later other test.1)
+            (λ e. stmt_safe window port whole chosen names intervals later test.1 closed.1
+            (some.0 e) fixed_chosen h.0)
+            (λ e. stmt_safe window port whole other names intervals later test.1 closed.2
+            (some.1 e) fixed_other h.0))
+            (both_ok (value_of port condition store) _ _
+            (ready_value port condition intervals popped store first_counted fixed_condition
+            ready) (constant_told port condition store)),
+      )
+  stmt_safe window port whole (tree.While condition body) names intervals popped store closed
+      counted fixed ready =
+      let x = expr_counts condition in
+      let y = stmt_counts (names_of intervals) body in
+      let none_x = both_first (require_zero x) _ counted in
+      let none_y = both_second (require_zero x) (require_zero y) counted in
+      let fixed_condition : Fixed intervals (λ n. expr_writes n condition) =
+      λ n e. or_first (expr_writes n condition) _ (fixed n e) in
+      let fixed_body : Fixed intervals (λ n. stmt_writes n body) =
+      λ n e. or_second (expr_writes n condition) _ (fixed n e) in
+      loop_safe (Ready intervals popped) (λ s. ExprIsSafe window port intervals popped condition s)
+      (λ s. StmtIsSafe window port intervals popped body s) (value_of port condition)
+      (inside (stmt_done port body)) (ready_free intervals popped)
+      (λ s r. expr_safe window port whole condition intervals popped s
+      (nothing_some x none_x) fixed_condition r)
+      (λ s r. stmt_safe window port whole body names intervals popped s closed.1
+      (nothing_some y none_y) fixed_body r)
+      (λ s r. IfOk-weaker (value_of port condition s)
+      (λ given. Ready intervals (advance popped x) given.1) _
+      (λ given h. ready_still intervals popped x given.1 none_x h)
+      (ready_value port condition intervals popped s (nothing_some x none_x) fixed_condition r))
+      (λ s r. IfOk-weaker (inside (stmt_done port body) s) (Ready intervals (advance popped y)) _
+      (λ after h. ready_still intervals popped y after none_y h)
+      (ready_inside port body names intervals popped s closed.1
+      (nothing_some y none_y) fixed_body r))
+      (suc turn_limit) store ready
+  stmt_safe window port whole (tree.For first condition step body) names intervals popped store
+      closed counted fixed ready =
+      let locals = names_of intervals in
+      let told = counted_loop locals first condition step body in
+      let inner = intervals_after intervals first in
+      let later = advance popped (stmt_counts locals first) in
+      let first_fixed : Fixed intervals (λ n. stmt_writes n first) =
+      λ n e. or_first (stmt_writes n first) _ (fixed n e) in
+      let first_counted = both_first (stmt_counts locals first) _ counted in
+      let rest_counted = both_second (stmt_counts locals first)
+      (turns_counts told (option_counts condition)
+      (stmt_counts (locals_after locals first) step)
+      (stmt_counts (locals_after locals first) body)) counted in
+      let inner_counted = subst (λ l. is_some
+      (turns_counts told (option_counts condition) (stmt_counts l step) (stmt_counts l body))
+      ≡ true) (sym (names_after_intervals intervals first)) rest_counted in (
+        stmt_safe window port whole first names intervals popped store closed.0 first_counted
+            first_fixed ready,
+        IfOk-weaker (stmt_done port first store)
+            (λ begun. Ready inner later begun
+            × IfSome told (λ loop. Known locals first condition step body loop
+            × HasValue loop.name loop.start begun)) _
+            (λ begun h.
+            for_turns_safe window port whole locals first condition step body told
+            (names_after names first) inner later begun h.1 closed.2 closed.3 inner_counted
+            (fixed_inner intervals first condition step body fixed) h.0
+            (λ r p s c f d. stmt_safe window port whole step
+            (names_after names first) r p s closed.2 c f d)
+            (λ r p s c f d. stmt_safe window port whole body
+            (names_after names first) r p s closed.3 c f d))
+            (both_ok (stmt_done port first store) _ _
+            (ready_stmt port first names intervals popped store closed.0 first_counted first_fixed
+            ready) (begins_by locals first condition step body told port store
+            ready.with_closed_peeks (loop_known locals first condition step body))),
+      )
+  stmt_safe window port whole (tree.Push value) names intervals popped store closed counted fixed
+      ready = expr_safe window port whole value intervals popped store
+      (both_first (expr_counts value) (Some one_push) counted) fixed ready
+  stmt_safe window port whole (tree.Print value) names intervals popped store closed counted fixed
+      ready = expr_safe window port whole value intervals popped store counted fixed ready
+  stmt_safe window port whole (tree.Println value) names intervals popped store closed counted fixed
+      ready = expr_safe window port whole value intervals popped store counted fixed ready
+
+  pub stmts_safe : (window : ℕ) (port : Port) → IsWhole window port
+      → (s : tree.Stmts) (names : Scope) (intervals : Intervals) (popped : PopInterval)
+      (store : Store) → AreClosed names s → is_some (stmts_counts (names_of intervals) s) ≡ true
+      → Fixed intervals (λ name. stmts_write name s) → Ready intervals popped store
+      → StmtsAreSafe window port intervals popped s store
+  stmts_safe window port whole tree.Done names intervals popped store closed counted fixed ready =
+      tt
+  stmts_safe window port whole (tree.Then first rest) names intervals popped store closed counted
+      fixed ready =
+      let locals = names_of intervals in
+      let first_fixed : Fixed intervals (λ n. stmt_writes n first) =
+      λ n e. or_first (stmt_writes n first) _ (fixed n e) in
+      let first_counted = both_first (stmt_counts locals first) _ counted in
+      let rest_counted = both_second (stmt_counts locals first)
+      (stmts_counts (locals_after locals first) rest) counted in
+      let inner_counted = subst (λ l. is_some (stmts_counts l rest) ≡ true)
+      (sym (names_after_intervals intervals first)) rest_counted in
+      let rest_fixed : Fixed (intervals_after intervals first) (λ n. stmts_write n rest) =
+      λ n e. let before = known_before intervals first n e in
+      unless_hidden (shadows n first) (stmts_write n rest)
+      (or_second (stmt_writes n first) _ (fixed n before.0)) before.1 in (
+        stmt_safe window port whole first names intervals popped store closed.0 first_counted
+            first_fixed ready,
+        IfOk-weaker (stmt_done port first store)
+            (Ready (intervals_after intervals first) (advance popped (stmt_counts locals first))) _
+            (λ middle h. stmts_safe window port whole rest (names_after names first)
+            (intervals_after intervals first)
+            (advance popped (stmt_counts locals first)) middle closed.1 inner_counted rest_fixed
+            h)
+            (ready_stmt port first names intervals popped store closed.0 first_counted first_fixed
+            ready),
+      )

@@ -1,0 +1,15 @@
+use Rattle.std.proofs.Common.{◌≡◌, Some, drop, map}
+use Rattle.strc_syntax.specs.View.{variable_view}
+use Rattle.strc_peeks.specs.Counts.{no_items, sequence, variables_counts}
+use Rattle.strc_interval.specs.Intervals.{with_unknown}
+use Rattle.strc_peeks.proofs.item_counts.variables_counts.Given as goal
+
+abbrev pub invariant-loop-variable : goal.invariant-loop-variable
+invariant-loop-variable l = record {
+  counted : sequence l.counts (variables_counts
+      (map variable_view (drop l.variable-index l.variables)))
+      ≡ variables_counts (map variable_view l.variables);
+  runnable : sequence l.counts (Some no_items) ≡ l.counts;
+  names : with_unknown l.names (map variable_view (drop l.variable-index l.variables))
+      ≡ with_unknown l.initial.names (map variable_view l.variables);
+}

@@ -1,0 +1,4 @@
+pub mod Counts
+pub mod Peeks
+pub mod Safe
+pub mod Turns

@@ -1,0 +1,170 @@
+// How many items a part of a text pushes and pops.
+
+ghost use Rattle.std.specs.Prelude.{◌≡◌, ◌+◌, ◌*◌};
+ghost use Rattle.strc_syntax.specs.View.{expr_view};
+ghost use Rattle.strc_peeks.specs.Counts as spec;
+
+use strc_interval::constant::constant;
+use strc_syntax::tree::{BinaryOperator, Expr};
+
+// From here on a count is saturated.
+const COUNT_LIMIT: u32 = 65537;
+
+/// So many items, each number saturated at 65,537.
+#[derive(Clone, Copy, PartialEq, Eq)]
+pub struct Counts {
+    pub pushes: u32,
+    pub pops: u32,
+}
+
+/// When an operator's right side is evaluated.
+#[derive(Clone, Copy, PartialEq, Eq)]
+pub enum Need {
+    Always,
+    Never,
+    Sometimes,
+}
+
+pub fn no_items() -> Counts
+    ensures { result ≡ spec.no_items }
+{
+    Counts { pushes: 0, pops: 0 }
+}
+
+pub fn one_push() -> Counts
+    ensures { result ≡ spec.one_push }
+{
+    Counts { pushes: 1, pops: 0 }
+}
+
+pub fn one_pop() -> Counts
+    ensures { result ≡ spec.one_pop }
+{
+    Counts { pushes: 0, pops: 1 }
+}
+
+/// One after the other.
+pub fn sequence(first: Option<Counts>, second: Option<Counts>) -> Option<Counts>
+    ensures { result ≡ spec.sequence first second }
+{
+    match first {
+        Some(first) => match second {
+            Some(second) => Some(Counts {
+                pushes: saturating_sum(first.pushes, second.pushes),
+                pops: saturating_sum(first.pops, second.pops),
+            }),
+            None => None,
+        },
+        None => None,
+    }
+}
+
+/// One or the other, which must count the same.
+pub fn if_equal(first: Option<Counts>, second: Option<Counts>) -> Option<Counts>
+    ensures { result ≡ spec.if_equal first second }
+{
+    match first {
+        Some(first) => match second {
+            Some(second) => if_same(first, second),
+            None => None,
+        },
+        None => None,
+    }
+}
+
+/// What may be left out, or run several times, must count nothing.
+pub fn require_zero(counts: Option<Counts>) -> Option<Counts>
+    ensures { result ≡ spec.require_zero counts }
+{
+    match counts {
+        Some(counts) => if_same(no_items(), counts),
+        None => None,
+    }
+}
+
+fn if_same(first: Counts, second: Counts) -> Option<Counts>
+    ensures { result ≡ spec.if_same first second }
+{
+    if first.pushes == second.pushes && first.pops == second.pops {
+        Some(first)
+    } else {
+        None
+    }
+}
+
+/// So many times; nothing is looked at for none.
+pub fn repeated(times: u64, counts: Option<Counts>) -> Option<Counts>
+    ensures { result ≡ spec.repeated times counts }
+{
+    if times == 0 {
+        return Some(no_items());
+    }
+    match counts {
+        Some(counts) => Some(Counts {
+            pushes: saturating_product(times, counts.pushes),
+            pops: saturating_product(times, counts.pops),
+        }),
+        None => None,
+    }
+}
+
+/// The side that a constant condition takes, or both.
+pub fn branch_counts(
+    condition: Option<i32>,
+    chosen: Option<Counts>,
+    other: Option<Counts>,
+) -> Option<Counts>
+    ensures { result ≡ spec.branch_counts condition chosen other }
+{
+    match condition {
+        Some(0) => other,
+        Some(_) => chosen,
+        None => if_equal(chosen, other),
+    }
+}
+
+/// When the right side of an operator is evaluated behind this left side.
+pub fn need_of(operator: BinaryOperator, left: &Expr) -> Need
+    ensures { result ≡ spec.need_of operator (expr_view left.now) }
+{
+    match operator {
+        BinaryOperator::LogicalOr => match constant(left) {
+            Some(0) => Need::Always,
+            Some(_) => Need::Never,
+            None => Need::Sometimes,
+        },
+        BinaryOperator::LogicalAnd => match constant(left) {
+            Some(0) => Need::Never,
+            Some(_) => Need::Always,
+            None => Need::Sometimes,
+        },
+        _ => Need::Always,
+    }
+}
+
+/// What a right side counts that is evaluated so.
+pub fn needed(need: Need, counts: Option<Counts>) -> Option<Counts>
+    ensures { result ≡ spec.needed need counts }
+{
+    match need {
+        Need::Always => counts,
+        Need::Never => Some(no_items()),
+        Need::Sometimes => require_zero(counts),
+    }
+}
+
+/// The sum of two numbers, saturated.
+pub fn saturating_sum(first: u32, second: u32) -> u32
+    ensures { result ≡ spec.saturated (first + second) }
+{
+    first.saturating_add(second).min(COUNT_LIMIT)
+}
+
+/// The product of two numbers, saturated.
+pub fn saturating_product(times: u64, count: u32) -> u32
+    ensures { result ≡ spec.saturated (times * count) }
+{
+    times
+        .saturating_mul(u64::from(count))
+        .min(u64::from(COUNT_LIMIT)) as u32
+}

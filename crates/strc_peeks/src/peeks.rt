@@ -1,0 +1,305 @@
+// Which peeks stay within their window, told from the text, and which can't reach into it. The walk
+// counts what it passes, so that it knows how many items are popped before each peek.
+
+ghost use Rattle.std.specs.Prelude.{◌≡◌, ◌++◌, IfOk, OnOk, map};
+ghost use Rattle.std.specs.Option.{option_map};
+ghost use Rattle.strc_syntax.specs.View.{expr_view, variable_view, stmt_view, block_view};
+ghost use Rattle.strc_peeks.specs.Counts as counting;
+ghost use Rattle.strc_peeks.specs.Peeks as spec;
+ghost use Rattle.strc_interval.specs.Intervals.{names_of};
+ghost use Rattle.strc_interval.specs.Intervals.{with_unknown, with_interval, intervals_after};
+
+use crate::counts::{
+    Counts, Need, if_equal, need_of, no_items, one_pop, one_push, repeated, require_zero, sequence,
+};
+use crate::item_counts::statement_counts;
+use crate::sight::{PeekBounds, PopInterval, advance, in_turns, sight_at};
+use strc_base::memory::NoMemory;
+use strc_interval::constant::constant;
+use strc_interval::interval_scope::IntervalScope;
+use strc_interval::intervals::interval_of;
+use strc_interval::loops::{CountedLoop, counted_loop};
+use strc_syntax::tree::{Expr, Stmt, Variable};
+
+/// Adds what is told of the peeks of statements in a row, in order of the text, and gives the
+/// counts of the statements.
+#[cycle(peeks)]
+#[tactic(auto, using(strc_interval::proofs::IntervalGrowth::own_growth))]
+pub fn check_peeks_in_block(
+    block: &[Stmt],
+    names: &mut IntervalScope,
+    window: u32,
+    popped: PopInterval,
+    sights: &mut Vec<PeekBounds>,
+) -> Result<Option<Counts>, NoMemory>
+    ensures counts { IfOk result (λ counts. counts
+        ≡ counting.stmts_counts (names_of names.old) (block_view block.now)) }
+    ensures sights { OnOk result (sights.new.items
+        ≡ sights.old.items ++ spec.stmts_sights window names.old popped (block_view block.now)) }
+    ensures names { OnOk result (names.new ≡ names.old) }
+{
+    let outside = names.len();
+    let mut counts = Some(no_items());
+    let mut here = popped;
+    for statement in block {
+        let passed = check_peeks_in_statement(statement, names, window, here, sights)?;
+        here = advance(here, passed);
+        counts = sequence(counts, passed);
+    }
+    names.leave(outside);
+    Ok(counts)
+}
+
+/// The same of a statement, which may add to the names.
+#[cycle(peeks)]
+#[tactic(auto, using(strc_interval::proofs::IntervalGrowth::own_growth))]
+fn check_peeks_in_statement(
+    statement: &Stmt,
+    names: &mut IntervalScope,
+    window: u32,
+    popped: PopInterval,
+    sights: &mut Vec<PeekBounds>,
+) -> Result<Option<Counts>, NoMemory>
+    ensures counts { IfOk result (λ counts. counts
+        ≡ counting.stmt_counts (names_of names.old) (stmt_view statement.now)) }
+    ensures sights { OnOk result (sights.new.items
+        ≡ sights.old.items ++ spec.stmt_sights window names.old popped (stmt_view statement.now)) }
+    ensures names { OnOk result (names.new ≡ intervals_after names.old (stmt_view statement.now)) }
+{
+    match statement {
+        Stmt::Empty | Stmt::Compose(_) => Ok(Some(no_items())),
+        Stmt::Block(body) => check_peeks_in_block(body, names, window, popped, sights),
+        Stmt::Declare(declared) => {
+            check_peeks_in_variables(&declared.variables, names, window, popped, sights)
+        }
+        Stmt::Evaluate(value)
+        | Stmt::Assign(_, _, value)
+        | Stmt::Print(value)
+        | Stmt::Println(value) => check_peeks_in_expression(value, names, window, popped, sights),
+        Stmt::AssignElement(_, index, _, value) => {
+            let index = check_peeks_in_expression(index, names, window, popped, sights)?;
+            let here = advance(popped, index);
+            let value = check_peeks_in_expression(value, names, window, here, sights)?;
+            Ok(sequence(index, value))
+        }
+        Stmt::Push(value) => {
+            let value = check_peeks_in_expression(value, names, window, popped, sights)?;
+            Ok(sequence(value, Some(one_push())))
+        }
+        Stmt::If(condition, chosen) => {
+            let test = check_peeks_in_expression(condition, names, window, popped, sights)?;
+            let here = advance(popped, test);
+            let chosen = match constant(condition) {
+                Some(0) => Some(no_items()),
+                Some(_) => look_inside(chosen, names, window, here, sights)?,
+                None => {
+                    let chosen = look_inside(chosen, names, window, here, sights)?;
+                    if_equal(chosen, Some(no_items()))
+                }
+            };
+            Ok(sequence(test, chosen))
+        }
+        Stmt::IfElse(condition, chosen, other) => {
+            let test = check_peeks_in_expression(condition, names, window, popped, sights)?;
+            let here = advance(popped, test);
+            let taken = match constant(condition) {
+                Some(0) => look_inside(other, names, window, here, sights)?,
+                Some(_) => look_inside(chosen, names, window, here, sights)?,
+                None => {
+                    let chosen = look_inside(chosen, names, window, here, sights)?;
+                    let other = look_inside(other, names, window, here, sights)?;
+                    if_equal(chosen, other)
+                }
+            };
+            Ok(sequence(test, taken))
+        }
+        Stmt::While(condition, body) => {
+            let test = check_peeks_in_expression(condition, names, window, popped, sights)?;
+            let body = look_inside(body, names, window, popped, sights)?;
+            Ok(sequence(require_zero(test), require_zero(body)))
+        }
+        Stmt::For(first, condition, step, body) => {
+            let counted = counted_loop(names, first, condition, step, body);
+            let outside = names.len();
+            let begun = check_peeks_in_statement(first, names, window, popped, sights)?;
+            let here = advance(popped, begun);
+            let turned = match counted {
+                Some(counted) => check_peeks_in_turns(body, counted, names, window, here, sights)?,
+                None => {
+                    let test = check_peeks_in_option(condition, names, window, here, sights)?;
+                    let step = look_inside(step, names, window, here, sights)?;
+                    let body = look_inside(body, names, window, here, sights)?;
+                    sequence(
+                        require_zero(test),
+                        sequence(require_zero(step), require_zero(body)),
+                    )
+                }
+            };
+            names.leave(outside);
+            Ok(sequence(begun, turned))
+        }
+    }
+}
+
+/// The same of a statement whose names end with it.
+#[cycle(peeks)]
+#[tactic(auto, using(strc_interval::proofs::IntervalGrowth::own_growth))]
+fn look_inside(
+    statement: &Stmt,
+    names: &mut IntervalScope,
+    window: u32,
+    popped: PopInterval,
+    sights: &mut Vec<PeekBounds>,
+) -> Result<Option<Counts>, NoMemory>
+    ensures counts { IfOk result (λ counts. counts
+        ≡ counting.stmt_counts (names_of names.old) (stmt_view statement.now)) }
+    ensures sights { OnOk result (sights.new.items
+        ≡ sights.old.items ++ spec.stmt_sights window names.old popped (stmt_view statement.now)) }
+    ensures names { OnOk result (names.new ≡ names.old) }
+{
+    let outside = names.len();
+    let counts = check_peeks_in_statement(statement, names, window, popped, sights)?;
+    names.leave(outside);
+    Ok(counts)
+}
+
+/// The same of the turns of a counted loop, in which its variable has an interval. Nothing is
+/// looked at in a loop of no turn.
+#[cycle(peeks)]
+#[tactic(auto, using(strc_interval::proofs::IntervalGrowth::known_values))]
+fn check_peeks_in_turns(
+    body: &Stmt,
+    counted: CountedLoop,
+    names: &mut IntervalScope,
+    window: u32,
+    popped: PopInterval,
+    sights: &mut Vec<PeekBounds>,
+) -> Result<Option<Counts>, NoMemory>
+    ensures counts { IfOk result (λ counts. counts
+        ≡ counting.repeated counted.entry.turns
+        (counting.stmt_counts (names_of names.old) (stmt_view body.now))) }
+    ensures sights { let within = with_interval names.old counted.entry.name.now
+        counted.entry.interval in
+        let counts = counting.stmt_counts (names_of names.old) (stmt_view body.now) in
+        OnOk result (sights.new.items ≡ sights.old.items ++ spec.some_turns counted.entry.turns
+        (spec.stmt_sights window within (spec.in_turns popped counted.entry.turns counts)
+        (stmt_view body.now))) }
+    ensures names { OnOk result (names.new ≡ names.old) }
+{
+    if counted.turns == 0 {
+        return Ok(Some(no_items()));
+    }
+    let outside = names.len();
+    let counts = statement_counts(body, names)?;
+    names.leave(outside);
+    let before = names.interval_of(counted.name);
+    names.give_interval(counted.name, Some(counted.interval));
+    let here = in_turns(popped, counted.turns, counts);
+    look_inside(body, names, window, here, sights)?;
+    names.give_interval(counted.name, before);
+    Ok(repeated(counted.turns, counts))
+}
+
+/// The same of the initialisers of a declaration, whose variables are added to the names.
+fn check_peeks_in_variables(
+    variables: &[Variable],
+    names: &mut IntervalScope,
+    window: u32,
+    popped: PopInterval,
+    sights: &mut Vec<PeekBounds>,
+) -> Result<Option<Counts>, NoMemory>
+    ensures counts { IfOk result (λ counts. counts
+        ≡ counting.variables_counts (map variable_view variables.now)) }
+    ensures sights { OnOk result (sights.new.items
+        ≡ sights.old.items ++ spec.variables_sights window names.old popped
+        (map variable_view variables.now)) }
+    ensures names { OnOk result (names.new ≡ with_unknown names.old
+        (map variable_view variables.now)) }
+{
+    let mut counts = Some(no_items());
+    let mut here = popped;
+    for variable in variables {
+        let passed = check_peeks_in_option(&variable.initial, names, window, here, sights)?;
+        here = advance(here, passed);
+        counts = sequence(counts, passed);
+        names.declare(&variable.name)?;
+    }
+    Ok(counts)
+}
+
+fn check_peeks_in_option(
+    value: &Option<Expr>,
+    names: &IntervalScope,
+    window: u32,
+    popped: PopInterval,
+    sights: &mut Vec<PeekBounds>,
+) -> Result<Option<Counts>, NoMemory>
+    ensures counts { IfOk result (λ counts. counts
+        ≡ counting.option_counts (option_map expr_view value.now)) }
+    ensures sights { OnOk result (sights.new.items
+        ≡ sights.old.items ++ spec.option_sights window names.now popped
+        (option_map expr_view value.now)) }
+{
+    match value {
+        None => Ok(Some(no_items())),
+        Some(value) => check_peeks_in_expression(value, names, window, popped, sights),
+    }
+}
+
+/// The same of an expression.
+fn check_peeks_in_expression(
+    value: &Expr,
+    names: &IntervalScope,
+    window: u32,
+    popped: PopInterval,
+    sights: &mut Vec<PeekBounds>,
+) -> Result<Option<Counts>, NoMemory>
+    ensures counts { IfOk result (λ counts. counts ≡ counting.expr_counts (expr_view value.now)) }
+    ensures sights { OnOk result (sights.new.items
+        ≡ sights.old.items ++ spec.expr_sights window names.now popped (expr_view value.now)) }
+{
+    match value {
+        Expr::Number(_) | Expr::Truth(_) | Expr::Read(_) | Expr::Step(_, _) => {
+            Ok(Some(no_items()))
+        }
+        Expr::Pop => Ok(Some(one_pop())),
+        Expr::Peek(index) => {
+            let counts = check_peeks_in_expression(index, names, window, popped, sights)?;
+            let here = advance(popped, counts);
+            sights.push(sight_at(window, here, interval_of(index, names)))?;
+            Ok(counts)
+        }
+        Expr::Element(_, inner)
+        | Expr::Group(inner)
+        | Expr::Unary(_, inner)
+        | Expr::StepElement(_, _, inner) => {
+            check_peeks_in_expression(inner, names, window, popped, sights)
+        }
+        Expr::Binary(operator, left, right) => {
+            let first = check_peeks_in_expression(left, names, window, popped, sights)?;
+            let here = advance(popped, first);
+            let second = match need_of(*operator, left) {
+                Need::Always => check_peeks_in_expression(right, names, window, here, sights)?,
+                Need::Never => Some(no_items()),
+                Need::Sometimes => {
+                    require_zero(check_peeks_in_expression(right, names, window, here, sights)?)
+                }
+            };
+            Ok(sequence(first, second))
+        }
+        Expr::Conditional(condition, chosen, other) => {
+            let test = check_peeks_in_expression(condition, names, window, popped, sights)?;
+            let here = advance(popped, test);
+            let taken = match constant(condition) {
+                Some(0) => check_peeks_in_expression(other, names, window, here, sights)?,
+                Some(_) => check_peeks_in_expression(chosen, names, window, here, sights)?,
+                None => {
+                    let chosen = check_peeks_in_expression(chosen, names, window, here, sights)?;
+                    let other = check_peeks_in_expression(other, names, window, here, sights)?;
+                    if_equal(chosen, other)
+                }
+            };
+            Ok(sequence(test, taken))
+        }
+    }
+}
