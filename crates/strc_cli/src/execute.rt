@@ -8,11 +8,12 @@ ghost use Rattle.strc_cli.specs.Executes.{Executes, TellsAnswer, Writes, device_
 
 use crate::answer::{Answer, Stop, answer_to};
 use crate::device::{Sink, Source};
-use strc_command::line::Command;
 use crate::output::{check_text, outcome_text, plan_text, stop_text};
 use std::alloc::{AllocError, Global};
+use strc_command::line::Command;
 use strc_run::refusal::Refusal;
 use strc_run::run::{Outcome, RunRefusal};
+use thiserror::Error;
 
 /// How a call of `execute` went: what the program's exit status tells.
 #[derive(Clone, Copy, Debug, PartialEq, Eq)]
@@ -42,13 +43,16 @@ impl Status {
 }
 
 /// Why nothing could be reported.
-#[derive(Clone, Copy, Debug, PartialEq, Eq)]
+#[derive(Clone, Copy, Debug, PartialEq, Eq, Error)]
 pub enum CliError {
     /// The input failed. Nothing was written.
+    #[error("the input can't be read")]
     Read,
     /// The output failed. A beginning of the output may have gone out.
+    #[error("the output can't be written")]
     Write,
     /// Memory ran out. Nothing was written.
+    #[error("out of memory")]
     Memory,
 }
 

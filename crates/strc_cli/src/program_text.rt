@@ -5,18 +5,21 @@ ghost use Rattle.std.specs.IoError.{error_kind};
 ghost use Rattle.strc_lex.specs.Text.{text_limit};
 
 use std::alloc::Global;
-use std::io;
 use std::io::{ErrorKind, Read};
+use std::io;
+use thiserror::Error;
 
 // A text of more bytes than a program may have is read no further.
 const MOST_BYTES: u64 = 1048577;
 
 /// Why a text could not be read.
-#[derive(Drop)]
+#[derive(Drop, Debug, Error)]
 pub enum TextFault {
     /// The reader failed.
+    #[error("the text can't be read: {0}")]
     Failed(io::Error),
     /// Memory ran out.
+    #[error("out of memory for the text")]
     NoMemory,
 }
 

@@ -6,7 +6,6 @@ pub mod Examples
 pub mod Keeping
 pub mod Levels
 pub mod LoopRuns
-pub mod NameTables
 pub mod SoundBodies
 pub mod SoundMaking
 pub mod SoundRows

@@ -34,9 +34,11 @@ use Rattle.strc_elab.specs.Elaboration.{splitjoin_made, loop_made, composite_mad
 use Rattle.strc_weights.specs.Sides.{inputs_in}
 use Rattle.strc_elab.specs.Elaboration.{composite_elaborated, given_elaborated}
 use Rattle.strc_weights.specs.Sides.{outputs_in}
-use Rattle.strc_elab.specs.Elaboration.{text_elaborated, stream_elaborated, level_limit, types_of}
-use Rattle.strc_elab.specs.Elaboration.{can_be_main, mains_from, only_main, named_main, main_of}
-use Rattle.strc_elab.specs.Elaboration.{main_elaborated, not_doubled, doubled_from, elaborated}
+use Rattle.strc_elab.specs.Elaboration.{text_elaborated, stream_elaborated, level_limit}
+use Rattle.strc_declarations.specs.MainStreams.{types_of}
+use Rattle.strc_declarations.specs.MainStreams.{can_be_main, mains_from, only_main, named_main, main_of}
+use Rattle.strc_elab.specs.Elaboration.{main_elaborated, elaborated}
+use Rattle.strc_declarations.specs.MainStreams.{not_doubled, doubled_from}
 use Rattle.strc_elab.specs.Sound.{IsInstance, IsElaborated}
 use Rattle.strc_weights.specs.Weights.{Split, weighted, split_dealt, join_dealt, input_written}
 use Rattle.strc_weights.specs.Weights.{output_written, loop_weights, loop_splitter}

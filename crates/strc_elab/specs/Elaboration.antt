@@ -30,6 +30,7 @@ use Rattle.strc_semantics.specs.declared.fault.Cause.TheVariants as causes
 use Rattle.strc_check.specs.declared.types.ValueType.TheVariants as kind
 use Rattle.strc_weights.specs.Weights.{Split, ToEach, InTurn, weighted, split_dealt, join_dealt}
 use Rattle.strc_weights.specs.Weights.{input_written, output_written, loop_weights, loop_splitter}
+use Rattle.strc_declarations.specs.MainStreams.{doubled_from, not_doubled, main_of}
 use Rattle.strc_weights.specs.Sides.{same_item, passes_items, is_as_written, last_given, inputs_in}
 use Rattle.strc_weights.specs.Sides.{outputs_in, any_side}
 use Rattle.strc_stream.specs.Instances.{Stream, in_a_row}
@@ -503,51 +504,6 @@ stream_elaborated program (suc levels) place text tally =
     }) text tally
 
 -- the main stream
-
--- the number of the first declaration whose name an earlier one has
-abbrev pub doubled_from : (earlier : List (List ℕ)) → ℕ → List Declaration → Option ℕ
-doubled_from earlier number [] = None
-doubled_from earlier number (first ∷ others) =
-    if list_any (λ name. pointwise nat_eq first.name name) earlier then Some number
-    else doubled_from (earlier ++ first.name ∷ []) (number + 1) others
-
-abbrev pub not_doubled : Option ℕ → Result (Unit {0}) ElabError
-not_doubled None = Ok tt
-not_doubled (Some number) = Err (refused.TypeMismatch number)
-
--- what a declared stream takes and gives
-abbrev pub types_of : tree.Stream → StreamType
-types_of (tree.Filter input output members) = record { input = input; output = output }
-types_of (tree.Composite types kind block) = types
-
--- whether a declaration can be the main stream: it takes and gives nothing, and has no parameters
-abbrev pub can_be_main : Declaration → Bool
-can_be_main declaration =
-    is_as_written (Some (record { input = item.Void; output = item.Void }))
-    (types_of declaration.stream)
-    && nat_eq (length (parameters_of declaration)) 0
-
--- the declarations that can be the main stream, with their numbers
-abbrev pub mains_from : ℕ → List Declaration → List (ℕ × Declaration)
-mains_from number [] = []
-mains_from number (first ∷ others) =
-    if can_be_main first then (number, first)
-    ∷ mains_from (number + 1) others else mains_from (number + 1) others
-
--- the only one
-abbrev pub only_main : List (ℕ × Declaration) → Result (ℕ × Declaration) ElabError
-only_main [] = Err refused.NoMain
-only_main (one ∷ []) = Ok one
-only_main (one ∷ other ∷ others) = Err refused.ManyMains
-
--- the named one
-abbrev pub named_main : Option (ℕ × Declaration) → Result (ℕ × Declaration) ElabError
-named_main None = Err refused.NoMain
-named_main (Some found) = if can_be_main found.1 then Ok found else Err refused.NoMain
-
-abbrev pub main_of : List Declaration → Option (List ℕ) → Result (ℕ × Declaration) ElabError
-main_of program None = only_main (mains_from 0 program)
-main_of program (Some name) = named_main (declared_from 0 program name)
 
 -- the main stream's place and text
 abbrev pub main_elaborated : List Declaration → ℕ × Declaration → Result Elaborated ElabError

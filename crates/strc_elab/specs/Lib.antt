@@ -3,7 +3,6 @@ pub mod Examples
 pub mod Tasks
 pub mod Tallies
 pub mod Loops
-pub mod Names
 pub mod Answering
 pub mod Making
 pub mod Sound

@@ -9,7 +9,7 @@ use Rattle.strc_semantics.specs.Filters.{filter_parts}
 use Rattle.strc_scope.specs.Texts as texts
 use Rattle.strc_elab.specs.Elaboration as spec
 use Rattle.strc_scope.specs.Answers.{IsVerdict}
-use Rattle.strc_elab.specs.Names.{place_from}
+use Rattle.strc_declarations.specs.Names.{place_from}
 use Rattle.strc_stream.specs.View.{stream_view}
 use Rattle.strc_scope.specs.declared.error.ElabError.{ElabError}
 use Rattle.strc_elab.specs.declared.task.Text.{Text}

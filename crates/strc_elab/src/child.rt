@@ -12,21 +12,22 @@ ghost use Rattle.strc_elab.specs.Tasks.{IsReady, setting_of, program_of};
 ghost use Rattle.strc_elab.specs.Tasks.{text_view};
 
 use crate::body::Body;
-use crate::declared::{declared, text_of};
+use crate::declared::text_of;
 use crate::progress::Progress;
 use crate::task::{Elaborated, Task, Text};
-use strc_weights::types::passes_items;
 use std::alloc::Global;
 use strc_base::memory::NoMemory;
 use strc_check::constants::Constants;
 use strc_check::typed_scope::TypedScope;
 use strc_check::types::ValueType;
+use strc_declarations::declared::declared;
 use strc_lex::token::Name;
 use strc_scope::captures::captures;
 use strc_scope::error::ElabError;
 use strc_scope::store::Store;
 use strc_stream::stream::Stream;
 use strc_syntax::tree::{Child, Decl, Expr, Role, StreamType};
+use strc_weights::types::passes_items;
 
 impl<F: Fn(Task) -> Result<Elaborated, ElabError>> Body<'_, F> {
     /// Elaborates a child.

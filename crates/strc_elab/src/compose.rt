@@ -12,11 +12,11 @@ ghost use Rattle.strc_elab.specs.Tasks.{IsReady, setting_of};
 use crate::body::Body;
 use crate::progress::Progress;
 use crate::task::{Elaborated, Task};
-use strc_weights::weights::Split;
 use strc_check::types::ValueType;
 use strc_scope::error::ElabError;
 use strc_scope::store::Store;
 use strc_syntax::tree::{Child, Composition, Expr, Role, Splitter};
+use strc_weights::weights::Split;
 
 impl<F: Fn(Task) -> Result<Elaborated, ElabError>> Body<'_, F> {
     /// Does a stream statement.

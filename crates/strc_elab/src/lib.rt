@@ -2,8 +2,9 @@
 // Gives the stream of instances that its main stream means. The theorem to rely on: `elaborate`
 // answers the stream that the definitions give, or the first rule that is broken; a stream that it
 // answers is closed, and its types fit.
-// Stands on strc_scope, whose steps a body's statements are, on strc_weights, which deals weights, on strc_work, whose codes filters get,
-// on strc_stream and strc_graph, whose streams and splitters it makes, and on indexmap.
+// Stands on strc_declarations, which finds declarations, on strc_scope, whose steps a body's
+// statements are, on strc_weights, which deals weights, on strc_work, whose codes filters get, on
+// strc_stream and strc_graph, whose streams and splitters it makes, and on indexmap.
 #![tactic(auto)]
 
 mod body;
@@ -11,11 +12,9 @@ mod child;
 mod compose;
 mod declared;
 pub mod elaborate;
-mod index;
 pub mod laws;
 mod level;
 mod made;
-mod main_stream;
 mod progress;
 mod task;
 mod text;

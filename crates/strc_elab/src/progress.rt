@@ -5,11 +5,11 @@ ghost use Rattle.strc_elab.specs.Elaboration as spec;
 ghost use Rattle.strc_elab.specs.Answering.{progress_of};
 
 use crate::task::Tally;
-use strc_weights::types::same_item;
-use strc_weights::weights::Split;
 use strc_scope::store::Store;
 use strc_stream::stream::Stream;
 use strc_syntax::tree::{CompositeKind, Role, StreamType};
+use strc_weights::types::same_item;
+use strc_weights::weights::Split;
 
 /// What its stream statements have said so far: the children of `add` with their types, the weights
 /// of `split` and `join`, body and loop, and the enqueued items; its variables and the turns so

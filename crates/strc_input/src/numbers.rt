@@ -8,6 +8,7 @@ ghost use Rattle.strc_input.specs.Answers.{reading_of, IsRead, AreNumbers};
 ghost use Rattle.strc_input.specs.declared.numbers.InputError.TheVariants as error;
 
 use std::alloc::{AllocFailed, Global};
+use thiserror::Error;
 
 /// Where the last word stands.
 #[derive(Clone, Copy)]
@@ -21,11 +22,13 @@ pub(crate) enum Word {
 }
 
 /// Why the input has no numbers. Words are numbered from 0.
-#[derive(Clone, Copy, Debug, PartialEq, Eq)]
+#[derive(Clone, Copy, Debug, PartialEq, Eq, Error)]
 pub enum InputError {
     /// A word isn't a number of 32 bits: an optional `-` and decimal digits.
+    #[error("word {word} of the input, counted from 0, isn't a number of 32 bits")]
     BadInput { word: u64 },
     /// Memory was refused.
+    #[error("out of memory for the numbers of the input")]
     NoMemory,
 }
 

@@ -1,16 +1,16 @@
 // What a person reads of a run that ends early, or that isn't run.
 
-use strc_source::message::Message;
 use crate::nodes::push_node;
 use crate::places::place_of_node;
 use crate::program::graph_of;
-use strc_source::source::Source;
 use std::alloc::Global;
 use strc_base::memory::NoMemory;
 use strc_graph::graph::Graph;
 use strc_lex::lexer::lex;
 use strc_run::run::{Round, RunRefusal};
 use strc_semantics::fault::Cause;
+use strc_source::message::Message;
+use strc_source::source::Source;
 
 /// A firing that faulted.
 #[derive(Clone, Copy)]

@@ -1,11 +1,11 @@
 // Hints on how a refusal can be mended.
 
-use strc_source::message::Message;
-use strc_source::nearest::nearest_name;
-use strc_source::source::Source;
 use std::alloc::Global;
 use strc_base::memory::NoMemory;
 use strc_run::refusal::Refusal;
+use strc_source::message::Message;
+use strc_source::nearest::nearest_name;
+use strc_source::source::Source;
 
 /// A hint, where there is one that helps.
 pub(crate) fn push_hint(

@@ -1,9 +1,9 @@
 // Nodes and channels as a person knows them.
 
-use strc_source::message::Message;
 use std::alloc::AllocError;
 use strc_graph::graph::Graph;
 use strc_graph::rates::{pops_at, pushes_at};
+use strc_source::message::Message;
 
 /// A firing that isn't the first one, so that it is by `work`.
 const LATER: u64 = 1;

@@ -1,11 +1,11 @@
 // Which part of a text a refusal is about.
 
-use strc_source::declarations::{declaration_named, declaration_numbered, first_keyword};
-use strc_source::message::Extent;
-use strc_source::source::Source;
 use strc_graph::graph::Graph;
 use strc_lex::token::Keyword;
 use strc_run::refusal::Refusal;
+use strc_source::declarations::{declaration_named, declaration_numbered, first_keyword};
+use strc_source::message::Extent;
+use strc_source::source::Source;
 
 /// The part of the text that a refusal is about, where there is one; the graph is the program's,
 /// where it has one.

@@ -1,21 +1,21 @@
 // What a person reads of a refusal.
 
-use strc_source::expected::{Expected, expected_after};
 use crate::hints::push_hint;
-use strc_source::message::{Extent, Message};
 use crate::nodes::{push_channel, push_node};
 use crate::places::place_of_refusal;
 use crate::program::graph_of;
 use crate::sentences::plain_sentence;
 use crate::stuck::push_stuck_loop;
-use strc_source::source::Source;
-use strc_source::statement::{refused_statement, refused_use};
 use std::alloc::Global;
 use strc_base::memory::NoMemory;
 use strc_graph::graph::Graph;
 use strc_lex::lexer::lex;
 use strc_lex::token::Token;
 use strc_run::refusal::Refusal;
+use strc_source::expected::{Expected, expected_after};
+use strc_source::message::{Extent, Message};
+use strc_source::source::Source;
+use strc_source::statement::{refused_statement, refused_use};
 
 /// What a person reads of a text's refusal: the place in the file, one sentence, the source line
 /// with a mark under the place, and where it helps a hint; a line feed ends the message.

@@ -1,8 +1,8 @@
 // The sentences that need nothing but the refusal.
 
-use strc_source::source::Source;
 use strc_run::refusal::Refusal;
 use strc_semantics::fault::Cause;
+use strc_source::source::Source;
 
 /// What is said of a refusal; of one that names a node or a channel, what follows their names.
 /// `in_statement`: it is said of a statement, and else of a whole declaration.

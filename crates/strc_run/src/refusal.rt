@@ -5,10 +5,11 @@ ghost use Rattle.strc_run.specs.Reports.{refusal_of, balance_refusal_of, startup
 ghost use Rattle.strc_run.specs.Reports.{schedule_refusal_of};
 ghost use Rattle.strc_run.specs.declared.refusal.Refusal.TheVariants.{NoMemory};
 
-use crate::sentence::{spelled, when};
+use crate::sentence::when;
 use std::alloc::{AllocError, AllocFailed};
 use strc_balance::error::BalanceError;
 use strc_base::memory;
+use strc_check::spelled::spelled;
 use strc_elab::error::ElabError;
 use strc_lex::token::Name;
 use strc_order::error::ScheduleError;

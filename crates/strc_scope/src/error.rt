@@ -5,40 +5,55 @@ ghost use Rattle.strc_scope.specs.declared.error.ElabError.TheVariants as refuse
 
 use std::alloc::{AllocError, AllocFailed};
 use strc_base::memory::NoMemory;
+use strc_check::spelled::spelled;
 use strc_lex::token::Name;
 use strc_semantics::fault::Cause;
+use thiserror::Error;
 
 /// Why a program has no stream, or a stream no graph. Declarations are numbered from 0.
-#[derive(Debug, Drop)]
+#[derive(Debug, Drop, Error)]
 pub enum ElabError {
     /// A variable or a stream that isn't declared.
+    #[error("{text} isn't declared", text = spelled(.name))]
     UnknownName { name: Name },
     /// A type, kind or part isn't the one that must stand there; the declaration that holds it.
+    #[error("in declaration {stream}, counted from 0, a type, a kind or a part doesn't fit")]
     TypeMismatch { stream: usize },
     /// No declaration can be the main stream, or the named one can't.
+    #[error("the main stream must be a declaration of type void->void without parameters")]
     NoMain,
     /// Several declarations can be the main stream, and none is named.
+    #[error("several declarations can be the main stream: name the one that is meant")]
     ManyMains,
     /// A stream would stand deeper than 64 levels, the main one being at level 1.
+    #[error("streams stand in one another more than 64 levels deep")]
     DepthLimit,
     /// More than 4,096 nodes.
+    #[error("the program has more than 4096 nodes")]
     NodeLimit,
     /// The wrong number of arguments; the declaration that holds the statement.
+    #[error("in declaration {stream}, counted from 0, a stream has the wrong number of arguments")]
     BadArguments { stream: usize },
     /// Weights that aren't allowed: their number, one below 0 or above 65,536, one of 0 for a
     /// stream that has items on that side or above 0 for one that hasn't; the declaration that
     /// holds them.
+    #[error("in declaration {stream}, counted from 0, weights aren't allowed")]
     BadWeights { stream: usize },
     /// A fault in the statements of a composite stream, in a rate, a length, an initialiser or
     /// `init`.
+    #[error("a number that must be known before the run faults: {cause}")]
     ConstFault { cause: Cause },
     /// More than one node takes the input.
+    #[error("more than one FileReader takes the input")]
     TwoInputs,
     /// More than one node prints.
+    #[error("more than one node prints")]
     TwoOutputs,
     /// The nodes aren't all connected.
+    #[error("the nodes aren't all connected by channels")]
     Disconnected,
     /// Memory was refused.
+    #[error("out of memory")]
     NoMemory,
 }
 

@@ -1,8 +1,8 @@
 use Rattle.std.proofs.Common.{◌≡◌, ◌++◌, drop, map}
 use Rattle.std.specs.Option.{option_map, option_to_list}
 use Rattle.strc_syntax.specs.View.{declaration_view}
-use Rattle.strc_elab.specs.Elaboration as spec
-use Rattle.strc_elab.proofs.main_stream.only_main.Given as goal
+use Rattle.strc_declarations.specs.MainStreams as spec
+use Rattle.strc_declarations.proofs.main_stream.only_main.Given as goal
 
 -- what was found, with what is found later, is all
 abbrev pub invariant-loop-number : goal.invariant-loop-number

@@ -3,11 +3,11 @@ use Rattle.std.specs.Map.{lookup}
 use Rattle.std.specs.Cmp.Lexicographic.{pointwise}
 use Rattle.indexmap.proofs.CallerLemmas.{insert_entry-new}
 use Rattle.strc_syntax.specs.declared.tree.Decl.{Decl}
-use Rattle.strc_elab.specs.Names.{place_from}
-use Rattle.strc_elab.specs.Elaboration.{not_doubled}
-use Rattle.strc_elab.proofs.NameTables.{first_found, lookup-append, named_push, none_of}
-use Rattle.strc_elab.proofs.NameTables.{doubled_later, doubled_here}
-use Rattle.strc_elab.proofs.index.index_of.Goals as goal
+use Rattle.strc_declarations.specs.Names.{place_from}
+use Rattle.strc_declarations.specs.MainStreams.{not_doubled}
+use Rattle.strc_declarations.proofs.NameTables.{first_found, lookup-append, named_push, none_of}
+use Rattle.strc_declarations.proofs.NameTables.{doubled_later, doubled_here}
+use Rattle.strc_declarations.proofs.index.index_of.Goals as goal
 
 pub loop-number-preserved : goal.loop-number-preserved
 loop-number-preserved c =

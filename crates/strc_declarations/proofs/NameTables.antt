@@ -10,9 +10,9 @@ use Rattle.std.specs.Cmp.Lexicographic.{pointwise}
 use Rattle.std.proofs.lemmas.List.{take_more, length-take-le}
 use Rattle.strc_syntax.specs.declared.tree.Decl.{Decl}
 use Rattle.strc_syntax.specs.View.{declaration_view}
-use Rattle.strc_elab.specs.Elaboration.{doubled_from}
+use Rattle.strc_declarations.specs.MainStreams.{doubled_from}
 use Rattle.strc_scope.specs.Texts.{declared_from}
-use Rattle.strc_elab.specs.Names.{place_from}
+use Rattle.strc_declarations.specs.Names.{place_from}
 
 pub either : (b : Bool) → (b ≡ true) ⊎ (b ≡ false)
 either true = inl refl

@@ -1,6 +1,6 @@
 use Rattle.std.proofs.Common.{◌≡◌, ◌∙◌, sym, ap, arith, get_or, ℕ}
-use Rattle.strc_elab.proofs.NameTables.{declared_found, declared_missing}
-use Rattle.strc_elab.proofs.declared.declared.Goals as goal
+use Rattle.strc_declarations.proofs.NameTables.{declared_found, declared_missing}
+use Rattle.strc_declarations.proofs.declared.declared.Goals as goal
 
 pub returns-in-Some : goal.returns-in-Some
 returns-in-Some c =

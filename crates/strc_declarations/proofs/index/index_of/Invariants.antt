@@ -2,9 +2,9 @@ use Rattle.std.proofs.Common.{◌≡◌, take, drop, map, [], List, ℕ, nat_eq}
 use Rattle.std.specs.Cmp.Lexicographic.{pointwise}
 use Rattle.indexmap.specs.IndexMap.{get_by}
 use Rattle.strc_syntax.specs.View.{declaration_view}
-use Rattle.strc_elab.specs.Elaboration.{doubled_from}
-use Rattle.strc_elab.specs.Names.{place_from}
-use Rattle.strc_elab.proofs.index.index_of.Given as goal
+use Rattle.strc_declarations.specs.MainStreams.{doubled_from}
+use Rattle.strc_declarations.specs.Names.{place_from}
+use Rattle.strc_declarations.proofs.index.index_of.Given as goal
 
 -- the table has the names so far, and a double, if there is one, comes later
 abbrev pub invariant-loop-number : goal.invariant-loop-number

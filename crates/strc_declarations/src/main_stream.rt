@@ -5,20 +5,20 @@ ghost use Rattle.std.specs.Option.{option_map};
 ghost use Rattle.std.specs.Cmp.Lexicographic.{pointwise};
 ghost use Rattle.indexmap.specs.IndexMap.{get_by};
 ghost use Rattle.strc_syntax.specs.View.{declaration_view, stream_view};
-ghost use Rattle.strc_elab.specs.Elaboration as spec;
+ghost use Rattle.strc_declarations.specs.MainStreams as spec;
 ghost use Rattle.strc_scope.specs.Answers.{IsVerdict};
-ghost use Rattle.strc_elab.specs.Names.{place_from};
+ghost use Rattle.strc_declarations.specs.Names.{place_from};
 ghost use Rattle.strc_scope.specs.Texts as texts;
 
 use crate::declared::declared;
-use strc_weights::types::is_as_written;
 use indexmap::IndexMap;
 use strc_scope::error::ElabError;
 use strc_syntax::tree::{Decl, ItemType, StreamTree, StreamType};
+use strc_weights::types::is_as_written;
 
 /// The main stream with its number: the one that is named, or else the only declaration that can be
 /// it.
-pub(crate) fn main_of<'a>(
+pub fn main_of<'a>(
     declarations: &'a [Decl],
     numbers: &IndexMap<&[u8], usize>,
     main: Option<&str>,

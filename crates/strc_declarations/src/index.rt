@@ -3,8 +3,8 @@
 ghost use Rattle.std.specs.Prelude.{◌≡◌, ◌<◌, ℕ, List, [], length, IfOk, IfSome, nat_eq, map};
 ghost use Rattle.std.specs.Cmp.Lexicographic.{pointwise};
 ghost use Rattle.indexmap.specs.IndexMap.{get_by};
-ghost use Rattle.strc_elab.specs.Names.{place_from};
-ghost use Rattle.strc_elab.specs.Elaboration.{doubled_from, not_doubled};
+ghost use Rattle.strc_declarations.specs.Names.{place_from};
+ghost use Rattle.strc_declarations.specs.MainStreams.{doubled_from, not_doubled};
 ghost use Rattle.strc_scope.specs.Answers.{IsVerdict};
 ghost use Rattle.strc_syntax.specs.View.{declaration_view};
 
@@ -14,7 +14,7 @@ use strc_scope::error::ElabError;
 use strc_syntax::tree::Decl;
 
 /// The number of each declaration by its name. A second one of a name is a mismatch.
-pub(crate) fn index_of<'a>(
+pub fn index_of<'a>(
     alloc: Global,
     declarations: &'a [Decl],
 ) -> Result<IndexMap<&'a [u8], usize>, ElabError>
@@ -37,7 +37,7 @@ pub(crate) fn index_of<'a>(
 }
 
 /// The number of the declaration of a name.
-pub(crate) fn number_of(
+pub fn number_of(
     declarations: &[Decl],
     numbers: &IndexMap<&[u8], usize>,
     name: &[u8],

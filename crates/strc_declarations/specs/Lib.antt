@@ -1,0 +1,2 @@
+pub mod MainStreams
+pub mod Names
