@@ -6,10 +6,10 @@ ghost use Rattle.strc_check.specs.Resolution as judged;
 ghost use Rattle.strc_check.specs.Verdicts.{IsVerdict, RateList};
 
 use crate::constants::Constants;
-use crate::{context, expression_rules};
 use crate::error::LowerError;
 use crate::typed_scope::TypedScope;
 use crate::types::ValueType;
+use crate::{context, expression_rules};
 use std::alloc::Global;
 use strc_semantics::evaluation;
 use strc_syntax::tree::{Expr, ItemType, RateKind, RateTree};

@@ -11,9 +11,9 @@ ghost use Rattle.strc_check.specs.Verdicts.{IsVerdict, context_of, work_view, Va
 use crate::constants::Constants;
 use crate::context::{self, Context};
 use crate::error::LowerError;
-use crate::{expression_rules, parts, rates, statement_rules, type_rules};
 use crate::typed_scope::TypedScope;
 use crate::types::{self, ValueType};
+use crate::{expression_rules, parts, rates, statement_rules, type_rules};
 use std::alloc::Global;
 use strc_base::memory::NoMemory;
 use strc_base::scope::Scope;

@@ -12,15 +12,15 @@ ghost use Rattle.strc_check.specs.Verdicts.{IsVerdict, context_of, Statements, V
 
 use crate::context::Context;
 use crate::error::LowerError;
-use crate::{expression_rules, type_rules, writes};
 use crate::typed_scope::TypedScope;
 use crate::types::{self, ValueType};
+use crate::{expression_rules, type_rules, writes};
 use std::alloc::Global;
 use strc_lex::token::Name;
 use strc_syntax::tree::{AssignOperator, Expr, Stmt, Variable, Variables};
 
 /// The statements of a body or of `init`, among the fields.
-pub(crate) fn resolve_block(
+pub fn resolve_block(
     alloc: Global,
     context: &Context,
     names: &mut TypedScope,
@@ -42,7 +42,7 @@ pub(crate) fn resolve_block(
 
 /// A statement, among the names that can be seen; those of its own block stand from `start` on.
 #[tactic(auto, using(crate::proofs::TypedGrowth::drop_own, crate::proofs::TypedGrowth::drop_both))]
-pub(crate) fn resolve_stmt(
+pub fn resolve_stmt(
     alloc: Global,
     context: &Context,
     names: &mut TypedScope,

@@ -12,8 +12,8 @@ ghost use Rattle.strc_command.specs.Lines.{graph_app, main_rule, plan_app, round
 ghost use Rattle.strc_command.specs.Lines.{strc_app};
 
 use crate::line::{Command, Line, LineFault};
-use clap::{Arg, ArgMatches, Error, value_parser};
 use clap::error::ErrorKind;
+use clap::{Arg, ArgMatches, Error, value_parser};
 use std::alloc::{AllocError, Global};
 
 /// What `--version` says behind the program's name.
