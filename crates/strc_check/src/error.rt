@@ -1,7 +1,7 @@
 // Why a filter isn't accepted.
 
+use crate::spelled::spelled;
 use std::alloc::{AllocError, AllocFailed};
-use std::fmt;
 use strc_base::memory::NoMemory;
 use strc_lex::token::Name;
 use strc_semantics::fault::Cause;
@@ -22,26 +22,6 @@ pub enum LowerError {
     /// Memory was refused.
     #[error("out of memory")]
     NoMemory,
-}
-
-/// A name as it stands in a text.
-#[derive(Drop)]
-struct NameText<'a> {
-    name: &'a Name,
-}
-
-/// A name as it stands in a text.
-fn spelled(name: &Name) -> NameText<'_> {
-    NameText { name }
-}
-
-impl fmt::Display for NameText<'_> {
-    fn fmt<W: fmt::Write>(&self, f: &mut fmt::Formatter<W>) -> fmt::Result {
-        for byte in self.name.as_bytes() {
-            f.write_char(char::from(*byte))?;
-        }
-        Ok(())
-    }
 }
 
 impl From<NoMemory> for LowerError {

@@ -12,6 +12,7 @@ pub mod expression_rules;
 mod parts;
 mod rates;
 pub mod resolution;
+pub mod spelled;
 pub mod statement_rules;
 pub mod type_rules;
 mod typed;

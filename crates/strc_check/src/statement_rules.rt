@@ -20,7 +20,7 @@ use strc_lex::token::Name;
 use strc_syntax::tree::{AssignOperator, Expr, Stmt, Variable, Variables};
 
 /// The statements of a body or of `init`, among the fields.
-pub fn resolve_block(
+pub(crate) fn resolve_block(
     alloc: Global,
     context: &Context,
     names: &mut TypedScope,
@@ -42,7 +42,7 @@ pub fn resolve_block(
 
 /// A statement, among the names that can be seen; those of its own block stand from `start` on.
 #[tactic(auto, using(crate::proofs::TypedGrowth::drop_own, crate::proofs::TypedGrowth::drop_both))]
-pub fn resolve_stmt(
+pub(crate) fn resolve_stmt(
     alloc: Global,
     context: &Context,
     names: &mut TypedScope,
