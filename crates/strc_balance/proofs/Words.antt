@@ -130,12 +130,12 @@ module _ (words : List ℕ) (word place : ℕ) (within : place < 64)
   pub is_highest : ((higher : ℕ) → place < higher → bit_at (get_or words word 0) higher ≡ 0)
       → ((higher : ℕ) → word < higher → get_or words higher 0 ≡ 0)
       → (other : ℕ) → has_number words other ≡ true → other ≤ number
-  is_highest bits words_behind other has =
+  is_highest bits words_past other has =
       elim (cases_lt number other) [
         | inr most ↦ most
         | inl more ↦ elim (cases_lt word (other / 64)) [
-          | inl behind ↦ absurd (true≢false
-              (sym has ∙ no_number words other (words_behind (other / 64) behind)))
+          | inl past ↦ absurd (true≢false
+              (sym has ∙ no_number words other (words_past (other / 64) past)))
           | inr same ↦
               let at : other / 64 ≡ word = omega (arith, more, same, within) in
               let above : place < other % 64 = omega (arith, more, same, at) in

@@ -125,7 +125,7 @@ impl Scope {
     }
 }
 
-/// Writes the slot of a name into a table. For want of memory the table stays as it was.
+/// Writes the slot of a name into a table. Where memory runs out the table stays as it was.
 fn put_in(table: &mut HashMap<Vec<u8>, u32>, name: Vec<u8>, slot: u32) -> Result<(), NoMemory>
     ensures ok { OnOk result (IsUpdated (slot_in table.old) name.items (Some slot)
         (slot_in table.new)) }

@@ -28,7 +28,7 @@ block_onto-push [] last rest = refl
 block_onto-push (first ∷ others) last rest =
     ap (tree.Then (stmt_view first)) (block_onto-push others last rest)
 
--- what is left of a judgement, behind what is judged already
+-- what is left of a judgement, after what is judged already
 abbrev pub block_behind : List Stmt → Result tree.Stmts LowerError → Result tree.Stmts LowerError
 block_behind resolved left = result_and_then left (λ rest. Ok (block_onto resolved rest))
 
@@ -59,7 +59,7 @@ refusal_same first second refused.TypeMismatch same h = sym same ∙ h
 refusal_same first second (refused.ConstFault cause) same h = sym same ∙ h
 refusal_same first second refused.NoMemory same h = h
 
--- the judgement of a list, behind what is judged already
+-- the judgement of a list, after what is judged already
 abbrev pub list_behind : {X A : Type 0} → (X → A) → List X → Result (List A) LowerError
     → Result (List A) LowerError
 list_behind view resolved left = result_and_then left (λ rest. Ok (map view resolved ++ rest))

@@ -60,7 +60,7 @@ named_in scope names name sees there = declared_by_name scope name ∙ ap (λ l.
 sees_more : (scope : Scope) (names : TypedNames) (name name' : List ℕ) (cells : ℕ) (kind : ValueType) → name' ≡ name → Sees scope names → Sees (record { 0 = name'; 1 = cells } ∷ scope) (record { 0 = name; 1 = kind } ∷ names)
 sees_more scope names name name' cells kind same sees = ap (λ n. n ∷ plain_names scope) same ∙ ap (λ l. name ∷ l) sees
 
--- the names alone behind a declaration
+-- the names alone after a declaration
 pub plain_declared : (names : TypedNames) (kind : ValueType) (variables : List tree.Variable) → plain_names (typing.with_declared names kind variables) ≡ names_with (plain_names names) variables
 plain_declared names kind [] = refl
 plain_declared names kind (first ∷ rest) = plain_declared (record { 0 = first.name; 1 = kind } ∷ names) kind rest
@@ -226,7 +226,7 @@ type_gives constants names tree.Boolean = (refl, refl)
 type_gives constants names tree.Int = (refl, refl)
 type_gives constants names (tree.Array length) = any_gives (FitsDeclared (tree.Array length)) (number_resolved constants names length) (λ number. array_type number) (λ number. array_fits length number)
 
--- a closed statement behind which the same names can be seen
+-- a closed statement after which the same names can be seen
 abbrev IsLike : Scope → TypedNames → tree.Stmt → tree.Stmt → Type 0
 IsLike scope names s s' = IsClosedStmt scope s' × Sees (plain.names_after scope s') (typing.names_after names s)
 

@@ -259,7 +259,7 @@ variable_resolved context names outer kind variable =
     (result_and_then (initial_resolved context names kind variable.initial) (λ initial'.
     Ok (record { name = variable.name; initial = initial' })))
 
--- the variables of a declaration, each seen by those behind it
+-- the variables of a declaration, each seen by those after it
 abbrev pub variables_resolved : Context → TypedNames → (outer : ℕ) → ValueType → List tree.Variable
     → Result (List tree.Variable) LowerError
 variables_resolved context names outer kind [] = Ok []

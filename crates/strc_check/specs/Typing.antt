@@ -26,12 +26,12 @@ type_of tree.Boolean = Boolean
 type_of tree.Int = Int
 type_of (tree.Array length) = Array
 
--- the names alone behind a declaration, the last one innermost
+-- the names alone after a declaration, the last one innermost
 abbrev pub names_with : List (List ℕ) → List tree.Variable → List (List ℕ)
 names_with names [] = names
 names_with names (first ∷ rest) = names_with (first.name ∷ names) rest
 
--- the names that can be seen behind a declaration, the last one innermost
+-- the names that can be seen after a declaration, the last one innermost
 abbrev pub with_declared : TypedNames → ValueType → List tree.Variable → TypedNames
 with_declared names kind [] = names
 with_declared names kind (first ∷ rest) =
@@ -46,7 +46,7 @@ names_after names _ = names
 abbrev pub block_names : (outer : ℕ) → TypedNames → List (List ℕ)
 block_names outer names = take (length names - outer) (plain_names names)
 
--- the fields behind these members, with those before them
+-- the fields after these members, with those before them
 abbrev pub fields_behind : TypedNames → List tree.Member → TypedNames
 fields_behind names [] = names
 fields_behind names (tree.Fields kind variables ∷ rest) =

@@ -1,4 +1,4 @@
--- How code answers a judgement: with what it gives, or with its refusal, or for want of memory.
+-- How code answers a judgement: with what it gives, or with its refusal, or because memory ran out.
 use Rattle.std.specs.Prelude.{◌≡◌, map, Result, Ok, Err, Vec}
 use Rattle.std.specs.declared.alloc.Global.{Global}
 use Rattle.strc_syntax.specs.View.{expr_view, type_view, rate_view, block_view}
@@ -13,7 +13,7 @@ use Rattle.strc_check.specs.declared.type_rules.ResolvedType.{ResolvedType}
 use Rattle.strc_check.specs.declared.typed.Typed.{Typed}
 use Rattle.strc_check.specs.Resolution as judged
 
--- the judgement's refusal, if it isn't want of memory
+-- the judgement's refusal, if it isn't out of memory
 abbrev pub IsRefusal : {A : Type 0} → Result A LowerError → LowerError → Type 0
 IsRefusal expected (refused.UnknownName name) = expected ≡ Err (refused.UnknownName name)
 IsRefusal expected refused.TypeMismatch = expected ≡ Err refused.TypeMismatch

@@ -248,7 +248,7 @@ fn resolve_declared(
     }))
 }
 
-/// The variables of a declaration, each seen by those behind it.
+/// The variables of a declaration, each seen by those after it.
 fn resolve_variables(
     alloc: Global,
     context: &Context,

@@ -16,7 +16,7 @@ use clap::error::ErrorKind;
 use clap::{Arg, ArgMatches, Error, value_parser};
 use std::alloc::{AllocError, Global};
 
-/// What `--version` says behind the program's name.
+/// What `--version` says after the program's name.
 pub const VERSION: &str = "0.9.0";
 
 // How many rounds the program runs with no words after its name.

@@ -129,7 +129,7 @@ pub seen_condition : (captures : Option (Bor Expr)) (condition : Option Expr)
 seen_condition None condition is = ap (option_map expr_view) is
 seen_condition (Some e) condition is = ap (option_map expr_view) is
 
--- a loop runs among the names behind its first part, in a scope of its own
+-- a loop runs among the names after its first part, in a scope of its own
 pub for_runs : (setting : Setting) (names names' : TypedNames) (outer start : ℕ)
     (first step body : tree.Stmt) (condition : Option tree.Expr) (p begun : Progress)
     → start ≡ length names → stmt_run setting names start first p ≡ Ok begun

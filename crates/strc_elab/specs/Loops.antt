@@ -14,7 +14,7 @@ while_looped setting names condition body fuel progress =
     looped fuel (condition_evaluated setting names (Some condition))
     (inside (stmt_run setting names (length names) body)) progress
 
--- a loop with a step behind each turn
+-- a loop with a step after each turn
 abbrev pub for_looped : Setting → TypedNames → Option tree.Expr → (step body : tree.Stmt)
     → (fuel : ℕ) → Progress → Result Progress ElabError
 for_looped setting names condition step body fuel progress =
@@ -22,7 +22,7 @@ for_looped setting names condition step body fuel progress =
     (λ turn. result_and_then (inside (stmt_run setting names (length names) body) turn)
     (inside (stmt_run setting names (length names) step))) progress
 
--- the names that can be seen behind statements
+-- the names that can be seen after statements
 abbrev pub names_after_block : TypedNames → tree.Stmts → TypedNames
 names_after_block names tree.Done = names
 names_after_block names (tree.Then first rest) = names_after_block (names_after names first) rest

@@ -249,7 +249,7 @@ impl<F: Fn(Task) -> Result<Elaborated, ElabError>> Body<'_, F> {
         })
     }
 
-    /// Runs a loop with a step behind each turn.
+    /// Runs a loop with a step after each turn.
     #[cycle(body)]
     fn for_turns(
         &self,

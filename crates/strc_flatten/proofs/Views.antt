@@ -47,7 +47,7 @@ stream_view-SplitJoin splitter children joiner =
     ap (λ row. instances.SplitJoin (option_map splitter_view splitter) row
     (option_map (λ weights. weights.items) joiner)) (row_view-held children)
 
--- the streams from a place on: the one there, and those behind it
+-- the streams from a place on: the one there, and those after it
 pub streams_view-drop : (streams : List Stream) (index : ℕ) (stream : Stream)
     → index < length streams → stream ≡ get_or streams index stream
     → streams_view (drop index streams)

@@ -13,13 +13,13 @@ use Rattle.strc_stream.specs.Instances.{Stream, Streams, Done, More}
 use Rattle.strc_stream.specs.Types.{splitter_carried}
 use Rattle.strc_stream.specs.Flattening.{size_of}
 use Rattle.strc_stream.specs.View.{streams_view}
-use Rattle.strc_wiring.specs.Wires.{Target, wire, to_port, behind, split_wires, joiner_wires}
+use Rattle.strc_wiring.specs.Wires.{Target, wire, to_port, target_after, split_wires, joiner_wires}
 
 -- where there is a next stream
-pub behind_some : (next : ℕ) (streams : List declared.Stream) (target : Option Target)
-    → 0 < length streams → to_port next 0 ≡ behind next (streams_view streams) target
-behind_some next [] target some = absurd (omega arith)
-behind_some next (first ∷ rest) target some = refl
+pub target_after_some : (next : ℕ) (streams : List declared.Stream) (target : Option Target)
+    → 0 < length streams → to_port next 0 ≡ target_after next (streams_view streams) target
+target_after_some next [] target some = absurd (omega arith)
+target_after_some next (first ∷ rest) target some = refl
 
 weight_carries : (weights : List ℕ) (port : ℕ)
     → nat_lt 0 (get_or weights port 0) ≡ get_or (map (nat_lt 0) weights) port false
@@ -43,12 +43,12 @@ split_at number port carried next stream rest = elim (cases_lt port (length carr
       (drop_more carried port false short)
   | inr past ↦
       let here : drop port carried ≡ [] = drop_of_length-le carried past in
-      let behind : drop (port + 1) carried ≡ [] = drop_of_length-le carried (omega arith) in
+      let later : drop (port + 1) carried ≡ [] = drop_of_length-le carried (omega arith) in
       ap (λ l. split_wires number port l next (More stream rest)) here
       ∙ sym (ap (λ b. wire b number port (to_port next 0)
       ++ split_wires number (port + 1) (drop (port + 1) carried) (next + size_of stream) rest)
       (get_or_past carried port false past)
-      ∙ ap (λ l. split_wires number (port + 1) l (next + size_of stream) rest) behind)
+      ∙ ap (λ l. split_wires number (port + 1) l (next + size_of stream) rest) later)
 ]
 
 -- the channels of a splitter from a port on: first that of this port

@@ -21,7 +21,7 @@ use strc_graph::instance::Instance;
 use strc_stream::stream::Stream;
 use strc_syntax::tree::ItemType;
 
-/// Where a stream's items go: to an input port, behind the items that are enqueued on the way.
+/// Where a stream's items go: to an input port, after the items that are enqueued on the way.
 #[derive(Clone, Copy)]
 pub(crate) struct Target<'a> {
     pub port: Port,
@@ -92,8 +92,8 @@ fn wire_row(
     let mut next = first;
     for (index, stream) in streams.iter().enumerate() {
         let after = next + size(stream);
-        let behind = behind(after, &streams[index + 1..], target);
-        wire(alloc, next, stream, behind, channels)?;
+        let later = target_after(after, &streams[index + 1..], target);
+        wire(alloc, next, stream, later, channels)?;
         next = after;
     }
     Ok(())
@@ -211,7 +211,7 @@ fn to_port(node: u32, port: u32) -> Option<Target<'static>>
     })
 }
 
-/// A joiner's port for what comes back from a loop, behind enqueued items.
+/// A joiner's port for what comes back from a loop, after enqueued items.
 fn back(joiner: u32, enqueued: &[i32]) -> Option<Target<'_>>
     ensures { option_map target_view result ≡ Some (record
         { port = record { node = joiner; port = 1 }; enqueued = enqueued.now }) }
@@ -227,9 +227,9 @@ fn back(joiner: u32, enqueued: &[i32]) -> Option<Target<'_>>
 
 /// Where the items of a stream in a row go: to the first node of the next one, or where those of
 /// the row go.
-fn behind<'a>(next: u32, rest: &[Stream], target: Option<Target<'a>>) -> Option<Target<'a>>
+fn target_after<'a>(next: u32, rest: &[Stream], target: Option<Target<'a>>) -> Option<Target<'a>>
     ensures { option_map target_view result
-        ≡ wiring.behind next (streams_view rest.now) (option_map target_view target.entry) }
+        ≡ wiring.target_after next (streams_view rest.now) (option_map target_view target.entry) }
 {
     if rest.is_empty() {
         target

@@ -104,7 +104,7 @@ gives_words _ = false
 
 -- channels
 
--- what leaves an output port comes to an input port, behind items that are enqueued
+-- what leaves an output port comes to an input port, after items that are enqueued
 pub record Channel : Type 0 where
   pub source : Port
   pub target : Port

@@ -61,7 +61,7 @@ pub struct Port {
     pub port: u32,
 }
 
-/// What leaves an output port comes to an input port, behind the items that are enqueued on it
+/// What leaves an output port comes to an input port, after the items that are enqueued on it
 /// before the first firing.
 #[derive(Drop)]
 pub struct Channel {

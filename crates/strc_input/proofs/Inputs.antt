@@ -13,7 +13,7 @@ use Rattle.strc_input.specs.declared.numbers.Word.TheVariants as word
 use Rattle.strc_input.proofs.Bytes.{fails_stay, read_append}
 use Rattle.strc_input.proofs.Words.{on_word, on_word_append, ends, added, word_ends}
 
--- numbers behind others
+-- numbers after others
 abbrev with_before : List ℤ → Result (List ℤ) ℕ → Result (List ℤ) ℕ
 with_before numbers (Ok more) = Ok (numbers ++ more)
 with_before numbers (Err wrong) = Err wrong

@@ -33,7 +33,7 @@ grows value [] = omega arith
 grows value (digit ∷ digits) =
     omega (arith, grows (value * 10 + digit_value digit) digits)
 
--- digits behind those that write this number, as long as they fit
+-- digits after those that write this number, as long as they fit
 abbrev fits_after : (negative : Bool) → ℕ → List ℕ → Option Word
 fits_after negative value digits =
     cond (list_all (λ byte. is_digit byte 10) digits
@@ -70,7 +70,7 @@ either : (b : Bool) → (b ≡ true) ⊎ (b ≡ false)
 either true = inl refl
 either false = inr refl
 
--- a digit, and what is known of those behind it
+-- a digit, and what is known of those after it
 one_digit : (negative : Bool) (value byte : ℕ) (rest : List ℕ)
     → on_word (fitting negative (value * 10 + digit_value byte)) rest
     ≡ fits_after negative (value * 10 + digit_value byte) rest
@@ -88,7 +88,7 @@ one_digit negative value byte rest later =
           ∙ none_stays rest ∙ ap whole (sym other)
     ]
 
--- digits one by one, behind those that write this number
+-- digits one by one, after those that write this number
 digits_fit : (negative : Bool) (value : ℕ) (digits : List ℕ)
     → on_word (fitting negative value) digits ≡ fits_after negative value digits
 digits_fit negative value [] =

@@ -66,7 +66,7 @@ ended (Reads numbers last) = told (word_ended numbers last)
 abbrev pub ReadsInts : Type 0
 ReadsInts = (bytes : List ℕ) → ended (bytes_read unread bytes) ≡ ints bytes
 
--- what comes behind a word that writes no number changes nothing
+-- what comes after a word that writes no number changes nothing
 abbrev pub FailsForGood : Type 0
 FailsForGood = (first rest : List ℕ) (number : ℕ) → bytes_read unread first ≡ Fails number
     → ints (first ++ rest) ≡ Err number

@@ -7,7 +7,7 @@ pub fn reads_ints()
     ensures { ReadsInts }
 {}
 
-/// What comes behind a word that writes no number changes nothing.
+/// What comes after a word that writes no number changes nothing.
 pub fn fails_for_good()
     ensures { FailsForGood }
 {}

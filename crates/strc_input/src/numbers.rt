@@ -166,7 +166,7 @@ fn most(negative: bool) -> u64
     if negative { 2147483648 } else { 2147483647 }
 }
 
-/// The number behind a sign, where it has 32 bits.
+/// The number after a sign, where it has 32 bits.
 fn signed(negative: bool, value: u32) -> Option<i32>
     ensures { result ≡ (if nat_lt (numbers.most negative) value then None
         else Some (numbers.signed negative value)) }

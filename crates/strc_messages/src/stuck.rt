@@ -152,7 +152,7 @@ impl Trial<'_> {
     }
 }
 
-/// Whether a node is a joiner to which a channel comes from a node behind it.
+/// Whether a node is a joiner to which a channel comes from a node after it.
 fn is_joiner_of_loop(graph: &Graph, node: usize) -> bool {
     match graph.nodes().get(node) {
         Some(Node::Joiner(_)) => graph

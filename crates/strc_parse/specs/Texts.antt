@@ -22,7 +22,7 @@ pub record Spells (text : List ℕ) (program : List Declaration) : Type 0 where
 abbrev pub IsTooLong : List ℕ → Type 0
 IsTooLong text = text_limit < length text
 
--- the text isn't too long, and no token begins at this byte, behind trivia and tokens
+-- the text isn't too long, and no token begins at this byte, after trivia and tokens
 abbrev pub HasNoToken : List ℕ → (at : ℕ) → Type 0
 HasNoToken text at = (length text ≤ text_limit) × StopsAt text at
 

@@ -7,7 +7,7 @@ use strc_graph::condition::is_graph;
 use strc_graph::graph::{Channel, Graph, Node, Port, Splitter};
 use strc_lex::token::StringLiteral;
 
-/// What a graph looks like. Its first three nodes raise the rate: each node behind them fires
+/// What a graph looks like. Its first three nodes raise the rate: each node after them fires
 /// 1,000,000 times in a round.
 #[derive(Clone, Copy)]
 pub(crate) enum Shape {

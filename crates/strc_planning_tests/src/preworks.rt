@@ -73,7 +73,7 @@ const CASES: [(&str, usize, &str); 3] = [
         0,
         "no order of the firings before the first round exists",
     ),
-    // Start-up is node 0, 1 and 2, and leaves one item before the body and two behind it.
+    // Start-up is node 0, 1 and 2, and leaves one item before the body and two after it.
     (TAKES, 1, "1*0 1*2 1*3 1*4 1*1 1*2 1*5 : 1 2 3 1 1 1 "),
     // Start-up is the body alone.
     (GIVES, 0, "1*0 1*3 1*4 1*1 2*2 1*5 : 1 2 2 1 1 1 "),

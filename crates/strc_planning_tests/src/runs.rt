@@ -347,7 +347,7 @@ fn answer_of(alloc: Global, graph: &Graph, input: &[i32], rounds: u32) -> Result
     }
 }
 
-/// Words as a text, each on a line of its own or with a space behind it.
+/// Words as a text, each on a line of its own or with a space after it.
 fn lines_of(alloc: Global, words: &[Word]) -> Result<String, AllocError> {
     let mut text = String::new(alloc);
     for word in words {

@@ -127,7 +127,7 @@ pub(crate) fn answer_of(alloc: Global, graph: &Graph) -> Result<String, AllocErr
     }
 }
 
-/// Numbers with a space behind each.
+/// Numbers with a space after each.
 pub(crate) fn shown(alloc: Global, counts: &[u32]) -> Result<String, AllocError> {
     let mut text = String::new(alloc);
     for count in counts {

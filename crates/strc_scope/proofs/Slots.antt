@@ -70,7 +70,7 @@ same_rows (first ∷ rest) a b agree =
     ∙ ap (λ l. record { 0 = first.0; 1 = row_at b (length rest) } ∷ l)
     (same_rows rest a b (λ i below. agree i (omega arith)))
 
--- rows behind others
+-- rows after others
 pub row_before : (a b : List (Vec ℤ Global)) (i : ℕ) → i < length a → row_at (a ++ b) i ≡ row_at a i
 row_before [] b i below = absurd (omega arith)
 row_before (first ∷ rest) b zero below = refl

@@ -72,7 +72,7 @@ captures_alike h g alike (name ∷ names) (variable ∷ variables) constants =
     (captures_alike (name.0 ∷ h) (name.0 ∷ g)
     (λ n. ap (λ b. bytes_eq name.0 n || b) (alike n)) names variables constants)
 
--- one more hidden name, behind others
+-- one more hidden name, after others
 
 or_same : (a b : Bool) → (a || b) ≡ (b || a)
 or_same true true = refl
@@ -222,7 +222,7 @@ seen_more names variables number x constants counts below at =
         ∙ sym (after ∙ ap (λ b. cond b (captures_after hidden outer_names outer constants)
         (as_constant x.0 x.1 v.1 (captures_after (x.0 ∷ hidden) outer_names outer constants))) e)
 
--- before the first variable, and behind the last one
+-- before the first variable, and after the last one
 
 pub seen_first : (names : TypedNames) (variables : Variables) (constants : Constants)
     → length names ≡ length variables → captures_at names variables 0 constants

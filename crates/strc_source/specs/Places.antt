@@ -7,7 +7,7 @@ use Rattle.strc_source.specs.declared.place.Place.{Place}
 abbrev pub line_feed : ℕ
 line_feed = 10
 
--- how many bytes stand behind a text's last line feed, and one
+-- how many bytes stand after a text's last line feed, and one
 abbrev pub next_column : List ℕ → (last : Option ℕ) → ℕ
 next_column text None = suc (length text)
 next_column text (Some place) = length text - place

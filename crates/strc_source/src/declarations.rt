@@ -33,7 +33,7 @@ fn place_numbered(tokens: &[Token], number: usize) -> Option<usize> {
     None
 }
 
-/// The tokens of a declaration behind its name, by the declaration's number: from the first one to
+/// The tokens of a declaration after its name, by the declaration's number: from the first one to
 /// before the last brace's next one.
 pub fn body_of(tokens: &[Token], number: usize) -> Option<(usize, usize)> {
     let start = place_numbered(tokens, number)?;

@@ -69,7 +69,7 @@ pub struct Expected {
     pub tokens: Vec<&'static [u8]>,
 }
 
-/// What could stand behind a text's beginning, which has so many tokens.
+/// What could stand after a text's beginning, which has so many tokens.
 pub fn expected_after(
     alloc: Global,
     beginning: &[u8],
@@ -95,7 +95,7 @@ pub fn expected_after(
     Ok(Some(expected))
 }
 
-/// A beginning of a text, behind which tokens are tried.
+/// A beginning of a text, after which tokens are tried.
 #[derive(Clone, Copy)]
 struct Trial<'a> {
     beginning: &'a [u8],

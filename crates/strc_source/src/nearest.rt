@@ -47,7 +47,7 @@ fn distance(alloc: Global, found: &[u8], name: &[u8]) -> Result<usize, NoMemory>
     Ok(generic_levenshtein(alloc, found, name)?)
 }
 
-/// The name at a place, where it is declared there: behind a type, a kind of stream, or a comma.
+/// The name at a place, where it is declared there: after a type, a kind of stream, or a comma.
 fn introduced(tokens: &[Token], place: usize) -> Option<&[u8]> {
     if place == 0 || place >= tokens.len() || !introduces(&tokens[place - 1].kind) {
         return None;

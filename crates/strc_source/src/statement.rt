@@ -17,7 +17,7 @@ const SOUGHT_STATEMENT: &[u8] = b" strc_sought_place = 0; ";
 const MOST: usize = 200;
 
 /// The statement of a declaration at which a program is refused, where one can be told: the last
-/// one that is reached, and behind which nothing is.
+/// one that is reached, and after which nothing is.
 pub fn refused_statement(
     alloc: Global,
     source: Source<'_>,
@@ -58,7 +58,7 @@ fn last_reached(
     Ok(None)
 }
 
-/// Whether a statement could begin before a token: behind a brace or a semicolon.
+/// Whether a statement could begin before a token: after a brace or a semicolon.
 fn can_begin(tokens: &[Token], place: usize) -> bool {
     if place == 0 || place > tokens.len() {
         return false;
@@ -72,7 +72,7 @@ fn can_begin(tokens: &[Token], place: usize) -> bool {
     }
 }
 
-/// The statement that begins with a token, up to its first block or its end. Behind the end of a
+/// The statement that begins with a token, up to its first block or its end. After the end of a
 /// block it is the body that follows, if one does: the rates of a body are looked at first.
 fn statement_at(tokens: &[Token], place: usize, end: usize) -> Option<Extent> {
     let first = tokens.get(place)?;

@@ -51,7 +51,7 @@ abbrev mutual
   output_of (SplitJoin splitter children joiner) = side_at joiner
   output_of (FeedbackLoop joiner body splitter loop enqueued) = side (splitter_carries splitter 0)
 
-  -- what the last of streams in a row gives, behind a stream that gives this
+  -- what the last of streams in a row gives, after a stream that gives this
   pub last_output : ItemType → Streams → ItemType
   last_output given Done = given
   last_output given (More first rest) = last_output (output_of first) rest
@@ -89,7 +89,7 @@ pub record Meets (carried : List Bool) (sides : List ItemType) : Type 0 where
   pub meets : carried ≡ map is_int sides
   pub some : list_any is_int sides ≡ true
 
--- a splitter's ports meet what the streams behind it take; without a splitter they take nothing
+-- a splitter's ports meet what the streams after it take; without a splitter they take nothing
 abbrev pub IsSplit : Option SplitterCode → List ItemType → Type 0
 IsSplit None sides = list_any is_int sides ≡ false
 IsSplit (Some splitter) sides = Meets (splitter_carried splitter) sides

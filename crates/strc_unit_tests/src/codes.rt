@@ -54,7 +54,7 @@ fn items_are_taken_and_looked_at(rt: HostRuntime) -> Result<(), Fail> {
             Ok(-10),
         ),
         ("work push 1 pop 0 { push(pop()); }", [10, 20, 30], outside),
-        // A peek is tested behind its index.
+        // A peek is tested after its index.
         (ahead, [1, 2, 5], Ok(5)),
         (ahead, [0, 2, 5], Ok(2)),
         (ahead, [2, 5, 9], outside),

@@ -20,7 +20,7 @@ fn filter(alloc: Global, name: Option<&str>, text: &str) -> Result<Stream, Fail>
     Ok(Stream::Filter(Instance { name, code }))
 }
 
-/// The names of the nodes, with `!` behind those in a loop, and the channels as
+/// The names of the nodes, with `!` after those in a loop, and the channels as
 /// `node.port-node.port:enqueued`.
 fn shown(alloc: Global, graph: &Graph) -> Result<String, AllocError> {
     let mut text = String::new(alloc);

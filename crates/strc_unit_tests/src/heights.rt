@@ -6,7 +6,7 @@ use std::test::Fail;
 use strc_lex::lexer::lex;
 use strc_parse::{ParseError, one_tree, parse};
 
-// A text with a part that stands so many times in a row, and another one behind what follows it.
+// A text with a part that stands so many times in a row, and another one after what follows it.
 fn repeated(
     alloc: Global,
     front: &str,
@@ -28,7 +28,7 @@ fn repeated(
     Ok(text)
 }
 
-// Each: before, a level, the greatest number of levels, between, behind.
+// Each: before, a level, the greatest number of levels, between, after.
 type Row<'a> = (&'a str, (&'a str, &'a str), usize, &'a str, &'a str);
 
 // Compares each row at its greatest number of levels, and at one less and one more.

@@ -33,7 +33,7 @@ outputs_in types = map (λ (t : StreamType). t.output) types
 abbrev pub any_side : List ItemType → ItemType
 any_side sides = side (list_any is_int sides)
 
--- what streams in a row give, behind one that gives this
+-- what streams in a row give, after one that gives this
 abbrev pub last_given : ItemType → List StreamType → ItemType
 last_given given [] = given
 last_given given (next ∷ rest) = last_given next.output rest

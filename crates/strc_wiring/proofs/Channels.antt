@@ -27,10 +27,10 @@ module _ {A : Type 0} where
   pub sorted_append : (R : A → A → Type 0) (P Q : A → Type 0)
       → ((x y : A) → P x → Q y → R x y) → (xs ys : List A) → Sorted R xs → Sorted R ys
       → AllByRecursion P xs → AllByRecursion Q ys → Sorted R (xs ++ ys)
-  sorted_append R P Q across [] ys first second before behind = second
-  sorted_append R P Q across (x ∷ xs) ys first second before behind = (
-    each_append (R x) xs ys first.0 (each_follows Q (R x) (λ y q. across x y before.0 q) ys behind),
-    sorted_append R P Q across xs ys first.1 second before.1 behind,
+  sorted_append R P Q across [] ys first second before later = second
+  sorted_append R P Q across (x ∷ xs) ys first second before later = (
+    each_append (R x) xs ys first.0 (each_follows Q (R x) (λ y q. across x y before.0 q) ys later),
+    sorted_append R P Q across xs ys first.1 second before.1 later,
   )
 
   pub sorted_pairs : (R : A → A → Type 0) (xs : List A) → Sorted R xs → AllPairs R xs

@@ -51,7 +51,7 @@ module _ (nodes : List NodeCode) (source : ℕ → ℕ → Source) where
     pub joins : JoinsCarriers nodes channel
     pub comes : source channel.target.node channel.target.port ≡ source_of channel
 
-  -- a target takes items, and what is given comes to it behind the items enqueued
+  -- a target takes items, and what is given comes to it after the items enqueued
   abbrev pub IsReached : Source → Option Target → Type 0
   IsReached given None = Unit {0}
   IsReached given (Some target) = Takes nodes source target.port.node target.port.port

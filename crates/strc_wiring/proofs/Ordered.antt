@@ -12,7 +12,7 @@ use Rattle.strc_stream.specs.Instances.{Pipeline, SplitJoin, FeedbackLoop, Done,
 use Rattle.strc_stream.specs.Types.{is_int, splitter_carried}
 use Rattle.strc_stream.specs.Flattening.{nodes_of, row_nodes, size_of, splitter_nodes, joiner_nodes}
 use Rattle.strc_wiring.specs.Wires.{Target, wire, wires, row_wires, branch_wires, splitter_wires}
-use Rattle.strc_wiring.specs.Wires.{joiner_wires, split_wires, to_port, behind}
+use Rattle.strc_wiring.specs.Wires.{joiner_wires, split_wires, to_port, target_after}
 use Rattle.strc_wiring.proofs.Channels.{Sorted, each_append, each_follows, sorted_append}
 use Rattle.strc_wiring.proofs.Channels.{sorted_pairs}
 
@@ -190,8 +190,8 @@ mutual
       (row_wires first (More next rest) target)
       (end_of_both (nodes_of next) (row_nodes rest) first)
       (together (at first 0) (at second 0) (at (second + length (row_nodes rest)) 0)
-      (wires first next (behind second rest target)) (row_wires second rest target)
-      (spans next first (behind second rest target)) (row_spans rest second target))
+      (wires first next (target_after second rest target)) (row_wires second rest target)
+      (spans next first (target_after second rest target)) (row_spans rest second target))
 
   branch_spans : (children : Streams) (first joiner port : ℕ)
       → Spans (at first 0) (at (first + length (row_nodes children)) 0)

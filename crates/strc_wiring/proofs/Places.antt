@@ -118,7 +118,7 @@ module _ (nodes : List NodeCode) (source : ℕ → ℕ → Source) where
         let b = branch_layout (trees_of children) in
         let c = maybe_layout (option_map graphs.Joiner joiner) in
         let inner = first + length a.codes in
-        let behind : Sits nodes source (chained_layout b c) inner (a.outlet first) =
+        let later : Sits nodes source (chained_layout b c) inner (a.outlet first) =
         chained_second nodes source a (chained_layout b c) first before
         (maybe_sources (option_map graphs.Splitter splitter)) sits in
         let splits : length a.codes ≡ length (splitter_nodes splitter) =
@@ -131,7 +131,7 @@ module _ (nodes : List NodeCode) (source : ℕ → ℕ → Source) where
           moved_branches children inner (first + length (splitter_nodes splitter)) (a.outlet first)
               (splitter_outlet first splitter) at (splitter_gives splitter first)
               (branches_placed children typed.0 typed.1 inner (a.outlet first)
-              (chained_first nodes source b c inner (a.outlet first) behind)),
+              (chained_first nodes source b c inner (a.outlet first) later)),
           joiner_placed joiner (inner + length b.codes)
               (first + length (splitter_nodes splitter) + length (row_nodes children))
               (b.outlet inner)
@@ -140,7 +140,7 @@ module _ (nodes : List NodeCode) (source : ℕ → ℕ → Source) where
               (λ port. branch_outlets_are children typed.0 typed.1 inner port
               ∙ ap (λ n. branch_outlets n children port) at)
               (chained_second nodes source b c inner (a.outlet first)
-              (branch_sources (trees_of children)) behind),
+              (branch_sources (trees_of children)) later),
         )
     placed (FeedbackLoop joiner body splitter loop enqueued) typed first before sits =
         let j = node_layout (graphs.Joiner joiner) in
@@ -159,14 +159,14 @@ module _ (nodes : List NodeCode) (source : ℕ → ℕ → Source) where
         let size : length b.codes ≡ size_of body =
         sym (ap length (nodes_are_codes body typed.3)) in
         let more = length-append b.codes (graphs.Splitter splitter ∷ []) in
-        let behind : first + length r.codes ≡ first + 2 + size_of body =
+        let later : first + length r.codes ≡ first + 2 + size_of body =
         omega (arith, size, more) in
         let split : first + 1 + length b.codes ≡ first + 1 + size_of body = omega (arith, size) in (
           node_placed (graphs.Joiner joiner) first comes front,
           ap (λ (f : ℕ → Source). f 1)
               (node_source nodes source (graphs.Joiner joiner) first comes front)
               ∙ ap (λ (given : Source). delayed enqueued given)
-              (outlet_is loop typed.5 (first + length r.codes) ∙ ap (λ n. outlet n loop) behind),
+              (outlet_is loop typed.5 (first + length r.codes) ∙ ap (λ n. outlet n loop) later),
           placed body typed.3 (first + 1) (j.outlet first)
               (chained_first nodes source b s (first + 1) (j.outlet first) within),
           moved_node (graphs.Splitter splitter) (first + 1 + length b.codes)
@@ -177,7 +177,7 @@ module _ (nodes : List NodeCode) (source : ℕ → ℕ → Source) where
               (chained_second nodes source b s (first + 1) (j.outlet first)
               (layout_sources (tree_of body)) within)),
           moved loop (first + length r.codes) (first + 2 + size_of body)
-              (from (first + 1 + length b.codes) 1) (from (first + 1 + size_of body) 1) behind
+              (from (first + 1 + length b.codes) 1) (from (first + 1 + size_of body) 1) later
               (ap (λ n. from n 1) split)
               (placed loop typed.5 (first + length r.codes) (source_at_0 (r.outlet first 1))
               (fed_back_loop nodes source r l enqueued first before

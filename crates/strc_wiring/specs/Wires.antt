@@ -10,7 +10,7 @@ use Rattle.strc_stream.specs.Instances.{Pipeline, SplitJoin, FeedbackLoop, Done,
 use Rattle.strc_stream.specs.Types.{splitter_carried, is_int}
 use Rattle.strc_stream.specs.Flattening.{nodes_of, row_nodes, size_of, splitter_nodes, outer_loops}
 
--- where a stream's items go: to an input port, behind enqueued items; what a whole program gives
+-- where a stream's items go: to an input port, after enqueued items; what a whole program gives
 -- goes nowhere
 pub record Target : Type 0 where
   pub port : Port
@@ -33,11 +33,11 @@ wire true node port (Some target) = record {
 
 -- where the items of a stream in a row go: to the first node of the next one, or where those of the
 -- row go
-abbrev pub behind : (next : ℕ) → Streams → Option Target → Option Target
-behind next Done target = target
-behind next (More first rest) target = to_port next 0
+abbrev pub target_after : (next : ℕ) → Streams → Option Target → Option Target
+target_after next Done target = target
+target_after next (More first rest) target = to_port next 0
 
--- from a splitter's ports, from this one on, to the first nodes of the streams behind it
+-- from a splitter's ports, from this one on, to the first nodes of the streams after it
 abbrev pub split_wires : (splitter port : ℕ) → List Bool → (first : ℕ) → Streams → List Channel
 split_wires splitter port [] first children = []
 split_wires splitter port (carries ∷ others) first Done = []
@@ -81,7 +81,7 @@ abbrev mutual
   pub row_wires : (first : ℕ) → Streams → Option Target → List Channel
   row_wires first Done target = []
   row_wires first (More next rest) target =
-      wires first next (behind (first + size_of next) rest target)
+      wires first next (target_after (first + size_of next) rest target)
       ++ row_wires (first + size_of next) rest target
 
   -- those of streams side by side, whose items come to a joiner's ports, from this one on
