@@ -70,7 +70,7 @@ declared_by : (locals : Locals) (only : tree.Variable) (initial : tree.Expr) (gi
     → IfSome (valued only.name given) (Begins locals (tree.Declare tree.Int (only ∷ [])))
 declared_by locals only initial None is known = tt
 declared_by locals only initial (Some value) is known =
-    λ port store with_closed_peeks.
+    λ port store seen.
     let go : List ℤ × Store → Result Store Cause =
     λ given. Ok (declared_in given.1 only.name given.0) in
     let cells : initial_cells port 1 only.initial store ≡ Ok (value ∷ [], store) =
@@ -91,9 +91,9 @@ declared_told locals only (Some initial) is =
 assigned_first : (locals : Locals) (name : List ℕ) (value : ℤ) (store : Store)
     → Seen locals (scope_of store.variables) → has_name locals name ≡ true
     → HasValue name value (assigned store name value)
-assigned_first locals name value store with_closed_peeks named =
+assigned_first locals name value store seen named =
     let sized : 1 ≤ size_of (scope_of store.variables) name =
-    seen_sized locals (scope_of store.variables) name with_closed_peeks named in
+    seen_sized locals (scope_of store.variables) name seen named in
     let before : length (cells_named store.variables name) ≡ size_of (scope_of store.variables) name
     = cells_sized store.variables name in
     let after : length (cells_named (with_cell store.variables name 0 value) name)
@@ -108,12 +108,12 @@ assigned_by : (locals : Locals) (name : List ℕ) (e : tree.Expr) (t : Bool) (gi
 assigned_by locals name e false given named known = tt
 assigned_by locals name e true None named known = tt
 assigned_by locals name e true (Some value) named known =
-    λ port store with_closed_peeks.
+    λ port store seen.
     ok_known (stmt_done port (tree.Assign name assign.Set e) store) (assigned store name value)
     (HasValue name value)
     (ap (λ r. result_and_then r (λ given. Ok (assigned given.1 name given.0)))
     (constant_done port e store value known))
-    (assigned_first locals name value store with_closed_peeks named)
+    (assigned_first locals name value store seen named)
 
 first_assigned_told : (locals : Locals) (name : List ℕ) (operator : AssignOperator) (e : tree.Expr)
     → IfSome (first_assigned locals name operator e) (Begins locals (tree.Assign name operator e))

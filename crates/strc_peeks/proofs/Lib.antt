@@ -1,6 +1,7 @@
 pub mod Scopes
 pub mod Counting
 pub mod Sighting
+pub mod Unreaching
 pub mod Results
 pub mod Keeping
 pub mod Unwritten
@@ -11,6 +12,9 @@ pub mod CountedMoves
 pub mod StatementCounts
 pub mod IntervalValues
 pub mod Readiness
+pub mod CountedParts
+pub mod EachEntry
 pub mod SafeValues
 pub mod SafeLoops
 pub mod SafePeeks
+pub mod Promised

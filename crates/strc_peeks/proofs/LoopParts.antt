@@ -141,12 +141,12 @@ seen_by first scope name other locals false some e inside = inside e
 -- a local variable has a cell
 pub seen_sized : (locals : Locals) (scope : Scope) (name : List ℕ) → Seen locals scope
     → has_name locals name ≡ true → 1 ≤ size_of scope name
-seen_sized [] scope name with_closed_peeks e = absurd (cc)
-seen_sized (local ∷ locals) [] name with_closed_peeks e = absurd with_closed_peeks
-seen_sized (local ∷ locals) (first ∷ scope) name with_closed_peeks e =
-    seen_by first scope local name locals (bytes_eq first.0 name) with_closed_peeks.1
-    (ap (λ n. bytes_eq n name || has_name locals name) with_closed_peeks.0 ∙ e)
-    (λ f. seen_sized locals scope name with_closed_peeks.2 f)
+seen_sized [] scope name seen e = absurd (cc)
+seen_sized (local ∷ locals) [] name seen e = absurd seen
+seen_sized (local ∷ locals) (first ∷ scope) name seen e =
+    seen_by first scope local name locals (bytes_eq first.0 name) seen.1
+    (ap (λ n. bytes_eq n name || has_name locals name) seen.0 ∙ e)
+    (λ f. seen_sized locals scope name seen.2 f)
 
 fits_some : (cells : ℕ) (initial : Option tree.Expr) → FitsInitial cells initial → 1 ≤ cells
 fits_some cells None fits = fits
@@ -155,35 +155,35 @@ fits_some cells (Some initial) fits = omega arith
 seen_declared : (locals : Locals) (scope names : Scope) (cells : ℕ) (variables : List tree.Variable)
     → AreClosedVariables names cells variables → Seen locals scope
     → Seen (with_locals locals variables) (with_declared scope cells variables)
-seen_declared locals scope names cells [] closed with_closed_peeks = with_closed_peeks
-seen_declared locals scope names cells (first ∷ rest) closed with_closed_peeks =
+seen_declared locals scope names cells [] closed seen = seen
+seen_declared locals scope names cells (first ∷ rest) closed seen =
     seen_declared (first.name ∷ locals) (record { 0 = first.name; 1 = cells } ∷ scope)
     (record { 0 = first.name; 1 = cells } ∷ names) cells rest closed.2
-    (refl, fits_some cells first.initial closed.1, with_closed_peeks)
+    (refl, fits_some cells first.initial closed.1, seen)
 
 pub seen_after : (s : tree.Stmt) (locals : Locals) (scope names : Scope) → IsClosedStmt names s
     → Seen locals scope → Seen (locals_after locals s) (names_after scope s)
-seen_after (tree.Declare kind variables) locals scope names closed with_closed_peeks =
-    seen_declared locals scope names (cells_of kind) variables closed with_closed_peeks
-seen_after tree.Empty locals scope names closed with_closed_peeks = with_closed_peeks
-seen_after (tree.Compose statement) locals scope names closed with_closed_peeks = with_closed_peeks
-seen_after (tree.Block body) locals scope names closed with_closed_peeks = with_closed_peeks
-seen_after (tree.Evaluate value) locals scope names closed with_closed_peeks = with_closed_peeks
-seen_after (tree.Assign assigned operator value) locals scope names closed with_closed_peeks =
-    with_closed_peeks
+seen_after (tree.Declare kind variables) locals scope names closed seen =
+    seen_declared locals scope names (cells_of kind) variables closed seen
+seen_after tree.Empty locals scope names closed seen = seen
+seen_after (tree.Compose statement) locals scope names closed seen = seen
+seen_after (tree.Block body) locals scope names closed seen = seen
+seen_after (tree.Evaluate value) locals scope names closed seen = seen
+seen_after (tree.Assign assigned operator value) locals scope names closed seen =
+    seen
 seen_after (tree.AssignElement array index operator value) locals scope names closed
-    with_closed_peeks = with_closed_peeks
-seen_after (tree.If condition chosen) locals scope names closed with_closed_peeks =
-    with_closed_peeks
-seen_after (tree.IfElse condition chosen other) locals scope names closed with_closed_peeks =
-    with_closed_peeks
-seen_after (tree.While condition body) locals scope names closed with_closed_peeks =
-    with_closed_peeks
-seen_after (tree.For first condition step body) locals scope names closed with_closed_peeks =
-    with_closed_peeks
-seen_after (tree.Push value) locals scope names closed with_closed_peeks = with_closed_peeks
-seen_after (tree.Print value) locals scope names closed with_closed_peeks = with_closed_peeks
-seen_after (tree.Println value) locals scope names closed with_closed_peeks = with_closed_peeks
+    seen = seen
+seen_after (tree.If condition chosen) locals scope names closed seen =
+    seen
+seen_after (tree.IfElse condition chosen other) locals scope names closed seen =
+    seen
+seen_after (tree.While condition body) locals scope names closed seen =
+    seen
+seen_after (tree.For first condition step body) locals scope names closed seen =
+    seen
+seen_after (tree.Push value) locals scope names closed seen = seen
+seen_after (tree.Print value) locals scope names closed seen = seen
+seen_after (tree.Println value) locals scope names closed seen = seen
 
 -- ---- the condition
 

@@ -354,7 +354,7 @@ done_cells s before after name done unwritten bare =
 -- what is known at a place: the local variables, their intervals, and how many items are popped at
 -- most
 pub record Ready (intervals : Intervals) (popped : PopInterval) (store : Store) : Type 0 where
-  pub with_closed_peeks : Seen (names_of intervals) (scope_of store.variables)
+  pub seen : Seen (names_of intervals) (scope_of store.variables)
   pub holds : Holds intervals store
   pub within : saturated store.traffic.popped ≤ popped.high
 
@@ -366,7 +366,7 @@ ready_still intervals popped x store e ready =
     let none = nothing_popped x e in
     let within = ready.within in
     record {
-      with_closed_peeks = ready.with_closed_peeks;
+      seen = ready.seen;
       holds = ready.holds;
       within =
           omega arith;
@@ -378,7 +378,7 @@ ready_same : (writes : List ℕ → Bool) (intervals : Intervals) (popped : PopI
     → Ready intervals popped before → Counted x before.traffic after.traffic
     → Same writes before.variables after.variables → Ready intervals (advance popped x) after
 ready_same writes intervals popped x before after e fixed ready moves same = record {
-  with_closed_peeks = subst (Seen (names_of intervals)) (sym same.shape) ready.with_closed_peeks;
+  seen = subst (Seen (names_of intervals)) (sym same.shape) ready.seen;
   holds = holds_same intervals before after
       (λ name known. same_cells writes before.variables after.variables name same
       (fixed name known)) ready.holds;
@@ -413,16 +413,16 @@ ready_stmt port s names intervals popped store closed counted fixed ready =
     (stmt_counts (names_of intervals) s) store.traffic after.traffic
     × Done (λ name. stmt_writes name s) scope store.variables after.variables) _
     (λ after h. record {
-      with_closed_peeks = subst (Seen (names_of (intervals_after intervals s))) (sym h.1.exact)
+      seen = subst (Seen (names_of (intervals_after intervals s))) (sym h.1.exact)
           (subst (λ l. Seen l scope) (sym (names_after_intervals intervals s))
           (seen_after s (names_of intervals)
-          (scope_of store.variables) names closed ready.with_closed_peeks));
+          (scope_of store.variables) names closed ready.seen));
       holds = λ name. later after h.1 name (known_before intervals s name);
       within = within_behind store.traffic after.traffic popped
           (stmt_counts (names_of intervals) s) counted h.0 ready.within;
     })
     (both_ok (stmt_done port s store) _ _
-    (stmt_counted port s (names_of intervals) names store closed ready.with_closed_peeks)
+    (stmt_counted port s (names_of intervals) names store closed ready.seen)
     (stmt_keeps port s names store closed))
   where
     later : (after : Store) → Done (λ name. stmt_writes name s)
@@ -465,7 +465,7 @@ ready_inside port s names intervals popped store closed counted fixed ready =
     (stmt_counts (names_of intervals) s) store after counted fixed ready h.0 h.1)
     (both_ok (inside (stmt_done port s) store) _ _
     (inside_counts (stmt_counts (names_of intervals) s) (stmt_done port s) store
-    (stmt_counted port s (names_of intervals) names store closed ready.with_closed_peeks))
+    (stmt_counted port s (names_of intervals) names store closed ready.seen))
     (inside_same writes writes (stmt_done port s) store (λ name e. e)
     (IfOk-weaker (stmt_done port s store)
     (λ after. Done writes (names_after (scope_of store.variables) s) store.variables
@@ -488,7 +488,7 @@ ready_declared : (intervals : Intervals) (popped : PopInterval) (name : List ℕ
     (store : Store) → 1 ≤ length cells → Ready intervals popped store
     → Ready (record { 0 = name; 1 = None } ∷ intervals) popped (declared_in store name cells)
 ready_declared intervals popped name cells store some ready = record {
-  with_closed_peeks = (refl, some, ready.with_closed_peeks);
+  seen = (refl, some, ready.seen);
   holds = λ other. by_test other (bytes_eq name other);
   within = ready.within;
 }

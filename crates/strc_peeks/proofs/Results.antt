@@ -1,6 +1,7 @@
 -- Facts about results, tests and the ends of lists.
 use Rattle.std.proofs.Common.{◌≡◌, refl, ◌∙◌, ap, ℕ, suc, ◌+◌, ◌-◌, ◌≤◌, Bool, true, false, ◌&&◌}
 use Rattle.std.proofs.Common.{◌||◌, List, ◌∷◌, length, take, drop, map, Result, Ok, Err, arith}
+use Rattle.std.specs.Bool.{MatchBool}
 use Rattle.std.specs.Result.{IfOk}
 use Rattle.std.proofs.lemmas.List.{length-map, length-drop, drop-drop, drop-map}
 use Rattle.strc_base.specs.Results.{result_and_then}
@@ -49,6 +50,12 @@ pub done_ok : {A B : Type 0} (result : Result A Cause) (a : A) (go : A → Resul
     (Q : B → Type 0) → result ≡ Ok a → IfOk (go a) Q → IfOk (result_and_then result go) Q
 done_ok (Ok b) a go Q e h = let same : b ≡ a = cc in rw same h
 done_ok (Err cause) a go Q e h = tt
+
+-- by a test's outcome
+pub match_by : (test : Bool) (P Q : Type 0) → (test ≡ true → P) → (test ≡ false → Q)
+    → MatchBool test P Q
+match_by true P Q h k = h refl
+match_by false P Q h k = k refl
 
 -- ---- the last items of a list, and those before them
 

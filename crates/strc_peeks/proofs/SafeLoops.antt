@@ -29,7 +29,7 @@ use Rattle.strc_interval.specs.Intervals.{turns_interval}
 use Rattle.strc_peeks.specs.Peeks.{PopInterval, in_turns}
 use Rattle.strc_interval.specs.Intervals.{names_of}
 use Rattle.strc_peeks.specs.Safe.{LoopIsSafe}
-use Rattle.strc_peeks.proofs.Results.{or_first, or_second, then_ok, both_ok, ok_known}
+use Rattle.strc_peeks.proofs.Results.{or_first, or_second, then_ok, both_ok, ok_known, match_by}
 use Rattle.strc_peeks.proofs.Keeping.{same_name, Given, Same, same_cells}
 use Rattle.strc_peeks.proofs.Unwritten.{TurnsFree, turned_holds, inside_after, stmt_keeps}
 use Rattle.strc_peeks.proofs.LoopParts.{Seen}
@@ -38,7 +38,6 @@ use Rattle.strc_peeks.proofs.CountedMoves.{Counted, one_more_counted}
 use Rattle.strc_peeks.proofs.StatementCounts.{Parts, more_turns}
 use Rattle.strc_peeks.proofs.IntervalValues.{Within, Holds, Between, between_up, between_down}
 use Rattle.strc_peeks.proofs.Readiness.{Ready, Fixed, within_turns}
-use Rattle.strc_peeks.proofs.SafeValues.{match_by}
 
 -- ---- loops
 
@@ -71,40 +70,43 @@ loop_safe I test_safe turn_safe test body free tests turns kept_test kept_body (
 )
 
 -- a loop of so many turns
-pub turns_safe : (I : ℕ → Store → Type 0) (turns : ℕ) (turn_safe : Store → Type 0)
+pub turns_safe : (I : ℕ → Store → Type 0) (turns : ℕ) (test_safe turn_safe : Store → Type 0)
     (test : Store → Result (ℤ × Store) Cause) (body : Store → Result Store Cause)
-    → ((t : ℕ) → TurnsFree (I t)) → ((t : ℕ) (store : Store) → t < turns → I t store
+    → ((t : ℕ) → TurnsFree (I t)) → ((store : Store) → test_safe store) → ((t : ℕ) (store : Store) → t < turns → I t store
     → turn_safe store) → ((t : ℕ) (store : Store) → t < turns → I t store
     → test store ≡ Ok (truth true, store))
     → ((store : Store) → I turns store → test store ≡ Ok (truth false, store))
     → ((t : ℕ) (store : Store) → t < turns → I t store → IfOk (body store) (I (t + 1)))
     → (fuel t : ℕ) (store : Store) → t ≤ turns → I t store
-    → LoopIsSafe fuel (λ s. Unit {0}) turn_safe test body store
-turns_safe I turns turn_safe test body free safe holds ends kept zero t store le h = tt
-turns_safe I turns turn_safe test body free safe holds ends kept (suc fuel) t store le h = (
-  tt,
-  let more : Store → Type 0 = λ s. IfOk (turned s)
-      (λ turning. turn_safe turning × IfOk (body turning)
-      (LoopIsSafe fuel (λ u. Unit {0}) turn_safe test body)) in
-      ⊎_elim
-      (λ (lt : t < turns).
-      ok_known (test store) (truth true, store)
-      (λ tested. MatchBool (is_true tested.0) (more tested.1) (Unit {0})) (holds t store lt h)
-      (IfOk-weaker (turned store) (I t) _
-      (λ turning k. (
-        safe t turning lt k,
-        IfOk-weaker (body turning) (I (t + 1)) _
-            (λ next l. turns_safe I turns turn_safe test body free safe holds ends kept fuel
-            (t + 1) next (omega arith) l) (kept t turning lt k),
-      ))
-      (turned_holds (I t) (free t) store h)))
-      (λ (ge : turns ≤ t).
-      let last : t ≡ turns = omega arith in
-      ok_known (test store) (truth false, store)
-      (λ tested. MatchBool (is_true tested.0) (more tested.1) (Unit {0}))
-      (ends store (subst (λ n. I n store) last h)) tt)
-      (cases_lt t turns),
-)
+    → LoopIsSafe fuel test_safe turn_safe test body store
+turns_safe I turns test_safe turn_safe test body free tests safe holds ends kept zero t store le h =
+    tt
+turns_safe I turns test_safe turn_safe test body free tests safe holds ends kept (suc fuel) t store
+    le h = (
+      tests store,
+      let more : Store → Type 0 = λ s. IfOk (turned s)
+          (λ turning. turn_safe turning × IfOk (body turning)
+          (LoopIsSafe fuel test_safe turn_safe test body)) in
+          ⊎_elim
+          (λ (lt : t < turns).
+          ok_known (test store) (truth true, store)
+          (λ tested. MatchBool (is_true tested.0) (more tested.1) (Unit {0})) (holds t store lt h)
+          (IfOk-weaker (turned store) (I t) _
+          (λ turning k. (
+            safe t turning lt k,
+            IfOk-weaker (body turning) (I (t + 1)) _
+                (λ next l. turns_safe I turns test_safe turn_safe test body free tests safe holds ends kept
+                fuel
+                (t + 1) next (omega arith) l) (kept t turning lt k),
+          ))
+          (turned_holds (I t) (free t) store h)))
+          (λ (ge : turns ≤ t).
+          let last : t ≡ turns = omega arith in
+          ok_known (test store) (truth false, store)
+          (λ tested. MatchBool (is_true tested.0) (more tested.1) (Unit {0}))
+          (ends store (subst (λ n. I n store) last h)) tt)
+          (cases_lt t turns),
+    )
 
 -- ---- the interval of a counted loop's variable
 
@@ -279,9 +281,9 @@ module _ {locals : Locals} {first : tree.Stmt} {condition : Option tree.Expr}
       → Ready (with_interval intervals loop.name (turns_interval loop))
       (in_turns popped loop.turns x) store
   ready_turn intervals popped t store lt counted fixed ready here = record {
-    with_closed_peeks = subst (λ l. Seen l (scope_of store.variables))
+    seen = subst (λ l. Seen l (scope_of store.variables))
         (sym (names_with intervals loop.name (turns_interval loop)))
-        (subst (Seen (names_of intervals)) (sym here.same.shape) ready.with_closed_peeks);
+        (subst (Seen (names_of intervals)) (sym here.same.shape) ready.seen);
     holds =
         holds_with intervals loop.name (turns_interval loop) store
         (subst (Within (turns_interval loop)) (sym here.at.value) (turn_within loop t lt))
@@ -301,13 +303,13 @@ module _ {locals : Locals} {first : tree.Stmt} {condition : Option tree.Expr}
       kept name (Some interval) same h = subst (Within interval) (sym (same refl)) h
 
   -- each turn of the body is safe, and so is the loop
-  pub counted_safe : (turn_safe : Store → Type 0)
+  pub counted_safe : (test_safe turn_safe : Store → Type 0) → ((store : Store) → test_safe store)
       → ((t : ℕ) (store : Store) → t < loop.turns → InTurn t store → turn_safe store)
-      → InTurn 0 begun → LoopIsSafe (suc turn_limit) (λ s. Unit {0}) turn_safe
+      → InTurn 0 begun → LoopIsSafe (suc turn_limit) test_safe turn_safe
       (condition_value port condition) (λ turn. result_and_then (inside (stmt_done port body) turn)
       (inside (stmt_done port step))) begun
-  counted_safe turn_safe safe here =
-      turns_safe InTurn loop.turns turn_safe (condition_value port condition)
+  counted_safe test_safe turn_safe tests safe here =
+      turns_safe InTurn loop.turns test_safe turn_safe (condition_value port condition)
       (λ turn. result_and_then (inside (stmt_done port body) turn)
       (inside (stmt_done port step)))
       (λ t s n h. record {
@@ -319,6 +321,6 @@ module _ {locals : Locals} {first : tree.Stmt} {condition : Option tree.Expr}
         };
         same = h.same;
       })
-      safe (λ t s lt h. test_holds known port s t h.at.value lt)
+      tests safe (λ t s lt h. test_holds known port s t h.at.value lt)
       (λ s h. test_ends known port s loop.turns h.at.value refl) next_turn
       (suc turn_limit) 0 begun (omega arith) here

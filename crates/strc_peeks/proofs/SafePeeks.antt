@@ -1,5 +1,5 @@
 -- A closed peek never faults, in any firing of a filter whose rates are accepted.
-use Rattle.std.proofs.Common.{◌≡◌, refl, sym, subst, ◌∙◌, ℕ, suc, ◌≤◌, true, List, [], ◌∷◌, length}
+use Rattle.std.proofs.Common.{◌≡◌, refl, sym, ap, subst, ◌∙◌, ℕ, suc, ◌+◌, ◌≤◌, Bool, true, List, [], ◌∷◌, ◌++◌, length}
 use Rattle.std.proofs.Common.{Option, Some, None, arith}
 use Rattle.std.specs.Prelude.{bytes_eq, is_some}
 use Rattle.std.specs.Option.{IfSome}
@@ -21,11 +21,14 @@ use Rattle.strc_peeks.specs.Counts.{no_items, one_push, sequence, require_zero, 
 use Rattle.strc_peeks.specs.Counts.{branch_counts, expr_counts, option_counts, variables_counts}
 use Rattle.strc_peeks.specs.Counts.{turns_counts, stmt_counts, stmts_counts}
 use Rattle.strc_interval.specs.Intervals.{Intervals, intervals_after, with_interval, turns_interval}
-use Rattle.strc_peeks.specs.Peeks.{PopInterval, advance, in_turns}
+use Rattle.strc_peeks.specs.Entries.{peeks_of_expr, peeks_of_option, peeks_of_stmt}
+use Rattle.strc_peeks.specs.Peeks.{PopInterval, advance, in_turns, sides_sights, turns_sights}
+use Rattle.strc_peeks.specs.Peeks.{some_turns, expr_sights, option_sights, variables_sights}
+use Rattle.strc_peeks.specs.Peeks.{stmt_sights, stmts_sights}
 use Rattle.strc_interval.specs.Intervals.{names_of}
 use Rattle.strc_peeks.specs.Safe.{ExprIsSafe, OptionIsSafe, VariablesAreSafe, LoopIsSafe}
-use Rattle.strc_peeks.specs.Safe.{UnlessCounted, intervals_in, popped_in, StmtIsSafe, StmtsAreSafe}
-use Rattle.strc_peeks.proofs.Results.{or_first, or_second, then_ok, both_ok}
+use Rattle.strc_peeks.specs.Safe.{StmtIsSafe, StmtsAreSafe}
+use Rattle.strc_peeks.proofs.Results.{or_first, or_second, then_ok, both_ok, any_ok, match_by}
 use Rattle.strc_peeks.proofs.Keeping.{same_refl}
 use Rattle.strc_peeks.proofs.Unwritten.{TurnsFree, unless_hidden}
 use Rattle.strc_peeks.proofs.LoopTurns.{no_moves}
@@ -37,47 +40,60 @@ use Rattle.strc_peeks.proofs.Readiness.{Ready, Fixed, both_first, both_second, s
 use Rattle.strc_peeks.proofs.Readiness.{nothing_some, names_after_intervals, known_before}
 use Rattle.strc_peeks.proofs.Readiness.{ready_value, ready_still, ready_stmt, ready_inside}
 use Rattle.strc_peeks.proofs.Readiness.{ready_initial, ready_condition, repeated_some}
-use Rattle.strc_peeks.proofs.SafeValues.{IsWhole, match_by, expr_safe}
+use Rattle.strc_peeks.proofs.SafeValues.{IsWhole, expr_safe}
 use Rattle.strc_peeks.proofs.SafeLoops.{loop_safe, fixed_with, names_with, turn_writes, ready_turn}
 use Rattle.strc_peeks.proofs.SafeLoops.{counted_safe}
+use Rattle.strc_peeks.proofs.CountedParts.{HasFreeParts, option_peekless, counted_free}
+use Rattle.strc_peeks.proofs.EachEntry.{Stand, stand_first, stand_behind}
+use Rattle.strc_peeks.proofs.EachEntry.{stand_chosen, stand_other, stand_turn, expr_entries}
+use Rattle.strc_peeks.proofs.EachEntry.{option_entries, stmt_entries}
 
-option_safe : (window : ℕ) (port : Port) → IsWhole window port
-    → (value : Option tree.Expr) (intervals : Intervals) (popped : PopInterval) (store : Store)
-    → is_some (option_counts value) ≡ true → Fixed intervals (λ name. option_writes name value)
-    → Ready intervals popped store → OptionIsSafe window port intervals popped value store
-option_safe window port whole None intervals popped store counted fixed ready = tt
-option_safe window port whole (Some value) intervals popped store counted fixed ready =
-    expr_safe window port whole value intervals popped store counted fixed ready
+option_safe : (window : ℕ) (port : Port) → IsWhole window port → (entries : List Bool)
+    (value : Option tree.Expr) (intervals : Intervals) (popped : PopInterval) (place : ℕ)
+    (store : Store) → is_some (option_counts value) ≡ true
+    → Fixed intervals (λ name. option_writes name value) → Ready intervals popped store
+    → Stand entries place (option_sights window intervals popped value)
+    → OptionIsSafe port entries place value store
+option_safe window port whole entries None intervals popped place store counted fixed ready stand =
+    tt
+option_safe window port whole entries (Some value) intervals popped place store counted fixed ready
+    stand =
+    expr_safe window port whole entries value intervals popped place store counted fixed ready stand
 
-variables_safe : (window : ℕ) (port : Port) → IsWhole window port
-    → (cells : ℕ) (variables : List tree.Variable) (names : Scope) (intervals : Intervals)
-    (popped : PopInterval) (store : Store) → AreClosedVariables names cells variables
+variables_safe : (window : ℕ) (port : Port) → IsWhole window port → (entries : List Bool)
+    (cells : ℕ) (variables : List tree.Variable) (names : Scope) (intervals : Intervals)
+    (popped : PopInterval) (place : ℕ) (store : Store) → AreClosedVariables names cells variables
     → is_some (variables_counts variables) ≡ true
     → Fixed intervals (λ name. variables_write name variables) → Ready intervals popped store
-    → VariablesAreSafe window port intervals popped cells variables store
-variables_safe window port whole cells [] names intervals popped store closed counted fixed ready =
-    tt
-variables_safe window port whole cells (first ∷ rest) names intervals popped store closed counted
-    fixed ready =
+    → Stand entries place (variables_sights window intervals popped variables)
+    → VariablesAreSafe port entries place cells variables store
+variables_safe window port whole entries cells [] names intervals popped place store closed counted
+    fixed ready stand = tt
+variables_safe window port whole entries cells (first ∷ rest) names intervals popped place store
+    closed counted fixed ready stand =
+    let inner : Intervals = record { 0 = first.name; 1 = None } ∷ intervals in
+    let later = advance popped (option_counts first.initial) in
+    let sights = option_sights window intervals popped first.initial in
+    let sights_rest = variables_sights window inner later rest in
     let first_counted = both_first (option_counts first.initial) _ counted in
     let rest_counted = both_second (option_counts first.initial) (variables_counts rest) counted in
     let first_fixed : Fixed intervals (λ name. option_writes name first.initial) =
     λ n e. or_first (option_writes n first.initial) _ (fixed n e) in
     let only = first ∷ [] in (
-      option_safe window port whole first.initial intervals popped store first_counted first_fixed
-          ready,
+      option_safe window port whole entries first.initial intervals popped place store first_counted
+          first_fixed ready (stand_first entries place sights sights_rest stand),
       IfOk-weaker (initial_cells port cells first.initial store)
-          (λ given. Ready (record { 0 = first.name; 1 = None } ∷ intervals)
-          (advance popped (option_counts first.initial)) (declared_in given.1 first.name given.0)) _
-          (λ given h. variables_safe window port whole cells rest
-          (record { 0 = first.name; 1 = cells } ∷ names)
-          (record { 0 = first.name; 1 = None } ∷ intervals)
-          (advance popped (option_counts first.initial))
+          (λ given. Ready inner later (declared_in given.1 first.name given.0)) _
+          (λ given h. variables_safe window port whole entries cells rest
+          (record { 0 = first.name; 1 = cells } ∷ names) inner later
+          (place + length (peeks_of_option first.initial))
           (declared_in given.1 first.name given.0) closed.2 rest_counted
           (λ n e. let before = known_before intervals (tree.Declare tree.Int only) n e in
           unless_hidden (bytes_eq first.name n) (variables_write n rest)
           (or_second (option_writes n first.initial) _ (fixed n before.0))
-          (or_first (bytes_eq first.name n) _ before.1)) h)
+          (or_first (bytes_eq first.name n) _ before.1)) h
+          (stand_behind entries place sights sights_rest (peeks_of_option first.initial)
+          (option_entries window first.initial intervals popped) stand))
           (ready_initial port cells first.name first.initial intervals popped store closed.1
           first_counted first_fixed ready),
     )
@@ -85,7 +101,7 @@ variables_safe window port whole cells (first ∷ rest) names intervals popped s
 ready_free : (intervals : Intervals) (popped : PopInterval) → TurnsFree (Ready intervals popped)
 ready_free intervals popped store n ready =
     record {
-      with_closed_peeks = ready.with_closed_peeks;
+      seen = ready.seen;
       holds = ready.holds;
       within =
           ready.within;
@@ -102,30 +118,41 @@ fixed_inner intervals first condition step body fixed name known =
     (or_second (stmt_writes name first) _ (fixed name before.0)) before.1
 
 -- a statement that is safe wherever it is counted
-abbrev IsSafe : (window : ℕ) → Port → tree.Stmt → Type 0
-IsSafe window port s =
-    (intervals : Intervals) (popped : PopInterval) (store : Store)
+abbrev IsSafe : (window : ℕ) → Port → (entries : List Bool) → tree.Stmt → Type 0
+IsSafe window port entries s =
+    (intervals : Intervals) (popped : PopInterval) (place : ℕ) (store : Store)
     → is_some (stmt_counts (names_of intervals) s) ≡ true
     → Fixed intervals (λ name. stmt_writes name s) → Ready intervals popped store
-    → StmtIsSafe window port intervals popped s store
+    → Stand entries place (stmt_sights window intervals popped s)
+    → StmtIsSafe port entries place s store
+
+-- a loop whose parts have these numbers is safe
+abbrev ForIsSafe : Port → (entries : List Bool) → (test_place step_place body_place : ℕ)
+    → Option tree.Expr → (step body : tree.Stmt) → Store → Type 0
+ForIsSafe port entries test_place step_place body_place condition step body =
+    LoopIsSafe (suc turn_limit) (λ s. OptionIsSafe port entries test_place condition s)
+    (λ s. StmtIsSafe port entries body_place body s
+    × IfOk (inside (stmt_done port body) s)
+    (λ after. StmtIsSafe port entries step_place step after)) (condition_value port condition)
+    (λ turn. result_and_then (inside (stmt_done port body) turn) (inside (stmt_done port step)))
 
 -- the turns of a `for` that isn't a counted loop: nothing is popped in them
-other_turns_safe : (window : ℕ) (port : Port) → IsWhole window port
-    → (condition : Option tree.Expr) (step body : tree.Stmt) (names : Scope) (intervals : Intervals)
-    (popped : PopInterval) (begun : Store) → IsClosedStmt names step → IsClosedStmt names body
+other_turns_safe : (window : ℕ) (port : Port) → IsWhole window port → (entries : List Bool)
+    (condition : Option tree.Expr) (step body : tree.Stmt) (names : Scope) (intervals : Intervals)
+    (popped : PopInterval) (test_place step_place body_place : ℕ) (begun : Store)
+    → IsClosedStmt names step → IsClosedStmt names body
     → is_some (sequence (require_zero (option_counts condition))
     (sequence (require_zero (stmt_counts (names_of intervals) step))
     (require_zero (stmt_counts (names_of intervals) body)))) ≡ true
     → Fixed intervals (turn_writes condition step body) → Ready intervals popped begun
-    → IsSafe window port step → IsSafe window port body
-    → LoopIsSafe (suc turn_limit) (λ s. OptionIsSafe window port intervals popped condition s)
-    (λ s. StmtIsSafe window port intervals popped body s
-    × IfOk (inside (stmt_done port body) s)
-    (λ after. StmtIsSafe window port intervals popped step after)) (condition_value port condition)
-    (λ turn. result_and_then (inside (stmt_done port body) turn) (inside (stmt_done port step)))
-    begun
-other_turns_safe window port whole condition step body names intervals popped begun closed_step
-    closed_body counted fixed ready safe_step safe_body =
+    → Stand entries test_place (option_sights window intervals popped condition)
+    → Stand entries step_place (stmt_sights window intervals popped step)
+    → Stand entries body_place (stmt_sights window intervals popped body)
+    → IsSafe window port entries step → IsSafe window port entries body
+    → ForIsSafe port entries test_place step_place body_place condition step body begun
+other_turns_safe window port whole entries condition step body names intervals popped test_place
+    step_place body_place begun closed_step closed_body counted fixed ready stand_test stand_step
+    stand_body safe_step safe_body =
     let x = option_counts condition in
     let y = stmt_counts (names_of intervals) step in
     let z = stmt_counts (names_of intervals) body in
@@ -147,19 +174,20 @@ other_turns_safe window port whole condition step body names intervals popped be
     (λ after h. ready_still intervals popped z after none_z h)
     (ready_inside port body names intervals popped s closed_body
     (nothing_some z none_z) fixed_body r) in
-    loop_safe (Ready intervals popped) (λ s. OptionIsSafe window port intervals popped condition s)
-    (λ s. StmtIsSafe window port intervals popped body s
+    loop_safe (Ready intervals popped) (λ s. OptionIsSafe port entries test_place condition s)
+    (λ s. StmtIsSafe port entries body_place body s
     × IfOk (inside (stmt_done port body) s)
-    (λ after. StmtIsSafe window port intervals popped step after))
+    (λ after. StmtIsSafe port entries step_place step after))
     (condition_value port condition) (λ turn. result_and_then
     (inside (stmt_done port body) turn) (inside (stmt_done port step)))
     (ready_free intervals popped)
-    (λ s r. option_safe window port whole condition intervals popped s
-    (nothing_some x none_x) fixed_condition r)
+    (λ s r. option_safe window port whole entries condition intervals popped test_place s
+    (nothing_some x none_x) fixed_condition r stand_test)
     (λ s r. (
-      safe_body intervals popped s (nothing_some z none_z) fixed_body r,
+      safe_body intervals popped body_place s (nothing_some z none_z) fixed_body r stand_body,
       IfOk-weaker (inside (stmt_done port body) s) (Ready intervals popped) _
-          (λ after h. safe_step intervals popped after (nothing_some y none_y) fixed_step h)
+          (λ after h. safe_step intervals popped step_place after
+          (nothing_some y none_y) fixed_step h stand_step)
           (behind_body s r),
     ))
     (λ s r. IfOk-weaker (condition_value port condition s)
@@ -177,21 +205,26 @@ other_turns_safe window port whole condition step body names intervals popped be
     (suc turn_limit) begun ready
 
 -- the turns of a counted loop
-counted_turns_safe : (window : ℕ) (port : Port) (locals : Locals) (first : tree.Stmt)
-    (condition : Option tree.Expr) (step body : tree.Stmt) (loop : Loop) (names : Scope)
-    (intervals : Intervals) (popped : PopInterval) (begun : Store)
-    → Known locals first condition step body loop → HasValue loop.name loop.start begun
+counted_turns_safe : (window : ℕ) (port : Port) (entries : List Bool) (locals : Locals)
+    (first : tree.Stmt) (condition : Option tree.Expr) (step body : tree.Stmt) (loop : Loop)
+    (names : Scope) (intervals : Intervals) (popped : PopInterval)
+    (test_place step_place body_place : ℕ) (begun : Store)
+    → Known locals first condition step body loop → HasFreeParts condition step
+    → HasValue loop.name loop.start begun
     → IsClosedStmt names step → IsClosedStmt names body
     → is_some (repeated loop.turns (stmt_counts (names_of intervals) body)) ≡ true
     → Fixed intervals (turn_writes condition step body) → Ready intervals popped begun
-    → IsSafe window port body → LoopIsSafe (suc turn_limit) (λ s. Unit {0})
-    (λ s. StmtIsSafe window port (with_interval intervals loop.name (turns_interval loop))
-    (in_turns popped loop.turns (stmt_counts (names_of intervals) body)) body s × Unit {0})
-    (condition_value port condition) (λ turn. result_and_then (inside (stmt_done port body) turn)
-    (inside (stmt_done port step))) begun
-counted_turns_safe window port locals first condition step body loop names intervals popped begun
-    known begins closed_step closed_body counted fixed ready safe_body =
+    → Stand entries body_place (some_turns loop.turns
+    (stmt_sights window (with_interval intervals loop.name (turns_interval loop))
+    (in_turns popped loop.turns (stmt_counts (names_of intervals) body)) body) (peeks_of_stmt body))
+    → IsSafe window port entries body
+    → ForIsSafe port entries test_place step_place body_place condition step body begun
+counted_turns_safe window port entries locals first condition step body loop names intervals popped
+    test_place step_place body_place begun known free begins closed_step closed_body counted fixed
+    ready stand safe_body =
     let z = stmt_counts (names_of intervals) body in
+    let within = with_interval intervals loop.name (turns_interval loop) in
+    let turning = in_turns popped loop.turns z in
     let scope = scope_of begun.variables in
     let size : length (cells_named begun.variables loop.name) ≡ size_of scope loop.name =
     cells_sized begun.variables loop.name in
@@ -200,24 +233,30 @@ counted_turns_safe window port locals first condition step body loop names inter
     let parts : Parts scope z (inside (stmt_done port body)) =
     inside_parts port body names scope z closed_body
     (λ s is. stmt_counted port body (names_of intervals) names s closed_body
-    (subst (Seen (names_of intervals)) (sym is) ready.with_closed_peeks)) in
+    (subst (Seen (names_of intervals)) (sym is) ready.seen)) in
     let fixed_body : Fixed intervals (λ name. stmt_writes name body) =
     λ n e. or_second (stmt_writes n step) _
     (or_second (option_writes n condition) _ (fixed n e)) in
     counted_safe known port names scope closed_body closed_step sized z parts begun
-    (λ s. StmtIsSafe window port (with_interval intervals loop.name (turns_interval loop))
-    (in_turns popped loop.turns z) body s × Unit {0})
+    (λ s. OptionIsSafe port entries test_place condition s)
+    (λ s. StmtIsSafe port entries body_place body s
+    × IfOk (inside (stmt_done port body) s)
+    (λ after. StmtIsSafe port entries step_place step after))
+    (λ s. option_peekless port entries condition test_place s free.0)
     (λ t s lt here.
     let some_body = repeated_some loop.turns t z lt counted in (
-      safe_body (with_interval intervals loop.name (turns_interval loop))
-          (in_turns popped loop.turns z) s
+      safe_body within turning body_place s
           (subst (λ l. is_some (stmt_counts l body) ≡ true)
           (sym (names_with intervals loop.name (turns_interval loop))) some_body)
           (fixed_with intervals loop.name (turns_interval loop)
           (λ name. stmt_writes name body) known.unwritten fixed_body)
           (ready_turn known port names scope closed_body closed_step sized z parts begun intervals
-          popped t s lt some_body fixed ready here),
-      tt,
+          popped t s lt some_body fixed ready here)
+          (stand_turn entries body_place loop.turns t (stmt_sights window within turning body)
+          (peeks_of_stmt body) lt stand),
+      IfOk-weaker (inside (stmt_done port body) s) (λ after. Unit {0}) _
+          (λ after any. free.1.1 port entries step_place after)
+          (any_ok (inside (stmt_done port body) s)),
     ))
     (record {
       at = record {
@@ -230,73 +269,108 @@ counted_turns_safe window port locals first condition step body loop names inter
           same_refl _ begun.variables;
     })
 
-for_turns_safe : (window : ℕ) (port : Port) → IsWhole window port
-    → (locals : Locals) (first : tree.Stmt) (condition : Option tree.Expr) (step body : tree.Stmt)
+for_turns_safe : (window : ℕ) (port : Port) → IsWhole window port → (entries : List Bool)
+    (locals : Locals) (first : tree.Stmt) (condition : Option tree.Expr) (step body : tree.Stmt)
     (told : Option Loop) (names : Scope) (intervals : Intervals) (popped : PopInterval)
-    (begun : Store) → IfSome told (λ loop. Known locals first condition step body loop
+    (place : ℕ) (begun : Store) → IfSome told (λ loop. HasFreeParts condition step)
+    → IfSome told (λ loop. Known locals first condition step body loop
     × HasValue loop.name loop.start begun) → IsClosedStmt names step → IsClosedStmt names body
     → is_some (turns_counts told (option_counts condition) (stmt_counts (names_of intervals) step)
     (stmt_counts (names_of intervals) body)) ≡ true
     → Fixed intervals (turn_writes condition step body) → Ready intervals popped begun
-    → IsSafe window port step → IsSafe window port body
-    → LoopIsSafe (suc turn_limit) (λ s. UnlessCounted told
-    (OptionIsSafe window port intervals popped condition s))
-    (λ s. StmtIsSafe window port (intervals_in told intervals)
-    (popped_in told popped (stmt_counts (names_of intervals) body)) body s
-    × UnlessCounted told (IfOk (inside (stmt_done port body) s)
-    (λ after. StmtIsSafe window port intervals popped step after))) (condition_value port condition)
-    (λ turn. result_and_then (inside (stmt_done port body) turn) (inside (stmt_done port step)))
+    → Stand entries place (turns_sights told (option_sights window intervals popped condition
+    ++ (stmt_sights window intervals popped step ++ stmt_sights window intervals popped body))
+    (λ loop. stmt_sights window (with_interval intervals loop.name (turns_interval loop))
+    (in_turns popped loop.turns (stmt_counts (names_of intervals) body)) body) (peeks_of_stmt body))
+    → IsSafe window port entries step → IsSafe window port entries body
+    → ForIsSafe port entries place (place + length (peeks_of_option condition))
+    (place + length (peeks_of_option condition) + length (peeks_of_stmt step)) condition step body
     begun
-for_turns_safe window port whole locals first condition step body None names intervals popped begun
-    known closed_step closed_body counted fixed ready safe_step safe_body =
-    other_turns_safe window port whole condition step body names intervals popped begun closed_step
-    closed_body counted fixed ready safe_step safe_body
-for_turns_safe window port whole locals first condition step body
-    (Some loop) names intervals popped begun known closed_step closed_body counted fixed ready
+for_turns_safe window port whole entries locals first condition step body None names intervals
+    popped place begun free known closed_step closed_body counted fixed ready stand safe_step
+    safe_body =
+    let tested = option_sights window intervals popped condition in
+    let stepped = stmt_sights window intervals popped step in
+    let run = stmt_sights window intervals popped body in
+    let step_place = place + length (peeks_of_option condition) in
+    let rest = stand_behind entries place tested (stepped ++ run) (peeks_of_option condition)
+    (option_entries window condition intervals popped) stand in
+    other_turns_safe window port whole entries condition step body names intervals popped place
+    step_place (step_place + length (peeks_of_stmt step)) begun closed_step closed_body counted
+    fixed ready (stand_first entries place tested (stepped ++ run) stand)
+    (stand_first entries step_place stepped run rest)
+    (stand_behind entries step_place stepped run (peeks_of_stmt step)
+    (stmt_entries window step intervals popped) rest) safe_step safe_body
+for_turns_safe window port whole entries locals first condition step body (Some loop) names
+    intervals popped place begun free known closed_step closed_body counted fixed ready stand
     safe_step safe_body =
-    counted_turns_safe window port locals first condition step body loop names intervals popped
-    begun known.0 known.1 closed_step closed_body counted fixed ready safe_body
+    let step_place = place + length (peeks_of_option condition) in
+    let body_place = step_place + length (peeks_of_stmt step) in
+    let no_tests : length (peeks_of_option condition) ≡ 0 = ap length free.0 in
+    let no_steps : length (peeks_of_stmt step) ≡ 0 = ap length free.1.0 in
+    let same : place ≡ body_place = omega arith in
+    counted_turns_safe window port entries locals first condition step body loop names intervals
+    popped place step_place body_place begun known.0 free known.1 closed_step closed_body counted
+    fixed ready
+    (subst (λ n. Stand entries n (some_turns loop.turns
+    (stmt_sights window (with_interval intervals loop.name (turns_interval loop))
+    (in_turns popped loop.turns (stmt_counts (names_of intervals) body)) body)
+    (peeks_of_stmt body))) same stand) safe_body
 
 mutual
   -- each closed peek that a statement runs finds its item
-  pub stmt_safe : (window : ℕ) (port : Port) → IsWhole window port
-      → (s : tree.Stmt) (names : Scope) (intervals : Intervals) (popped : PopInterval)
+  pub stmt_safe : (window : ℕ) (port : Port) → IsWhole window port → (entries : List Bool)
+      (s : tree.Stmt) (names : Scope) (intervals : Intervals) (popped : PopInterval) (place : ℕ)
       (store : Store) → IsClosedStmt names s → is_some (stmt_counts (names_of intervals) s) ≡ true
       → Fixed intervals (λ name. stmt_writes name s) → Ready intervals popped store
-      → StmtIsSafe window port intervals popped s store
-  stmt_safe window port whole tree.Empty names intervals popped store closed counted fixed ready =
-      tt
-  stmt_safe window port whole (tree.Compose statement) names intervals popped store closed counted
-      fixed ready = tt
-  stmt_safe window port whole (tree.Block body) names intervals popped store closed counted fixed
-      ready = stmts_safe window port whole body names intervals popped store closed counted fixed
-      ready
-  stmt_safe window port whole (tree.Declare kind variables) names intervals popped store closed
-      counted fixed ready = variables_safe window port whole
-      (cells_of kind) variables names intervals popped store closed counted fixed ready
-  stmt_safe window port whole (tree.Evaluate value) names intervals popped store closed counted
-      fixed ready = expr_safe window port whole value intervals popped store counted fixed ready
-  stmt_safe window port whole (tree.Assign name operator value) names intervals popped store closed
-      counted fixed ready = expr_safe window port whole value intervals popped store counted
-      (λ n e. or_second (bytes_eq name n) _ (fixed n e)) ready
-  stmt_safe window port whole (tree.AssignElement name index operator value) names intervals popped
-      store closed counted fixed ready =
+      → Stand entries place (stmt_sights window intervals popped s)
+      → StmtIsSafe port entries place s store
+  stmt_safe window port whole entries tree.Empty names intervals popped place store closed counted
+      fixed ready stand = tt
+  stmt_safe window port whole entries (tree.Compose statement) names intervals popped place store
+      closed counted fixed ready stand = tt
+  stmt_safe window port whole entries (tree.Block body) names intervals popped place store closed
+      counted fixed ready stand = stmts_safe window port whole entries body names intervals popped
+      place store closed counted fixed ready stand
+  stmt_safe window port whole entries (tree.Declare kind variables) names intervals popped place
+      store closed counted fixed ready stand = variables_safe window port whole entries
+      (cells_of kind) variables names intervals popped place store closed counted fixed ready stand
+  stmt_safe window port whole entries (tree.Evaluate value) names intervals popped place store
+      closed counted fixed ready stand =
+      expr_safe window port whole entries value intervals popped place store counted fixed ready
+      stand
+  stmt_safe window port whole entries (tree.Assign name operator value) names intervals popped place
+      store closed counted fixed ready stand =
+      expr_safe window port whole entries value intervals popped place store counted
+      (λ n e. or_second (bytes_eq name n) _ (fixed n e)) ready stand
+  stmt_safe window port whole entries (tree.AssignElement name index operator value) names intervals
+      popped place store closed counted fixed ready stand =
+      let later = advance popped (expr_counts index) in
+      let behind = place + length (peeks_of_expr index) in
+      let sights = expr_sights window intervals popped index in
+      let sights_value = expr_sights window intervals later value in
       let fixed_index : Fixed intervals (λ n. expr_writes n index) =
       λ n e. or_first (expr_writes n index) _ (or_second (bytes_eq name n) _ (fixed n e)) in
       let fixed_value : Fixed intervals (λ n. expr_writes n value) =
       λ n e. or_second (expr_writes n index) _ (or_second (bytes_eq name n) _ (fixed n e)) in
       let index_counted = both_first (expr_counts index) _ counted in
       let value_counted = both_second (expr_counts index) (expr_counts value) counted in (
-        expr_safe window port whole index intervals popped store index_counted fixed_index ready,
-        IfOk-weaker (value_of port index store)
-            (λ at. Ready intervals (advance popped (expr_counts index)) at.1) _
-            (λ at h. expr_safe window port whole value intervals
-            (advance popped (expr_counts index)) at.1 value_counted fixed_value h)
+        expr_safe window port whole entries index intervals popped place store index_counted
+            fixed_index ready (stand_first entries place sights sights_value stand),
+        IfOk-weaker (value_of port index store) (λ at. Ready intervals later at.1) _
+            (λ at h. expr_safe window port whole entries value intervals later behind at.1
+            value_counted fixed_value h
+            (stand_behind entries place sights sights_value (peeks_of_expr index)
+            (expr_entries window index intervals popped) stand))
             (ready_value port index intervals popped store index_counted fixed_index ready),
       )
-  stmt_safe window port whole (tree.If condition chosen) names intervals popped store closed counted
-      fixed ready =
+  stmt_safe window port whole entries (tree.If condition chosen) names intervals popped place store
+      closed counted fixed ready stand =
       let later = advance popped (expr_counts condition) in
+      let behind = place + length (peeks_of_expr condition) in
+      let sights = expr_sights window intervals popped condition in
+      let chosen_sights = stmt_sights window intervals later chosen in
+      let sides = sides_sights (constant condition) chosen_sights [] (peeks_of_stmt chosen) [] in
       let fixed_condition : Fixed intervals (λ n. expr_writes n condition) =
       λ n e. or_first (expr_writes n condition) _ (fixed n e) in
       let fixed_chosen : Fixed intervals (λ n. stmt_writes n chosen) =
@@ -304,24 +378,36 @@ mutual
       let first_counted = both_first (expr_counts condition) _ counted in
       let rest_counted = both_second (expr_counts condition)
       (branch_counts (constant condition) (stmt_counts (names_of intervals) chosen)
-      (Some no_items)) counted in (
-        expr_safe window port whole condition intervals popped store first_counted fixed_condition
-            ready,
+      (Some no_items)) counted in
+      let rest_stand : Stand entries behind sides =
+      stand_behind entries place sights sides (peeks_of_expr condition)
+      (expr_entries window condition intervals popped) stand in (
+        expr_safe window port whole entries condition intervals popped place store first_counted
+            fixed_condition ready (stand_first entries place sights sides stand),
         IfOk-weaker (value_of port condition store)
             (λ test. Ready intervals later test.1 × IfSome (constant condition) (λ v. test.0 ≡ v)) _
             (λ test h.
-            match_by (is_true test.0) (StmtIsSafe window port intervals later chosen test.1)
+            match_by (is_true test.0) (StmtIsSafe port entries behind chosen test.1)
             (Unit {0})
-            (λ e. stmt_safe window port whole chosen names intervals later test.1 closed.1
-            ((side_some (constant condition) test.0 (stmt_counts (names_of intervals) chosen)
-            (Some no_items) h.1 rest_counted).0 e) fixed_chosen h.0) (λ e. tt))
+            (λ e. stmt_safe window port whole entries chosen names intervals later behind test.1
+            closed.1 ((side_some (constant condition) test.0
+            (stmt_counts (names_of intervals) chosen)
+            (Some no_items) h.1 rest_counted).0 e) fixed_chosen h.0
+            (stand_chosen entries behind (constant condition) test.0 chosen_sights []
+            (peeks_of_stmt chosen) [] h.1 e rest_stand)) (λ e. tt))
             (both_ok (value_of port condition store) _ _
             (ready_value port condition intervals popped store first_counted fixed_condition
             ready) (constant_told port condition store)),
       )
-  stmt_safe window port whole (tree.IfElse condition chosen other) names intervals popped store
-      closed counted fixed ready =
+  stmt_safe window port whole entries (tree.IfElse condition chosen other) names intervals popped
+      place store closed counted fixed ready stand =
       let later = advance popped (expr_counts condition) in
+      let behind = place + length (peeks_of_expr condition) in
+      let sights = expr_sights window intervals popped condition in
+      let chosen_sights = stmt_sights window intervals later chosen in
+      let other_sights = stmt_sights window intervals later other in
+      let sides = sides_sights (constant condition) chosen_sights other_sights
+      (peeks_of_stmt chosen) (peeks_of_stmt other) in
       let fixed_condition : Fixed intervals (λ n. expr_writes n condition) =
       λ n e. or_first (expr_writes n condition) _ (fixed n e) in
       let fixed_chosen : Fixed intervals (λ n. stmt_writes n chosen) =
@@ -333,42 +419,56 @@ mutual
       let first_counted = both_first (expr_counts condition) _ counted in
       let rest_counted = both_second (expr_counts condition)
       (branch_counts (constant condition) (stmt_counts (names_of intervals) chosen)
-      (stmt_counts (names_of intervals) other)) counted in (
-        expr_safe window port whole condition intervals popped store first_counted fixed_condition
-            ready,
+      (stmt_counts (names_of intervals) other)) counted in
+      let rest_stand : Stand entries behind sides =
+      stand_behind entries place sights sides (peeks_of_expr condition)
+      (expr_entries window condition intervals popped) stand in (
+        expr_safe window port whole entries condition intervals popped place store first_counted
+            fixed_condition ready (stand_first entries place sights sides stand),
         IfOk-weaker (value_of port condition store)
             (λ test. Ready intervals later test.1 × IfSome (constant condition) (λ v. test.0 ≡ v)) _
             (λ test h.
             let some = side_some (constant condition) test.0
             (stmt_counts (names_of intervals) chosen)
             (stmt_counts (names_of intervals) other) h.1 rest_counted in
-            match_by (is_true test.0) (StmtIsSafe window port intervals later chosen test.1)
-            (StmtIsSafe window port intervals later other test.1)
-            (λ e. stmt_safe window port whole chosen names intervals later test.1 closed.1
-            (some.0 e) fixed_chosen h.0)
-            (λ e. stmt_safe window port whole other names intervals later test.1 closed.2
-            (some.1 e) fixed_other h.0))
+            match_by (is_true test.0) (StmtIsSafe port entries behind chosen test.1)
+            (StmtIsSafe port entries (behind + length (peeks_of_stmt chosen)) other test.1)
+            (λ e. stmt_safe window port whole entries chosen names intervals later behind test.1
+            closed.1 (some.0 e) fixed_chosen h.0
+            (stand_chosen entries behind (constant condition) test.0 chosen_sights other_sights
+            (peeks_of_stmt chosen) (peeks_of_stmt other) h.1 e rest_stand))
+            (λ e. stmt_safe window port whole entries other names intervals later
+            (behind + length (peeks_of_stmt chosen)) test.1 closed.2 (some.1 e) fixed_other h.0
+            (stand_other entries behind (constant condition) test.0 chosen_sights other_sights
+            (peeks_of_stmt chosen) (peeks_of_stmt other)
+            (stmt_entries window chosen intervals later) h.1 e rest_stand)))
             (both_ok (value_of port condition store) _ _
             (ready_value port condition intervals popped store first_counted fixed_condition
             ready) (constant_told port condition store)),
       )
-  stmt_safe window port whole (tree.While condition body) names intervals popped store closed
-      counted fixed ready =
+  stmt_safe window port whole entries (tree.While condition body) names intervals popped place store
+      closed counted fixed ready stand =
       let x = expr_counts condition in
       let y = stmt_counts (names_of intervals) body in
+      let behind = place + length (peeks_of_expr condition) in
+      let sights = expr_sights window intervals popped condition in
+      let sights_body = stmt_sights window intervals popped body in
       let none_x = both_first (require_zero x) _ counted in
       let none_y = both_second (require_zero x) (require_zero y) counted in
       let fixed_condition : Fixed intervals (λ n. expr_writes n condition) =
       λ n e. or_first (expr_writes n condition) _ (fixed n e) in
       let fixed_body : Fixed intervals (λ n. stmt_writes n body) =
       λ n e. or_second (expr_writes n condition) _ (fixed n e) in
-      loop_safe (Ready intervals popped) (λ s. ExprIsSafe window port intervals popped condition s)
-      (λ s. StmtIsSafe window port intervals popped body s) (value_of port condition)
+      loop_safe (Ready intervals popped) (λ s. ExprIsSafe port entries place condition s)
+      (λ s. StmtIsSafe port entries behind body s) (value_of port condition)
       (inside (stmt_done port body)) (ready_free intervals popped)
-      (λ s r. expr_safe window port whole condition intervals popped s
-      (nothing_some x none_x) fixed_condition r)
-      (λ s r. stmt_safe window port whole body names intervals popped s closed.1
-      (nothing_some y none_y) fixed_body r)
+      (λ s r. expr_safe window port whole entries condition intervals popped place s
+      (nothing_some x none_x) fixed_condition r
+      (stand_first entries place sights sights_body stand))
+      (λ s r. stmt_safe window port whole entries body names intervals popped behind s closed.1
+      (nothing_some y none_y) fixed_body r
+      (stand_behind entries place sights sights_body (peeks_of_expr condition)
+      (expr_entries window condition intervals popped) stand))
       (λ s r. IfOk-weaker (value_of port condition s)
       (λ given. Ready intervals (advance popped x) given.1) _
       (λ given h. ready_still intervals popped x given.1 none_x h)
@@ -378,12 +478,19 @@ mutual
       (ready_inside port body names intervals popped s closed.1
       (nothing_some y none_y) fixed_body r))
       (suc turn_limit) store ready
-  stmt_safe window port whole (tree.For first condition step body) names intervals popped store
-      closed counted fixed ready =
+  stmt_safe window port whole entries (tree.For first condition step body) names intervals popped
+      place store closed counted fixed ready stand =
       let locals = names_of intervals in
       let told = counted_loop locals first condition step body in
       let inner = intervals_after intervals first in
       let later = advance popped (stmt_counts locals first) in
+      let behind = place + length (peeks_of_stmt first) in
+      let sights = stmt_sights window intervals popped first in
+      let turns = turns_sights told (option_sights window inner later condition
+      ++ (stmt_sights window inner later step ++ stmt_sights window inner later body))
+      (λ loop. stmt_sights window (with_interval inner loop.name (turns_interval loop))
+      (in_turns later loop.turns (stmt_counts (names_of inner) body)) body)
+      (peeks_of_stmt body) in
       let first_fixed : Fixed intervals (λ n. stmt_writes n first) =
       λ n e. or_first (stmt_writes n first) _ (fixed n e) in
       let first_counted = both_first (stmt_counts locals first) _ counted in
@@ -393,44 +500,55 @@ mutual
       (stmt_counts (locals_after locals first) body)) counted in
       let inner_counted = subst (λ l. is_some
       (turns_counts told (option_counts condition) (stmt_counts l step) (stmt_counts l body))
-      ≡ true) (sym (names_after_intervals intervals first)) rest_counted in (
-        stmt_safe window port whole first names intervals popped store closed.0 first_counted
-            first_fixed ready,
+      ≡ true) (sym (names_after_intervals intervals first)) rest_counted in
+      let turns_stand : Stand entries behind turns =
+      stand_behind entries place sights turns (peeks_of_stmt first)
+      (stmt_entries window first intervals popped) stand in (
+        stmt_safe window port whole entries first names intervals popped place store closed.0
+            first_counted first_fixed ready (stand_first entries place sights turns stand),
         IfOk-weaker (stmt_done port first store)
             (λ begun. Ready inner later begun
             × IfSome told (λ loop. Known locals first condition step body loop
             × HasValue loop.name loop.start begun)) _
             (λ begun h.
-            for_turns_safe window port whole locals first condition step body told
-            (names_after names first) inner later begun h.1 closed.2 closed.3 inner_counted
-            (fixed_inner intervals first condition step body fixed) h.0
-            (λ r p s c f d. stmt_safe window port whole step
-            (names_after names first) r p s closed.2 c f d)
-            (λ r p s c f d. stmt_safe window port whole body
-            (names_after names first) r p s closed.3 c f d))
+            for_turns_safe window port whole entries locals first condition step body told
+            (names_after names first) inner later behind begun
+            (counted_free locals first condition step body) h.1 closed.2 closed.3 inner_counted
+            (fixed_inner intervals first condition step body fixed) h.0 turns_stand
+            (λ r p n s c f d k. stmt_safe window port whole entries step
+            (names_after names first) r p n s closed.2 c f d k)
+            (λ r p n s c f d k. stmt_safe window port whole entries body
+            (names_after names first) r p n s closed.3 c f d k))
             (both_ok (stmt_done port first store) _ _
             (ready_stmt port first names intervals popped store closed.0 first_counted first_fixed
             ready) (begins_by locals first condition step body told port store
-            ready.with_closed_peeks (loop_known locals first condition step body))),
+            ready.seen (loop_known locals first condition step body))),
       )
-  stmt_safe window port whole (tree.Push value) names intervals popped store closed counted fixed
-      ready = expr_safe window port whole value intervals popped store
-      (both_first (expr_counts value) (Some one_push) counted) fixed ready
-  stmt_safe window port whole (tree.Print value) names intervals popped store closed counted fixed
-      ready = expr_safe window port whole value intervals popped store counted fixed ready
-  stmt_safe window port whole (tree.Println value) names intervals popped store closed counted fixed
-      ready = expr_safe window port whole value intervals popped store counted fixed ready
+  stmt_safe window port whole entries (tree.Push value) names intervals popped place store closed
+      counted fixed ready stand = expr_safe window port whole entries value intervals popped place
+      store (both_first (expr_counts value) (Some one_push) counted) fixed ready stand
+  stmt_safe window port whole entries (tree.Print value) names intervals popped place store closed
+      counted fixed ready stand = expr_safe window port whole entries value intervals popped place
+      store counted fixed ready stand
+  stmt_safe window port whole entries (tree.Println value) names intervals popped place store closed
+      counted fixed ready stand = expr_safe window port whole entries value intervals popped place
+      store counted fixed ready stand
 
-  pub stmts_safe : (window : ℕ) (port : Port) → IsWhole window port
-      → (s : tree.Stmts) (names : Scope) (intervals : Intervals) (popped : PopInterval)
+  pub stmts_safe : (window : ℕ) (port : Port) → IsWhole window port → (entries : List Bool)
+      (s : tree.Stmts) (names : Scope) (intervals : Intervals) (popped : PopInterval) (place : ℕ)
       (store : Store) → AreClosed names s → is_some (stmts_counts (names_of intervals) s) ≡ true
       → Fixed intervals (λ name. stmts_write name s) → Ready intervals popped store
-      → StmtsAreSafe window port intervals popped s store
-  stmts_safe window port whole tree.Done names intervals popped store closed counted fixed ready =
-      tt
-  stmts_safe window port whole (tree.Then first rest) names intervals popped store closed counted
-      fixed ready =
+      → Stand entries place (stmts_sights window intervals popped s)
+      → StmtsAreSafe port entries place s store
+  stmts_safe window port whole entries tree.Done names intervals popped place store closed counted
+      fixed ready stand = tt
+  stmts_safe window port whole entries (tree.Then first rest) names intervals popped place store
+      closed counted fixed ready stand =
       let locals = names_of intervals in
+      let inner = intervals_after intervals first in
+      let later = advance popped (stmt_counts locals first) in
+      let sights = stmt_sights window intervals popped first in
+      let sights_rest = stmts_sights window inner later rest in
       let first_fixed : Fixed intervals (λ n. stmt_writes n first) =
       λ n e. or_first (stmt_writes n first) _ (fixed n e) in
       let first_counted = both_first (stmt_counts locals first) _ counted in
@@ -438,18 +556,18 @@ mutual
       (stmts_counts (locals_after locals first) rest) counted in
       let inner_counted = subst (λ l. is_some (stmts_counts l rest) ≡ true)
       (sym (names_after_intervals intervals first)) rest_counted in
-      let rest_fixed : Fixed (intervals_after intervals first) (λ n. stmts_write n rest) =
+      let rest_fixed : Fixed inner (λ n. stmts_write n rest) =
       λ n e. let before = known_before intervals first n e in
       unless_hidden (shadows n first) (stmts_write n rest)
       (or_second (stmt_writes n first) _ (fixed n before.0)) before.1 in (
-        stmt_safe window port whole first names intervals popped store closed.0 first_counted
-            first_fixed ready,
-        IfOk-weaker (stmt_done port first store)
-            (Ready (intervals_after intervals first) (advance popped (stmt_counts locals first))) _
-            (λ middle h. stmts_safe window port whole rest (names_after names first)
-            (intervals_after intervals first)
-            (advance popped (stmt_counts locals first)) middle closed.1 inner_counted rest_fixed
-            h)
+        stmt_safe window port whole entries first names intervals popped place store closed.0
+            first_counted first_fixed ready (stand_first entries place sights sights_rest stand),
+        IfOk-weaker (stmt_done port first store) (Ready inner later) _
+            (λ middle h. stmts_safe window port whole entries rest (names_after names first)
+            inner later (place + length (peeks_of_stmt first)) middle closed.1 inner_counted
+            rest_fixed h
+            (stand_behind entries place sights sights_rest (peeks_of_stmt first)
+            (stmt_entries window first intervals popped) stand))
             (ready_stmt port first names intervals popped store closed.0 first_counted first_fixed
             ready),
       )

@@ -1,9 +1,8 @@
 -- A closed peek of an expression finds its item.
-use Rattle.std.proofs.Common.{◌≡◌, refl, ℕ, zero, suc, ◌+◌, ◌<◌, ◌≤◌, ℤ, pos, negsuc, ◌+ℤ◌, Bool}
-use Rattle.std.proofs.Common.{true, false, not, ◌&&◌, List, [], ◌∷◌, length, Option, Some, None}
+use Rattle.std.proofs.Common.{◌≡◌, refl, sym, ◌∙◌, ℕ, zero, suc, ◌+◌, ◌<◌, ◌≤◌, ℤ, pos, negsuc, ◌+ℤ◌, Bool}
+use Rattle.std.proofs.Common.{true, false, not, ◌&&◌, List, [], ◌∷◌, length, get_or, Option, Some, None}
 use Rattle.std.proofs.Common.{arith}
 use Rattle.std.specs.Prelude.{is_some, IsSome, slice_get, if◌then◌else◌}
-use Rattle.std.specs.Bool.{MatchBool}
 use Rattle.std.specs.Option.{IfSome}
 use Rattle.std.specs.Result.{IfOk}
 use Rattle.std.specs.Int.RustNames.{int_lt}
@@ -20,8 +19,13 @@ use Rattle.strc_peeks.specs.Counts.{saturated, branch_counts, needed, need_of, e
 use Rattle.strc_interval.specs.declared.interval.Interval.{Interval}
 use Rattle.strc_interval.specs.Intervals.{Intervals, interval_of}
 use Rattle.strc_peeks.specs.Peeks.{Closed, Outside, Open, PopInterval, pops_of, advance, sight_at}
+use Rattle.strc_peeks.specs.Peeks.{is_closed, sides_sights, right_sights, expr_sights}
+use Rattle.strc_peeks.specs.Entries.{peeks_of_expr}
 use Rattle.strc_peeks.specs.Safe.{PeekIsSafe, ExprIsSafe}
 use Rattle.strc_peeks.proofs.Results.{and_first, and_second, or_first, or_second, both_ok, ok_known}
+use Rattle.strc_peeks.proofs.Results.{match_by}
+use Rattle.strc_peeks.proofs.EachEntry.{Stand, stand_first, stand_behind}
+use Rattle.strc_peeks.proofs.EachEntry.{stand_chosen, stand_other, stand_right, expr_entries}
 use Rattle.strc_peeks.proofs.LoopParts.{constant_told}
 use Rattle.strc_peeks.proofs.IntervalValues.{IsTold, interval_told}
 use Rattle.strc_peeks.proofs.Readiness.{Ready, Fixed, both_first, both_second, side_some, right_some}
@@ -91,71 +95,116 @@ peek_by window port whole intervals popped index store (Some interval) ready tol
     (and_second (not (int_lt interval.low (pos 0))) _ test)) value.within.0 value.within.1
     ready.within)
 
-peek_safe : (window : ℕ) (port : Port) → IsWhole window port
-    → (intervals : Intervals) (popped : PopInterval) (index : tree.Expr) (store : Store)
-    → Ready intervals popped store → PeekIsSafe window port intervals popped index store
-peek_safe window port whole intervals popped index store ready closed =
-    peek_by window port whole intervals popped index store (interval_of intervals index) ready
-    (interval_told intervals index) closed
+told_by : (a b : Bool) → is_closed (if a then Closed else if b then Outside else Open) ≡ true
+    → (if a then Closed else if b then Outside else Open) ≡ Closed
+told_by true b e = refl
+told_by false true e = absurd (cc)
+told_by false false e = absurd (cc)
 
--- by a test's outcome
-pub match_by : (test : Bool) (P Q : Type 0) → (test ≡ true → P) → (test ≡ false → Q)
-    → MatchBool test P Q
-match_by true P Q h k = h refl
-match_by false P Q h k = k refl
+-- a peek that is looked at is closed only where it stays within its window
+told_closed : (window : ℕ) (popped : PopInterval) (interval : Option Interval)
+    → is_closed (sight_at window popped interval) ≡ true
+    → sight_at window popped interval ≡ Closed
+told_closed window popped None e = absurd (cc)
+told_closed window popped (Some index) e =
+    told_by (not (int_lt index.low (pos 0)) && int_lt (index.high +ℤ pos popped.high) (pos window))
+    _ e
+
+peek_safe : (window : ℕ) (port : Port) → IsWhole window port
+    → (entries : List Bool) (intervals : Intervals) (popped : PopInterval) (place : ℕ)
+    (index : tree.Expr) (store : Store) → Ready intervals popped store
+    → get_or entries place false
+    ≡ is_closed (sight_at window (advance popped (expr_counts index)) (interval_of intervals index))
+    → PeekIsSafe port entries place index store
+peek_safe window port whole entries intervals popped place index store ready same closed =
+    peek_by window port whole intervals popped index store (interval_of intervals index) ready
+    (interval_told intervals index) (told_closed window (advance popped (expr_counts index))
+    (interval_of intervals index) (sym same ∙ closed))
 
 -- each closed peek that an evaluation runs finds its item
-pub expr_safe : (window : ℕ) (port : Port) → IsWhole window port
-    → (e : tree.Expr) (intervals : Intervals) (popped : PopInterval) (store : Store)
+pub expr_safe : (window : ℕ) (port : Port) → IsWhole window port → (entries : List Bool)
+    (e : tree.Expr) (intervals : Intervals) (popped : PopInterval) (place : ℕ) (store : Store)
     → is_some (expr_counts e) ≡ true → Fixed intervals (λ name. expr_writes name e)
-    → Ready intervals popped store → ExprIsSafe window port intervals popped e store
-expr_safe window port whole (tree.Number value) intervals popped store counted fixed ready = tt
-expr_safe window port whole (tree.Truth value) intervals popped store counted fixed ready = tt
-expr_safe window port whole (tree.Read name) intervals popped store counted fixed ready = tt
-expr_safe window port whole (tree.Element name index) intervals popped store counted fixed ready =
-    expr_safe window port whole index intervals popped store counted fixed ready
-expr_safe window port whole tree.Pop intervals popped store counted fixed ready = tt
-expr_safe window port whole (tree.Peek index) intervals popped store counted fixed ready = (
-  expr_safe window port whole index intervals popped store counted fixed ready,
-  peek_safe window port whole intervals popped index store ready,
-)
-expr_safe window port whole (tree.Group inner) intervals popped store counted fixed ready =
-    expr_safe window port whole inner intervals popped store counted fixed ready
-expr_safe window port whole (tree.Unary operator operand) intervals popped store counted fixed ready
-    = expr_safe window port whole operand intervals popped store counted fixed ready
-expr_safe window port whole (tree.Step operator name) intervals popped store counted fixed ready =
-    tt
-expr_safe window port whole (tree.StepElement operator name index) intervals popped store counted
-    fixed ready =
-    expr_safe window port whole index intervals popped store counted
-    (λ n e. or_second _ _ (fixed n e)) ready
-expr_safe window port whole (tree.Binary operator left right) intervals popped store counted fixed
-    ready =
+    → Ready intervals popped store → Stand entries place (expr_sights window intervals popped e)
+    → ExprIsSafe port entries place e store
+expr_safe window port whole entries (tree.Number value) intervals popped place store counted fixed
+    ready stand = tt
+expr_safe window port whole entries (tree.Truth value) intervals popped place store counted fixed
+    ready stand = tt
+expr_safe window port whole entries (tree.Read name) intervals popped place store counted fixed
+    ready stand = tt
+expr_safe window port whole entries (tree.Element name index) intervals popped place store counted
+    fixed ready stand =
+    expr_safe window port whole entries index intervals popped place store counted fixed ready stand
+expr_safe window port whole entries tree.Pop intervals popped place store counted fixed ready stand
+    = tt
+expr_safe window port whole entries (tree.Peek index) intervals popped place store counted fixed
+    ready stand =
+    let sights = expr_sights window intervals popped index in
+    let one = sight_at window (advance popped (expr_counts index)) (interval_of intervals index)
+    ∷ [] in (
+      expr_safe window port whole entries index intervals popped place store counted fixed ready
+          (stand_first entries place sights one stand),
+      peek_safe window port whole entries intervals popped
+          (place + length (peeks_of_expr index)) index store ready
+          (stand_behind entries place sights one (peeks_of_expr index)
+          (expr_entries window index intervals popped) stand).0,
+    )
+expr_safe window port whole entries (tree.Group inner) intervals popped place store counted fixed
+    ready stand =
+    expr_safe window port whole entries inner intervals popped place store counted fixed ready stand
+expr_safe window port whole entries (tree.Unary operator operand) intervals popped place store
+    counted fixed ready stand =
+    expr_safe window port whole entries operand intervals popped place store counted fixed ready
+    stand
+expr_safe window port whole entries (tree.Step operator name) intervals popped place store counted
+    fixed ready stand = tt
+expr_safe window port whole entries (tree.StepElement operator name index) intervals popped place
+    store counted fixed ready stand =
+    expr_safe window port whole entries index intervals popped place store counted
+    (λ n e. or_second _ _ (fixed n e)) ready stand
+expr_safe window port whole entries (tree.Binary operator left right) intervals popped place store
+    counted fixed ready stand =
+    let later = advance popped (expr_counts left) in
+    let behind = place + length (peeks_of_expr left) in
+    let sights = expr_sights window intervals popped left in
+    let sights_right = expr_sights window intervals later right in
+    let seen_right = right_sights (need_of operator left) sights_right (peeks_of_expr right) in
     let first_counted = both_first (expr_counts left) _ counted in
     let rest_counted = both_second (expr_counts left)
     (needed (need_of operator left) (expr_counts right)) counted in
     let first_fixed : Fixed intervals (λ name. expr_writes name left) =
     λ n e. or_first (expr_writes n left) _ (fixed n e) in
     let rest_fixed : Fixed intervals (λ name. expr_writes name right) =
-    λ n e. or_second (expr_writes n left) _ (fixed n e) in (
-      expr_safe window port whole left intervals popped store first_counted first_fixed ready,
+    λ n e. or_second (expr_writes n left) _ (fixed n e) in
+    let rest_stand : Stand entries behind seen_right =
+    stand_behind entries place sights seen_right (peeks_of_expr left)
+    (expr_entries window left intervals popped) stand in (
+      expr_safe window port whole entries left intervals popped place store first_counted
+          first_fixed ready (stand_first entries place sights seen_right stand),
       IfOk-weaker (value_of port left store)
-          (λ first. Ready intervals (advance popped (expr_counts left)) first.1
-          × IfSome (constant left) (λ v. first.0 ≡ v)) _
+          (λ first. Ready intervals later first.1 × IfSome (constant left) (λ v. first.0 ≡ v)) _
           (λ first h.
           match_by (decides operator first.0) (Unit {0})
-          (ExprIsSafe window port intervals (advance popped (expr_counts left)) right first.1)
+          (ExprIsSafe port entries behind right first.1)
           (λ e. tt)
-          (λ e. expr_safe window port whole right intervals
-          (advance popped (expr_counts left)) first.1
+          (λ e. expr_safe window port whole entries right intervals later behind first.1
           (right_some operator left first.0 (expr_counts right) h.1 rest_counted e) rest_fixed
-          h.0))
+          h.0 (stand_right entries behind operator left first.0 sights_right
+          (peeks_of_expr right) h.1 e rest_stand)))
           (both_ok (value_of port left store) _ _
           (ready_value port left intervals popped store first_counted first_fixed ready)
           (constant_told port left store)),
     )
-expr_safe window port whole (tree.Conditional condition chosen other) intervals popped store counted
-    fixed ready =
+expr_safe window port whole entries (tree.Conditional condition chosen other) intervals popped place
+    store counted fixed ready stand =
+    let later = advance popped (expr_counts condition) in
+    let behind = place + length (peeks_of_expr condition) in
+    let sights = expr_sights window intervals popped condition in
+    let chosen_sights = expr_sights window intervals later chosen in
+    let other_sights = expr_sights window intervals later other in
+    let sides = sides_sights (constant condition) chosen_sights other_sights
+    (peeks_of_expr chosen) (peeks_of_expr other) in
     let first_counted = both_first (expr_counts condition) _ counted in
     let rest_counted = both_second (expr_counts condition)
     (branch_counts (constant condition) (expr_counts chosen) (expr_counts other)) counted in
@@ -167,18 +216,27 @@ expr_safe window port whole (tree.Conditional condition chosen other) intervals 
     let other_fixed : Fixed intervals (λ name. expr_writes name other) =
     λ n e. or_second (expr_writes n chosen) _
     (or_second (expr_writes n condition) _ (fixed n e)) in
-    let later = advance popped (expr_counts condition) in (
-      expr_safe window port whole condition intervals popped store first_counted first_fixed ready,
+    let rest_stand : Stand entries behind sides =
+    stand_behind entries place sights sides (peeks_of_expr condition)
+    (expr_entries window condition intervals popped) stand in (
+      expr_safe window port whole entries condition intervals popped place store first_counted
+          first_fixed ready (stand_first entries place sights sides stand),
       IfOk-weaker (value_of port condition store)
           (λ test. Ready intervals later test.1 × IfSome (constant condition) (λ v. test.0 ≡ v)) _
           (λ test h.
           let some = side_some (constant condition) test.0 (expr_counts chosen)
           (expr_counts other) h.1 rest_counted in
-          match_by (is_true test.0) (ExprIsSafe window port intervals later chosen test.1)
-          (ExprIsSafe window port intervals later other test.1)
-          (λ e. expr_safe window port whole chosen intervals later test.1
-          (some.0 e) chosen_fixed h.0) (λ e.
-          expr_safe window port whole other intervals later test.1 (some.1 e) other_fixed h.0))
+          match_by (is_true test.0) (ExprIsSafe port entries behind chosen test.1)
+          (ExprIsSafe port entries (behind + length (peeks_of_expr chosen)) other test.1)
+          (λ e. expr_safe window port whole entries chosen intervals later behind test.1
+          (some.0 e) chosen_fixed h.0
+          (stand_chosen entries behind (constant condition) test.0 chosen_sights other_sights
+          (peeks_of_expr chosen) (peeks_of_expr other) h.1 e rest_stand))
+          (λ e. expr_safe window port whole entries other intervals later
+          (behind + length (peeks_of_expr chosen)) test.1 (some.1 e) other_fixed h.0
+          (stand_other entries behind (constant condition) test.0 chosen_sights other_sights
+          (peeks_of_expr chosen) (peeks_of_expr other)
+          (expr_entries window chosen intervals later) h.1 e rest_stand)))
           (both_ok (value_of port condition store) _ _
           (ready_value port condition intervals popped store first_counted first_fixed ready)
           (constant_told port condition store)),

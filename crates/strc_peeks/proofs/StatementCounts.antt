@@ -320,11 +320,11 @@ pub begins_by : (locals : Locals) (first : tree.Stmt) (condition : Option tree.E
     → Seen locals (scope_of store.variables) → IfSome told (Known locals first condition step body)
     → IfOk (stmt_done port first store) (λ begun. IfSome told
     (λ loop. Known locals first condition step body loop × HasValue loop.name loop.start begun))
-begins_by locals first condition step body None port store with_closed_peeks known =
+begins_by locals first condition step body None port store seen known =
     any_ok (stmt_done port first store)
-begins_by locals first condition step body (Some loop) port store with_closed_peeks known =
+begins_by locals first condition step body (Some loop) port store seen known =
     IfOk-weaker (stmt_done port first store) (HasValue loop.name loop.start) _
-    (λ begun h. (known, h)) (known.begins port store with_closed_peeks)
+    (λ begun h. (known, h)) (known.begins port store seen)
 
 -- ---- statements
 
@@ -373,21 +373,21 @@ mutual
   pub stmt_counted : (port : Port) (s : tree.Stmt) (locals : Locals) (names : Scope) (store : Store)
       → IsClosedStmt names s → Seen locals (scope_of store.variables)
       → CountedOk store_traffic (stmt_counts locals s) store.traffic (stmt_done port s store)
-  stmt_counted port tree.Empty locals names store closed with_closed_peeks = stays store.traffic
-  stmt_counted port (tree.Compose statement) locals names store closed with_closed_peeks =
+  stmt_counted port tree.Empty locals names store closed seen = stays store.traffic
+  stmt_counted port (tree.Compose statement) locals names store closed seen =
       stays store.traffic
-  stmt_counted port (tree.Block body) locals names store closed with_closed_peeks =
+  stmt_counted port (tree.Block body) locals names store closed seen =
       inside_counts (stmts_counts locals body) (stmts_done port body) store
-      (stmts_counted port body locals names store closed with_closed_peeks)
-  stmt_counted port (tree.Declare kind variables) locals names store closed with_closed_peeks =
+      (stmts_counted port body locals names store closed seen)
+  stmt_counted port (tree.Declare kind variables) locals names store closed seen =
       declared_counts port (cells_of kind) variables store
-  stmt_counted port (tree.Evaluate value) locals names store closed with_closed_peeks =
+  stmt_counted port (tree.Evaluate value) locals names store closed seen =
       still_value port value store _ (λ x before given h. h)
-  stmt_counted port (tree.Assign name operator value) locals names store closed with_closed_peeks =
+  stmt_counted port (tree.Assign name operator value) locals names store closed seen =
       assigned_counts port name operator value store
   stmt_counted port (tree.AssignElement name index operator value) locals names store closed
-      with_closed_peeks = element_assigned_counts port name index operator value store
-  stmt_counted port (tree.If condition chosen) locals names store closed with_closed_peeks =
+      seen = element_assigned_counts port name index operator value store
+  stmt_counted port (tree.If condition chosen) locals names store closed seen =
       let x = branch_counts (constant condition) (stmt_counts locals chosen) (Some no_items) in
       then_ok (value_of port condition store) _
       (λ test. Counted (expr_counts condition) store.traffic test.1.traffic
@@ -401,9 +401,9 @@ mutual
       (Some no_items) test.1.traffic (inside (stmt_done port chosen) test.1) (Ok test.1) h.2
       (inside_counts (stmt_counts locals chosen) (stmt_done port chosen) test.1
       (stmt_counted port chosen locals names test.1 closed.1
-      (subst (Seen locals) (sym h.1) with_closed_peeks)))
+      (subst (Seen locals) (sym h.1) seen)))
       (stays test.1.traffic)))
-  stmt_counted port (tree.IfElse condition chosen other) locals names store closed with_closed_peeks
+  stmt_counted port (tree.IfElse condition chosen other) locals names store closed seen
       =
       let x = branch_counts (constant condition) (stmt_counts locals chosen)
       (stmt_counts locals other) in
@@ -421,24 +421,24 @@ mutual
       (inside (stmt_done port other) test.1) h.2
       (inside_counts (stmt_counts locals chosen) (stmt_done port chosen) test.1
       (stmt_counted port chosen locals names test.1 closed.1
-      (subst (Seen locals) (sym h.1) with_closed_peeks)))
+      (subst (Seen locals) (sym h.1) seen)))
       (inside_counts (stmt_counts locals other) (stmt_done port other) test.1
       (stmt_counted port other locals names test.1 closed.2
-      (subst (Seen locals) (sym h.1) with_closed_peeks)))))
-  stmt_counted port (tree.While condition body) locals names store closed with_closed_peeks =
+      (subst (Seen locals) (sym h.1) seen)))))
+  stmt_counted port (tree.While condition body) locals names store closed seen =
       let scope = scope_of store.variables in
       while_counts scope (expr_counts condition) (stmt_counts locals body) (value_of port condition)
       (inside (stmt_done port body)) (expr_tests port condition scope)
       (inside_parts port body names scope (stmt_counts locals body) closed.1
       (λ s is. stmt_counted port body locals names s closed.1
-      (subst (Seen locals) (sym is) with_closed_peeks))) store refl
-  stmt_counted port (tree.For first condition step body) locals names store closed with_closed_peeks
+      (subst (Seen locals) (sym is) seen))) store refl
+  stmt_counted port (tree.For first condition step body) locals names store closed seen
       =
       let scope = names_after (scope_of store.variables) first in
       let inner = locals_after locals first in
       let told = counted_loop locals first condition step body in
       let seen_inner : Seen inner scope =
-      seen_after first locals (scope_of store.variables) names closed.0 with_closed_peeks in
+      seen_after first locals (scope_of store.variables) names closed.0 seen in
       let loop : Store → Result Store Cause =
       looped (suc turn_limit) (condition_value port condition)
       (λ turn. result_and_then (inside (stmt_done port body) turn)
@@ -454,9 +454,9 @@ mutual
       × HasValue l.name l.start begun)))
       (λ after. Counted (sequence (stmt_counts locals first) x) store.traffic after.traffic)
       (both_ok (stmt_done port first store) _ _
-      (stmt_counted port first locals names store closed.0 with_closed_peeks)
+      (stmt_counted port first locals names store closed.0 seen)
       (both_ok (stmt_done port first store) _ _ (stmt_keeps port first names store closed.0)
-      (begins_by locals first condition step body told port store with_closed_peeks
+      (begins_by locals first condition step body told port store seen
       (loop_known locals first condition step body))))
       (λ begun h. advance_counts store_traffic store.traffic begun.traffic
       (stmt_counts locals first) x (loop begun) h.0
@@ -469,24 +469,24 @@ mutual
       (λ s is. stmt_counted port body inner (names_after names first) s closed.3
       (subst (Seen inner) (sym is) seen_inner)))
       begun h.1.0.exact h.1.1)))
-  stmt_counted port (tree.Push value) locals names store closed with_closed_peeks =
+  stmt_counted port (tree.Push value) locals names store closed seen =
       plain_value port value store _ (Some one_push)
       (λ given. then_ok (pushed_to port given.0 given.1.traffic) _
       (λ traffic. Moves given.1.traffic traffic one_push)
       (λ after. Moves given.1.traffic after.traffic one_push)
       (push_counts port given.0 given.1.traffic) (λ traffic h. h))
-  stmt_counted port (tree.Print value) locals names store closed with_closed_peeks =
+  stmt_counted port (tree.Print value) locals names store closed seen =
       still_value port value store _ (λ x before given h.
       printed_counted x before given.1.traffic _ refl refl h)
-  stmt_counted port (tree.Println value) locals names store closed with_closed_peeks =
+  stmt_counted port (tree.Println value) locals names store closed seen =
       still_value port value store _ (λ x before given h.
       printed_counted x before given.1.traffic _ refl refl h)
 
   pub stmts_counted : (port : Port) (s : tree.Stmts) (locals : Locals) (names : Scope)
       (store : Store) → AreClosed names s → Seen locals (scope_of store.variables)
       → CountedOk store_traffic (stmts_counts locals s) store.traffic (stmts_done port s store)
-  stmts_counted port tree.Done locals names store closed with_closed_peeks = stays store.traffic
-  stmts_counted port (tree.Then first rest) locals names store closed with_closed_peeks =
+  stmts_counted port tree.Done locals names store closed seen = stays store.traffic
+  stmts_counted port (tree.Then first rest) locals names store closed seen =
       let scope = names_after (scope_of store.variables) first in
       then_ok (stmt_done port first store) (stmts_done port rest)
       (λ middle. Counted (stmt_counts locals first) store.traffic middle.traffic
@@ -494,11 +494,11 @@ mutual
       (λ after. Counted (stmts_counts locals (tree.Then first rest)) store.traffic
       after.traffic)
       (both_ok (stmt_done port first store) _ _
-      (stmt_counted port first locals names store closed.0 with_closed_peeks)
+      (stmt_counted port first locals names store closed.0 seen)
       (stmt_keeps port first names store closed.0))
       (λ middle h. advance_counts store_traffic store.traffic middle.traffic
       (stmt_counts locals first) (stmts_counts (locals_after locals first) rest)
       (stmts_done port rest middle) h.0
       (stmts_counted port rest (locals_after locals first) (names_after names first) middle closed.1
       (subst (Seen (locals_after locals first)) (sym h.1.exact)
-      (seen_after first locals (scope_of store.variables) names closed.0 with_closed_peeks))))
+      (seen_after first locals (scope_of store.variables) names closed.0 seen))))

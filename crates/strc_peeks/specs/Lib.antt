@@ -1,4 +1,6 @@
 pub mod Counts
+pub mod Entries
 pub mod Peeks
 pub mod Safe
 pub mod Turns
+pub mod Promises

@@ -1,6 +1,6 @@
 -- Which peeks stay within their window, told from the text, and which can't reach into it.
-use Rattle.std.specs.Prelude.{ℕ, ◌+◌, ◌*◌, ◌-◌, zero, suc, ℤ, pos, ◌+ℤ◌, not, ◌&&◌, ◌||◌, List, []}
-use Rattle.std.specs.Prelude.{◌∷◌, ◌++◌, Option, Some, None, if◌then◌else◌}
+use Rattle.std.specs.Prelude.{ℕ, ◌+◌, ◌*◌, ◌-◌, zero, suc, ℤ, pos, ◌+ℤ◌, Bool, true}
+use Rattle.std.specs.Prelude.{false, not, ◌&&◌, ◌||◌, List, [], ◌∷◌, ◌++◌, Option, Some, None, if◌then◌else◌, map}
 use Rattle.std.specs.Int.RustNames.{int_lt}
 use Rattle.strc_syntax.specs.Tree as tree
 use Rattle.strc_semantics.specs.Arithmetic.{is_true}
@@ -8,16 +8,22 @@ use Rattle.strc_interval.specs.Constant.{constant}
 use Rattle.strc_interval.specs.Loops.{Loop, counted_loop}
 use Rattle.strc_peeks.specs.Counts.{Counts, saturated, Need, Never, need_of, expr_counts}
 use Rattle.strc_peeks.specs.Counts.{option_counts, stmt_counts}
+use Rattle.strc_peeks.specs.Entries.{peeks_of_expr, peeks_of_stmt}
 use Rattle.strc_interval.specs.declared.interval.Interval.{Interval}
 use Rattle.strc_interval.specs.Intervals.{Intervals, intervals_after, interval_of}
 use Rattle.strc_interval.specs.Intervals.{with_interval, turns_interval, names_of}
 -- between how many items a firing has popped when it comes to a place of its text, saturated as
 -- counts are
 pub use Rattle.strc_peeks.specs.declared.sight.PopInterval.{PopInterval}
--- what a peek's text tells: that it stays within its window, that it can't, or neither, so that it
--- is tested when it runs
+-- what is told of a peek: that it stays within its window, that it can't, neither, so that it is
+-- tested when it runs, or that no run comes to it
 pub use Rattle.strc_peeks.specs.declared.sight.PeekBounds.{PeekBounds}
 pub use Rattle.strc_peeks.specs.declared.sight.PeekBounds.TheVariants.{Closed, Outside, Open}
+pub use Rattle.strc_peeks.specs.declared.sight.PeekBounds.TheVariants.{Unreached}
+
+-- the items popped where a firing begins
+abbrev pub none_popped : PopInterval
+none_popped = record { low = 0; high = 0 }
 
 abbrev pub pops_of : Option Counts → ℕ
 pops_of None = 0
@@ -45,16 +51,24 @@ sight_at window popped (Some index) =
     then Outside
     else Open
 
--- the side that a constant condition takes, or both
-abbrev pub looked_sides : Option ℤ → (chosen other : List PeekBounds) → List PeekBounds
-looked_sides None chosen other = chosen ++ other
-looked_sides (Some condition) chosen other = if is_true condition then chosen else other
+-- one entry for each peek to which no run comes
+abbrev pub unreached : List tree.Expr → List PeekBounds
+unreached peeks = map (λ index. Unreached) peeks
 
-abbrev pub looked_right : Need → List PeekBounds → List PeekBounds
-looked_right Never right = []
-looked_right _ right = right
+-- both sides of a condition; no run comes to the one that a constant never takes
+abbrev pub sides_sights : Option ℤ → (chosen other : List PeekBounds)
+    → (peeks_chosen peeks_other : List tree.Expr) → List PeekBounds
+sides_sights None chosen other peeks_chosen peeks_other = chosen ++ other
+sides_sights (Some condition) chosen other peeks_chosen peeks_other =
+    if is_true condition then chosen ++ unreached peeks_other
+    else unreached peeks_chosen ++ other
 
--- the peeks of an expression that are looked at, in order of the text
+-- the right side of an operator, to which no run may come
+abbrev pub right_sights : Need → List PeekBounds → (peeks : List tree.Expr) → List PeekBounds
+right_sights Never right peeks = unreached peeks
+right_sights _ right peeks = right
+
+-- what is told of each peek of an expression, in order of the text
 abbrev pub expr_sights : (window : ℕ) → Intervals → PopInterval → tree.Expr → List PeekBounds
 expr_sights window intervals popped (tree.Number value) = []
 expr_sights window intervals popped (tree.Truth value) = []
@@ -73,13 +87,15 @@ expr_sights window intervals popped (tree.StepElement operator name index) =
     expr_sights window intervals popped index
 expr_sights window intervals popped (tree.Binary operator left right) =
     expr_sights window intervals popped left
-    ++ looked_right (need_of operator left)
+    ++ right_sights (need_of operator left)
     (expr_sights window intervals (advance popped (expr_counts left)) right)
+    (peeks_of_expr right)
 expr_sights window intervals popped (tree.Conditional condition chosen other) =
     expr_sights window intervals popped condition
-    ++ looked_sides (constant condition) (expr_sights window intervals
+    ++ sides_sights (constant condition) (expr_sights window intervals
     (advance popped (expr_counts condition)) chosen)
     (expr_sights window intervals (advance popped (expr_counts condition)) other)
+    (peeks_of_expr chosen) (peeks_of_expr other)
 
 abbrev pub option_sights : (window : ℕ) → Intervals → PopInterval → Option tree.Expr
     → List PeekBounds
@@ -94,19 +110,19 @@ variables_sights window intervals popped (first ∷ rest) =
     ++ variables_sights window (record { 0 = first.name; 1 = None } ∷ intervals)
     (advance popped (option_counts first.initial)) rest
 
--- nothing is looked at in a loop of no turn
-abbrev pub some_turns : ℕ → List PeekBounds → List PeekBounds
-some_turns zero body = []
-some_turns (suc turns) body = body
+-- the body of a counted loop, to which no run comes where it has no turn
+abbrev pub some_turns : ℕ → List PeekBounds → (peeks : List tree.Expr) → List PeekBounds
+some_turns zero body peeks = unreached peeks
+some_turns (suc turns) body peeks = body
 
--- the turns of a `for`: the body of a counted loop, or every part
+-- the turns of a `for`: every part, or the body of a counted loop, whose other parts have no peeks
 abbrev pub turns_sights : Option Loop → (parts : List PeekBounds) → (body : Loop → List PeekBounds)
-    → List PeekBounds
-turns_sights None parts body = parts
-turns_sights (Some loop) parts body = some_turns loop.turns (body loop)
+    → (peeks : List tree.Expr) → List PeekBounds
+turns_sights None parts body peeks = parts
+turns_sights (Some loop) parts body peeks = some_turns loop.turns (body loop) peeks
 
 abbrev mutual
-  -- the peeks of a statement
+  -- what is told of each peek of a statement
   pub stmt_sights : (window : ℕ) → Intervals → PopInterval → tree.Stmt → List PeekBounds
   stmt_sights window intervals popped tree.Empty = []
   stmt_sights window intervals popped (tree.Compose statement) = []
@@ -122,13 +138,15 @@ abbrev mutual
       ++ expr_sights window intervals (advance popped (expr_counts index)) value
   stmt_sights window intervals popped (tree.If condition chosen) =
       expr_sights window intervals popped condition
-      ++ looked_sides (constant condition)
+      ++ sides_sights (constant condition)
       (stmt_sights window intervals (advance popped (expr_counts condition)) chosen) []
+      (peeks_of_stmt chosen) []
   stmt_sights window intervals popped (tree.IfElse condition chosen other) =
       expr_sights window intervals popped condition
-      ++ looked_sides (constant condition)
+      ++ sides_sights (constant condition)
       (stmt_sights window intervals (advance popped (expr_counts condition)) chosen)
       (stmt_sights window intervals (advance popped (expr_counts condition)) other)
+      (peeks_of_stmt chosen) (peeks_of_stmt other)
   stmt_sights window intervals popped (tree.While condition body) =
       expr_sights window intervals popped condition ++ stmt_sights window intervals popped body
   stmt_sights window intervals popped (tree.For first condition step body) =
@@ -139,7 +157,7 @@ abbrev mutual
       (option_sights window inner begun condition
       ++ (stmt_sights window inner begun step ++ stmt_sights window inner begun body))
       (λ loop. stmt_sights window (with_interval inner loop.name (turns_interval loop))
-      (in_turns begun loop.turns (stmt_counts (names_of inner) body)) body)
+      (in_turns begun loop.turns (stmt_counts (names_of inner) body)) body) (peeks_of_stmt body)
   stmt_sights window intervals popped (tree.Push value) = expr_sights window intervals popped value
   stmt_sights window intervals popped (tree.Print value) = expr_sights window intervals popped value
   stmt_sights window intervals popped (tree.Println value) =
@@ -151,3 +169,9 @@ abbrev mutual
       stmt_sights window intervals popped first
       ++ stmts_sights window (intervals_after intervals first)
       (advance popped (stmt_counts (names_of intervals) first)) rest
+
+-- whether a firing needs no test of a peek: it stays within its window, or no run comes to it
+abbrev pub is_closed : PeekBounds → Bool
+is_closed Closed = true
+is_closed Unreached = true
+is_closed _ = false

@@ -10,3 +10,4 @@ mod item_counts;
 pub mod laws;
 pub mod peeks;
 pub mod sight;
+mod unreached;

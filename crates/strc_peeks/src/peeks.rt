@@ -5,6 +5,7 @@ ghost use Rattle.std.specs.Prelude.{◌≡◌, ◌++◌, IfOk, OnOk, map};
 ghost use Rattle.std.specs.Option.{option_map};
 ghost use Rattle.strc_syntax.specs.View.{expr_view, variable_view, stmt_view, block_view};
 ghost use Rattle.strc_peeks.specs.Counts as counting;
+ghost use Rattle.strc_peeks.specs.Entries as text;
 ghost use Rattle.strc_peeks.specs.Peeks as spec;
 ghost use Rattle.strc_interval.specs.Intervals.{names_of};
 ghost use Rattle.strc_interval.specs.Intervals.{with_unknown, with_interval, intervals_after};
@@ -14,6 +15,7 @@ use crate::counts::{
 };
 use crate::item_counts::statement_counts;
 use crate::sight::{PeekBounds, PopInterval, advance, in_turns, sight_at};
+use crate::unreached::{skip_expression, skip_statement};
 use strc_base::memory::NoMemory;
 use strc_interval::constant::constant;
 use strc_interval::interval_scope::IntervalScope;
@@ -21,8 +23,8 @@ use strc_interval::intervals::interval_of;
 use strc_interval::loops::{CountedLoop, counted_loop};
 use strc_syntax::tree::{Expr, Stmt, Variable};
 
-/// Adds what is told of the peeks of statements in a row, in order of the text, and gives the
-/// counts of the statements.
+/// Adds an entry for each peek of statements in a row, in order of the text, and gives the counts of
+/// the statements.
 #[cycle(peeks)]
 #[tactic(auto, using(strc_interval::proofs::IntervalGrowth::own_growth))]
 pub fn check_peeks_in_block(
@@ -90,7 +92,10 @@ fn check_peeks_in_statement(
             let test = check_peeks_in_expression(condition, names, window, popped, sights)?;
             let here = advance(popped, test);
             let chosen = match constant(condition) {
-                Some(0) => Some(no_items()),
+                Some(0) => {
+                    skip_statement(chosen, sights)?;
+                    Some(no_items())
+                }
                 Some(_) => look_inside(chosen, names, window, here, sights)?,
                 None => {
                     let chosen = look_inside(chosen, names, window, here, sights)?;
@@ -103,8 +108,15 @@ fn check_peeks_in_statement(
             let test = check_peeks_in_expression(condition, names, window, popped, sights)?;
             let here = advance(popped, test);
             let taken = match constant(condition) {
-                Some(0) => look_inside(other, names, window, here, sights)?,
-                Some(_) => look_inside(chosen, names, window, here, sights)?,
+                Some(0) => {
+                    skip_statement(chosen, sights)?;
+                    look_inside(other, names, window, here, sights)?
+                }
+                Some(_) => {
+                    let chosen = look_inside(chosen, names, window, here, sights)?;
+                    skip_statement(other, sights)?;
+                    chosen
+                }
                 None => {
                     let chosen = look_inside(chosen, names, window, here, sights)?;
                     let other = look_inside(other, names, window, here, sights)?;
@@ -163,8 +175,8 @@ fn look_inside(
     Ok(counts)
 }
 
-/// The same of the turns of a counted loop, in which its variable has an interval. Nothing is
-/// looked at in a loop of no turn.
+/// The same of the turns of a counted loop, in which its variable has an interval. No run comes to
+/// the peeks of a loop of no turn.
 #[cycle(peeks)]
 #[tactic(auto, using(strc_interval::proofs::IntervalGrowth::known_values))]
 fn check_peeks_in_turns(
@@ -183,10 +195,11 @@ fn check_peeks_in_turns(
         let counts = counting.stmt_counts (names_of names.old) (stmt_view body.now) in
         OnOk result (sights.new.items ≡ sights.old.items ++ spec.some_turns counted.entry.turns
         (spec.stmt_sights window within (spec.in_turns popped counted.entry.turns counts)
-        (stmt_view body.now))) }
+        (stmt_view body.now)) (text.peeks_of_stmt (stmt_view body.now))) }
     ensures names { OnOk result (names.new ≡ names.old) }
 {
     if counted.turns == 0 {
+        skip_statement(body, sights)?;
         return Ok(Some(no_items()));
     }
     let outside = names.len();
@@ -280,7 +293,10 @@ fn check_peeks_in_expression(
             let here = advance(popped, first);
             let second = match need_of(*operator, left) {
                 Need::Always => check_peeks_in_expression(right, names, window, here, sights)?,
-                Need::Never => Some(no_items()),
+                Need::Never => {
+                    skip_expression(right, sights)?;
+                    Some(no_items())
+                }
                 Need::Sometimes => {
                     require_zero(check_peeks_in_expression(right, names, window, here, sights)?)
                 }
@@ -291,8 +307,15 @@ fn check_peeks_in_expression(
             let test = check_peeks_in_expression(condition, names, window, popped, sights)?;
             let here = advance(popped, test);
             let taken = match constant(condition) {
-                Some(0) => check_peeks_in_expression(other, names, window, here, sights)?,
-                Some(_) => check_peeks_in_expression(chosen, names, window, here, sights)?,
+                Some(0) => {
+                    skip_expression(chosen, sights)?;
+                    check_peeks_in_expression(other, names, window, here, sights)?
+                }
+                Some(_) => {
+                    let chosen = check_peeks_in_expression(chosen, names, window, here, sights)?;
+                    skip_expression(other, sights)?;
+                    chosen
+                }
                 None => {
                     let chosen = check_peeks_in_expression(chosen, names, window, here, sights)?;
                     let other = check_peeks_in_expression(other, names, window, here, sights)?;

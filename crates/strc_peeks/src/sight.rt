@@ -15,7 +15,7 @@ pub struct PopInterval {
     pub high: u32,
 }
 
-/// What a peek's text tells.
+/// What is told of a peek.
 #[derive(Clone, Copy, PartialEq, Eq)]
 pub enum PeekBounds {
     /// It stays within its window.
@@ -24,6 +24,15 @@ pub enum PeekBounds {
     Outside,
     /// Neither, so that it is tested when it runs.
     Open,
+    /// No run comes to it.
+    Unreached,
+}
+
+/// The items popped where a firing begins.
+pub fn none_popped() -> PopInterval
+    ensures { result ≡ spec.none_popped }
+{
+    PopInterval { low: 0, high: 0 }
 }
 
 /// Behind a part that was counted.
@@ -72,4 +81,14 @@ pub fn sight_at(window: u32, popped: PopInterval, index: Option<Interval>) -> Pe
         return PeekBounds::Outside;
     }
     PeekBounds::Open
+}
+
+/// Whether a firing needs no test of a peek: it stays within its window, or no run comes to it.
+pub fn is_closed(sight: PeekBounds) -> bool
+    ensures { result ≡ spec.is_closed sight }
+{
+    match sight {
+        PeekBounds::Closed | PeekBounds::Unreached => true,
+        PeekBounds::Outside | PeekBounds::Open => false,
+    }
 }

@@ -1,28 +1,30 @@
--- Each closed peek of a filter whose rates are accepted finds its item.
-use Rattle.std.proofs.Common.{◌≡◌, refl, ap, ◌≤◌, true, List, [], length, take, arith}
+-- Each peek of a filter whose rates are accepted has an entry, and each closed one finds its item.
+use Rattle.std.proofs.Common.{◌≡◌, refl, ap, ◌∙◌, ◌≤◌, true, List, [], length, take, reverse, arith}
 use Rattle.std.specs.Prelude.{is_some}
-use Rattle.std.proofs.lemmas.List.{length-take-le}
+use Rattle.std.proofs.lemmas.List.{length-map, length-take-le}
 use Rattle.std.proofs.lemmas.Result.{IfOk-weaker}
 use Rattle.strc_syntax.specs.Tree as tree
 use Rattle.strc_semantics.specs.declared.body.Body.{Body}
-use Rattle.strc_semantics.specs.Filters.{body_block, body_rates, push_rate, pop_rate, peek_rate}
-use Rattle.strc_semantics.specs.Filters.{window_size}
+use Rattle.strc_semantics.specs.Scoping.{Scope}
+use Rattle.strc_semantics.specs.Filters.{sized_fields, body_block, body_rates, push_rate, pop_rate}
+use Rattle.strc_semantics.specs.Filters.{peek_rate, window_size}
+use Rattle.strc_semantics.specs.Closed.{AreClosed}
 use Rattle.strc_semantics.specs.Firing.{Port, Store, no_traffic, port_of, store_at}
 use Rattle.strc_peeks.specs.Counts.{stmts_counts}
-use Rattle.strc_rate.specs.Rates.{within_limit, are_within_limit, body_sights, none_popped, checked}
+use Rattle.strc_peeks.specs.Entries.{peeks_of}
+use Rattle.strc_peeks.specs.Peeks.{is_closed, none_popped}
 use Rattle.strc_peeks.specs.Safe.{StmtsAreSafe}
-use Rattle.strc_rate.specs.Safe.{ClosedPeeksNeverFault}
+use Rattle.strc_peeks.proofs.Promised as text
 use Rattle.strc_peeks.proofs.Results.{and_first, and_second}
-use Rattle.strc_peeks.proofs.Readiness.{Ready}
-use Rattle.strc_peeks.proofs.SafePeeks.{stmts_safe}
-use Rattle.strc_rate.proofs.KeptRates.{limited, accepted_by, OfBodies, of_filters}
+use Rattle.strc_rate.specs.Rates.{BodyRates, within_limit, are_within_limit, body_sights, checked}
+use Rattle.strc_rate.specs.Safe.{rates_of, ClosedPeeksNeverFault, EachPeekHasAnEntry}
+use Rattle.strc_rate.proofs.KeptRates.{limited, accepted_by, OfBodies, of_filters, bodies_closed}
 
 -- each run of a block from no traffic is safe, before a window that is whole
-abbrev RunsSafe : List tree.Rate → tree.Stmts → Type 0
-RunsSafe rates block =
+abbrev RunsSafe : List tree.Rate → tree.Stmts → BodyRates → Type 0
+RunsSafe rates block accepted =
     (port : Port) (store : Store) → window_size rates ≤ length port.ahead
-    → store.traffic ≡ no_traffic → StmtsAreSafe
-    (window_size rates) port [] none_popped block store
+    → store.traffic ≡ no_traffic → StmtsAreSafe port accepted.closed 0 block store
 
 small_window : (rates : List tree.Rate) → are_within_limit rates ≡ true → window_size rates ≤ 65536
 small_window rates limits =
@@ -31,26 +33,40 @@ small_window rates limits =
     let peeks = limited (peek_rate rates) (and_second (within_limit (pop_rate rates)) _ rest) in
     omega arith
 
-none_ready : (store : Store) → store.traffic ≡ no_traffic → Ready [] none_popped store
-none_ready store none =
-    let popped : store.traffic.popped ≡ 0 = ap (λ t. t.popped) none in
-    record { with_closed_peeks = tt; holds = λ name. tt; within = omega arith }
-
-body_safe : OfBodies RunsSafe
-body_safe lacks rates block names closed =
+body_safe : (names : Scope) → OfBodies (AreClosed names) RunsSafe
+body_safe names lacks rates block closed =
     accepted_by (are_within_limit rates) lacks rates (stmts_counts [] block)
     (body_sights rates block) (RunsSafe rates block)
     (λ c limits counts pushes pops port store ahead none.
-    stmts_safe (window_size rates) port (record
-    { small = small_window rates limits; ahead = ahead }) block names [] none_popped store
-    closed (ap is_some counts) (λ name e. absurd (cc)) (none_ready store none))
+    text.closed_peeks (window_size rates) port block names store (small_window rates limits) ahead
+    closed (ap is_some counts) none)
 
 pub closed_peeks : ClosedPeeksNeverFault
 closed_peeks filter closed =
+    let names = reverse (sized_fields filter.members) in
     IfOk-weaker (checked filter) (λ rates. (body : Body)
-    → RunsSafe (body_rates body filter.members) (body_block body filter.members)) _
+    → RunsSafe (body_rates body filter.members) (body_block body filter.members)
+    (rates_of rates body)) _
     (λ rates safe body fields window le.
     let size = window_size (body_rates body filter.members) in
     let ahead : length (take size window) ≡ size = length-take-le size window le in
     safe body (port_of filter body window) (store_at filter fields) (omega arith) refl)
-    (of_filters RunsSafe body_safe filter closed)
+    (of_filters (AreClosed names) RunsSafe (body_safe names) filter (bodies_closed filter closed))
+
+-- as many entries as peeks
+abbrev KeepsStep : List tree.Rate → tree.Stmts → BodyRates → Type 0
+KeepsStep rates block accepted = length accepted.closed ≡ length (peeks_of block)
+
+body_entries : OfBodies (λ block. Unit {0}) KeepsStep
+body_entries lacks rates block any =
+    accepted_by (are_within_limit rates) lacks rates (stmts_counts [] block)
+    (body_sights rates block) (KeepsStep rates block)
+    (λ c limits counts pushes pops. length-map (body_sights rates block) is_closed
+    ∙ text.each_entry (window_size rates) [] none_popped block)
+
+pub each_entry : EachPeekHasAnEntry
+each_entry filter =
+    IfOk-weaker (checked filter) (λ rates. (body : Body)
+    → KeepsStep (body_rates body filter.members) (body_block body filter.members)
+    (rates_of rates body)) _ (λ rates kept body. kept body)
+    (of_filters (λ block. Unit {0}) KeepsStep body_entries filter (λ body. tt))

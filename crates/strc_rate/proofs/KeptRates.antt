@@ -19,14 +19,16 @@ use Rattle.strc_semantics.specs.Closed.{AreClosed, IsClosedFilter}
 use Rattle.strc_semantics.specs.Firing.{Port, Store, stmts_done, no_traffic, port_of, store_at}
 use Rattle.strc_work.proofs.FilterRuns.{body_closed}
 use Rattle.strc_rate.specs.declared.rates.RateError.{RateError}
-use Rattle.strc_rate.specs.declared.rates.RateError.TheVariants.{RateLimit, RateMismatch}
+use Rattle.strc_rate.specs.declared.rates.RateError.TheVariants.{RateLimit, RateMismatch, PeekOutside}
 use Rattle.strc_peeks.specs.Counts.{Counts, stmts_counts}
 use Rattle.strc_peeks.specs.Peeks.{PeekBounds}
 use Rattle.strc_base.specs.Results.{result_and_then}
-use Rattle.strc_rate.specs.Rates.{BodyRates, within_limit, are_within_limit, same_rate}
+use Rattle.strc_rate.specs.Rates.{BodyRates, FilterRates, within_limit, are_within_limit}
+use Rattle.strc_rate.specs.Rates.{same_rate, some_outside, accepted_rates}
 use Rattle.strc_rate.specs.Rates.{with_closed_peeks, counted, body_sights, body_checked, work_lacks}
 use Rattle.strc_rate.specs.Rates.{work_checked, some_prework, prework_checked, then_work, checked}
 use Rattle.strc_rate.specs.Kept.{CheckedRatesAreKept}
+use Rattle.strc_rate.specs.Safe.{rates_of}
 use Rattle.strc_peeks.proofs.Results.{and_first, and_second}
 use Rattle.strc_peeks.proofs.CountedMoves.{Moves, Counted}
 use Rattle.strc_peeks.proofs.StatementCounts.{stmts_counted}
@@ -39,28 +41,28 @@ limited (pos n) e =
     grind (arith, ints)
 limited (negsuc n) e = omega arith
 
-same_count : (declared given : ℕ) (next : Result BodyRates RateError) (R : Type 0)
-    → (declared ≡ given → IfOk next (λ rates. R))
-    → IfOk (result_and_then (same_rate declared given) (λ same. next)) (λ rates. R)
+same_count : (declared given : ℕ) (next : Result BodyRates RateError) (R : BodyRates → Type 0)
+    → (declared ≡ given → IfOk next R)
+    → IfOk (result_and_then (same_rate declared given) (λ same. next)) R
 same_count declared given next R go = by_test (nat_eq declared given) refl
   where
     by_test : (t : Bool) → nat_eq declared given ≡ t
         → IfOk (result_and_then {A = Unit {0}}
-        (if t then Ok tt else Err (RateMismatch declared given)) (λ same. next)) (λ rates. R)
+        (if t then Ok tt else Err (RateMismatch declared given)) (λ same. next)) R
     by_test true e = go (eqb-true declared given e)
     by_test false e = tt
 
-any_rates : (result : Result BodyRates RateError) (R : Type 0) → R → IfOk result (λ rates. R)
-any_rates (Ok rates) R h = h
-any_rates (Err broken) R h = tt
+peeks_by : (outside : Bool) (rates : BodyRates) (R : BodyRates → Type 0) → R rates
+    → IfOk (if outside then Err PeekOutside else Ok rates) R
+peeks_by true rates R h = tt
+peeks_by false rates R h = h
 
 -- what is known where a body's rates are accepted
 pub accepted_by : (limits lacks : Bool) (rates : List tree.Rate) (counts : Option Counts)
-    (sights : List PeekBounds) (R : Type 0)
+    (sights : List PeekBounds) (R : BodyRates → Type 0)
     → ((c : Counts) → limits ≡ true → counts ≡ Some c → item_count (push_rate rates) ≡ c.pushes
-    → item_count (pop_rate rates) ≡ c.pops → R)
-    → IfOk (if not limits || lacks then Err RateLimit else counted rates counts sights)
-    (λ accepted. R)
+    → item_count (pop_rate rates) ≡ c.pops → R (accepted_rates rates sights))
+    → IfOk (if not limits || lacks then Err RateLimit else counted rates counts sights) R
 accepted_by false lacks rates counts sights R go = tt
 accepted_by true true rates counts sights R go = tt
 accepted_by true false rates None sights R go = tt
@@ -69,20 +71,26 @@ accepted_by true false rates (Some c) sights R go =
     (result_and_then (same_rate (item_count (pop_rate rates)) c.pops)
     (λ same. with_closed_peeks rates sights)) R
     (λ pushes. same_count (item_count (pop_rate rates)) c.pops (with_closed_peeks rates sights) R
-    (λ pops. any_rates (with_closed_peeks rates sights) R (go c refl refl pushes pops)))
+    (λ pops. peeks_by (some_outside sights) (accepted_rates rates sights) R
+    (go c refl refl pushes pops)))
+
+-- what follows of each body of such statements whose rates are accepted
+abbrev pub OfBodies : (C : tree.Stmts → Type 0)
+    → (R : List tree.Rate → tree.Stmts → BodyRates → Type 0) → Type 0
+OfBodies C R =
+    (lacks : Bool) (rates : List tree.Rate) (block : tree.Stmts) → C block
+    → IfOk (body_checked lacks rates block) (R rates block)
 
 -- each run of a block from no traffic keeps the declared rates
-abbrev RunsKeep : List tree.Rate → tree.Stmts → Type 0
-RunsKeep rates block =
+abbrev RunsKeep : List tree.Rate → tree.Stmts → BodyRates → Type 0
+RunsKeep rates block accepted =
     (port : Port) (store : Store) → store.traffic ≡ no_traffic
     → IfOk (stmts_done port block store) (λ after.
     (after.traffic.popped ≡ item_count (pop_rate rates))
     × (length after.traffic.pushes ≡ item_count (push_rate rates)))
 
-body_kept : (lacks : Bool) (rates : List tree.Rate) (block : tree.Stmts) (names : Scope)
-    → AreClosed names block → IfOk (body_checked lacks rates block)
-    (λ accepted. RunsKeep rates block)
-body_kept lacks rates block names closed =
+body_kept : (names : Scope) → OfBodies (AreClosed names) RunsKeep
+body_kept names lacks rates block closed =
     accepted_by (are_within_limit rates) lacks rates (stmts_counts [] block)
     (body_sights rates block) (RunsKeep rates block)
     (λ c limits counts pushes pops port store none.
@@ -113,64 +121,71 @@ rates_with_block (tree.Init block ∷ rest) = rates_with_block rest
 rates_with_block (tree.Prework rates block ∷ rest) = refl
 rates_with_block (tree.Work rates block ∷ rest) = rates_with_block rest
 
-some_kept : (r : Result BodyRates RateError) (R : Type 0) → IfOk r (λ rates. R)
-    → IfOk (some_prework r) (λ rates. R)
-some_kept (Ok rates) R h = h
-some_kept (Err broken) R h = tt
+some_kept : (r : Result BodyRates RateError) (other : BodyRates) (R : BodyRates → Type 0)
+    → IfOk r R → IfOk (some_prework r) (λ rates. R (unwrap_or rates other))
+some_kept (Ok rates) other R h = h
+some_kept (Err broken) other R h = tt
 
 both_kept : (prework : Result (Option BodyRates) RateError) (work : Result BodyRates RateError)
-    (R S : Type 0) → IfOk work (λ rates. S) → (S → IfOk prework (λ rates. R))
-    → IfOk (then_work prework work) (λ rates. R × S)
-both_kept (Ok prework) (Ok work) R S h k = (k h, h)
+    (R : Option BodyRates → BodyRates → Type 0) (S : BodyRates → Type 0) → IfOk work S
+    → ((rates : BodyRates) → S rates → IfOk prework (λ first. R first rates))
+    → IfOk (then_work prework work) (λ rates. R rates.prework rates.work × S rates.work)
+both_kept (Ok prework) (Ok work) R S h k = (k work h, h)
 both_kept (Ok prework) (Err broken) R S h k = tt
 both_kept (Err broken) work R S h k = tt
 
--- what follows of each body whose rates are accepted
-abbrev pub OfBodies : (List tree.Rate → tree.Stmts → Type 0) → Type 0
-OfBodies R =
-    (lacks : Bool) (rates : List tree.Rate) (block : tree.Stmts) (names : Scope)
-    → AreClosed names block → IfOk (body_checked lacks rates block) (λ accepted. R rates block)
-
-prework_kept : (R : List tree.Rate → tree.Stmts → Type 0) → OfBodies R
-    → (rates : Option (List tree.Rate)) (block : Option tree.Stmts) (others : List tree.Rate)
-    (other : tree.Stmts) (names : Scope) → is_some rates ≡ is_some block
-    → AreClosed names (unwrap_or block other) → R others other
+prework_kept : (C : tree.Stmts → Type 0) (R : List tree.Rate → tree.Stmts → BodyRates → Type 0)
+    → OfBodies C R → (rates : Option (List tree.Rate)) (block : Option tree.Stmts)
+    (others : List tree.Rate) (other : tree.Stmts) (work : BodyRates)
+    → is_some rates ≡ is_some block → C (unwrap_or block other) → R others other work
     → IfOk (prework_checked rates block) (λ accepted. R (unwrap_or rates others)
-    (unwrap_or block other))
-prework_kept R each (Some rates) (Some block) others other names same closed work =
-    some_kept (body_checked false rates block) (R rates block) (each false rates block names closed)
-prework_kept R each (Some rates) None others other names same closed work = absurd (cc)
-prework_kept R each None (Some block) others other names same closed work = absurd (cc)
-prework_kept R each None None others other names same closed work = work
+    (unwrap_or block other) (unwrap_or accepted work))
+prework_kept C R each (Some rates) (Some block) others other work same fits h =
+    some_kept (body_checked false rates block) work (R rates block) (each false rates block fits)
+prework_kept C R each (Some rates) None others other work same fits h = absurd (cc)
+prework_kept C R each None (Some block) others other work same fits h = absurd (cc)
+prework_kept C R each None None others other work same fits h = h
 
 -- and so of each body of a filter whose rates are accepted
-pub of_filters : (R : List tree.Rate → tree.Stmts → Type 0) → OfBodies R → (filter : Filter)
-    → IsClosedFilter filter → IfOk (checked filter)
-    (λ rates. (body : Body) → R (body_rates body filter.members) (body_block body filter.members))
-of_filters R each filter closed =
+pub of_filters : (C : tree.Stmts → Type 0) (R : List tree.Rate → tree.Stmts → BodyRates → Type 0)
+    → OfBodies C R → (filter : Filter) → ((body : Body) → C (body_block body filter.members))
+    → IfOk (checked filter) (λ rates. (body : Body) → R (body_rates body filter.members)
+    (body_block body filter.members) (rates_of rates body))
+of_filters C R each filter fits =
     let members = filter.members in
-    let names = reverse (sized_fields members) in
     IfOk-weaker (checked filter) (λ rates. R (body_rates body.Prework members)
-    (body_block body.Prework members) × R (work_rates members) (work_block members)) _
-    (λ rates kept. by_body kept)
+    (body_block body.Prework members) (unwrap_or rates.prework rates.work)
+    × R (work_rates members) (work_block members) rates.work) _
+    (λ rates kept. by_body rates kept)
     (both_kept (prework_checked (prework_rates members) (prework_block members))
-    (work_checked filter) (R (body_rates body.Prework members) (body_block body.Prework members))
-    (R (work_rates members) (work_block members))
-    (each (work_lacks filter) (work_rates members) (work_block members) names
-    (body_closed body.Work names members closed))
-    (λ work. prework_kept R each (prework_rates members) (prework_block members)
-    (work_rates members) (work_block members) names (rates_with_block members)
-    (body_closed body.Prework names members closed) work))
+    (work_checked filter)
+    (λ first work. R (body_rates body.Prework members) (body_block body.Prework members)
+    (unwrap_or first work)) (R (work_rates members) (work_block members))
+    (each (work_lacks filter) (work_rates members) (work_block members) (fits body.Work))
+    (λ work kept. prework_kept C R each (prework_rates members) (prework_block members)
+    (work_rates members) (work_block members) work (rates_with_block members)
+    (fits body.Prework) kept))
   where
-    by_body : R (body_rates body.Prework filter.members) (body_block body.Prework filter.members)
-        × R (work_rates filter.members) (work_block filter.members) → (body : Body)
-        → R (body_rates body filter.members) (body_block body filter.members)
-    by_body kept body.Prework = kept.0
-    by_body kept body.Work = kept.1
+    by_body : (rates : FilterRates)
+        → R (body_rates body.Prework filter.members) (body_block body.Prework filter.members)
+        (unwrap_or rates.prework rates.work)
+        × R (work_rates filter.members) (work_block filter.members) rates.work → (body : Body)
+        → R (body_rates body filter.members) (body_block body filter.members) (rates_of rates body)
+    by_body rates kept body.Prework = kept.0
+    by_body rates kept body.Work = kept.1
+
+-- the bodies of a filter of known names name nothing else
+pub bodies_closed : (filter : Filter) → IsClosedFilter filter → (body : Body)
+    → AreClosed (reverse (sized_fields filter.members)) (body_block body filter.members)
+bodies_closed filter closed body =
+    body_closed body (reverse (sized_fields filter.members)) filter.members closed
 
 pub rates_kept : CheckedRatesAreKept
 rates_kept filter closed =
+    let names = reverse (sized_fields filter.members) in
     IfOk-weaker (checked filter) (λ rates. (body : Body)
-    → RunsKeep (body_rates body filter.members) (body_block body filter.members)) _
+    → RunsKeep (body_rates body filter.members) (body_block body filter.members)
+    (rates_of rates body)) _
     (λ rates kept body fields window. kept body (port_of filter body window)
-    (store_at filter fields) refl) (of_filters RunsKeep body_kept filter closed)
+    (store_at filter fields) refl)
+    (of_filters (AreClosed names) RunsKeep (body_kept names) filter (bodies_closed filter closed))

@@ -6,9 +6,9 @@ use Rattle.strc_rate.specs.Verdicts.{IsVerdict, rates_view}
 use Rattle.strc_rate.specs.declared.rates.Rates.{Rates}
 use Rattle.strc_rate.specs.declared.rates.RateError.{RateError}
 
-pub promised : (filter : Filter) (promise : Type 0) (result : Result Rates RateError)
-    → IfOk (checked filter) (λ rates. promise) → IsVerdict rates_view (checked filter) result
-    → IfOk result (λ rates. promise)
+pub promised : (filter : Filter) (promise : FilterRates → Type 0) (result : Result Rates RateError)
+    → IfOk (checked filter) promise → IsVerdict rates_view (checked filter) result
+    → IfOk result (λ rates. promise (rates_view rates))
 promised filter promise (Ok rates) holds verdict =
-    subst (λ (r : Result FilterRates RateError). IfOk r (λ rates. promise)) verdict holds
+    subst (λ (r : Result FilterRates RateError). IfOk r promise) verdict holds
 promised filter promise (Err broken) holds verdict = tt

@@ -10,14 +10,14 @@ use Rattle.strc_semantics.specs.Filters.{Filter, work_block, work_rates, prework
 use Rattle.strc_semantics.specs.Filters.{prework_rates, push_rate, pop_rate, peek_rate, item_count}
 use Rattle.strc_semantics.specs.Filters.{window_size}
 use Rattle.strc_peeks.specs.Counts.{Counts, stmts_counts}
-use Rattle.strc_peeks.specs.Peeks.{PeekBounds, Closed, Outside, PopInterval, stmts_sights}
+use Rattle.strc_peeks.specs.Peeks.{PeekBounds, Outside, none_popped, is_closed, stmts_sights}
 use Rattle.strc_rate.specs.declared.rates.TheConstants.{RATE_LIMIT}
 use Rattle.strc_rate.specs.declared.rates.RateError.{RateError}
 use Rattle.strc_rate.specs.declared.rates.RateError.TheVariants.{RateLimit, RateUnknown}
 use Rattle.strc_rate.specs.declared.rates.RateError.TheVariants.{RateMismatch, PeekOutside}
 
--- the rates of a body, the items that a firing of it may look at, and of each peek that its text is
--- looked at for, in order, whether it is closed
+-- the rates of a body, the items that a firing of it may look at, and of each peek of its text, in
+-- order, whether it is closed
 pub record BodyRates : Type 0 where
   pub push : ℕ
   pub pop : ℕ
@@ -51,10 +51,6 @@ abbrev pub same_rate : (declared counted : ℕ) → Result (Unit {0}) RateError
 same_rate declared counted = if nat_eq declared counted then Ok tt else Err
     (RateMismatch declared counted)
 
-abbrev pub is_closed : PeekBounds → Bool
-is_closed Closed = true
-is_closed _ = false
-
 abbrev pub is_outside : PeekBounds → Bool
 is_outside Outside = true
 is_outside _ = false
@@ -63,16 +59,19 @@ abbrev pub some_outside : List PeekBounds → Bool
 some_outside [] = false
 some_outside (first ∷ rest) = is_outside first || some_outside rest
 
+-- the rates of a body that are accepted
+abbrev pub accepted_rates : List tree.Rate → List PeekBounds → BodyRates
+accepted_rates rates sights = record {
+  push = item_count (push_rate rates);
+  pop = item_count (pop_rate rates);
+  window = window_size rates;
+  closed = map is_closed sights;
+}
+
 -- no peek is outside of its window
 abbrev pub with_closed_peeks : List tree.Rate → List PeekBounds → Result BodyRates RateError
 with_closed_peeks rates sights =
-    if some_outside sights then Err PeekOutside
-    else Ok (record {
-      push = item_count (push_rate rates);
-      pop = item_count (pop_rate rates);
-      window = window_size rates;
-      closed = map is_closed sights;
-    })
+    if some_outside sights then Err PeekOutside else Ok (accepted_rates rates sights)
 
 -- the counted pushes, and then the counted pops, are the declared ones
 abbrev pub counted : List tree.Rate → Option Counts → List PeekBounds → Result BodyRates RateError
@@ -82,11 +81,7 @@ counted rates (Some counts) sights =
     result_and_then (same_rate (item_count (pop_rate rates)) counts.pops)
     (λ same_pops. with_closed_peeks rates sights))
 
--- the items popped where a firing begins
-abbrev pub none_popped : PopInterval
-none_popped = record { low = 0; high = 0 }
-
--- the peeks of a body
+-- what is told of each peek of a body
 abbrev pub body_sights : List tree.Rate → tree.Stmts → List PeekBounds
 body_sights rates block = stmts_sights (window_size rates) [] none_popped block
 

@@ -6,14 +6,15 @@ ghost use Rattle.strc_semantics.specs.Filters as filters;
 ghost use Rattle.strc_semantics.specs.Filters.{filter_of};
 ghost use Rattle.strc_rate.specs.Rates as spec;
 ghost use Rattle.strc_rate.specs.Kept.{KeepsRates};
-ghost use Rattle.strc_rate.specs.Safe.{HasSafePeeks};
+ghost use Rattle.strc_peeks.specs.Peeks as peeks;
+ghost use Rattle.strc_rate.specs.Safe.{HasEntries, HasSafePeeks};
 ghost use Rattle.strc_rate.specs.Verdicts.{IsVerdict, body_view, rates_view};
 
 use std::alloc::{AllocError, AllocFailed, Global};
 use strc_base::memory::NoMemory;
 use strc_interval::interval_scope::IntervalScope;
 use strc_peeks::peeks::check_peeks_in_block;
-use strc_peeks::sight::{PeekBounds, PopInterval};
+use strc_peeks::sight::{PeekBounds, is_closed, none_popped};
 use strc_semantics::body::Body;
 use strc_syntax::tree::ItemType;
 use strc_work::code::{Code, DeclaredRates};
@@ -31,7 +32,8 @@ pub struct BodyRates {
     pub pop: u32,
     /// How many items a firing may look at.
     pub window: u32,
-    /// Of each peek that the text is looked at for, in order, whether it stays within its window.
+    /// Of each peek of the text, in its order, whether a firing needs no test of it: it stays within
+    /// its window, or no run comes to it.
     pub closed: Vec<bool>,
 }
 
@@ -106,7 +108,8 @@ impl<T: Drop> From<AllocFailed<T>> for RateError {
 pub fn check(alloc: Global, code: &Code) -> Result<Rates, RateError>
     ensures verdict { IsVerdict rates_view (spec.checked (filter_of code.now)) result }
     ensures kept { IfOk result (λ rates. KeepsRates (filter_of code.now)) }
-    ensures safe { IfOk result (λ rates. HasSafePeeks (filter_of code.now)) }
+    ensures entries { IfOk result (λ rates. HasEntries (filter_of code.now) (rates_view rates)) }
+    ensures safe { IfOk result (λ rates. HasSafePeeks (filter_of code.now) (rates_view rates)) }
 {
     // What is promised of a firing stands on the names of the code's tree, which are known.
     let _known = code.tree();
@@ -206,13 +209,6 @@ fn item_count(rate: i32) -> u32
     if rate < 0 { 0 } else { rate as u32 }
 }
 
-/// The items popped where a firing begins.
-fn none_popped() -> PopInterval
-    ensures { result ≡ spec.none_popped }
-{
-    PopInterval { low: 0, high: 0 }
-}
-
 /// A declared rate is the counted one.
 fn same_rate(declared: u32, counted: u32) -> Result<(), RateError>
     ensures { result ≡ spec.same_rate declared counted }
@@ -267,18 +263,9 @@ fn is_outside(sight: PeekBounds) -> bool
     }
 }
 
-fn is_closed(sight: PeekBounds) -> bool
-    ensures { result ≡ spec.is_closed sight }
-{
-    match sight {
-        PeekBounds::Closed => true,
-        _ => false,
-    }
-}
-
 /// Of each sight, in order, whether it is closed.
 fn closed_of(alloc: Global, sights: &[PeekBounds]) -> Result<Vec<bool>, AllocError>
-    ensures { IfOk result (λ closed. closed.items ≡ map spec.is_closed sights.now) }
+    ensures { IfOk result (λ closed. closed.items ≡ map peeks.is_closed sights.now) }
 {
     let mut closed = Vec::with_capacity(alloc, sights.len())?;
     for sight in sights {

@@ -22,7 +22,7 @@ check_peeks_in_block-loop-statement-init t c = record {
   counted = first_stmts c.no_items.result (names_of c.args.names.now)
       (block_view c.args.block.now) c.no_items.ensures;
   runnable = first_runnable c.no_items.result c.no_items.ensures;
-  with_closed_peeks = refl;
+  told = refl;
   names = stands_on_itself c.args.names.now;
 }
 
@@ -45,11 +45,11 @@ check_peeks_in_block-loop-statement-preserved t c =
           (block_view (drop i all)) c.in_ok-passed.ensures.counts names c.sequence-counts.ensures
           next invariant.counted;
       runnable = runnable_step so_far here c.sequence-counts.result c.sequence-counts.ensures;
-      with_closed_peeks = stmts_seen c.loop-statement.sights.items
+      told = stmts_seen c.loop-statement.sights.items
           c.check_peeks_in_statement.new.sights.items _ c.args.window c.loop-statement.names
           c.check_peeks_in_statement.new.names c.loop-statement.here c.advance-here.result here x
           rest (block_view (drop i all)) c.in_ok-passed.ensures.counts names c.advance-here.ensures
-          c.in_ok-passed.ensures.sights next invariant.with_closed_peeks;
+          c.in_ok-passed.ensures.sights next invariant.told;
       names = rw names (stands_on_after c.args.names.now c.loop-statement.names x invariant.names);
     }
 

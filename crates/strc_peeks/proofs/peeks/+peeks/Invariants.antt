@@ -13,7 +13,7 @@ invariant-check_peeks_in_block-loop-statement l = record {
       (block_view (drop l.statement-index l.block)))
       ≡ stmts_counts (names_of l.initial.names) (block_view l.block);
   runnable : sequence l.counts (Some no_items) ≡ l.counts;
-  with_closed_peeks : l.sights.items ++ stmts_sights l.window l.names l.here
+  told : l.sights.items ++ stmts_sights l.window l.names l.here
       (block_view (drop l.statement-index l.block)) ≡ l.initial.sights.items
       ++ stmts_sights l.window l.initial.names l.fn.popped (block_view l.block);
   names : StandsOn l.initial.names l.names;

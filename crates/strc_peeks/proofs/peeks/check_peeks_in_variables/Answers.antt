@@ -12,7 +12,7 @@ loop-variable-init c = record {
   counted = first_variables c.no_items.result
       (map variable_view c.args.variables.now) c.no_items.ensures;
   runnable = first_runnable c.no_items.result c.no_items.ensures;
-  with_closed_peeks = refl;
+  told = refl;
   names = refl;
 }
 
@@ -32,11 +32,11 @@ loop-variable-preserved c =
       counted = variables_step so_far here c.sequence-counts.result _ x rest _
           c.in_ok-passed.ensures.counts c.sequence-counts.ensures next invariant.counted;
       runnable = runnable_step so_far here c.sequence-counts.result c.sequence-counts.ensures;
-      with_closed_peeks = variables_seen c.loop-variable.sights.items
+      told = variables_seen c.loop-variable.sights.items
           c.check_peeks_in_option.new.sights.items _ c.args.window c.loop-variable.names
           c.declare.new.self c.loop-variable.here c.advance-here.result here x rest _
           c.in_ok-passed.ensures.counts names c.advance-here.ensures c.in_ok-passed.ensures.sights
-          next invariant.with_closed_peeks;
+          next invariant.told;
       names = ap (λ r. with_unknown r rest) names
           ∙ ap (with_unknown c.loop-variable.names) (sym next) ∙ invariant.names;
     }

@@ -11,7 +11,7 @@ invariant-loop-variable l = record {
       (map variable_view (drop l.variable-index l.variables)))
       ≡ variables_counts (map variable_view l.variables);
   runnable : sequence l.counts (Some no_items) ≡ l.counts;
-  with_closed_peeks : l.sights.items ++ variables_sights l.window l.names l.here
+  told : l.sights.items ++ variables_sights l.window l.names l.here
       (map variable_view (drop l.variable-index l.variables)) ≡ l.initial.sights.items
       ++ variables_sights l.window l.initial.names l.fn.popped (map variable_view l.variables);
   names : with_unknown l.names (map variable_view (drop l.variable-index l.variables))
