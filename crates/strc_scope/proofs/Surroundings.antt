@@ -1,6 +1,6 @@
 -- What an anonymous stream sees, from the outermost variable inwards.
 use Rattle.std.proofs.Common.{◌≡◌, ℕ, zero, suc, ◌+◌, ◌-◌, ◌<◌, ℤ, Bool, true, false, ◌||◌, List}
-use Rattle.std.proofs.Common.{[], ◌∷◌, ◌++◌, length, drop, take, Some, cond, eqb, ⊎_elim, refl, sym}
+use Rattle.std.proofs.Common.{[], ◌∷◌, ◌++◌, length, drop, take, Option, Some, None, cond, eqb, ⊎_elim, refl, sym}
 use Rattle.std.proofs.Common.{ap, ◌∙◌, arith, Vec, drop-cons}
 use Rattle.std.proofs.lemmas.Option.{get_or_from_slice_get}
 use Rattle.std.specs.Prelude.{bytes_eq, slice_get}
@@ -13,7 +13,7 @@ use Rattle.strc_check.specs.Typing.{TypedNames}
 use Rattle.strc_check.specs.declared.types.ValueType.{ValueType}
 use Rattle.strc_scope.specs.Bindings.{row_at, with_cells, cells_of}
 use Rattle.strc_scope.specs.Texts.{Constants, unshadowed, as_constant, captures_after}
-use Rattle.strc_scope.specs.Captures.{captured_one, captured}
+use Rattle.strc_scope.specs.Captures.{captured_one, captured, unshadowed_one}
 use Rattle.strc_scope.proofs.Slots.{length_with_cells}
 
 -- the cells of a variable are the row of its number
@@ -284,8 +284,14 @@ captures_next names variables number constants counts below =
     let x = item_at names (length names - suc number) (omega arith) in
     seen_more names variables number x.0 constants counts below x.1
 
+some_there : {A : Type 0} (xs : List A) (k : ℕ) → k < length xs → slice_get xs k ≡ None → ⊥
+some_there [] k below e = omega (arith, below)
+some_there (x ∷ xs) zero below e = cc
+some_there (x ∷ xs) (suc k) below e =
+    let inside : k < length xs = omega (arith, below) in some_there xs k inside e
+
 -- the constants from one on, counted from the last
-pub further_constants : (constants : Constants) (number : ℕ) (one : List ℕ × ℤ)
+further_constants : (constants : Constants) (number : ℕ) (one : List ℕ × ℤ)
     → slice_get constants (length constants - suc number) ≡ Some one
     → number < length constants → drop (length constants - (number + 1)) constants
     ≡ one ∷ drop (length constants - number) constants
@@ -299,13 +305,24 @@ further_constants constants number one at below =
     ∙ ap (λ x. x ∷ drop (suc k) constants) (get_or_from_slice_get constants k one one at)
     ∙ ap (λ n. one ∷ drop n constants) next
 
--- those that stay of them
-pub further_unshadowed : (hidden : List (List ℕ)) (constants : Constants) (number : ℕ)
-    (one : List ℕ × ℤ) → slice_get constants (length constants - suc number) ≡ Some one
+-- the constants that are left of those from one on
+pub unshadowed_next : (hidden : List (List ℕ)) (constants : Constants) (number : ℕ)
     → number < length constants
-    → unshadowed hidden (drop (length constants - (number + 1)) constants)
-    ≡ cond (has_name hidden one.0)
+    → unshadowed_one hidden (slice_get constants (length constants - suc number))
     (unshadowed hidden (drop (length constants - number) constants))
-    (one ∷ unshadowed hidden (drop (length constants - number) constants))
-further_unshadowed hidden constants number one at below =
-    ap (unshadowed hidden) (further_constants constants number one at below)
+    ≡ unshadowed hidden (drop (length constants - (number + 1)) constants)
+unshadowed_next hidden constants number below =
+    by_place (slice_get constants (length constants - suc number)) refl
+  where
+    left : Constants
+    left = unshadowed hidden (drop (length constants - number) constants)
+
+    by_place : (found : Option (List ℕ × ℤ))
+        → slice_get constants (length constants - suc number) ≡ found
+        → unshadowed_one hidden found left
+        ≡ unshadowed hidden (drop (length constants - (number + 1)) constants)
+    by_place None at =
+        let inside : length constants - suc number < length constants = omega (arith, below) in
+        absurd (some_there constants (length constants - suc number) inside at)
+    by_place (Some one) at =
+        sym (ap (unshadowed hidden) (further_constants constants number one at below))

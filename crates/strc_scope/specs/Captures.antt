@@ -1,5 +1,6 @@
 -- What an anonymous stream sees, variable by variable, from the outermost one inwards.
-use Rattle.std.specs.Prelude.{ℕ, suc, ◌-◌, length, take, slice_get, Option, Some, None, List}
+use Rattle.std.specs.Prelude.{ℕ, ℤ, suc, ◌-◌, length, take, slice_get, Option, Some, None, List}
+use Rattle.std.specs.Prelude.{◌∷◌}
 use Rattle.std.specs.Prelude.{if◌then◌else◌}
 use Rattle.strc_semantics.specs.Firing.{Variables}
 use Rattle.strc_base.specs.Names.{has_name, plain_names}
@@ -21,3 +22,8 @@ abbrev pub captured : TypedNames → Variables → (number : ℕ) → Constants 
 captured names variables number outer =
     captured_one (take (length names - suc number) (plain_names names)) variables number
     (slice_get names (length names - suc number)) outer
+
+-- the constants that are left, after one that stays unless a variable has its name
+abbrev pub unshadowed_one : (hidden : List (List ℕ)) → Option (List ℕ × ℤ) → Constants → Constants
+unshadowed_one hidden None left = left
+unshadowed_one hidden (Some one) left = if has_name hidden one.0 then left else one ∷ left

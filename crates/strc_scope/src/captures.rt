@@ -1,9 +1,9 @@
 // What an anonymous stream sees of its surroundings.
 
-ghost use Rattle.std.specs.Prelude.{◌≡◌, ◌<◌, ◌+◌, ◌^◌, IfOk, OnOk, length};
+ghost use Rattle.std.specs.Prelude.{◌≡◌, ◌<◌, ◌+◌, ◌-◌, ◌^◌, suc, IfOk, OnOk, length, slice_get};
 ghost use Rattle.strc_base.specs.Names.{plain_names};
 ghost use Rattle.strc_scope.specs.Texts as texts;
-ghost use Rattle.strc_scope.specs.Captures.{captured};
+ghost use Rattle.strc_scope.specs.Captures.{captured, unshadowed_one};
 
 use crate::variables::Variables;
 use std::alloc::Global;
@@ -41,13 +41,29 @@ fn unshadowed(
 {
     let mut left = Constants::new(alloc);
     for number in 0..constants.len() {
-        let (name, value) = constants.at(number);
-        let name = Name::new(name.to_vec(alloc)?);
-        if !variables.names().has_since(0, &name) {
-            left.push(&name, value)?;
-        }
+        keep_unless_hidden(alloc, variables, constants, number, &mut left)?;
     }
     Ok(left)
+}
+
+/// Adds a constant to those that are left, where no variable has its name.
+fn keep_unless_hidden(
+    alloc: Global,
+    variables: &Variables,
+    constants: &Constants,
+    number: u32,
+    left: &mut Constants,
+) -> Result<(), NoMemory>
+    requires within { number < length constants.now }
+    ensures { OnOk result (left.new ≡ unshadowed_one (plain_names variables.now.names)
+        (slice_get constants.now (length constants.now - suc number)) left.old) }
+{
+    let (name, value) = constants.at(number);
+    let name = Name::new(name.to_vec(alloc)?);
+    if !variables.names().has_since(0, &name) {
+        left.push(&name, value)?;
+    }
+    Ok(())
 }
 
 /// Adds a variable to the constants, where it is a number and no inner one has its name.
