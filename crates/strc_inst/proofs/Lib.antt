@@ -1,1 +1,2 @@
 pub mod Insts
+pub mod Words

@@ -1,5 +1,5 @@
 -- How a firing and a start answer.
-use Rattle.std.specs.Prelude.{◌≡◌, ℤ, List, ◌++◌, Result, Ok, Err}
+use Rattle.std.specs.Prelude.{◌≡◌, ℤ, List, ◌∷◌, ◌++◌, Result, Ok, Err, IfOk}
 use Rattle.strc_semantics.specs.declared.fault.Cause.{Cause}
 use Rattle.strc_semantics.specs.declared.fault.Halt.{Halt}
 use Rattle.strc_semantics.specs.declared.fault.Halt.TheVariants as halt
@@ -23,6 +23,24 @@ abbrev pub Fires : Result Fired Cause → Result (Unit {0}) Halt
 Fires outcome (Ok done) fields pushes before after = HasGiven outcome fields pushes before after
 Fires outcome (Err (halt.Fault cause)) fields pushes before after = outcome ≡ Err cause
 Fires outcome (Err halt.NoMemory) fields pushes before after = Unit {0}
+
+-- of a firing's words some are printed, and one is next
+pub record HasNextWord (words before after : List Word) : Type 0 where
+  pub given : List Word
+  pub next : Word
+  pub rest : List Word
+  pub is : words ≡ given ++ next ∷ rest
+  pub printed : after ≡ before ++ given
+
+-- only a word that the firing gives can need memory: out of memory comes at one of its words, those
+-- before it being printed; so never where the firing gives no words. A firing that faults tells no
+-- words
+abbrev pub WantsGivenWords : Result Fired Cause → Result (Unit {0}) Halt
+    → (before after : List Word) → Type 0
+WantsGivenWords outcome (Ok done) before after = Unit {0}
+WantsGivenWords outcome (Err (halt.Fault cause)) before after = Unit {0}
+WantsGivenWords outcome (Err halt.NoMemory) before after =
+    IfOk outcome (λ given. HasNextWord given.words before after)
 
 -- an answer tells the values of the fields at the start, or the fault of an initialiser
 abbrev pub Starts : Result (List ℤ) Cause → Result Kept StartError → Type 0

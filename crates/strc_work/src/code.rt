@@ -26,6 +26,7 @@ use strc_semantics::fault::{Cause, Halt};
 use strc_semantics::word::Word;
 use strc_syntax::copies;
 use strc_syntax::tree::{FilterTree, RateKind, Stmt};
+use thiserror::Error;
 
 /// The code of a filter.
 #[derive(Drop)]
@@ -83,11 +84,13 @@ pub struct DeclaredRates {
 }
 
 /// Why a filter can't start.
-#[derive(Clone, Copy, Debug, PartialEq, Eq)]
+#[derive(Clone, Copy, Debug, PartialEq, Eq, Error)]
 pub enum StartError {
-    /// An initialiser faults.
+    /// An initialiser faults, or `init` does.
+    #[error("an initialiser or init faults: {cause}")]
     ConstFault { cause: Cause },
     /// Memory was refused.
+    #[error("out of memory for the fields of a filter")]
     NoMemory,
 }
 
@@ -96,7 +99,7 @@ impl Code {
     ghost use Rattle.strc_semantics.specs.Closed.{IsClosedFilter};
     ghost use Rattle.strc_work.specs.States.{IsStateOf, IsFrameOf};
     ghost use Rattle.strc_semantics.specs.Firing.{started, fired};
-    ghost use Rattle.strc_work.specs.Answers.{Starts, Fires};
+    ghost use Rattle.strc_work.specs.Answers.{Starts, Fires, WantsGivenWords};
     ghost use Rattle.strc_machine.specs.Running.{MoreWords, WantsOnlyWords};
 
     /// The code of a resolved tree and its parts.
@@ -196,7 +199,8 @@ impl Code {
         })
     }
 
-    /// One firing. The state and the frame are of this code. It takes no memory but for the words.
+    /// One firing. The state and the frame are of this code. It takes no memory but for the words:
+    /// it is out of memory only at a word that the firing gives.
     pub fn fire<W: Window>(
         &self,
         body: Body,
@@ -212,6 +216,8 @@ impl Code {
             result state.new.fields frame.new.items words.old.items words.new.items }
         ensures memory { WantsOnlyWords (filters.body_prints body
             (filters.filter_of self.now)) result }
+        ensures silent { WantsGivenWords (fired (filters.filter_of self.now) body state.old.fields
+            (W.items window.now)) result words.old.items words.new.items }
         ensures words { MoreWords words.old.items words.new.items }
         ensures state { IsStateOf (filters.filter_of self.now) state.new }
         ensures frame { IsFrameOf (filters.filter_of self.now) frame.new }
