@@ -237,7 +237,7 @@ abbrev pub AreIllTyped : List Filter → Type 0
 AreIllTyped [] = Unit {0}
 AreIllTyped (first ∷ rest) = (¬ IsWellTyped example_constants first) × AreIllTyped rest
 
--- a counter, also with a constant as its rate, a field behind its work and an `init`; a printer; a
+-- a counter, also with a constant as its rate, a field after its work and an `init`; a printer; a
 -- rate of 0 on a side without items
 abbrev pub well_typed : List Filter
 well_typed =
