@@ -23,7 +23,7 @@ IsDeclarable constants names tree.Int = Unit {0}
 IsDeclarable constants names (tree.Array length) =
     (number : ℤ) × (HasNumber constants names length number × IsLength number)
 
--- variables of this type, each seen by those behind it: none has the name of another one of its
+-- variables of this type, each seen by those after it: none has the name of another one of its
 -- block, and an initialiser has their type
 abbrev pub AreDeclared : Context → TypedNames → (outer : ℕ) → ValueType → List tree.Variable
     → Type 0

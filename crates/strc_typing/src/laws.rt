@@ -2,8 +2,9 @@
 
 ghost use Rattle.strc_typing.specs.Laws.{WalkGivesTypes, WalkAcceptsValues, TypesAreUnique};
 ghost use Rattle.strc_typing.specs.Laws.{WalkGivesNumbers, ConstantsMeanTheirValue};
-ghost use Rattle.strc_typing.specs.Laws.{WalkAcceptsTypes, WalkAcceptsStatements, WalkAcceptsBlocks};
-ghost use Rattle.strc_typing.specs.Laws.{WalkAcceptsRates, WalkAcceptsMembers, WalkAcceptsFilters};
+ghost use Rattle.strc_typing.specs.Laws.{WalkAcceptsTypes, WalkAcceptsStatements};
+ghost use Rattle.strc_typing.specs.Laws.{WalkAcceptsBlocks, WalkAcceptsRates};
+ghost use Rattle.strc_typing.specs.Laws.{WalkAcceptsMembers, WalkAcceptsFilters};
 ghost use Rattle.strc_typing.specs.Examples.{ExpressionRows, NumberRows, StatementRows, FilterRows};
 
 /// The walk accepts an expression at a type exactly where the expression has it.
