@@ -300,3 +300,14 @@ module _ (constants : List (List ℕ × ℤ)) where
     λ is. subst (Gives (HasNumber constants names e)) is (number_gives names e),
     number_is names e number,
   )
+
+  number_in : Result ℤ LowerError → ℤ
+  number_in (Ok number) = number
+  number_in (Err refusal) = pos 0
+
+  pub number_is_one : (names : TypedNames) (e : tree.Expr) (number number' : ℤ)
+      → HasNumber constants names e number → HasNumber constants names e number'
+      → number ≡ number'
+  unfolding number_in
+  number_is_one names e number number' h h' =
+      sym (ap number_in (number_is names e number h)) ∙ ap number_in (number_is names e number' h')

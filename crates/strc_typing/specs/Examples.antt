@@ -64,17 +64,28 @@ HaveNoType context [] = Unit {0}
 HaveNoType context (value ∷ values) =
     ((kind : ValueType) → ¬ HasType context example_names value kind) × HaveNoType context values
 
--- 7, x, n, a[0], pop(), peek(n), -x, !t, x + n, x < 1, t == true, t ? x : 1, x++
+-- 7, x, n, (t), a[0], pop(), peek(n), -x, ~x, !t, x + n, x << n, x < 1, x >= n, x == n, t == true,
+-- t || t, t && t, t ? x : 1, t ? t : t, x++, --a[x]
 abbrev pub typed : List (tree.Expr × ValueType)
 typed =
-    (number 7, Int) ∷ (tree.Read x, Int) ∷ (tree.Read n, Int) ∷ (tree.Element a (number 0), Int)
+    (number 7, Int) ∷ (tree.Read x, Int) ∷ (tree.Read n, Int)
+    ∷ (tree.Group (tree.Read t), Boolean) ∷ (tree.Element a (number 0), Int)
     ∷ (tree.Pop, Int) ∷ (tree.Peek (tree.Read n), Int)
-    ∷ (tree.Unary unary.Negate (tree.Read x), Int) ∷ (tree.Unary unary.Not (tree.Read t), Boolean)
+    ∷ (tree.Unary unary.Negate (tree.Read x), Int)
+    ∷ (tree.Unary unary.Complement (tree.Read x), Int)
+    ∷ (tree.Unary unary.Not (tree.Read t), Boolean)
     ∷ (tree.Binary binary.Add (tree.Read x) (tree.Read n), Int)
+    ∷ (tree.Binary binary.ShiftLeft (tree.Read x) (tree.Read n), Int)
     ∷ (tree.Binary binary.Less (tree.Read x) (number 1), Boolean)
+    ∷ (tree.Binary binary.GreaterOrEqual (tree.Read x) (tree.Read n), Boolean)
+    ∷ (tree.Binary binary.Equal (tree.Read x) (tree.Read n), Boolean)
     ∷ (tree.Binary binary.Equal (tree.Read t) (tree.Truth true), Boolean)
+    ∷ (tree.Binary binary.LogicalOr (tree.Read t) (tree.Read t), Boolean)
+    ∷ (tree.Binary binary.LogicalAnd (tree.Read t) (tree.Read t), Boolean)
     ∷ (tree.Conditional (tree.Read t) (tree.Read x) (number 1), Int)
-    ∷ (tree.Step step.IncrementAfter x, Int) ∷ []
+    ∷ (tree.Conditional (tree.Read t) (tree.Read t) (tree.Read t), Boolean)
+    ∷ (tree.Step step.IncrementAfter x, Int)
+    ∷ (tree.StepElement step.DecrementFirst a (tree.Read x), Int) ∷ []
 
 -- z, a, x[0], a[true], peek(t), !x, t + 1, t < t, x == t, x || t, x ? 1 : 2, t ? x : t, ++t, ++n
 abbrev pub untyped : List tree.Expr
@@ -237,21 +248,26 @@ abbrev pub AreIllTyped : List Filter → Type 0
 AreIllTyped [] = Unit {0}
 AreIllTyped (first ∷ rest) = (¬ IsWellTyped example_constants first) × AreIllTyped rest
 
--- a counter, also with a constant as its rate, a field after its work and an `init`; a printer; a
--- rate of 0 on a side without items
+-- a counter, also with a constant as its rate, a field after its work, and an `init`; a printer,
+-- also with a prework, which looks further; a rate of 0 on a side without items
 abbrev pub well_typed : List Filter
 well_typed =
     filter item.Void item.Int (counter ∷ counting (number 1) ∷ [])
     ∷ filter item.Void item.Int (counting (tree.Read n) ∷ counter ∷ [])
     ∷ filter item.Void item.Int (counter
-    ∷ tree.Init (tree.row (tree.Assign x assign.Set (tree.Read n) ∷ []))
+    ∷ tree.Init (tree.row (tree.Assign x assign.Set
+    (tree.Binary binary.Add (tree.Read x) (tree.Read n)) ∷ []))
     ∷ counting (number 1) ∷ [])
     ∷ filter item.Int item.Void (printing (number 1) ∷ [])
+    ∷ filter item.Int item.Void (tree.Prework (declared rate.Peek (number 2) ∷ [])
+    (tree.row (tree.Println (tree.Peek (number 1)) ∷ [])) ∷ printing (number 1) ∷ [])
     ∷ filter item.Void item.Void
     (tree.Work (declared rate.Peek (number 0) ∷ []) tree.Done ∷ []) ∷ []
 
--- no work, two works, two preworks, two inits; two fields of one name; an initialiser that pops; a
--- pop and a rate above 0 where no items come in; a rate that is a field, a truth value, a fault
+-- no work, two works, two preworks, two inits; two fields of one name, apart and together; an
+-- initialiser that pops; a pop where no items come in, and a pop, a peek and a push rate above 0
+-- where no items flow, one of them of a prework; a rate that is a field, pops, is a truth value, or
+-- faults
 abbrev pub ill_typed : List Filter
 ill_typed =
     filter item.Void item.Int (counter ∷ [])
@@ -261,12 +277,19 @@ ill_typed =
     ∷ filter item.Void item.Void
     (tree.Init tree.Done ∷ tree.Init tree.Done ∷ tree.Work [] tree.Done ∷ [])
     ∷ filter item.Void item.Int (counter ∷ counter ∷ counting (number 1) ∷ [])
+    ∷ filter item.Void item.Int (tree.Fields tree.Int (variable x None ∷ variable x None ∷ [])
+    ∷ counting (number 1) ∷ [])
     ∷ filter item.Int item.Int
     (tree.Fields tree.Int (variable z (Some tree.Pop) ∷ []) ∷ counter ∷ counting (number 1) ∷ [])
     ∷ filter item.Void item.Void (printing (number 0) ∷ [])
     ∷ filter item.Void item.Void
     (tree.Work (declared rate.Pop (number 1) ∷ []) tree.Done ∷ [])
+    ∷ filter item.Void item.Int
+    (tree.Work (declared rate.Peek (number 1) ∷ []) tree.Done ∷ [])
+    ∷ filter item.Int item.Void
+    (tree.Prework (declared rate.Push (number 1) ∷ []) tree.Done ∷ printing (number 1) ∷ [])
     ∷ filter item.Void item.Int (counter ∷ counting (tree.Read x) ∷ [])
+    ∷ filter item.Int item.Int (counter ∷ counting tree.Pop ∷ [])
     ∷ filter item.Void item.Int (counter ∷ counting (tree.Truth true) ∷ [])
     ∷ filter item.Void item.Int
     (counter ∷ counting (tree.Binary binary.Divide (number 1) (number 0)) ∷ []) ∷ []

@@ -40,6 +40,13 @@ WalkGivesNumbers =
     (constants : List (List ℕ × ℤ)) (names : TypedNames) (value : tree.Expr) (number : ℤ)
     → (number_resolved constants names value ≡ Ok number) ↔ HasNumber constants names value number
 
+-- a constant expression has at most one number
+abbrev pub NumbersAreUnique : Type 0
+NumbersAreUnique =
+    (constants : List (List ℕ × ℤ)) (names : TypedNames) (value : tree.Expr) (number number' : ℤ)
+    → HasNumber constants names value number → HasNumber constants names value number'
+    → number ≡ number'
+
 -- the value of an expression that names no variable is that of the expression wherever it stands,
 -- and nothing changes
 abbrev pub ConstantsMeanTheirValue : Type 0

@@ -1,9 +1,10 @@
 // What the walk of `strc_check` has to do with the relation, as laws over definitions.
 
 ghost use Rattle.strc_typing.specs.Laws.{WalkGivesTypes, WalkAcceptsValues, TypesAreUnique};
-ghost use Rattle.strc_typing.specs.Laws.{WalkGivesNumbers, ConstantsMeanTheirValue};
-ghost use Rattle.strc_typing.specs.Laws.{WalkAcceptsTypes, WalkAcceptsStatements, WalkAcceptsBlocks};
-ghost use Rattle.strc_typing.specs.Laws.{WalkAcceptsRates, WalkAcceptsMembers, WalkAcceptsFilters};
+ghost use Rattle.strc_typing.specs.Laws.{WalkGivesNumbers, NumbersAreUnique, ConstantsMeanTheirValue};
+ghost use Rattle.strc_typing.specs.Laws.{WalkAcceptsTypes, WalkAcceptsStatements};
+ghost use Rattle.strc_typing.specs.Laws.{WalkAcceptsBlocks, WalkAcceptsRates};
+ghost use Rattle.strc_typing.specs.Laws.{WalkAcceptsMembers, WalkAcceptsFilters};
 ghost use Rattle.strc_typing.specs.Examples.{ExpressionRows, NumberRows, StatementRows, FilterRows};
 
 /// The walk accepts an expression at a type exactly where the expression has it.
@@ -24,6 +25,11 @@ pub fn types_are_unique()
 /// The walk finds a number of a constant expression exactly where the expression means it.
 pub fn walk_gives_numbers()
     ensures { WalkGivesNumbers }
+{}
+
+/// A constant expression has at most one number.
+pub fn numbers_are_unique()
+    ensures { NumbersAreUnique }
 {}
 
 /// The value of an expression that names no variable is that of the expression wherever it stands.
