@@ -18,3 +18,4 @@ pub mod SafeValues
 pub mod SafeLoops
 pub mod SafePeeks
 pub mod Promised
+pub mod Turning

@@ -1,13 +1,14 @@
 -- The laws about all runs of a text.
 use Rattle.std.proofs.Common.{◌≡◌, subst, ap, [], length, Option, Some, None}
-use Rattle.std.proofs.Common.{arith}
+use Rattle.std.proofs.Common.{◌∙◌, arith}
 use Rattle.std.specs.Option.{IfSome}
 use Rattle.std.specs.Result.{IfOk}
+use Rattle.std.proofs.lemmas.List.{length-map}
 use Rattle.std.proofs.lemmas.Result.{IfOk-weaker}
 use Rattle.strc_syntax.specs.Tree as tree
 use Rattle.strc_semantics.specs.Firing.{Port, Store, no_traffic, stmts_done}
 use Rattle.strc_peeks.specs.Counts.{Counts, saturated, stmts_counts}
-use Rattle.strc_peeks.specs.Peeks.{none_popped, stmts_sights}
+use Rattle.strc_peeks.specs.Peeks.{none_popped, sight_of, stmts_sites}
 use Rattle.strc_peeks.specs.Promises.{CountedItemsAreMoved, EachPeekHasAnEntry}
 use Rattle.strc_peeks.specs.Promises.{ClosedPeeksFindItems}
 use Rattle.strc_peeks.proofs.CountedMoves.{Moves, Counted}
@@ -40,7 +41,8 @@ counted_items port block names store closed none =
     (stmts_counted port block [] names store closed tt)
 
 pub each_entry : EachPeekHasAnEntry
-each_entry window intervals popped block = stmts_entries window block intervals popped
+each_entry window block = length-map (stmts_sites [] none_popped block) (sight_of window)
+    ∙ stmts_entries block [] none_popped
 
 none_ready : (store : Store) → store.traffic ≡ no_traffic → Ready [] none_popped store
 none_ready store none =
@@ -51,4 +53,4 @@ pub closed_peeks : ClosedPeeksFindItems
 closed_peeks window port block names store small ahead closed counted none =
     stmts_safe window port (record { small = small; ahead = ahead }) _ block names []
     none_popped 0 store closed counted (λ name e. absurd (cc)) (none_ready store none)
-    (stand_whole (stmts_sights window [] none_popped block))
+    (stand_whole window (stmts_sites [] none_popped block))

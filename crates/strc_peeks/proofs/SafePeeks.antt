@@ -22,9 +22,9 @@ use Rattle.strc_peeks.specs.Counts.{branch_counts, expr_counts, option_counts, v
 use Rattle.strc_peeks.specs.Counts.{turns_counts, stmt_counts, stmts_counts}
 use Rattle.strc_interval.specs.Intervals.{Intervals, intervals_after, with_interval, turns_interval}
 use Rattle.strc_peeks.specs.Entries.{peeks_of_expr, peeks_of_option, peeks_of_stmt}
-use Rattle.strc_peeks.specs.Peeks.{PopInterval, advance, in_turns, sides_sights, turns_sights}
-use Rattle.strc_peeks.specs.Peeks.{some_turns, expr_sights, option_sights, variables_sights}
-use Rattle.strc_peeks.specs.Peeks.{stmt_sights, stmts_sights}
+use Rattle.strc_peeks.specs.Peeks.{PopInterval, advance, in_turns, sides_sites, turns_sites}
+use Rattle.strc_peeks.specs.Peeks.{some_turns, expr_sites, option_sites, variables_sites}
+use Rattle.strc_peeks.specs.Peeks.{stmt_sites, stmts_sites}
 use Rattle.strc_interval.specs.Intervals.{names_of}
 use Rattle.strc_peeks.specs.Safe.{ExprIsSafe, OptionIsSafe, VariablesAreSafe, LoopIsSafe}
 use Rattle.strc_peeks.specs.Safe.{StmtIsSafe, StmtsAreSafe}
@@ -52,7 +52,7 @@ option_safe : (window : ℕ) (port : Port) → IsWhole window port → (entries 
     (value : Option tree.Expr) (intervals : Intervals) (popped : PopInterval) (place : ℕ)
     (store : Store) → is_some (option_counts value) ≡ true
     → Fixed intervals (λ name. option_writes name value) → Ready intervals popped store
-    → Stand entries place (option_sights window intervals popped value)
+    → Stand window entries place (option_sites intervals popped value)
     → OptionIsSafe port entries place value store
 option_safe window port whole entries None intervals popped place store counted fixed ready stand =
     tt
@@ -65,7 +65,7 @@ variables_safe : (window : ℕ) (port : Port) → IsWhole window port → (entri
     (popped : PopInterval) (place : ℕ) (store : Store) → AreClosedVariables names cells variables
     → is_some (variables_counts variables) ≡ true
     → Fixed intervals (λ name. variables_write name variables) → Ready intervals popped store
-    → Stand entries place (variables_sights window intervals popped variables)
+    → Stand window entries place (variables_sites intervals popped variables)
     → VariablesAreSafe port entries place cells variables store
 variables_safe window port whole entries cells [] names intervals popped place store closed counted
     fixed ready stand = tt
@@ -73,15 +73,15 @@ variables_safe window port whole entries cells (first ∷ rest) names intervals 
     closed counted fixed ready stand =
     let inner : Intervals = record { 0 = first.name; 1 = None } ∷ intervals in
     let later = advance popped (option_counts first.initial) in
-    let sights = option_sights window intervals popped first.initial in
-    let sights_rest = variables_sights window inner later rest in
+    let sites = option_sites intervals popped first.initial in
+    let sites_rest = variables_sites inner later rest in
     let first_counted = both_first (option_counts first.initial) _ counted in
     let rest_counted = both_second (option_counts first.initial) (variables_counts rest) counted in
     let first_fixed : Fixed intervals (λ name. option_writes name first.initial) =
     λ n e. or_first (option_writes n first.initial) _ (fixed n e) in
     let only = first ∷ [] in (
       option_safe window port whole entries first.initial intervals popped place store first_counted
-          first_fixed ready (stand_first entries place sights sights_rest stand),
+          first_fixed ready (stand_first window entries place sites sites_rest stand),
       IfOk-weaker (initial_cells port cells first.initial store)
           (λ given. Ready inner later (declared_in given.1 first.name given.0)) _
           (λ given h. variables_safe window port whole entries cells rest
@@ -92,8 +92,8 @@ variables_safe window port whole entries cells (first ∷ rest) names intervals 
           unless_hidden (bytes_eq first.name n) (variables_write n rest)
           (or_second (option_writes n first.initial) _ (fixed n before.0))
           (or_first (bytes_eq first.name n) _ before.1)) h
-          (stand_behind entries place sights sights_rest (peeks_of_option first.initial)
-          (option_entries window first.initial intervals popped) stand))
+          (stand_behind window entries place sites sites_rest (peeks_of_option first.initial)
+          (option_entries first.initial intervals popped) stand))
           (ready_initial port cells first.name first.initial intervals popped store closed.1
           first_counted first_fixed ready),
     )
@@ -123,7 +123,7 @@ IsSafe window port entries s =
     (intervals : Intervals) (popped : PopInterval) (place : ℕ) (store : Store)
     → is_some (stmt_counts (names_of intervals) s) ≡ true
     → Fixed intervals (λ name. stmt_writes name s) → Ready intervals popped store
-    → Stand entries place (stmt_sights window intervals popped s)
+    → Stand window entries place (stmt_sites intervals popped s)
     → StmtIsSafe port entries place s store
 
 -- a loop whose parts have these numbers is safe
@@ -145,9 +145,9 @@ other_turns_safe : (window : ℕ) (port : Port) → IsWhole window port → (ent
     (sequence (require_zero (stmt_counts (names_of intervals) step))
     (require_zero (stmt_counts (names_of intervals) body)))) ≡ true
     → Fixed intervals (turn_writes condition step body) → Ready intervals popped begun
-    → Stand entries test_place (option_sights window intervals popped condition)
-    → Stand entries step_place (stmt_sights window intervals popped step)
-    → Stand entries body_place (stmt_sights window intervals popped body)
+    → Stand window entries test_place (option_sites intervals popped condition)
+    → Stand window entries step_place (stmt_sites intervals popped step)
+    → Stand window entries body_place (stmt_sites intervals popped body)
     → IsSafe window port entries step → IsSafe window port entries body
     → ForIsSafe port entries test_place step_place body_place condition step body begun
 other_turns_safe window port whole entries condition step body names intervals popped test_place
@@ -214,8 +214,8 @@ counted_turns_safe : (window : ℕ) (port : Port) (entries : List Bool) (locals 
     → IsClosedStmt names step → IsClosedStmt names body
     → is_some (repeated loop.turns (stmt_counts (names_of intervals) body)) ≡ true
     → Fixed intervals (turn_writes condition step body) → Ready intervals popped begun
-    → Stand entries body_place (some_turns loop.turns
-    (stmt_sights window (with_interval intervals loop.name (turns_interval loop))
+    → Stand window entries body_place (some_turns loop.turns
+    (stmt_sites (with_interval intervals loop.name (turns_interval loop))
     (in_turns popped loop.turns (stmt_counts (names_of intervals) body)) body) (peeks_of_stmt body))
     → IsSafe window port entries body
     → ForIsSafe port entries test_place step_place body_place condition step body begun
@@ -252,7 +252,7 @@ counted_turns_safe window port entries locals first condition step body loop nam
           (λ name. stmt_writes name body) known.unwritten fixed_body)
           (ready_turn known port names scope closed_body closed_step sized z parts begun intervals
           popped t s lt some_body fixed ready here)
-          (stand_turn entries body_place loop.turns t (stmt_sights window within turning body)
+          (stand_turn window entries body_place loop.turns t (stmt_sites within turning body)
           (peeks_of_stmt body) lt stand),
       IfOk-weaker (inside (stmt_done port body) s) (λ after. Unit {0}) _
           (λ after any. free.1.1 port entries step_place after)
@@ -278,9 +278,9 @@ for_turns_safe : (window : ℕ) (port : Port) → IsWhole window port → (entri
     → is_some (turns_counts told (option_counts condition) (stmt_counts (names_of intervals) step)
     (stmt_counts (names_of intervals) body)) ≡ true
     → Fixed intervals (turn_writes condition step body) → Ready intervals popped begun
-    → Stand entries place (turns_sights told (option_sights window intervals popped condition
-    ++ (stmt_sights window intervals popped step ++ stmt_sights window intervals popped body))
-    (λ loop. stmt_sights window (with_interval intervals loop.name (turns_interval loop))
+    → Stand window entries place (turns_sites told (option_sites intervals popped condition
+    ++ (stmt_sites intervals popped step ++ stmt_sites intervals popped body))
+    (λ loop. stmt_sites (with_interval intervals loop.name (turns_interval loop))
     (in_turns popped loop.turns (stmt_counts (names_of intervals) body)) body) (peeks_of_stmt body))
     → IsSafe window port entries step → IsSafe window port entries body
     → ForIsSafe port entries place (place + length (peeks_of_option condition))
@@ -289,18 +289,18 @@ for_turns_safe : (window : ℕ) (port : Port) → IsWhole window port → (entri
 for_turns_safe window port whole entries locals first condition step body None names intervals
     popped place begun free known closed_step closed_body counted fixed ready stand safe_step
     safe_body =
-    let tested = option_sights window intervals popped condition in
-    let stepped = stmt_sights window intervals popped step in
-    let run = stmt_sights window intervals popped body in
+    let tested = option_sites intervals popped condition in
+    let stepped = stmt_sites intervals popped step in
+    let run = stmt_sites intervals popped body in
     let step_place = place + length (peeks_of_option condition) in
-    let rest = stand_behind entries place tested (stepped ++ run) (peeks_of_option condition)
-    (option_entries window condition intervals popped) stand in
+    let rest = stand_behind window entries place tested (stepped ++ run) (peeks_of_option condition)
+    (option_entries condition intervals popped) stand in
     other_turns_safe window port whole entries condition step body names intervals popped place
     step_place (step_place + length (peeks_of_stmt step)) begun closed_step closed_body counted
-    fixed ready (stand_first entries place tested (stepped ++ run) stand)
-    (stand_first entries step_place stepped run rest)
-    (stand_behind entries step_place stepped run (peeks_of_stmt step)
-    (stmt_entries window step intervals popped) rest) safe_step safe_body
+    fixed ready (stand_first window entries place tested (stepped ++ run) stand)
+    (stand_first window entries step_place stepped run rest)
+    (stand_behind window entries step_place stepped run (peeks_of_stmt step)
+    (stmt_entries step intervals popped) rest) safe_step safe_body
 for_turns_safe window port whole entries locals first condition step body (Some loop) names
     intervals popped place begun free known closed_step closed_body counted fixed ready stand
     safe_step safe_body =
@@ -312,8 +312,8 @@ for_turns_safe window port whole entries locals first condition step body (Some 
     counted_turns_safe window port entries locals first condition step body loop names intervals
     popped place step_place body_place begun known.0 free known.1 closed_step closed_body counted
     fixed ready
-    (subst (λ n. Stand entries n (some_turns loop.turns
-    (stmt_sights window (with_interval intervals loop.name (turns_interval loop))
+    (subst (λ n. Stand window entries n (some_turns loop.turns
+    (stmt_sites (with_interval intervals loop.name (turns_interval loop))
     (in_turns popped loop.turns (stmt_counts (names_of intervals) body)) body)
     (peeks_of_stmt body))) same stand) safe_body
 
@@ -323,7 +323,7 @@ mutual
       (s : tree.Stmt) (names : Scope) (intervals : Intervals) (popped : PopInterval) (place : ℕ)
       (store : Store) → IsClosedStmt names s → is_some (stmt_counts (names_of intervals) s) ≡ true
       → Fixed intervals (λ name. stmt_writes name s) → Ready intervals popped store
-      → Stand entries place (stmt_sights window intervals popped s)
+      → Stand window entries place (stmt_sites intervals popped s)
       → StmtIsSafe port entries place s store
   stmt_safe window port whole entries tree.Empty names intervals popped place store closed counted
       fixed ready stand = tt
@@ -347,8 +347,8 @@ mutual
       popped place store closed counted fixed ready stand =
       let later = advance popped (expr_counts index) in
       let behind = place + length (peeks_of_expr index) in
-      let sights = expr_sights window intervals popped index in
-      let sights_value = expr_sights window intervals later value in
+      let sites = expr_sites intervals popped index in
+      let sites_value = expr_sites intervals later value in
       let fixed_index : Fixed intervals (λ n. expr_writes n index) =
       λ n e. or_first (expr_writes n index) _ (or_second (bytes_eq name n) _ (fixed n e)) in
       let fixed_value : Fixed intervals (λ n. expr_writes n value) =
@@ -356,21 +356,21 @@ mutual
       let index_counted = both_first (expr_counts index) _ counted in
       let value_counted = both_second (expr_counts index) (expr_counts value) counted in (
         expr_safe window port whole entries index intervals popped place store index_counted
-            fixed_index ready (stand_first entries place sights sights_value stand),
+            fixed_index ready (stand_first window entries place sites sites_value stand),
         IfOk-weaker (value_of port index store) (λ at. Ready intervals later at.1) _
             (λ at h. expr_safe window port whole entries value intervals later behind at.1
             value_counted fixed_value h
-            (stand_behind entries place sights sights_value (peeks_of_expr index)
-            (expr_entries window index intervals popped) stand))
+            (stand_behind window entries place sites sites_value (peeks_of_expr index)
+            (expr_entries index intervals popped) stand))
             (ready_value port index intervals popped store index_counted fixed_index ready),
       )
   stmt_safe window port whole entries (tree.If condition chosen) names intervals popped place store
       closed counted fixed ready stand =
       let later = advance popped (expr_counts condition) in
       let behind = place + length (peeks_of_expr condition) in
-      let sights = expr_sights window intervals popped condition in
-      let chosen_sights = stmt_sights window intervals later chosen in
-      let sides = sides_sights (constant condition) chosen_sights [] (peeks_of_stmt chosen) [] in
+      let sites = expr_sites intervals popped condition in
+      let chosen_sites = stmt_sites intervals later chosen in
+      let sides = sides_sites (constant condition) chosen_sites [] (peeks_of_stmt chosen) [] in
       let fixed_condition : Fixed intervals (λ n. expr_writes n condition) =
       λ n e. or_first (expr_writes n condition) _ (fixed n e) in
       let fixed_chosen : Fixed intervals (λ n. stmt_writes n chosen) =
@@ -379,11 +379,11 @@ mutual
       let rest_counted = both_second (expr_counts condition)
       (branch_counts (constant condition) (stmt_counts (names_of intervals) chosen)
       (Some no_items)) counted in
-      let rest_stand : Stand entries behind sides =
-      stand_behind entries place sights sides (peeks_of_expr condition)
-      (expr_entries window condition intervals popped) stand in (
+      let rest_stand : Stand window entries behind sides =
+      stand_behind window entries place sites sides (peeks_of_expr condition)
+      (expr_entries condition intervals popped) stand in (
         expr_safe window port whole entries condition intervals popped place store first_counted
-            fixed_condition ready (stand_first entries place sights sides stand),
+            fixed_condition ready (stand_first window entries place sites sides stand),
         IfOk-weaker (value_of port condition store)
             (λ test. Ready intervals later test.1 × IfSome (constant condition) (λ v. test.0 ≡ v)) _
             (λ test h.
@@ -393,7 +393,7 @@ mutual
             closed.1 ((side_some (constant condition) test.0
             (stmt_counts (names_of intervals) chosen)
             (Some no_items) h.1 rest_counted).0 e) fixed_chosen h.0
-            (stand_chosen entries behind (constant condition) test.0 chosen_sights []
+            (stand_chosen window entries behind (constant condition) test.0 chosen_sites []
             (peeks_of_stmt chosen) [] h.1 e rest_stand)) (λ e. tt))
             (both_ok (value_of port condition store) _ _
             (ready_value port condition intervals popped store first_counted fixed_condition
@@ -403,10 +403,10 @@ mutual
       place store closed counted fixed ready stand =
       let later = advance popped (expr_counts condition) in
       let behind = place + length (peeks_of_expr condition) in
-      let sights = expr_sights window intervals popped condition in
-      let chosen_sights = stmt_sights window intervals later chosen in
-      let other_sights = stmt_sights window intervals later other in
-      let sides = sides_sights (constant condition) chosen_sights other_sights
+      let sites = expr_sites intervals popped condition in
+      let chosen_sites = stmt_sites intervals later chosen in
+      let other_sites = stmt_sites intervals later other in
+      let sides = sides_sites (constant condition) chosen_sites other_sites
       (peeks_of_stmt chosen) (peeks_of_stmt other) in
       let fixed_condition : Fixed intervals (λ n. expr_writes n condition) =
       λ n e. or_first (expr_writes n condition) _ (fixed n e) in
@@ -420,11 +420,11 @@ mutual
       let rest_counted = both_second (expr_counts condition)
       (branch_counts (constant condition) (stmt_counts (names_of intervals) chosen)
       (stmt_counts (names_of intervals) other)) counted in
-      let rest_stand : Stand entries behind sides =
-      stand_behind entries place sights sides (peeks_of_expr condition)
-      (expr_entries window condition intervals popped) stand in (
+      let rest_stand : Stand window entries behind sides =
+      stand_behind window entries place sites sides (peeks_of_expr condition)
+      (expr_entries condition intervals popped) stand in (
         expr_safe window port whole entries condition intervals popped place store first_counted
-            fixed_condition ready (stand_first entries place sights sides stand),
+            fixed_condition ready (stand_first window entries place sites sides stand),
         IfOk-weaker (value_of port condition store)
             (λ test. Ready intervals later test.1 × IfSome (constant condition) (λ v. test.0 ≡ v)) _
             (λ test h.
@@ -435,13 +435,13 @@ mutual
             (StmtIsSafe port entries (behind + length (peeks_of_stmt chosen)) other test.1)
             (λ e. stmt_safe window port whole entries chosen names intervals later behind test.1
             closed.1 (some.0 e) fixed_chosen h.0
-            (stand_chosen entries behind (constant condition) test.0 chosen_sights other_sights
+            (stand_chosen window entries behind (constant condition) test.0 chosen_sites other_sites
             (peeks_of_stmt chosen) (peeks_of_stmt other) h.1 e rest_stand))
             (λ e. stmt_safe window port whole entries other names intervals later
             (behind + length (peeks_of_stmt chosen)) test.1 closed.2 (some.1 e) fixed_other h.0
-            (stand_other entries behind (constant condition) test.0 chosen_sights other_sights
+            (stand_other window entries behind (constant condition) test.0 chosen_sites other_sites
             (peeks_of_stmt chosen) (peeks_of_stmt other)
-            (stmt_entries window chosen intervals later) h.1 e rest_stand)))
+            (stmt_entries chosen intervals later) h.1 e rest_stand)))
             (both_ok (value_of port condition store) _ _
             (ready_value port condition intervals popped store first_counted fixed_condition
             ready) (constant_told port condition store)),
@@ -451,8 +451,8 @@ mutual
       let x = expr_counts condition in
       let y = stmt_counts (names_of intervals) body in
       let behind = place + length (peeks_of_expr condition) in
-      let sights = expr_sights window intervals popped condition in
-      let sights_body = stmt_sights window intervals popped body in
+      let sites = expr_sites intervals popped condition in
+      let sites_body = stmt_sites intervals popped body in
       let none_x = both_first (require_zero x) _ counted in
       let none_y = both_second (require_zero x) (require_zero y) counted in
       let fixed_condition : Fixed intervals (λ n. expr_writes n condition) =
@@ -464,11 +464,11 @@ mutual
       (inside (stmt_done port body)) (ready_free intervals popped)
       (λ s r. expr_safe window port whole entries condition intervals popped place s
       (nothing_some x none_x) fixed_condition r
-      (stand_first entries place sights sights_body stand))
+      (stand_first window entries place sites sites_body stand))
       (λ s r. stmt_safe window port whole entries body names intervals popped behind s closed.1
       (nothing_some y none_y) fixed_body r
-      (stand_behind entries place sights sights_body (peeks_of_expr condition)
-      (expr_entries window condition intervals popped) stand))
+      (stand_behind window entries place sites sites_body (peeks_of_expr condition)
+      (expr_entries condition intervals popped) stand))
       (λ s r. IfOk-weaker (value_of port condition s)
       (λ given. Ready intervals (advance popped x) given.1) _
       (λ given h. ready_still intervals popped x given.1 none_x h)
@@ -485,10 +485,10 @@ mutual
       let inner = intervals_after intervals first in
       let later = advance popped (stmt_counts locals first) in
       let behind = place + length (peeks_of_stmt first) in
-      let sights = stmt_sights window intervals popped first in
-      let turns = turns_sights told (option_sights window inner later condition
-      ++ (stmt_sights window inner later step ++ stmt_sights window inner later body))
-      (λ loop. stmt_sights window (with_interval inner loop.name (turns_interval loop))
+      let sites = stmt_sites intervals popped first in
+      let turns = turns_sites told (option_sites inner later condition
+      ++ (stmt_sites inner later step ++ stmt_sites inner later body))
+      (λ loop. stmt_sites (with_interval inner loop.name (turns_interval loop))
       (in_turns later loop.turns (stmt_counts (names_of inner) body)) body)
       (peeks_of_stmt body) in
       let first_fixed : Fixed intervals (λ n. stmt_writes n first) =
@@ -501,11 +501,11 @@ mutual
       let inner_counted = subst (λ l. is_some
       (turns_counts told (option_counts condition) (stmt_counts l step) (stmt_counts l body))
       ≡ true) (sym (names_after_intervals intervals first)) rest_counted in
-      let turns_stand : Stand entries behind turns =
-      stand_behind entries place sights turns (peeks_of_stmt first)
-      (stmt_entries window first intervals popped) stand in (
+      let turns_stand : Stand window entries behind turns =
+      stand_behind window entries place sites turns (peeks_of_stmt first)
+      (stmt_entries first intervals popped) stand in (
         stmt_safe window port whole entries first names intervals popped place store closed.0
-            first_counted first_fixed ready (stand_first entries place sights turns stand),
+            first_counted first_fixed ready (stand_first window entries place sites turns stand),
         IfOk-weaker (stmt_done port first store)
             (λ begun. Ready inner later begun
             × IfSome told (λ loop. Known locals first condition step body loop
@@ -538,7 +538,7 @@ mutual
       (s : tree.Stmts) (names : Scope) (intervals : Intervals) (popped : PopInterval) (place : ℕ)
       (store : Store) → AreClosed names s → is_some (stmts_counts (names_of intervals) s) ≡ true
       → Fixed intervals (λ name. stmts_write name s) → Ready intervals popped store
-      → Stand entries place (stmts_sights window intervals popped s)
+      → Stand window entries place (stmts_sites intervals popped s)
       → StmtsAreSafe port entries place s store
   stmts_safe window port whole entries tree.Done names intervals popped place store closed counted
       fixed ready stand = tt
@@ -547,8 +547,8 @@ mutual
       let locals = names_of intervals in
       let inner = intervals_after intervals first in
       let later = advance popped (stmt_counts locals first) in
-      let sights = stmt_sights window intervals popped first in
-      let sights_rest = stmts_sights window inner later rest in
+      let sites = stmt_sites intervals popped first in
+      let sites_rest = stmts_sites inner later rest in
       let first_fixed : Fixed intervals (λ n. stmt_writes n first) =
       λ n e. or_first (stmt_writes n first) _ (fixed n e) in
       let first_counted = both_first (stmt_counts locals first) _ counted in
@@ -561,13 +561,13 @@ mutual
       unless_hidden (shadows n first) (stmts_write n rest)
       (or_second (stmt_writes n first) _ (fixed n before.0)) before.1 in (
         stmt_safe window port whole entries first names intervals popped place store closed.0
-            first_counted first_fixed ready (stand_first entries place sights sights_rest stand),
+            first_counted first_fixed ready (stand_first window entries place sites sites_rest stand),
         IfOk-weaker (stmt_done port first store) (Ready inner later) _
             (λ middle h. stmts_safe window port whole entries rest (names_after names first)
             inner later (place + length (peeks_of_stmt first)) middle closed.1 inner_counted
             rest_fixed h
-            (stand_behind entries place sights sights_rest (peeks_of_stmt first)
-            (stmt_entries window first intervals popped) stand))
+            (stand_behind window entries place sites sites_rest (peeks_of_stmt first)
+            (stmt_entries first intervals popped) stand))
             (ready_stmt port first names intervals popped store closed.0 first_counted first_fixed
             ready),
       )

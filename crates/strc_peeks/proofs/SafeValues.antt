@@ -19,7 +19,7 @@ use Rattle.strc_peeks.specs.Counts.{saturated, branch_counts, needed, need_of, e
 use Rattle.strc_interval.specs.declared.interval.Interval.{Interval}
 use Rattle.strc_interval.specs.Intervals.{Intervals, interval_of}
 use Rattle.strc_peeks.specs.Peeks.{Closed, Outside, Open, PopInterval, pops_of, advance, sight_at}
-use Rattle.strc_peeks.specs.Peeks.{is_closed, sides_sights, right_sights, expr_sights}
+use Rattle.strc_peeks.specs.Peeks.{Reached, is_closed, sides_sites, right_sites, expr_sites}
 use Rattle.strc_peeks.specs.Entries.{peeks_of_expr}
 use Rattle.strc_peeks.specs.Safe.{PeekIsSafe, ExprIsSafe}
 use Rattle.strc_peeks.proofs.Results.{and_first, and_second, or_first, or_second, both_ok, ok_known}
@@ -125,7 +125,7 @@ peek_safe window port whole entries intervals popped place index store ready sam
 pub expr_safe : (window : ℕ) (port : Port) → IsWhole window port → (entries : List Bool)
     (e : tree.Expr) (intervals : Intervals) (popped : PopInterval) (place : ℕ) (store : Store)
     → is_some (expr_counts e) ≡ true → Fixed intervals (λ name. expr_writes name e)
-    → Ready intervals popped store → Stand entries place (expr_sights window intervals popped e)
+    → Ready intervals popped store → Stand window entries place (expr_sites intervals popped e)
     → ExprIsSafe port entries place e store
 expr_safe window port whole entries (tree.Number value) intervals popped place store counted fixed
     ready stand = tt
@@ -140,15 +140,14 @@ expr_safe window port whole entries tree.Pop intervals popped place store counte
     = tt
 expr_safe window port whole entries (tree.Peek index) intervals popped place store counted fixed
     ready stand =
-    let sights = expr_sights window intervals popped index in
-    let one = sight_at window (advance popped (expr_counts index)) (interval_of intervals index)
-    ∷ [] in (
+    let sites = expr_sites intervals popped index in
+    let one = Reached (interval_of intervals index) (advance popped (expr_counts index)) ∷ [] in (
       expr_safe window port whole entries index intervals popped place store counted fixed ready
-          (stand_first entries place sights one stand),
+          (stand_first window entries place sites one stand),
       peek_safe window port whole entries intervals popped
           (place + length (peeks_of_expr index)) index store ready
-          (stand_behind entries place sights one (peeks_of_expr index)
-          (expr_entries window index intervals popped) stand).0,
+          (stand_behind window entries place sites one (peeks_of_expr index)
+          (expr_entries index intervals popped) stand).0,
     )
 expr_safe window port whole entries (tree.Group inner) intervals popped place store counted fixed
     ready stand =
@@ -167,9 +166,9 @@ expr_safe window port whole entries (tree.Binary operator left right) intervals 
     counted fixed ready stand =
     let later = advance popped (expr_counts left) in
     let behind = place + length (peeks_of_expr left) in
-    let sights = expr_sights window intervals popped left in
-    let sights_right = expr_sights window intervals later right in
-    let seen_right = right_sights (need_of operator left) sights_right (peeks_of_expr right) in
+    let sites = expr_sites intervals popped left in
+    let sites_right = expr_sites intervals later right in
+    let seen_right = right_sites (need_of operator left) sites_right (peeks_of_expr right) in
     let first_counted = both_first (expr_counts left) _ counted in
     let rest_counted = both_second (expr_counts left)
     (needed (need_of operator left) (expr_counts right)) counted in
@@ -177,11 +176,11 @@ expr_safe window port whole entries (tree.Binary operator left right) intervals 
     λ n e. or_first (expr_writes n left) _ (fixed n e) in
     let rest_fixed : Fixed intervals (λ name. expr_writes name right) =
     λ n e. or_second (expr_writes n left) _ (fixed n e) in
-    let rest_stand : Stand entries behind seen_right =
-    stand_behind entries place sights seen_right (peeks_of_expr left)
-    (expr_entries window left intervals popped) stand in (
+    let rest_stand : Stand window entries behind seen_right =
+    stand_behind window entries place sites seen_right (peeks_of_expr left)
+    (expr_entries left intervals popped) stand in (
       expr_safe window port whole entries left intervals popped place store first_counted
-          first_fixed ready (stand_first entries place sights seen_right stand),
+          first_fixed ready (stand_first window entries place sites seen_right stand),
       IfOk-weaker (value_of port left store)
           (λ first. Ready intervals later first.1 × IfSome (constant left) (λ v. first.0 ≡ v)) _
           (λ first h.
@@ -190,7 +189,7 @@ expr_safe window port whole entries (tree.Binary operator left right) intervals 
           (λ e. tt)
           (λ e. expr_safe window port whole entries right intervals later behind first.1
           (right_some operator left first.0 (expr_counts right) h.1 rest_counted e) rest_fixed
-          h.0 (stand_right entries behind operator left first.0 sights_right
+          h.0 (stand_right window entries behind operator left first.0 sites_right
           (peeks_of_expr right) h.1 e rest_stand)))
           (both_ok (value_of port left store) _ _
           (ready_value port left intervals popped store first_counted first_fixed ready)
@@ -200,10 +199,10 @@ expr_safe window port whole entries (tree.Conditional condition chosen other) in
     store counted fixed ready stand =
     let later = advance popped (expr_counts condition) in
     let behind = place + length (peeks_of_expr condition) in
-    let sights = expr_sights window intervals popped condition in
-    let chosen_sights = expr_sights window intervals later chosen in
-    let other_sights = expr_sights window intervals later other in
-    let sides = sides_sights (constant condition) chosen_sights other_sights
+    let sites = expr_sites intervals popped condition in
+    let chosen_sites = expr_sites intervals later chosen in
+    let other_sites = expr_sites intervals later other in
+    let sides = sides_sites (constant condition) chosen_sites other_sites
     (peeks_of_expr chosen) (peeks_of_expr other) in
     let first_counted = both_first (expr_counts condition) _ counted in
     let rest_counted = both_second (expr_counts condition)
@@ -216,11 +215,11 @@ expr_safe window port whole entries (tree.Conditional condition chosen other) in
     let other_fixed : Fixed intervals (λ name. expr_writes name other) =
     λ n e. or_second (expr_writes n chosen) _
     (or_second (expr_writes n condition) _ (fixed n e)) in
-    let rest_stand : Stand entries behind sides =
-    stand_behind entries place sights sides (peeks_of_expr condition)
-    (expr_entries window condition intervals popped) stand in (
+    let rest_stand : Stand window entries behind sides =
+    stand_behind window entries place sites sides (peeks_of_expr condition)
+    (expr_entries condition intervals popped) stand in (
       expr_safe window port whole entries condition intervals popped place store first_counted
-          first_fixed ready (stand_first entries place sights sides stand),
+          first_fixed ready (stand_first window entries place sites sides stand),
       IfOk-weaker (value_of port condition store)
           (λ test. Ready intervals later test.1 × IfSome (constant condition) (λ v. test.0 ≡ v)) _
           (λ test h.
@@ -230,13 +229,13 @@ expr_safe window port whole entries (tree.Conditional condition chosen other) in
           (ExprIsSafe port entries (behind + length (peeks_of_expr chosen)) other test.1)
           (λ e. expr_safe window port whole entries chosen intervals later behind test.1
           (some.0 e) chosen_fixed h.0
-          (stand_chosen entries behind (constant condition) test.0 chosen_sights other_sights
+          (stand_chosen window entries behind (constant condition) test.0 chosen_sites other_sites
           (peeks_of_expr chosen) (peeks_of_expr other) h.1 e rest_stand))
           (λ e. expr_safe window port whole entries other intervals later
           (behind + length (peeks_of_expr chosen)) test.1 (some.1 e) other_fixed h.0
-          (stand_other entries behind (constant condition) test.0 chosen_sights other_sights
+          (stand_other window entries behind (constant condition) test.0 chosen_sites other_sites
           (peeks_of_expr chosen) (peeks_of_expr other)
-          (expr_entries window chosen intervals later) h.1 e rest_stand)))
+          (expr_entries chosen intervals later) h.1 e rest_stand)))
           (both_ok (value_of port condition store) _ _
           (ready_value port condition intervals popped store first_counted first_fixed ready)
           (constant_told port condition store)),

@@ -3,14 +3,14 @@ use Rattle.std.proofs.Common.{◌≡◌, sym, ap, ◌∙◌, List, ◌∷◌, �
 use Rattle.std.proofs.lemmas.List.{map-append}
 use Rattle.strc_syntax.specs.Tree as tree
 use Rattle.strc_peeks.specs.Entries.{peeks_of_option, peeks_of_variables, peeks_of_stmt, peeks_of}
-use Rattle.strc_peeks.specs.Peeks.{PeekBounds, Unreached, unreached}
+use Rattle.strc_peeks.specs.Peeks.{PeekSite, NoRun, unreached}
 
 pub unreached-append : (first second : List tree.Expr)
     → unreached (first ++ second) ≡ unreached first ++ unreached second
-unreached-append first second = map-append (λ index. Unreached) first second
+unreached-append first second = map-append (λ index. NoRun) first second
 
 -- one more statement behind those so far
-pub stmts_unreached : (so_far next whole : List PeekBounds) (x : tree.Stmt) (rest all : tree.Stmts)
+pub stmts_unreached : (so_far next whole : List PeekSite) (x : tree.Stmt) (rest all : tree.Stmts)
     → next ≡ so_far ++ unreached (peeks_of_stmt x) → all ≡ tree.Then x rest
     → so_far ++ unreached (peeks_of all) ≡ whole → next ++ unreached (peeks_of rest) ≡ whole
 stmts_unreached so_far next whole x rest all more is left =
@@ -21,7 +21,7 @@ stmts_unreached so_far next whole x rest all more is left =
     ∙ left
 
 -- one more variable of a declaration
-pub variables_unreached : (so_far next whole : List PeekBounds) (x : tree.Variable)
+pub variables_unreached : (so_far next whole : List PeekSite) (x : tree.Variable)
     (rest all : List tree.Variable) → next ≡ so_far ++ unreached (peeks_of_option x.initial)
     → all ≡ x ∷ rest → so_far ++ unreached (peeks_of_variables all) ≡ whole
     → next ++ unreached (peeks_of_variables rest) ≡ whole

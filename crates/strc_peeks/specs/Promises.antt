@@ -4,10 +4,9 @@ use Rattle.strc_syntax.specs.Tree as tree
 use Rattle.strc_semantics.specs.Scoping.{Scope}
 use Rattle.strc_semantics.specs.Closed.{AreClosed}
 use Rattle.strc_semantics.specs.Firing.{Port, Store, no_traffic, stmts_done}
-use Rattle.strc_interval.specs.Intervals.{Intervals}
 use Rattle.strc_peeks.specs.Counts.{saturated, stmts_counts}
 use Rattle.strc_peeks.specs.Entries.{peeks_of}
-use Rattle.strc_peeks.specs.Peeks.{PopInterval, none_popped, is_closed, stmts_sights}
+use Rattle.strc_peeks.specs.Peeks.{is_closed, body_sights}
 use Rattle.strc_peeks.specs.Safe.{StmtsAreSafe}
 
 -- a run of statements of known names without a fault pops and pushes the counted items, each number
@@ -21,9 +20,8 @@ CountedItemsAreMoved = (port : Port) (block : tree.Stmts) (names : Scope) (store
 
 -- one entry is told of each peek of a text
 abbrev pub EachPeekHasAnEntry : Type 0
-EachPeekHasAnEntry = (window : ℕ) (intervals : Intervals) (popped : PopInterval)
-    (block : tree.Stmts)
-    → length (stmts_sights window intervals popped block) ≡ length (peeks_of block)
+EachPeekHasAnEntry = (window : ℕ) (block : tree.Stmts)
+    → length (body_sights window block) ≡ length (peeks_of block)
 
 -- before a whole window each run of statements of known names, whose items are counted, finds the
 -- item of each peek whose entry is closed
@@ -31,4 +29,4 @@ abbrev pub ClosedPeeksFindItems : Type 0
 ClosedPeeksFindItems = (window : ℕ) (port : Port) (block : tree.Stmts) (names : Scope)
     (store : Store) → window ≤ 65536 → window ≤ length port.ahead → AreClosed names block
     → is_some (stmts_counts [] block) ≡ true → store.traffic ≡ no_traffic
-    → StmtsAreSafe port (map is_closed (stmts_sights window [] none_popped block)) 0 block store
+    → StmtsAreSafe port (map is_closed (body_sights window block)) 0 block store

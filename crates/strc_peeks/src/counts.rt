@@ -19,32 +19,32 @@ pub struct Counts {
 
 /// When an operator's right side is evaluated.
 #[derive(Clone, Copy, PartialEq, Eq)]
-pub enum Need {
+pub(crate) enum Need {
     Always,
     Never,
     Sometimes,
 }
 
-pub fn no_items() -> Counts
+pub(crate) fn no_items() -> Counts
     ensures { result ≡ spec.no_items }
 {
     Counts { pushes: 0, pops: 0 }
 }
 
-pub fn one_push() -> Counts
+pub(crate) fn one_push() -> Counts
     ensures { result ≡ spec.one_push }
 {
     Counts { pushes: 1, pops: 0 }
 }
 
-pub fn one_pop() -> Counts
+pub(crate) fn one_pop() -> Counts
     ensures { result ≡ spec.one_pop }
 {
     Counts { pushes: 0, pops: 1 }
 }
 
 /// One after the other.
-pub fn sequence(first: Option<Counts>, second: Option<Counts>) -> Option<Counts>
+pub(crate) fn sequence(first: Option<Counts>, second: Option<Counts>) -> Option<Counts>
     ensures { result ≡ spec.sequence first second }
 {
     match first {
@@ -60,7 +60,7 @@ pub fn sequence(first: Option<Counts>, second: Option<Counts>) -> Option<Counts>
 }
 
 /// One or the other, which must count the same.
-pub fn if_equal(first: Option<Counts>, second: Option<Counts>) -> Option<Counts>
+pub(crate) fn if_equal(first: Option<Counts>, second: Option<Counts>) -> Option<Counts>
     ensures { result ≡ spec.if_equal first second }
 {
     match first {
@@ -73,7 +73,7 @@ pub fn if_equal(first: Option<Counts>, second: Option<Counts>) -> Option<Counts>
 }
 
 /// What may be left out, or run several times, must count nothing.
-pub fn require_zero(counts: Option<Counts>) -> Option<Counts>
+pub(crate) fn require_zero(counts: Option<Counts>) -> Option<Counts>
     ensures { result ≡ spec.require_zero counts }
 {
     match counts {
@@ -93,7 +93,7 @@ fn if_same(first: Counts, second: Counts) -> Option<Counts>
 }
 
 /// So many times; nothing is looked at for none.
-pub fn repeated(times: u64, counts: Option<Counts>) -> Option<Counts>
+pub(crate) fn repeated(times: u64, counts: Option<Counts>) -> Option<Counts>
     ensures { result ≡ spec.repeated times counts }
 {
     if times == 0 {
@@ -108,23 +108,8 @@ pub fn repeated(times: u64, counts: Option<Counts>) -> Option<Counts>
     }
 }
 
-/// The side that a constant condition takes, or both.
-pub fn branch_counts(
-    condition: Option<i32>,
-    chosen: Option<Counts>,
-    other: Option<Counts>,
-) -> Option<Counts>
-    ensures { result ≡ spec.branch_counts condition chosen other }
-{
-    match condition {
-        Some(0) => other,
-        Some(_) => chosen,
-        None => if_equal(chosen, other),
-    }
-}
-
 /// When the right side of an operator is evaluated behind this left side.
-pub fn need_of(operator: BinaryOperator, left: &Expr) -> Need
+pub(crate) fn need_of(operator: BinaryOperator, left: &Expr) -> Need
     ensures { result ≡ spec.need_of operator (expr_view left.now) }
 {
     match operator {
@@ -142,26 +127,15 @@ pub fn need_of(operator: BinaryOperator, left: &Expr) -> Need
     }
 }
 
-/// What a right side counts that is evaluated so.
-pub fn needed(need: Need, counts: Option<Counts>) -> Option<Counts>
-    ensures { result ≡ spec.needed need counts }
-{
-    match need {
-        Need::Always => counts,
-        Need::Never => Some(no_items()),
-        Need::Sometimes => require_zero(counts),
-    }
-}
-
 /// The sum of two numbers, saturated.
-pub fn saturating_sum(first: u32, second: u32) -> u32
+pub(crate) fn saturating_sum(first: u32, second: u32) -> u32
     ensures { result ≡ spec.saturated (first + second) }
 {
     first.saturating_add(second).min(COUNT_LIMIT)
 }
 
 /// The product of two numbers, saturated.
-pub fn saturating_product(times: u64, count: u32) -> u32
+pub(crate) fn saturating_product(times: u64, count: u32) -> u32
     ensures { result ≡ spec.saturated (times * count) }
 {
     times

@@ -1,7 +1,8 @@
-// Which peeks stay within their window, told from the text, and which can't reach into it. The walk
-// counts what it passes, so that it knows how many items are popped before each peek.
+// What a text counts, and which of its peeks stay within their window, or can't reach into it. One
+// walk counts what it passes, so that it knows how many items are popped before each peek; behind a
+// counted loop it adds the pops of the turns before to those of the peeks in its body.
 
-ghost use Rattle.std.specs.Prelude.{◌≡◌, ◌++◌, IfOk, OnOk, map};
+ghost use Rattle.std.specs.Prelude.{◌≡◌, ◌++◌, [], IfOk, OnOk, map};
 ghost use Rattle.std.specs.Option.{option_map};
 ghost use Rattle.strc_syntax.specs.View.{expr_view, variable_view, stmt_view, block_view};
 ghost use Rattle.strc_peeks.specs.Counts as counting;
@@ -13,9 +14,11 @@ ghost use Rattle.strc_interval.specs.Intervals.{with_unknown, with_interval, int
 use crate::counts::{
     Counts, Need, if_equal, need_of, no_items, one_pop, one_push, repeated, require_zero, sequence,
 };
-use crate::item_counts::statement_counts;
-use crate::sight::{PeekBounds, PopInterval, advance, in_turns, sight_at};
+use crate::sight::{
+    PeekBounds, PeekSite, PopInterval, add_in_turns, advance, none_popped, sights_of,
+};
 use crate::unreached::{skip_expression, skip_statement};
+use std::alloc::Global;
 use strc_base::memory::NoMemory;
 use strc_interval::constant::constant;
 use strc_interval::interval_scope::IntervalScope;
@@ -23,28 +26,51 @@ use strc_interval::intervals::interval_of;
 use strc_interval::loops::{CountedLoop, counted_loop};
 use strc_syntax::tree::{Expr, Stmt, Variable};
 
-/// Adds an entry for each peek of statements in a row, in order of the text, and gives the counts of
+/// What is told of a body.
+#[derive(Drop)]
+pub struct BodyPeeks {
+    /// How many items a run pushes and pops, where that can be counted.
+    pub counts: Option<Counts>,
+    /// What is told of each peek, in order of the text.
+    pub sights: Vec<PeekBounds>,
+}
+
+/// What is told of the statements of a body whose firing may look at so many items.
+pub fn body_peeks(alloc: Global, block: &[Stmt], window: u32) -> Result<BodyPeeks, NoMemory>
+    ensures counts { IfOk result (λ told. told.counts
+        ≡ counting.stmts_counts [] (block_view block.now)) }
+    ensures sights { IfOk result (λ told. told.sights.items
+        ≡ spec.body_sights window (block_view block.now)) }
+{
+    let mut names = IntervalScope::new(alloc);
+    let mut sites = Vec::new(alloc);
+    let counts = check_peeks_in_block(block, &mut names, alloc, none_popped(), &mut sites)?;
+    let sights = sights_of(alloc, window, &sites)?;
+    Ok(BodyPeeks { counts, sights })
+}
+
+/// Adds a site for each peek of statements in a row, in order of the text, and gives the counts of
 /// the statements.
 #[cycle(peeks)]
 #[tactic(auto, using(strc_interval::proofs::IntervalGrowth::own_growth))]
-pub fn check_peeks_in_block(
+fn check_peeks_in_block(
     block: &[Stmt],
     names: &mut IntervalScope,
-    window: u32,
+    alloc: Global,
     popped: PopInterval,
-    sights: &mut Vec<PeekBounds>,
+    sites: &mut Vec<PeekSite>,
 ) -> Result<Option<Counts>, NoMemory>
     ensures counts { IfOk result (λ counts. counts
         ≡ counting.stmts_counts (names_of names.old) (block_view block.now)) }
-    ensures sights { OnOk result (sights.new.items
-        ≡ sights.old.items ++ spec.stmts_sights window names.old popped (block_view block.now)) }
+    ensures sites { OnOk result (sites.new.items
+        ≡ sites.old.items ++ spec.stmts_sites names.old popped (block_view block.now)) }
     ensures names { OnOk result (names.new ≡ names.old) }
 {
     let outside = names.len();
     let mut counts = Some(no_items());
     let mut here = popped;
     for statement in block {
-        let passed = check_peeks_in_statement(statement, names, window, here, sights)?;
+        let passed = check_peeks_in_statement(statement, names, alloc, here, sites)?;
         here = advance(here, passed);
         counts = sequence(counts, passed);
     }
@@ -58,89 +84,89 @@ pub fn check_peeks_in_block(
 fn check_peeks_in_statement(
     statement: &Stmt,
     names: &mut IntervalScope,
-    window: u32,
+    alloc: Global,
     popped: PopInterval,
-    sights: &mut Vec<PeekBounds>,
+    sites: &mut Vec<PeekSite>,
 ) -> Result<Option<Counts>, NoMemory>
     ensures counts { IfOk result (λ counts. counts
         ≡ counting.stmt_counts (names_of names.old) (stmt_view statement.now)) }
-    ensures sights { OnOk result (sights.new.items
-        ≡ sights.old.items ++ spec.stmt_sights window names.old popped (stmt_view statement.now)) }
+    ensures sites { OnOk result (sites.new.items
+        ≡ sites.old.items ++ spec.stmt_sites names.old popped (stmt_view statement.now)) }
     ensures names { OnOk result (names.new ≡ intervals_after names.old (stmt_view statement.now)) }
 {
     match statement {
         Stmt::Empty | Stmt::Compose(_) => Ok(Some(no_items())),
-        Stmt::Block(body) => check_peeks_in_block(body, names, window, popped, sights),
+        Stmt::Block(body) => check_peeks_in_block(body, names, alloc, popped, sites),
         Stmt::Declare(declared) => {
-            check_peeks_in_variables(&declared.variables, names, window, popped, sights)
+            check_peeks_in_variables(&declared.variables, names, popped, sites)
         }
         Stmt::Evaluate(value)
         | Stmt::Assign(_, _, value)
         | Stmt::Print(value)
-        | Stmt::Println(value) => check_peeks_in_expression(value, names, window, popped, sights),
+        | Stmt::Println(value) => check_peeks_in_expression(value, names, popped, sites),
         Stmt::AssignElement(_, index, _, value) => {
-            let index = check_peeks_in_expression(index, names, window, popped, sights)?;
+            let index = check_peeks_in_expression(index, names, popped, sites)?;
             let here = advance(popped, index);
-            let value = check_peeks_in_expression(value, names, window, here, sights)?;
+            let value = check_peeks_in_expression(value, names, here, sites)?;
             Ok(sequence(index, value))
         }
         Stmt::Push(value) => {
-            let value = check_peeks_in_expression(value, names, window, popped, sights)?;
+            let value = check_peeks_in_expression(value, names, popped, sites)?;
             Ok(sequence(value, Some(one_push())))
         }
         Stmt::If(condition, chosen) => {
-            let test = check_peeks_in_expression(condition, names, window, popped, sights)?;
+            let test = check_peeks_in_expression(condition, names, popped, sites)?;
             let here = advance(popped, test);
             let chosen = match constant(condition) {
                 Some(0) => {
-                    skip_statement(chosen, sights)?;
+                    skip_statement(chosen, sites)?;
                     Some(no_items())
                 }
-                Some(_) => look_inside(chosen, names, window, here, sights)?,
+                Some(_) => look_inside(chosen, names, alloc, here, sites)?,
                 None => {
-                    let chosen = look_inside(chosen, names, window, here, sights)?;
+                    let chosen = look_inside(chosen, names, alloc, here, sites)?;
                     if_equal(chosen, Some(no_items()))
                 }
             };
             Ok(sequence(test, chosen))
         }
         Stmt::IfElse(condition, chosen, other) => {
-            let test = check_peeks_in_expression(condition, names, window, popped, sights)?;
+            let test = check_peeks_in_expression(condition, names, popped, sites)?;
             let here = advance(popped, test);
             let taken = match constant(condition) {
                 Some(0) => {
-                    skip_statement(chosen, sights)?;
-                    look_inside(other, names, window, here, sights)?
+                    skip_statement(chosen, sites)?;
+                    look_inside(other, names, alloc, here, sites)?
                 }
                 Some(_) => {
-                    let chosen = look_inside(chosen, names, window, here, sights)?;
-                    skip_statement(other, sights)?;
+                    let chosen = look_inside(chosen, names, alloc, here, sites)?;
+                    skip_statement(other, sites)?;
                     chosen
                 }
                 None => {
-                    let chosen = look_inside(chosen, names, window, here, sights)?;
-                    let other = look_inside(other, names, window, here, sights)?;
+                    let chosen = look_inside(chosen, names, alloc, here, sites)?;
+                    let other = look_inside(other, names, alloc, here, sites)?;
                     if_equal(chosen, other)
                 }
             };
             Ok(sequence(test, taken))
         }
         Stmt::While(condition, body) => {
-            let test = check_peeks_in_expression(condition, names, window, popped, sights)?;
-            let body = look_inside(body, names, window, popped, sights)?;
+            let test = check_peeks_in_expression(condition, names, popped, sites)?;
+            let body = look_inside(body, names, alloc, popped, sites)?;
             Ok(sequence(require_zero(test), require_zero(body)))
         }
         Stmt::For(first, condition, step, body) => {
             let counted = counted_loop(names, first, condition, step, body);
             let outside = names.len();
-            let begun = check_peeks_in_statement(first, names, window, popped, sights)?;
+            let begun = check_peeks_in_statement(first, names, alloc, popped, sites)?;
             let here = advance(popped, begun);
             let turned = match counted {
-                Some(counted) => check_peeks_in_turns(body, counted, names, window, here, sights)?,
+                Some(counted) => check_peeks_in_turns(body, counted, names, alloc, here, sites)?,
                 None => {
-                    let test = check_peeks_in_option(condition, names, window, here, sights)?;
-                    let step = look_inside(step, names, window, here, sights)?;
-                    let body = look_inside(body, names, window, here, sights)?;
+                    let test = check_peeks_in_option(condition, names, here, sites)?;
+                    let step = look_inside(step, names, alloc, here, sites)?;
+                    let body = look_inside(body, names, alloc, here, sites)?;
                     sequence(
                         require_zero(test),
                         sequence(require_zero(step), require_zero(body)),
@@ -159,18 +185,18 @@ fn check_peeks_in_statement(
 fn look_inside(
     statement: &Stmt,
     names: &mut IntervalScope,
-    window: u32,
+    alloc: Global,
     popped: PopInterval,
-    sights: &mut Vec<PeekBounds>,
+    sites: &mut Vec<PeekSite>,
 ) -> Result<Option<Counts>, NoMemory>
     ensures counts { IfOk result (λ counts. counts
         ≡ counting.stmt_counts (names_of names.old) (stmt_view statement.now)) }
-    ensures sights { OnOk result (sights.new.items
-        ≡ sights.old.items ++ spec.stmt_sights window names.old popped (stmt_view statement.now)) }
+    ensures sites { OnOk result (sites.new.items
+        ≡ sites.old.items ++ spec.stmt_sites names.old popped (stmt_view statement.now)) }
     ensures names { OnOk result (names.new ≡ names.old) }
 {
     let outside = names.len();
-    let counts = check_peeks_in_statement(statement, names, window, popped, sights)?;
+    let counts = check_peeks_in_statement(statement, names, alloc, popped, sites)?;
     names.leave(outside);
     Ok(counts)
 }
@@ -178,38 +204,36 @@ fn look_inside(
 /// The same of the turns of a counted loop, in which its variable has an interval. No run comes to
 /// the peeks of a loop of no turn.
 #[cycle(peeks)]
-#[tactic(auto, using(strc_interval::proofs::IntervalGrowth::known_values))]
+#[tactic(auto, using(crate::proofs::Turning::turned))]
 fn check_peeks_in_turns(
     body: &Stmt,
     counted: CountedLoop,
     names: &mut IntervalScope,
-    window: u32,
+    alloc: Global,
     popped: PopInterval,
-    sights: &mut Vec<PeekBounds>,
+    sites: &mut Vec<PeekSite>,
 ) -> Result<Option<Counts>, NoMemory>
     ensures counts { IfOk result (λ counts. counts
         ≡ counting.repeated counted.entry.turns
         (counting.stmt_counts (names_of names.old) (stmt_view body.now))) }
-    ensures sights { let within = with_interval names.old counted.entry.name.now
+    ensures sites { let within = with_interval names.old counted.entry.name.now
         counted.entry.interval in
         let counts = counting.stmt_counts (names_of names.old) (stmt_view body.now) in
-        OnOk result (sights.new.items ≡ sights.old.items ++ spec.some_turns counted.entry.turns
-        (spec.stmt_sights window within (spec.in_turns popped counted.entry.turns counts)
+        OnOk result (sites.new.items ≡ sites.old.items ++ spec.some_turns counted.entry.turns
+        (spec.stmt_sites within (spec.in_turns popped counted.entry.turns counts)
         (stmt_view body.now)) (text.peeks_of_stmt (stmt_view body.now))) }
     ensures names { OnOk result (names.new ≡ names.old) }
 {
     if counted.turns == 0 {
-        skip_statement(body, sights)?;
+        skip_statement(body, sites)?;
         return Ok(Some(no_items()));
     }
-    let outside = names.len();
-    let counts = statement_counts(body, names)?;
-    names.leave(outside);
+    let mut inner = Vec::new(alloc);
     let before = names.interval_of(counted.name);
     names.give_interval(counted.name, Some(counted.interval));
-    let here = in_turns(popped, counted.turns, counts);
-    look_inside(body, names, window, here, sights)?;
+    let counts = look_inside(body, names, alloc, popped, &mut inner)?;
     names.give_interval(counted.name, before);
+    add_in_turns(sites, &inner, counted.turns, counts)?;
     Ok(repeated(counted.turns, counts))
 }
 
@@ -217,14 +241,13 @@ fn check_peeks_in_turns(
 fn check_peeks_in_variables(
     variables: &[Variable],
     names: &mut IntervalScope,
-    window: u32,
     popped: PopInterval,
-    sights: &mut Vec<PeekBounds>,
+    sites: &mut Vec<PeekSite>,
 ) -> Result<Option<Counts>, NoMemory>
     ensures counts { IfOk result (λ counts. counts
         ≡ counting.variables_counts (map variable_view variables.now)) }
-    ensures sights { OnOk result (sights.new.items
-        ≡ sights.old.items ++ spec.variables_sights window names.old popped
+    ensures sites { OnOk result (sites.new.items
+        ≡ sites.old.items ++ spec.variables_sites names.old popped
         (map variable_view variables.now)) }
     ensures names { OnOk result (names.new ≡ with_unknown names.old
         (map variable_view variables.now)) }
@@ -232,7 +255,7 @@ fn check_peeks_in_variables(
     let mut counts = Some(no_items());
     let mut here = popped;
     for variable in variables {
-        let passed = check_peeks_in_option(&variable.initial, names, window, here, sights)?;
+        let passed = check_peeks_in_option(&variable.initial, names, here, sites)?;
         here = advance(here, passed);
         counts = sequence(counts, passed);
         names.declare(&variable.name)?;
@@ -243,19 +266,18 @@ fn check_peeks_in_variables(
 fn check_peeks_in_option(
     value: &Option<Expr>,
     names: &IntervalScope,
-    window: u32,
     popped: PopInterval,
-    sights: &mut Vec<PeekBounds>,
+    sites: &mut Vec<PeekSite>,
 ) -> Result<Option<Counts>, NoMemory>
     ensures counts { IfOk result (λ counts. counts
         ≡ counting.option_counts (option_map expr_view value.now)) }
-    ensures sights { OnOk result (sights.new.items
-        ≡ sights.old.items ++ spec.option_sights window names.now popped
+    ensures sites { OnOk result (sites.new.items
+        ≡ sites.old.items ++ spec.option_sites names.now popped
         (option_map expr_view value.now)) }
 {
     match value {
         None => Ok(Some(no_items())),
-        Some(value) => check_peeks_in_expression(value, names, window, popped, sights),
+        Some(value) => check_peeks_in_expression(value, names, popped, sites),
     }
 }
 
@@ -263,13 +285,12 @@ fn check_peeks_in_option(
 fn check_peeks_in_expression(
     value: &Expr,
     names: &IntervalScope,
-    window: u32,
     popped: PopInterval,
-    sights: &mut Vec<PeekBounds>,
+    sites: &mut Vec<PeekSite>,
 ) -> Result<Option<Counts>, NoMemory>
     ensures counts { IfOk result (λ counts. counts ≡ counting.expr_counts (expr_view value.now)) }
-    ensures sights { OnOk result (sights.new.items
-        ≡ sights.old.items ++ spec.expr_sights window names.now popped (expr_view value.now)) }
+    ensures sites { OnOk result (sites.new.items
+        ≡ sites.old.items ++ spec.expr_sites names.now popped (expr_view value.now)) }
 {
     match value {
         Expr::Number(_) | Expr::Truth(_) | Expr::Read(_) | Expr::Step(_, _) => {
@@ -277,48 +298,48 @@ fn check_peeks_in_expression(
         }
         Expr::Pop => Ok(Some(one_pop())),
         Expr::Peek(index) => {
-            let counts = check_peeks_in_expression(index, names, window, popped, sights)?;
+            let counts = check_peeks_in_expression(index, names, popped, sites)?;
             let here = advance(popped, counts);
-            sights.push(sight_at(window, here, interval_of(index, names)))?;
+            sites.push(PeekSite::Reached(interval_of(index, names), here))?;
             Ok(counts)
         }
         Expr::Element(_, inner)
         | Expr::Group(inner)
         | Expr::Unary(_, inner)
         | Expr::StepElement(_, _, inner) => {
-            check_peeks_in_expression(inner, names, window, popped, sights)
+            check_peeks_in_expression(inner, names, popped, sites)
         }
         Expr::Binary(operator, left, right) => {
-            let first = check_peeks_in_expression(left, names, window, popped, sights)?;
+            let first = check_peeks_in_expression(left, names, popped, sites)?;
             let here = advance(popped, first);
             let second = match need_of(*operator, left) {
-                Need::Always => check_peeks_in_expression(right, names, window, here, sights)?,
+                Need::Always => check_peeks_in_expression(right, names, here, sites)?,
                 Need::Never => {
-                    skip_expression(right, sights)?;
+                    skip_expression(right, sites)?;
                     Some(no_items())
                 }
                 Need::Sometimes => {
-                    require_zero(check_peeks_in_expression(right, names, window, here, sights)?)
+                    require_zero(check_peeks_in_expression(right, names, here, sites)?)
                 }
             };
             Ok(sequence(first, second))
         }
         Expr::Conditional(condition, chosen, other) => {
-            let test = check_peeks_in_expression(condition, names, window, popped, sights)?;
+            let test = check_peeks_in_expression(condition, names, popped, sites)?;
             let here = advance(popped, test);
             let taken = match constant(condition) {
                 Some(0) => {
-                    skip_expression(chosen, sights)?;
-                    check_peeks_in_expression(other, names, window, here, sights)?
+                    skip_expression(chosen, sites)?;
+                    check_peeks_in_expression(other, names, here, sites)?
                 }
                 Some(_) => {
-                    let chosen = check_peeks_in_expression(chosen, names, window, here, sights)?;
-                    skip_expression(other, sights)?;
+                    let chosen = check_peeks_in_expression(chosen, names, here, sites)?;
+                    skip_expression(other, sites)?;
                     chosen
                 }
                 None => {
-                    let chosen = check_peeks_in_expression(chosen, names, window, here, sights)?;
-                    let other = check_peeks_in_expression(other, names, window, here, sights)?;
+                    let chosen = check_peeks_in_expression(chosen, names, here, sites)?;
+                    let other = check_peeks_in_expression(other, names, here, sites)?;
                     if_equal(chosen, other)
                 }
             };

@@ -1,18 +1,29 @@
 // What a peek's text tells of the window.
 
-ghost use Rattle.std.specs.Prelude.{◌≡◌};
+ghost use Rattle.std.specs.Prelude.{◌≡◌, ◌++◌, IfOk, OnOk, map};
 ghost use Rattle.strc_peeks.specs.Counts.{Counts};
 ghost use Rattle.strc_peeks.specs.Peeks as spec;
 
 use crate::counts::{Counts, saturating_product, saturating_sum};
+use std::alloc::Global;
+use strc_base::memory::NoMemory;
 use strc_interval::interval::Interval;
 
 /// Between how many items a firing has popped when it comes to a place of its text, saturated as
 /// counts are.
 #[derive(Clone, Copy, PartialEq, Eq)]
-pub struct PopInterval {
+pub(crate) struct PopInterval {
     pub low: u32,
     pub high: u32,
+}
+
+/// A peek of a text, before its window is known.
+#[derive(Clone, Copy)]
+pub(crate) enum PeekSite {
+    /// The interval of its index, where that is known, and how many items are popped before it.
+    Reached(Option<Interval>, PopInterval),
+    /// No run comes to it.
+    NoRun,
 }
 
 /// What is told of a peek.
@@ -29,14 +40,14 @@ pub enum PeekBounds {
 }
 
 /// The items popped where a firing begins.
-pub fn none_popped() -> PopInterval
+pub(crate) fn none_popped() -> PopInterval
     ensures { result ≡ spec.none_popped }
 {
     PopInterval { low: 0, high: 0 }
 }
 
 /// Behind a part that was counted.
-pub fn advance(popped: PopInterval, counts: Option<Counts>) -> PopInterval
+pub(crate) fn advance(popped: PopInterval, counts: Option<Counts>) -> PopInterval
     ensures { result ≡ spec.advance popped counts }
 {
     let pops = pops_of(counts);
@@ -47,7 +58,7 @@ pub fn advance(popped: PopInterval, counts: Option<Counts>) -> PopInterval
 }
 
 /// In a turn of a loop, behind the pops of the turns before it.
-pub fn in_turns(popped: PopInterval, turns: u64, counts: Option<Counts>) -> PopInterval
+fn in_turns(popped: PopInterval, turns: u64, counts: Option<Counts>) -> PopInterval
     ensures { result ≡ spec.in_turns popped turns counts }
 {
     let before = saturating_product(turns.saturating_sub(1), pops_of(counts));
@@ -67,7 +78,7 @@ fn pops_of(counts: Option<Counts>) -> u32
 }
 
 /// What the text of a peek tells whose index has this interval.
-pub fn sight_at(window: u32, popped: PopInterval, index: Option<Interval>) -> PeekBounds
+fn sight_at(window: u32, popped: PopInterval, index: Option<Interval>) -> PeekBounds
     ensures { result ≡ spec.sight_at window popped index }
 {
     let Some(index) = index else {
@@ -81,6 +92,59 @@ pub fn sight_at(window: u32, popped: PopInterval, index: Option<Interval>) -> Pe
         return PeekBounds::Outside;
     }
     PeekBounds::Open
+}
+
+/// What is told of a peek before a window.
+fn sight_of(window: u32, site: PeekSite) -> PeekBounds
+    ensures { result ≡ spec.sight_of window site }
+{
+    match site {
+        PeekSite::Reached(index, popped) => sight_at(window, popped, index),
+        PeekSite::NoRun => PeekBounds::Unreached,
+    }
+}
+
+/// What is told of each peek before a window.
+pub(crate) fn sights_of(
+    alloc: Global,
+    window: u32,
+    sites: &[PeekSite],
+) -> Result<Vec<PeekBounds>, NoMemory>
+    ensures { IfOk result (λ sights. sights.items ≡ map (spec.sight_of window) sites.now) }
+{
+    let mut sights = Vec::with_capacity(alloc, sites.len())?;
+    for site in sites {
+        sights.push(sight_of(window, *site))?;
+    }
+    Ok(sights)
+}
+
+/// A peek of a loop's body, behind the pops of the turns before.
+fn site_in_turns(site: PeekSite, turns: u64, counts: Option<Counts>) -> PeekSite
+    ensures { result ≡ spec.site_in_turns turns counts site }
+{
+    match site {
+        PeekSite::Reached(index, popped) => {
+            PeekSite::Reached(index, in_turns(popped, turns, counts))
+        }
+        PeekSite::NoRun => PeekSite::NoRun,
+    }
+}
+
+/// Adds the peeks of a loop's body, behind the pops of the turns before.
+pub(crate) fn add_in_turns(
+    sites: &mut Vec<PeekSite>,
+    body: &[PeekSite],
+    turns: u64,
+    counts: Option<Counts>,
+) -> Result<(), NoMemory>
+    ensures { OnOk result (sites.new.items
+        ≡ sites.old.items ++ map (spec.site_in_turns turns counts) body.now) }
+{
+    for site in body {
+        sites.push(site_in_turns(*site, turns, counts))?;
+    }
+    Ok(())
 }
 
 /// Whether a firing needs no test of a peek: it stays within its window, or no run comes to it.

@@ -12,11 +12,11 @@ use Rattle.strc_semantics.specs.Closed.{AreClosed}
 use Rattle.strc_semantics.specs.Firing.{Port, Store, no_traffic, port_of, store_at}
 use Rattle.strc_peeks.specs.Counts.{stmts_counts}
 use Rattle.strc_peeks.specs.Entries.{peeks_of}
-use Rattle.strc_peeks.specs.Peeks.{is_closed, none_popped}
+use Rattle.strc_peeks.specs.Peeks.{is_closed, body_sights}
 use Rattle.strc_peeks.specs.Safe.{StmtsAreSafe}
 use Rattle.strc_peeks.proofs.Promised as text
 use Rattle.strc_peeks.proofs.Results.{and_first, and_second}
-use Rattle.strc_rate.specs.Rates.{BodyRates, within_limit, are_within_limit, body_sights, checked}
+use Rattle.strc_rate.specs.Rates.{BodyRates, within_limit, are_within_limit, checked}
 use Rattle.strc_rate.specs.Safe.{rates_of, ClosedPeeksNeverFault, EachPeekHasAnEntry}
 use Rattle.strc_rate.proofs.KeptRates.{limited, accepted_by, OfBodies, of_filters, bodies_closed}
 
@@ -36,7 +36,7 @@ small_window rates limits =
 body_safe : (names : Scope) → OfBodies (AreClosed names) RunsSafe
 body_safe names lacks rates block closed =
     accepted_by (are_within_limit rates) lacks rates (stmts_counts [] block)
-    (body_sights rates block) (RunsSafe rates block)
+    (body_sights (window_size rates) block) (RunsSafe rates block)
     (λ c limits counts pushes pops port store ahead none.
     text.closed_peeks (window_size rates) port block names store (small_window rates limits) ahead
     closed (ap is_some counts) none)
@@ -60,9 +60,9 @@ KeepsStep rates block accepted = length accepted.closed ≡ length (peeks_of blo
 body_entries : OfBodies (λ block. Unit {0}) KeepsStep
 body_entries lacks rates block any =
     accepted_by (are_within_limit rates) lacks rates (stmts_counts [] block)
-    (body_sights rates block) (KeepsStep rates block)
-    (λ c limits counts pushes pops. length-map (body_sights rates block) is_closed
-    ∙ text.each_entry (window_size rates) [] none_popped block)
+    (body_sights (window_size rates) block) (KeepsStep rates block)
+    (λ c limits counts pushes pops. length-map (body_sights (window_size rates) block) is_closed
+    ∙ text.each_entry (window_size rates) block)
 
 pub each_entry : EachPeekHasAnEntry
 each_entry filter =

@@ -14,18 +14,18 @@ use Rattle.strc_semantics.specs.declared.body.Body.TheVariants as body
 use Rattle.strc_semantics.specs.Scoping.{Scope}
 use Rattle.strc_semantics.specs.Filters.{Filter, sized_fields, work_block, work_rates}
 use Rattle.strc_semantics.specs.Filters.{prework_block, prework_rates, body_block, body_rates}
-use Rattle.strc_semantics.specs.Filters.{push_rate, pop_rate, item_count}
+use Rattle.strc_semantics.specs.Filters.{push_rate, pop_rate, item_count, window_size}
 use Rattle.strc_semantics.specs.Closed.{AreClosed, IsClosedFilter}
 use Rattle.strc_semantics.specs.Firing.{Port, Store, stmts_done, no_traffic, port_of, store_at}
 use Rattle.strc_work.proofs.FilterRuns.{body_closed}
 use Rattle.strc_rate.specs.declared.rates.RateError.{RateError}
 use Rattle.strc_rate.specs.declared.rates.RateError.TheVariants.{RateLimit, RateMismatch, PeekOutside}
 use Rattle.strc_peeks.specs.Counts.{Counts, stmts_counts}
-use Rattle.strc_peeks.specs.Peeks.{PeekBounds}
+use Rattle.strc_peeks.specs.Peeks.{PeekBounds, body_sights}
 use Rattle.strc_base.specs.Results.{result_and_then}
 use Rattle.strc_rate.specs.Rates.{BodyRates, FilterRates, within_limit, are_within_limit}
 use Rattle.strc_rate.specs.Rates.{same_rate, some_outside, accepted_rates}
-use Rattle.strc_rate.specs.Rates.{with_closed_peeks, counted, body_sights, body_checked, work_lacks}
+use Rattle.strc_rate.specs.Rates.{with_closed_peeks, counted, body_checked, work_lacks}
 use Rattle.strc_rate.specs.Rates.{work_checked, some_prework, prework_checked, then_work, checked}
 use Rattle.strc_rate.specs.Kept.{CheckedRatesAreKept}
 use Rattle.strc_rate.specs.Safe.{rates_of}
@@ -92,7 +92,7 @@ RunsKeep rates block accepted =
 body_kept : (names : Scope) → OfBodies (AreClosed names) RunsKeep
 body_kept names lacks rates block closed =
     accepted_by (are_within_limit rates) lacks rates (stmts_counts [] block)
-    (body_sights rates block) (RunsKeep rates block)
+    (body_sights (window_size rates) block) (RunsKeep rates block)
     (λ c limits counts pushes pops port store none.
     let push_limit = limited (push_rate rates)
     (and_first (within_limit (push_rate rates)) _ limits) in

@@ -10,7 +10,7 @@ use Rattle.strc_semantics.specs.Filters.{Filter, work_block, work_rates, prework
 use Rattle.strc_semantics.specs.Filters.{prework_rates, push_rate, pop_rate, peek_rate, item_count}
 use Rattle.strc_semantics.specs.Filters.{window_size}
 use Rattle.strc_peeks.specs.Counts.{Counts, stmts_counts}
-use Rattle.strc_peeks.specs.Peeks.{PeekBounds, Outside, none_popped, is_closed, stmts_sights}
+use Rattle.strc_peeks.specs.Peeks.{PeekBounds, Outside, is_closed, body_sights}
 use Rattle.strc_rate.specs.declared.rates.TheConstants.{RATE_LIMIT}
 use Rattle.strc_rate.specs.declared.rates.RateError.{RateError}
 use Rattle.strc_rate.specs.declared.rates.RateError.TheVariants.{RateLimit, RateUnknown}
@@ -81,15 +81,11 @@ counted rates (Some counts) sights =
     result_and_then (same_rate (item_count (pop_rate rates)) counts.pops)
     (λ same_pops. with_closed_peeks rates sights))
 
--- what is told of each peek of a body
-abbrev pub body_sights : List tree.Rate → tree.Stmts → List PeekBounds
-body_sights rates block = stmts_sights (window_size rates) [] none_popped block
-
 -- the rates of a body: their limits, then the counts, then the peeks
 abbrev pub body_checked : (lacks : Bool) → List tree.Rate → tree.Stmts → Result BodyRates RateError
 body_checked lacks rates block =
     if not (are_within_limit rates) || lacks then Err RateLimit
-    else counted rates (stmts_counts [] block) (body_sights rates block)
+    else counted rates (stmts_counts [] block) (body_sights (window_size rates) block)
 
 -- a work lacks a rate where that is 0 on a side with items
 abbrev pub work_lacks : Filter → Bool

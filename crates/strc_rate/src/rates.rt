@@ -12,9 +12,8 @@ ghost use Rattle.strc_rate.specs.Verdicts.{IsVerdict, body_view, rates_view};
 
 use std::alloc::{AllocError, AllocFailed, Global};
 use strc_base::memory::NoMemory;
-use strc_interval::interval_scope::IntervalScope;
-use strc_peeks::peeks::check_peeks_in_block;
-use strc_peeks::sight::{PeekBounds, is_closed, none_popped};
+use strc_peeks::peeks::body_peeks;
+use strc_peeks::sight::{PeekBounds, is_closed};
 use strc_semantics::body::Body;
 use strc_syntax::tree::ItemType;
 use strc_work::code::{Code, DeclaredRates};
@@ -168,21 +167,12 @@ fn check_body(alloc: Global, code: &Code, body: Body, lacks: bool) -> Result<Bod
     if !are_within_limit(rates) || lacks {
         return Err(RateError::RateLimit);
     }
-    let mut names = IntervalScope::new(alloc);
-    let mut sights = Vec::new(alloc);
-    let window = code.window(body);
-    let counts = check_peeks_in_block(
-        code.block(body),
-        &mut names,
-        window,
-        none_popped(),
-        &mut sights,
-    )?;
-    match counts {
+    let told = body_peeks(alloc, code.block(body), code.window(body))?;
+    match told.counts {
         Some(counts) => {
             same_rate(item_count(rates.push), counts.pushes)?;
             same_rate(item_count(rates.pop), counts.pops)?;
-            with_closed_peeks(alloc, code, body, &sights)
+            with_closed_peeks(alloc, code, body, &told.sights)
         }
         None => Err(RateError::RateUnknown),
     }

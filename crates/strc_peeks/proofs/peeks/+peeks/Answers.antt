@@ -9,7 +9,7 @@ use Rattle.strc_syntax.proofs.Blocks.{stmt_view-Block, block_view-drop}
 use Rattle.strc_peeks.specs.Counts.{sequence, require_zero, repeated, option_counts, turns_counts}
 use Rattle.strc_peeks.specs.Counts.{stmt_counts, stmts_counts}
 use Rattle.strc_interval.specs.Intervals.{names_of}
-use Rattle.strc_peeks.specs.Peeks.{stmt_sights, stmts_sights}
+use Rattle.strc_peeks.specs.Peeks.{stmt_sites, stmts_sites}
 use Rattle.strc_peeks.proofs.Counting.{first_stmts, first_runnable, runnable_step, stmts_step}
 use Rattle.strc_peeks.proofs.Counting.{for_counts}
 use Rattle.strc_peeks.proofs.Sighting.{stmts_seen}
@@ -45,11 +45,11 @@ check_peeks_in_block-loop-statement-preserved t c =
           (block_view (drop i all)) c.in_ok-passed.ensures.counts names c.sequence-counts.ensures
           next invariant.counted;
       runnable = runnable_step so_far here c.sequence-counts.result c.sequence-counts.ensures;
-      told = stmts_seen c.loop-statement.sights.items
-          c.check_peeks_in_statement.new.sights.items _ c.args.window c.loop-statement.names
+      told = stmts_seen c.loop-statement.sites.items
+          c.check_peeks_in_statement.new.sites.items _ c.loop-statement.names
           c.check_peeks_in_statement.new.names c.loop-statement.here c.advance-here.result here x
           rest (block_view (drop i all)) c.in_ok-passed.ensures.counts names c.advance-here.ensures
-          c.in_ok-passed.ensures.sights next invariant.told;
+          c.in_ok-passed.ensures.sites next invariant.told;
       names = rw names (stands_on_after c.args.names.now c.loop-statement.names x invariant.names);
     }
 
@@ -64,18 +64,17 @@ check_peeks_in_statement-returns-in-Block-clause-counts t c =
     IfOk-weaker c.check_peeks_in_block.result _ _
     (λ counts h. h ∙ same) c.check_peeks_in_block.ensures.counts
 
-pub check_peeks_in_statement-returns-in-Block-clause-sights :
-    goal.check_peeks_in_statement-returns-in-Block-clause-sights
-check_peeks_in_statement-returns-in-Block-clause-sights t c =
-    let window = c.args.window in
+pub check_peeks_in_statement-returns-in-Block-clause-sites :
+    goal.check_peeks_in_statement-returns-in-Block-clause-sites
+check_peeks_in_statement-returns-in-Block-clause-sites t c =
     let intervals = c.args.names.now in
     let popped = c.args.popped in
     let same =
-    ap (λ items. stmts_sights window intervals popped (block_view items)) c.deref.ensures.value
-    ∙ ap (stmt_sights window intervals popped) (sym (stmt_view-Block c.in-Block.body))
-    ∙ ap (λ s. stmt_sights window intervals popped (stmt_view s)) (sym c.in-Block.is) in
+    ap (λ items. stmts_sites intervals popped (block_view items)) c.deref.ensures.value
+    ∙ ap (stmt_sites intervals popped) (sym (stmt_view-Block c.in-Block.body))
+    ∙ ap (λ s. stmt_sites intervals popped (stmt_view s)) (sym c.in-Block.is) in
     on_ok_weaker c.check_peeks_in_block.result
-    (λ h. h ∙ ap (λ s. c.args.sights.now.items ++ s) same) c.check_peeks_in_block.ensures.sights
+    (λ h. h ∙ ap (λ s. c.args.sites.now.items ++ s) same) c.check_peeks_in_block.ensures.sites
 
 pub check_peeks_in_statement-returns-after-counted-clause-counts :
     goal.check_peeks_in_statement-returns-after-counted-clause-counts

@@ -2,7 +2,7 @@ use Rattle.std.proofs.Common.{◌≡◌, ◌++◌, Some, drop}
 use Rattle.strc_syntax.specs.View.{block_view}
 use Rattle.strc_peeks.specs.Counts.{no_items, sequence, stmts_counts}
 use Rattle.strc_interval.specs.Intervals.{names_of}
-use Rattle.strc_peeks.specs.Peeks.{stmts_sights}
+use Rattle.strc_peeks.specs.Peeks.{stmts_sites}
 use Rattle.strc_interval.proofs.IntervalGrowth.{StandsOn}
 use Rattle.strc_peeks.proofs.peeks.+peeks.Given as goal
 
@@ -13,8 +13,8 @@ invariant-check_peeks_in_block-loop-statement l = record {
       (block_view (drop l.statement-index l.block)))
       ≡ stmts_counts (names_of l.initial.names) (block_view l.block);
   runnable : sequence l.counts (Some no_items) ≡ l.counts;
-  told : l.sights.items ++ stmts_sights l.window l.names l.here
-      (block_view (drop l.statement-index l.block)) ≡ l.initial.sights.items
-      ++ stmts_sights l.window l.initial.names l.fn.popped (block_view l.block);
+  told : l.sites.items ++ stmts_sites l.names l.here
+      (block_view (drop l.statement-index l.block)) ≡ l.initial.sites.items
+      ++ stmts_sites l.initial.names l.fn.popped (block_view l.block);
   names : StandsOn l.initial.names l.names;
 }

@@ -1,7 +1,7 @@
 use Rattle.std.proofs.Common.{◌≡◌, ◌++◌, Some, drop, map}
 use Rattle.strc_syntax.specs.View.{variable_view}
 use Rattle.strc_peeks.specs.Counts.{no_items, sequence, variables_counts}
-use Rattle.strc_peeks.specs.Peeks.{variables_sights}
+use Rattle.strc_peeks.specs.Peeks.{variables_sites}
 use Rattle.strc_interval.specs.Intervals.{with_unknown}
 use Rattle.strc_peeks.proofs.peeks.check_peeks_in_variables.Given as goal
 
@@ -11,9 +11,9 @@ invariant-loop-variable l = record {
       (map variable_view (drop l.variable-index l.variables)))
       ≡ variables_counts (map variable_view l.variables);
   runnable : sequence l.counts (Some no_items) ≡ l.counts;
-  told : l.sights.items ++ variables_sights l.window l.names l.here
-      (map variable_view (drop l.variable-index l.variables)) ≡ l.initial.sights.items
-      ++ variables_sights l.window l.initial.names l.fn.popped (map variable_view l.variables);
+  told : l.sites.items ++ variables_sites l.names l.here
+      (map variable_view (drop l.variable-index l.variables)) ≡ l.initial.sites.items
+      ++ variables_sites l.initial.names l.fn.popped (map variable_view l.variables);
   names : with_unknown l.names (map variable_view (drop l.variable-index l.variables))
       ≡ with_unknown l.initial.names (map variable_view l.variables);
 }

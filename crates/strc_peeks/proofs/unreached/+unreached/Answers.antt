@@ -13,7 +13,7 @@ skip_block-loop-statement-preserved t c =
     let i = c.loop-statement.statement-index in
     let x = stmt_view c.statement-item.result in
     let rest = block_view (drop (i + 1) all) in
-    stmts_unreached c.loop-statement.sights.items c.skip_statement.new.sights.items _ x rest
+    stmts_unreached c.loop-statement.sites.items c.skip_statement.new.sites.items _ x rest
     (block_view (drop i all)) c.in_ok-skip_statement.ensures
     (block_view-drop all i c.statement-item.result c.loop-statement-test.true c.statement-item.is)
     c.loop-statement.invariant
@@ -25,4 +25,4 @@ skip_statement-returns-in-Block t c =
     ∙ ap peeks_of_stmt (sym (stmt_view-Block c.in-Block.body))
     ∙ ap (λ s. peeks_of_stmt (stmt_view s)) (sym c.in-Block.is) in
     on_ok_weaker c.skip_block.result
-    (λ h. h ∙ ap (λ p. c.args.sights.now.items ++ unreached p) same) c.skip_block.ensures
+    (λ h. h ∙ ap (λ p. c.args.sites.now.items ++ unreached p) same) c.skip_block.ensures

@@ -6,5 +6,5 @@ use Rattle.strc_peeks.proofs.unreached.+unreached.Given as goal
 
 abbrev pub invariant-skip_block-loop-statement : goal.invariant-skip_block-loop-statement
 invariant-skip_block-loop-statement l =
-    l.sights.items ++ unreached (peeks_of (block_view (drop l.statement-index l.block)))
-    ≡ l.initial.sights.items ++ unreached (peeks_of (block_view l.block))
+    l.sites.items ++ unreached (peeks_of (block_view (drop l.statement-index l.block)))
+    ≡ l.initial.sites.items ++ unreached (peeks_of (block_view l.block))

@@ -10,7 +10,7 @@ loop-variable-preserved c =
     let i = c.loop-variable.variable-index in
     let x = variable_view c.variable-item.result in
     let rest = map variable_view (drop (i + 1) all) in
-    variables_unreached c.loop-variable.sights.items c.skip_option.new.sights.items _ x rest _
+    variables_unreached c.loop-variable.sites.items c.skip_option.new.sites.items _ x rest _
     c.in_ok-skip_option.ensures
     (map-drop variable_view all i c.variable-item.result c.loop-variable-test.true
     c.variable-item.is) c.loop-variable.invariant

@@ -5,6 +5,6 @@ use Rattle.strc_peeks.specs.Peeks.{unreached}
 use Rattle.strc_peeks.proofs.unreached.skip_variables.Given as goal
 
 abbrev pub invariant-loop-variable : goal.invariant-loop-variable
-invariant-loop-variable l = l.sights.items ++ unreached (peeks_of_variables
-    (map variable_view (drop l.variable-index l.variables))) ≡ l.initial.sights.items
+invariant-loop-variable l = l.sites.items ++ unreached (peeks_of_variables
+    (map variable_view (drop l.variable-index l.variables))) ≡ l.initial.sites.items
     ++ unreached (peeks_of_variables (map variable_view l.variables))
