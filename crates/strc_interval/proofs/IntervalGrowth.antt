@@ -73,7 +73,7 @@ drop_both names s s' =
     (stands_on_after names (intervals_after names s) s'
     (stands_on_after names names s (stands_on_itself names)))
 
--- the names alone behind a declaration, and behind a statement
+-- the names alone after a declaration, and after a statement
 pub names_declared : (names : Intervals) (variables : List tree.Variable)
     → names_of (with_unknown names variables) ≡ with_locals (names_of names) variables
 names_declared names [] = refl

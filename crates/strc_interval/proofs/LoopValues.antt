@@ -32,7 +32,7 @@ down_to start a b le f g =
     let low = at_least (start +ℤ neg_ℤ (pos b)) g in
     within_ends (start +ℤ neg_ℤ (pos a)) (omega (arith, ints)) (omega (arith, ints))
 
--- one turn before, the value is between the first one and the one behind
+-- one turn before, the value is between the first one and the one after
 last_fits : (start move : ℤ) (turns : ℕ) → FitsSigned w32 start
     → FitsSigned w32 (start +ℤ pos turns *ℤ move)
     → FitsSigned w32 (start +ℤ pos (turns - 1) *ℤ move)

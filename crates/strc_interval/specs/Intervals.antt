@@ -27,7 +27,7 @@ with_unknown intervals [] = intervals
 with_unknown intervals (first ∷ rest) = with_unknown
     (record { 0 = first.name; 1 = None } ∷ intervals) rest
 
--- behind a statement; what it declares has no known interval
+-- after a statement; what it declares has no known interval
 abbrev pub intervals_after : Intervals → tree.Stmt → Intervals
 intervals_after intervals (tree.Declare kind variables) = with_unknown intervals variables
 intervals_after intervals _ = intervals

@@ -26,7 +26,7 @@ abbrev pub with_locals : Locals → List tree.Variable → Locals
 with_locals locals [] = locals
 with_locals locals (first ∷ rest) = with_locals (first.name ∷ locals) rest
 
--- the local variables that can be seen behind a statement
+-- the local variables that can be seen after a statement
 abbrev pub locals_after : Locals → tree.Stmt → Locals
 locals_after locals (tree.Declare kind variables) = with_locals locals variables
 locals_after locals _ = locals
@@ -36,7 +36,7 @@ abbrev pub declares : List ℕ → List tree.Variable → Bool
 declares name [] = false
 declares name (first ∷ rest) = bytes_eq first.name name || declares name rest
 
--- whether the statements behind one see a new variable of this name
+-- whether the statements after one see a new variable of this name
 abbrev pub shadows : List ℕ → tree.Stmt → Bool
 shadows name (tree.Declare kind variables) = declares name variables
 shadows name _ = false
@@ -62,7 +62,7 @@ abbrev pub option_writes : List ℕ → Option tree.Expr → Bool
 option_writes name None = false
 option_writes name (Some value) = expr_writes name value
 
--- an initialiser doesn't see its own variable, and those behind it do
+-- an initialiser doesn't see its own variable, and those after it do
 abbrev pub variables_write : List ℕ → List tree.Variable → Bool
 variables_write name [] = false
 variables_write name (first ∷ rest) =

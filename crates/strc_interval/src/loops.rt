@@ -320,7 +320,7 @@ fn loop_within_i32(name: &Name, start: i32, step: i64, turns: u64) -> Option<Cou
     if end.is_none() {
         return None;
     }
-    // The last value is between the first one and the one behind it.
+    // The last value is between the first one and the one after it.
     match value_within(start, step, turns.saturating_sub(1)) {
         Some(last) => Some(CountedLoop {
             name,

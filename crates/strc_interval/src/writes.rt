@@ -68,7 +68,7 @@ pub fn statement_writes(statement: &Stmt, name: &Name) -> bool
     }
 }
 
-/// Whether the statements behind one see a new variable of this name.
+/// Whether the statements after one see a new variable of this name.
 fn shadows(statement: &Stmt, name: &Name) -> bool
     ensures { result ≡ spec.shadows name.now (stmt_view statement.now) }
 {
@@ -89,7 +89,7 @@ fn declares(variables: &[Variable], name: &Name) -> bool
     false
 }
 
-/// An initialiser doesn't see its own variable, and those behind it do.
+/// An initialiser doesn't see its own variable, and those after it do.
 fn variables_write(variables: &[Variable], name: &Name) -> bool
     ensures { result ≡ spec.variables_write name.now (map variable_view variables.now) }
 {

@@ -1,4 +1,4 @@
--- How a counted loop runs: in each turn its variable has moved by as much again, and behind its
+-- How a counted loop runs: in each turn its variable has moved by as much again, and after its
 -- turns the loop ends.
 use Rattle.std.proofs.Common.{◌≡◌, refl, sym, subst, ◌∙◌, ap, ℕ, zero, suc, ◌+◌, ◌<◌, ◌≤◌, ℤ, pos}
 use Rattle.std.proofs.Common.{◌+ℤ◌, Bool, true, false, cond, List, [], ◌∷◌, length, get_or, Option}
@@ -224,7 +224,7 @@ pub loop_known : (locals : Locals) (s : tree.Stmt) (condition : Option tree.Expr
 loop_known locals s condition step body =
     known_by_first locals s condition step body (first_of locals s) (first_told locals s)
 
--- the condition's value in a turn, and behind the last
+-- the condition's value in a turn, and after the last
 module _ {locals : Locals} {s : tree.Stmt} {condition : Option tree.Expr} {step body : tree.Stmt}
     {loop : Loop} (known : Known locals s condition step body loop) (port : Port) (store : Store)
     (t : ℕ) (is : value_in store loop.name ≡ value_after loop t) where
@@ -343,7 +343,7 @@ module _ {locals : Locals} {first : tree.Stmt} {condition : Option tree.Expr}
       })
       (step_inside loop.name step loop.move port middle known.steps (has_cell middle shape)))
 
-  -- a loop that has come to a turn ends behind its last one
+  -- a loop that has come to a turn ends after its last one
   pub loop_from : (fuel t : ℕ) (store : Store) → t ≤ loop.turns → At t store
       → IfOk (looped fuel (condition_value port condition)
       (λ turn. result_and_then (inside (stmt_done port body) turn) (inside (stmt_done port step)))

@@ -155,7 +155,7 @@ abbrev pub CountedOk : {A : Type 0} → (A → Traffic) → Option Counts → Tr
     → Type 0
 CountedOk traffic x before result = IfOk result (λ a. Counted x before (traffic a))
 
--- behind a part that was counted
+-- after a part that was counted
 pub advance_counts : {A : Type 0} (traffic : A → Traffic) (before middle : Traffic)
     (x y : Option Counts) (result : Result A Cause) → Counted x before middle
     → CountedOk traffic y middle result → CountedOk traffic (sequence x y) before result

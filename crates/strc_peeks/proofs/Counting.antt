@@ -39,7 +39,7 @@ both_assoc (Some first) (Some second) (Some third) =
     }))
     (saturated_assoc first.pops second.pops third.pops)
 
--- nothing behind changes nothing
+-- nothing after changes nothing
 both_runnable : (first second : Option Counts)
     → sequence (sequence first second) (Some no_items) ≡ sequence first second
 both_runnable None second = refl
@@ -81,7 +81,7 @@ before_variables [] = refl
 before_variables (first ∷ rest) = nothing_before (option_counts first.initial)
     (variables_counts rest)
 
--- one more part behind those so far
+-- one more part after those so far
 pub runnable_step : (so_far here next : Option Counts) → next ≡ sequence so_far here
     → sequence next (Some no_items) ≡ next
 runnable_step so_far here next e = ap (λ n. sequence n (Some no_items)) e

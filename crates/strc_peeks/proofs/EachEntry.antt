@@ -236,7 +236,7 @@ stand_second window entries place (x ∷ rest) second h =
     subst (λ n. Stand window entries n second) same
     (stand_second window entries (place + 1) rest second h.1)
 
--- behind a part with so many peeks
+-- after a part with so many peeks
 pub stand_behind : (window : ℕ) (entries : List Bool) (place : ℕ) (first second : List PeekSite)
     (peeks : List tree.Expr) → AsMany first peeks → Stand window entries place (first ++ second)
     → Stand window entries (place + length peeks) second

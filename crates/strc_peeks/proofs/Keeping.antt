@@ -23,7 +23,7 @@ use Rattle.strc_peeks.proofs.Scopes.{scope_of, scope_of-with_cell}
 use Rattle.strc_interval.specs.Loops.{expr_writes, option_writes}
 use Rattle.strc_peeks.proofs.Results.{or_first, or_second, then_ok, any_ok, below, above, below_all}
 
--- ---- the cells of a name behind a write
+-- ---- the cells of a name after a write
 
 -- bytes of two names that are one
 pub same_name : (a b : List ℕ) → bytes_eq a b ≡ true → a ≡ b
@@ -32,7 +32,7 @@ same_name a b e = (bytes_eq-Decides a b).0 e
 pub one_name : (a b : List ℕ) → a ≡ b → bytes_eq a b ≡ true
 one_name a b e = (bytes_eq-Decides a b).1 e
 
--- the cells of a name stay behind a write of another
+-- the cells of a name stay after a write of another
 other_cells_by : (first : List ℕ × List ℤ) (rest : Variables) (stepped : List ℕ) (place : ℕ)
     (value : ℤ) (name : List ℕ) → bytes_eq stepped name ≡ false
     → cells_named (with_cell rest stepped place value) name ≡ cells_named rest name → (t : Bool)
@@ -102,7 +102,7 @@ below_cells (first ∷ rest) (suc k) stepped place value name unwritten =
 abbrev pub Covers : (wide narrow : List ℕ → Bool) → Type 0
 Covers wide narrow = (name : List ℕ) → wide name ≡ false → narrow name ≡ false
 
--- what holds of a store holds behind more traffic, and behind a write of these names
+-- what holds of a store holds after more traffic, and after a write of these names
 pub record Holding (P : Store → Type 0) (writes : List ℕ → Bool) : Type 0 where
   pub moved : (store : Store) (traffic : Traffic) → P store → P (record store { traffic = traffic })
   pub written : (store : Store) (name : List ℕ) (place : ℕ) (value : ℤ)
@@ -153,7 +153,7 @@ joined_holds P binary.Multiply first right h k = strict_holds P binary.Multiply 
 joined_holds P binary.Divide first right h k = strict_holds P binary.Divide first right k
 joined_holds P binary.Remainder first right h k = strict_holds P binary.Remainder first right k
 
--- what holds of the store holds behind an expression that writes no other names
+-- what holds of the store holds after an expression that writes no other names
 pub value_holds : (P : Store → Type 0) (writes : List ℕ → Bool) → Holding P writes
     → (port : Port) (e : tree.Expr) (store : Store) → Covers writes (λ name. expr_writes name e)
     → P store → Given P (value_of port e store)

@@ -135,7 +135,7 @@ distance_after _ s l move t m order e = absurd (cc)
 
 -- ---- turns
 
--- the condition holds in each turn and not behind them, and no step wraps
+-- the condition holds in each turn and not after them, and no step wraps
 pub record Turning (bound : Bound) (move : ℤ) (loop : Loop) : Type 0 where
   pub holds : (t : ℕ) → t < loop.turns → compares bound.operator (value_after loop t) bound.limit
       ≡ true

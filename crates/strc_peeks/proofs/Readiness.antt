@@ -128,7 +128,7 @@ right_some binary.Remainder left value x is e f = e
 
 -- ---- items popped
 
--- behind a part that was counted no more are popped than is told
+-- after a part that was counted no more are popped than is told
 within_behind : (a b : Traffic) (popped : PopInterval) (x : Option Counts) → is_some x ≡ true
     → Counted x a b → saturated a.popped ≤ popped.high
     → saturated b.popped ≤ (advance popped x).high
@@ -184,7 +184,7 @@ holds_same intervals before after same h name =
     holds_by (interval_named intervals name) (value_in before name) (value_in after name)
     (λ e. ap (λ c. get_or c 0 (pos 0)) (same name e)) (h name)
 
--- the names behind a statement
+-- the names after a statement
 names_unknown : (intervals : Intervals) (variables : List tree.Variable)
     → names_of (with_unknown intervals variables) ≡ with_locals (names_of intervals) variables
 names_unknown intervals [] = refl
@@ -208,7 +208,7 @@ names_after_intervals intervals (tree.Push value) = refl
 names_after_intervals intervals (tree.Print value) = refl
 names_after_intervals intervals (tree.Println value) = refl
 
--- a name whose interval is known behind a declaration isn't declared there, and its interval was
+-- a name whose interval is known after a declaration isn't declared there, and its interval was
 -- known before
 unknown_by : (intervals : Intervals) (first : List ℕ) (name : List ℕ) (t : Bool)
     → is_some (cond t None (interval_named intervals name)) ≡ true
@@ -284,7 +284,7 @@ interval_after intervals (tree.Println value) name e = refl
 
 -- ---- variables that are not hidden
 
--- the cells of a name stand behind variables of other names
+-- the cells of a name stand after variables of other names
 cells_by : (first : List ℕ × List ℤ) (rest : Variables) (name : List ℕ) (t : Bool) → t ≡ false
     → cond t first.1 (cells_named rest name) ≡ cells_named rest name
 cells_by first rest name true e = absurd (cc)
@@ -358,7 +358,7 @@ pub record Ready (intervals : Intervals) (popped : PopInterval) (store : Store) 
   pub holds : Holds intervals store
   pub within : saturated store.traffic.popped ≤ popped.high
 
--- behind a part that pops nothing
+-- after a part that pops nothing
 pub ready_still : (intervals : Intervals) (popped : PopInterval) (x : Option Counts) (store : Store)
     → is_some (require_zero x) ≡ true → Ready intervals (advance popped x) store
     → Ready intervals popped store
@@ -372,7 +372,7 @@ ready_still intervals popped x store e ready =
           omega arith;
     }
 
--- behind a part that leaves the variables
+-- after a part that leaves the variables
 ready_same : (writes : List ℕ → Bool) (intervals : Intervals) (popped : PopInterval)
     (x : Option Counts) (before after : Store) → is_some x ≡ true → Fixed intervals writes
     → Ready intervals popped before → Counted x before.traffic after.traffic

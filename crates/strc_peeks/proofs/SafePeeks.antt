@@ -107,7 +107,7 @@ ready_free intervals popped store n ready =
           ready.within;
     }
 
--- what `for` writes behind its first part
+-- what `for` writes after its first part
 fixed_inner : (intervals : Intervals) (first : tree.Stmt) (condition : Option tree.Expr)
     (step body : tree.Stmt) → Fixed intervals
     (λ name. stmt_writes name (tree.For first condition step body))

@@ -7,7 +7,7 @@ use Rattle.strc_peeks.specs.Peeks.{PeekSite, PopInterval, advance, option_sites,
 use Rattle.strc_peeks.specs.Peeks.{stmt_sites, stmts_sites}
 use Rattle.strc_interval.specs.Intervals.{names_of}
 
--- one more statement behind those so far
+-- one more statement after those so far
 pub stmts_seen : (so_far next whole : List PeekSite) (intervals inner : Intervals)
     (popped later : PopInterval) (passed : Option Counts) (x : tree.Stmt) (rest all : tree.Stmts)
     → passed ≡ stmt_counts (names_of intervals) x → inner ≡ intervals_after intervals x

@@ -314,7 +314,7 @@ turns_by locals first condition step body
     counted_turns locals first condition step body loop known.0 port names scope z closed turns
     store is known.1
 
--- the variable of a counted loop has its first value behind the first part
+-- the variable of a counted loop has its first value after the first part
 pub begins_by : (locals : Locals) (first : tree.Stmt) (condition : Option tree.Expr)
     (step body : tree.Stmt) (told : Option Loop) (port : Port) (store : Store)
     → Seen locals (scope_of store.variables) → IfSome told (Known locals first condition step body)

@@ -1,5 +1,5 @@
--- The sites of a loop's body behind the pops of the turns before: they are those of a body that
--- begins behind these pops.
+-- The sites of a loop's body after the pops of the turns before: they are those of a body that
+-- begins after these pops.
 use Rattle.std.proofs.Common.{◌≡◌, refl, sym, ap, ◌∙◌, ℕ, zero, suc, ◌+◌, ◌-◌, ◌*◌, ℤ, Bool, true}
 use Rattle.std.proofs.Common.{false, cond, List, [], ◌∷◌, ◌++◌, map, Option, Some, None, arith}
 use Rattle.std.specs.Prelude.{bytes_eq, if◌then◌else◌}
@@ -30,7 +30,7 @@ abbrev between : (low high : ℕ) → PopInterval
 between low high = record { low = low; high = high }
 
 module _ (turns : ℕ) (counts : Option Counts) where
-  -- behind the turns before
+  -- after the turns before
   abbrev later : PopInterval → PopInterval
   later popped = in_turns popped turns counts
 
@@ -272,7 +272,7 @@ names_of-with_value (first ∷ rest) name interval =
     by_test true h = refl
     by_test false h = ap (λ l. first.0 ∷ l) h
 
--- a loop's variable has an interval in the turns, and its own behind them
+-- a loop's variable has an interval in the turns, and its own after them
 pub ruleset turned = (
   drop_own,
   with_value_back,

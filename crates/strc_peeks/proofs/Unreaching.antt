@@ -9,7 +9,7 @@ pub unreached-append : (first second : List tree.Expr)
     → unreached (first ++ second) ≡ unreached first ++ unreached second
 unreached-append first second = map-append (λ index. NoRun) first second
 
--- one more statement behind those so far
+-- one more statement after those so far
 pub stmts_unreached : (so_far next whole : List PeekSite) (x : tree.Stmt) (rest all : tree.Stmts)
     → next ≡ so_far ++ unreached (peeks_of_stmt x) → all ≡ tree.Then x rest
     → so_far ++ unreached (peeks_of all) ≡ whole → next ++ unreached (peeks_of rest) ≡ whole

@@ -63,7 +63,7 @@ left_same writes before after h =
           (below_below n (length before) after le more) ∙ h.cells n name le unwritten;
     }
 
--- what isn't declared behind a part isn't before it, and that part doesn't hide it
+-- what isn't declared after a part isn't before it, and that part doesn't hide it
 abbrev Bares : (shadows : List ℕ → Bool) (before after : Scope) → Type 0
 Bares shadows before after =
     (n : ℕ) (name : List ℕ) → n ≤ length before → is_declared (above n after) name ≡ false
@@ -133,7 +133,7 @@ stmt_bares (tree.Push value) scope n name le bare = (bare, refl)
 stmt_bares (tree.Print value) scope n name le bare = (bare, refl)
 stmt_bares (tree.Println value) scope n name le bare = (bare, refl)
 
--- behind what may hide a name
+-- after what may hide a name
 pub unless_hidden : (hidden written : Bool) → (not hidden && written) ≡ false → hidden ≡ false
     → written ≡ false
 unless_hidden true written e h = absurd (cc)
@@ -172,7 +172,7 @@ declared_grown name cells variables = record {
       (below_more n (record { 0 = name; 1 = cells }) variables le);
 }
 
--- what a statement leaves, and the variables that can be seen behind it
+-- what a statement leaves, and the variables that can be seen after it
 pub record Done (writes : List ℕ → Bool) (scope : Scope) (before after : Variables) : Type 0 where
   pub grown : Grown writes before after
   pub exact : scope_of after ≡ scope
@@ -283,7 +283,7 @@ inside_same wide narrow does store covers h =
     (below (length store.variables) inner.variables) covers
     (left_same narrow store.variables inner.variables k))
 
--- the same, behind a part that leaves the variables
+-- the same, after a part that leaves the variables
 pub inside_after : (wide narrow : List ℕ → Bool) (scope : Scope) (before : Variables)
     (does : Store → Result Store Cause) (store : Store) → Covers wide narrow
     → IfOk (does store) (λ after. Done narrow scope store.variables after.variables)

@@ -113,7 +113,7 @@ abbrev pub variables_counts : List tree.Variable → Option Counts
 variables_counts [] = Some no_items
 variables_counts (first ∷ rest) = sequence (option_counts first.initial) (variables_counts rest)
 
--- the turns of a `for` behind its first part: those of a counted loop, and no other loop moves an
+-- the turns of a `for` after its first part: those of a counted loop, and no other loop moves an
 -- item
 abbrev pub turns_counts : Option Loop → (condition step body : Option Counts) → Option Counts
 turns_counts (Some loop) condition step body = repeated loop.turns body
@@ -121,7 +121,7 @@ turns_counts None condition step body = sequence (require_zero condition)
     (sequence (require_zero step) (require_zero body))
 
 abbrev mutual
-  -- the counts of a statement behind these local variables
+  -- the counts of a statement after these local variables
   pub stmt_counts : Locals → tree.Stmt → Option Counts
   stmt_counts locals tree.Empty = Some no_items
   stmt_counts locals (tree.Compose statement) = Some no_items

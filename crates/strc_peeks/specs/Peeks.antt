@@ -34,7 +34,7 @@ abbrev pub pops_of : Option Counts → ℕ
 pops_of None = 0
 pops_of (Some counts) = counts.pops
 
--- behind a part that was counted
+-- after a part that was counted
 abbrev pub advance : PopInterval → Option Counts → PopInterval
 advance popped counts = record {
   low = saturated (popped.low + pops_of counts);
@@ -42,7 +42,7 @@ advance popped counts = record {
       saturated (popped.high + pops_of counts);
 }
 
--- in a turn of a loop, behind the pops of the turns before it
+-- in a turn of a loop, after the pops of the turns before it
 abbrev pub in_turns : PopInterval → ℕ → Option Counts → PopInterval
 in_turns popped turns counts = record popped
     { high = saturated (popped.high + (turns - 1) * pops_of counts) }
@@ -61,7 +61,7 @@ abbrev pub sight_of : (window : ℕ) → PeekSite → PeekBounds
 sight_of window (Reached index popped) = sight_at window popped index
 sight_of window NoRun = Unreached
 
--- a site of a loop's body, behind the pops of the turns before
+-- a site of a loop's body, after the pops of the turns before
 abbrev pub site_in_turns : ℕ → Option Counts → PeekSite → PeekSite
 site_in_turns turns counts (Reached index popped) = Reached index (in_turns popped turns counts)
 site_in_turns turns counts NoRun = NoRun

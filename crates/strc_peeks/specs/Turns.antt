@@ -6,7 +6,7 @@ use Rattle.strc_semantics.specs.Firing.{Port, Store, value_in, condition_value}
 use Rattle.strc_interval.specs.Loops.{Locals, value_after, counted_loop}
 
 -- in each turn of a counted loop, where its variable has moved so many times from its first value,
--- the condition holds; behind the last turn it doesn't
+-- the condition holds; after the last turn it doesn't
 abbrev pub TurnsAreLeast : Type 0
 TurnsAreLeast =
     (locals : Locals) (first : tree.Stmt) (condition : Option tree.Expr) (step body : tree.Stmt)

@@ -108,7 +108,7 @@ pub(crate) fn repeated(times: u64, counts: Option<Counts>) -> Option<Counts>
     }
 }
 
-/// When the right side of an operator is evaluated behind this left side.
+/// When the right side of an operator is evaluated after this left side.
 pub(crate) fn need_of(operator: BinaryOperator, left: &Expr) -> Need
     ensures { result ≡ spec.need_of operator (expr_view left.now) }
 {

@@ -5,7 +5,7 @@ ghost use Rattle.strc_peeks.specs.Promises.{ClosedPeeksFindItems};
 ghost use Rattle.strc_peeks.specs.Turns.{TurnsAreLeast};
 
 /// A counted loop makes as many turns as are told: its condition holds in each of them, and not
-/// behind the last one.
+/// after the last one.
 pub fn turns_are_least()
     ensures { TurnsAreLeast }
 {}

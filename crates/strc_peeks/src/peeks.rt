@@ -1,5 +1,5 @@
 // What a text counts, and which of its peeks stay within their window, or can't reach into it. One
-// walk counts what it passes, so that it knows how many items are popped before each peek; behind a
+// walk counts what it passes, so that it knows how many items are popped before each peek; after a
 // counted loop it adds the pops of the turns before to those of the peeks in its body.
 
 ghost use Rattle.std.specs.Prelude.{◌≡◌, ◌++◌, [], IfOk, OnOk, map};

@@ -46,7 +46,7 @@ pub(crate) fn none_popped() -> PopInterval
     PopInterval { low: 0, high: 0 }
 }
 
-/// Behind a part that was counted.
+/// After a part that was counted.
 pub(crate) fn advance(popped: PopInterval, counts: Option<Counts>) -> PopInterval
     ensures { result ≡ spec.advance popped counts }
 {
@@ -57,7 +57,7 @@ pub(crate) fn advance(popped: PopInterval, counts: Option<Counts>) -> PopInterva
     }
 }
 
-/// In a turn of a loop, behind the pops of the turns before it.
+/// In a turn of a loop, after the pops of the turns before it.
 fn in_turns(popped: PopInterval, turns: u64, counts: Option<Counts>) -> PopInterval
     ensures { result ≡ spec.in_turns popped turns counts }
 {
@@ -119,7 +119,7 @@ pub(crate) fn sights_of(
     Ok(sights)
 }
 
-/// A peek of a loop's body, behind the pops of the turns before.
+/// A peek of a loop's body, after the pops of the turns before.
 fn site_in_turns(site: PeekSite, turns: u64, counts: Option<Counts>) -> PeekSite
     ensures { result ≡ spec.site_in_turns turns counts site }
 {
@@ -131,7 +131,7 @@ fn site_in_turns(site: PeekSite, turns: u64, counts: Option<Counts>) -> PeekSite
     }
 }
 
-/// Adds the peeks of a loop's body, behind the pops of the turns before.
+/// Adds the peeks of a loop's body, after the pops of the turns before.
 pub(crate) fn add_in_turns(
     sites: &mut Vec<PeekSite>,
     body: &[PeekSite],
