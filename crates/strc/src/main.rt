@@ -10,8 +10,8 @@ use std::{env, thread};
 use strc_cli::device::Told;
 use strc_cli::execute::CliError;
 use strc_cli::explain::execute_explained;
-use strc_command::line::{Line, LineFault};
 use strc_cli::program_text::{TextFault, read_text};
+use strc_command::line::{Line, LineFault};
 use strc_command::words::{VERSION, asks_for_help, asks_for_version, command, usage_error};
 
 // The exit statuses that no answer of `execute_explained` has.

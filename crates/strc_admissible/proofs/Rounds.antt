@@ -126,7 +126,8 @@ module _ (graph : Graph) (schedule : ScheduleParts) (planned : IsPlanned graph s
       (supplied : items_read graph.nodes (counts_at schedule rounds) ≤ length input) where
     pub all_supplied : IsSupplied graph input (rounds_on at_startup rounds in_round)
     all_supplied node text reads =
-        let firings = reader_reads graph.nodes node (counts_at schedule rounds) text program.one_input
+        let firings = reader_reads graph.nodes node (counts_at schedule rounds) text
+        program.one_input
         reads in
         let same = ap (λ (counts : Firings). counts node) (counts_are rounds) in
         omega (arith, supplied, firings, same)

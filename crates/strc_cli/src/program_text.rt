@@ -5,8 +5,8 @@ ghost use Rattle.std.specs.IoError.{error_kind};
 ghost use Rattle.strc_lex.specs.Text.{text_limit};
 
 use std::alloc::Global;
-use std::io::{ErrorKind, Read};
 use std::io;
+use std::io::{ErrorKind, Read};
 use thiserror::Error;
 
 // A text of more bytes than a program may have is read no further.

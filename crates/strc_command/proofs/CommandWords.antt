@@ -1,5 +1,6 @@
 -- What the words of a command line are taken for, by what clap says of them.
-use Rattle.std.proofs.Common.{◌≡◌, ◌∙◌, ◌⊎◌, List, [], Option, Result, Ok, Err, IfOk, subst, sym, ap}
+use Rattle.std.proofs.Common.{◌≡◌, ◌∙◌, ◌⊎◌, List, [], Option, Result, Ok, Err, IfOk, subst, sym}
+use Rattle.std.proofs.Common.{ap}
 use Rattle.std.proofs.Common.{inl, inr}
 use Rattle.clap.specs.Walk.{Row, Text}
 use Rattle.clap.specs.Kinds.{IsAmong, Kinds}

@@ -34,7 +34,8 @@ module _ {Code State Cause Word : Type 0} (meaning : Meaning Code State Cause Wo
 
     earlier_by : (n : ℕ) (xs ys : ByPort) → ((port : ℕ) → Begins (xs port) (ys port))
         → (run : Run State Cause Word) → IsEarlier n ys run → (found : Bool)
-        → finds meaning code run.fired xs ≡ found → IsEarlier (suc n) ys (advance meaning code xs run)
+        → finds meaning code run.fired xs ≡ found → IsEarlier (suc n) ys
+        (advance meaning code xs run)
     unfolding runs
     earlier_by n xs ys b run earlier true e =
         record {
@@ -61,7 +62,8 @@ module _ {Code State Cause Word : Type 0} (meaning : Meaning Code State Cause Wo
         (finds meaning code (runs meaning code n xs).fired xs) refl
 
     -- More input, more output.
-    pub runs_grow : (n : ℕ) (xs ys : ByPort) → ((port : ℕ) → Begins (xs port) (ys port)) → (port : ℕ)
+    pub runs_grow : (n : ℕ) (xs ys : ByPort) → ((port : ℕ) → Begins (xs port) (ys port)) →
+        (port : ℕ)
         → Begins ((runs meaning code n xs).pushes port) ((runs meaning code n ys).pushes port)
     runs_grow n xs ys b port =
         let earlier = runs_of_beginning n xs ys b in
@@ -113,7 +115,8 @@ module _ {Code State Cause Word : Type 0} (meaning : Meaning Code State Cause Wo
           fewer = omega arith;
           fired = (advance_counts meaning code inputs (runs meaning code n inputs)
               (rw e done.faultless) found).0 f
-              ∙ ap suc (subst (λ (m : ℕ). (runs meaning code m inputs).fired ≡ m) (sym e) done.fired);
+              ∙ ap suc (subst (λ (m : ℕ). (runs meaning code m inputs).fired ≡ m) (sym e)
+              done.fired);
           faultless = f;
           same = λ port. refl;
           stopped = inl refl;

@@ -138,7 +138,8 @@ module _ {Code State Cause Word : Type 0} (meaning : Meaning Code State Cause Wo
                 (runs meaning (graph.code other) (counts other) (inputs other))
                 ≡ runs meaning (graph.code other) (cond test (suc (counts other)) (counts other))
                 (inputs other)
-            at other true e = ap (λ (v : ℕ). runs meaning (graph.code v) (suc (counts v)) (inputs v))
+            at other true e = ap (λ (v : ℕ). runs meaning (graph.code v) (suc (counts v))
+                (inputs v))
                 (sym (eqb-true other node e))
             at other false e = refl
 
@@ -207,7 +208,8 @@ module _ {Code State Cause Word : Type 0} (meaning : Meaning Code State Cause Wo
           t.0,
           t.1,
           ap (λ (o : Option (Stop Cause)). or_else o
-              (first_fault (runs_at meaning graph all inputs) (raised counts node) order)) none ∙ t.2,
+              (first_fault (runs_at meaning graph all inputs) (raised counts node) order)) none ∙
+              t.2,
         )
         tells_on counts node order none (Stopped stop) t =
             ap (λ (o : Option (Stop Cause)). or_else o
@@ -228,21 +230,26 @@ module _ {Code State Cause Word : Type 0} (meaning : Meaning Code State Cause Wo
             → (runs meaning (graph.code node) (suc (counts node)) (inputs node)).fired
             ≡ suc (counts node)) × ((cause : Cause)
             → (runs meaning (graph.code node) (suc (counts node)) (inputs node)).fault ≡ Some cause
-            → (runs meaning (graph.code node) (suc (counts node)) (inputs node)).fired ≡ counts node)
+            → (runs meaning (graph.code node) (suc (counts node)) (inputs node)).fired ≡ counts
+            node)
         unfolding runs runs_at
         next_counts counts node less exact ready =
             let found = finds_longer meaning (graph.code node)
             (runs_at meaning graph counts inputs node).fired (come_to counts node) (inputs node)
             (come_begins counts less node) (ready_finds counts node exact ready) in
             let next = advance_counts meaning (graph.code node) (inputs node)
-            (runs_at meaning graph counts inputs node) (exact.faultless node) found in
-            (λ e. next.0 e ∙ ap suc (exact.fired node), λ cause e. next.1 cause e ∙ exact.fired node)
+            (runs_at meaning graph counts inputs node) (exact.faultless node) found in (
+              λ e. next.0 e ∙ ap suc (exact.fired node),
+              λ cause e. next.1 cause e ∙ exact.fired
+                  node,
+            )
 
         -- An order stops exactly at its first fault.
         pub run_tells : (order : List ℕ) (counts : ℕ → ℕ) → IsExact counts inputs
             → IsOrder meaning graph input counts order
             → ((node : ℕ) → counted counts order node ≤ all node)
-            → Tells counts order (go meaning graph input order (runs_at meaning graph counts inputs))
+            → Tells counts order (go meaning graph input order
+            (runs_at meaning graph counts inputs))
         unfolding go counted first_fault unless_faulted runs_at
         run_tells [] counts exact valid less = (refl, exact, refl)
         run_tells (node ∷ order) counts exact valid less =

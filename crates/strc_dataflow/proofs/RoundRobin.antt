@@ -273,14 +273,16 @@ module _ {Code State Cause Word : Type 0} (meaning : Meaning Code State Cause Wo
   splitter-runs weights splitter n port =
       let c : ℕ = min n (length (inputs 0) / sum weights) in
       blocks_of_runs meaning code inputs port block
-      (λ firing state. let out = splitter.deals firing state (windows meaning code firing inputs) in (
+      (λ firing state. let out = splitter.deals firing state (windows meaning code firing inputs)
+      in (
         out.0,
         out.1,
         out.2,
         out.3,
         out.4 port
             ∙ ap (λ (l : List ℤ). take (get_or weights port 0) (drop (span_start weights port) l))
-            (seen_at_0 (sum weights) splitter.positive splitter.ports splitter.window splitter.popped
+            (seen_at_0 (sum weights) splitter.positive splitter.ports splitter.window
+            splitter.popped
             firing),
       ))
       c n (min_cases n (length (inputs 0) / sum weights)).0

@@ -89,11 +89,13 @@ module _ {Code State Cause Word : Type 0} (meaning : Meaning Code State Cause Wo
         )))
 
     pub found_at : (n : ℕ) (xs : ByPort) → finds meaning code n xs ≡ true → (port : ℕ)
-        → port < meaning.ports code → total (meaning.popped code) n port + meaning.window code n port
+        → port < meaning.ports code → total (meaning.popped code) n port + meaning.window code n
+        port
         ≤ length (xs port)
     unfolding finds
     found_at n xs h port lt =
-        leb-true (total (meaning.popped code) n port + meaning.window code n port) (length (xs port))
+        leb-true (total (meaning.popped code) n port + meaning.window code n port)
+        (length (xs port))
         (each_below (meaning.ports code) (λ port. leb
         (total (meaning.popped code) n port + meaning.window code n port) (length (xs port))) h port
         lt)
@@ -269,7 +271,8 @@ module _ {Code State Cause Word : Type 0} (meaning : Meaning Code State Cause Wo
 
     kept_if : (inputs : ByPort) (run : Run State Cause Word) (fault : Option Cause) (found : Bool)
         (cause : Cause) (port : ℕ) → (advance_if meaning code inputs run fault found).fault
-        ≡ Some cause → (advance_if meaning code inputs run fault found).pushes port ≡ run.pushes port
+        ≡ Some cause → (advance_if meaning code inputs run fault found).pushes port ≡ run.pushes
+        port
     unfolding advance_if
     kept_if inputs run (Some c) found cause port e = refl
     kept_if inputs run None true cause port e =
@@ -295,7 +298,8 @@ module _ {Code State Cause Word : Type 0} (meaning : Meaning Code State Cause Wo
     counts_by run (Faults cause) = (λ e. absurd (grind arith), λ c e. refl)
 
     counts_if : (inputs : ByPort) (run : Run State Cause Word) (fault : Option Cause) (found : Bool)
-        → fault ≡ None → found ≡ true → ((advance_if meaning code inputs run fault found).fault ≡ None
+        → fault ≡ None → found ≡ true →
+        ((advance_if meaning code inputs run fault found).fault ≡ None
         → (advance_if meaning code inputs run fault found).fired ≡ suc run.fired)
         × ((cause : Cause) → (advance_if meaning code inputs run fault found).fault ≡ Some cause
         → (advance_if meaning code inputs run fault found).fired ≡ run.fired)

@@ -265,7 +265,8 @@ module _ {Code State Cause Word : Type 0}
       (
         at.faultless k (omega arith),
         ap words_of (at.agrees k (omega arith) (omega arith))
-            ∙ ap (λ (n : ℕ). words_of (runs_at meaning graph (counts_after startup round n) (inputs k)))
+            ∙ ap (λ (n : ℕ). words_of
+            (runs_at meaning graph (counts_after startup round n) (inputs k)))
             (let same : q ≡ k = omega arith in same),
       ),
       λ j within. at.faultless j (omega arith),

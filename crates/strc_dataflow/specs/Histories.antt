@@ -45,7 +45,8 @@ module _ {Code State Cause Word : Type 0} (meaning : Meaning Code State Cause Wo
     }
 
     -- A run with the outcome of its next firing.
-    unfoldable pub after_firing : Run State Cause Word → Fired State Cause Word → Run State Cause Word
+    unfoldable pub after_firing : Run State Cause Word → Fired State Cause Word → Run State Cause
+        Word
     after_firing run (Fires state pushes words) =
         record {
           fired = suc run.fired;
@@ -75,7 +76,8 @@ module _ {Code State Cause Word : Type 0} (meaning : Meaning Code State Cause Wo
     unfoldable pub advance : ByPort → Run State Cause Word → Run State Cause Word
     advance inputs run = advance_if inputs run run.fault (finds run.fired inputs)
 
-    -- n firings over whole inputs; firings that find no window, or stand after a fault, aren't done.
+    -- n firings over whole inputs; firings that find no window, or stand after a fault, aren't
+    -- done.
     unfoldable pub runs : ℕ → ByPort → Run State Cause Word
     runs zero inputs = begun
     runs (suc n) inputs = advance inputs (runs n inputs)
@@ -83,5 +85,6 @@ module _ {Code State Cause Word : Type 0} (meaning : Meaning Code State Cause Wo
     -- The declared rates are kept: as long as no firing faults, n firings push at each port the sum
     -- of their rates.
     pub record KeepsRates : Type 0 where
-      pub kept : (n : ℕ) (inputs : ByPort) → (runs n inputs).fired ≡ n → (runs n inputs).fault ≡ None
+      pub kept : (n : ℕ) (inputs : ByPort) → (runs n inputs).fired ≡ n → (runs n inputs).fault ≡
+          None
           → (port : ℕ) → length ((runs n inputs).pushes port) ≡ total (meaning.pushed code) n port

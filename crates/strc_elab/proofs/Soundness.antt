@@ -36,7 +36,8 @@ use Rattle.strc_elab.specs.Elaboration.{composite_elaborated, given_elaborated}
 use Rattle.strc_weights.specs.Sides.{outputs_in}
 use Rattle.strc_elab.specs.Elaboration.{text_elaborated, stream_elaborated, level_limit}
 use Rattle.strc_declarations.specs.MainStreams.{types_of}
-use Rattle.strc_declarations.specs.MainStreams.{can_be_main, mains_from, only_main, named_main, main_of}
+use Rattle.strc_declarations.specs.MainStreams.{can_be_main, mains_from, only_main, named_main}
+use Rattle.strc_declarations.specs.MainStreams.{main_of}
 use Rattle.strc_elab.specs.Elaboration.{main_elaborated, elaborated}
 use Rattle.strc_declarations.specs.MainStreams.{not_doubled, doubled_from}
 use Rattle.strc_elab.specs.Sound.{IsInstance, IsElaborated}
@@ -107,8 +108,10 @@ text_sound setting makes (FilterText name filter) tally =
 text_sound setting makes (CompositeText written kind block) tally =
     body_sound setting makes written kind block tally
 text_sound setting makes IdentityText tally = given_sound instance.Identity tally tt (tt, tt)
-text_sound setting makes (ReaderText text) tally = given_sound (instance.FileReader text) tally tt (tt, tt)
-text_sound setting makes (WriterText text) tally = given_sound (instance.FileWriter text) tally tt (tt, tt)
+text_sound setting makes (ReaderText text) tally = given_sound (instance.FileReader text) tally tt
+    (tt, tt)
+text_sound setting makes (WriterText text) tally = given_sound (instance.FileWriter text) tally tt
+    (tt, tt)
 
 pub stream_sound : (program : List Declaration) (levels : ℕ) (place : Place) (text : Text)
     (tally : Tally) → IfOk (stream_elaborated program levels place text tally) IsSoundlyMade

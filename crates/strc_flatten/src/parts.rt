@@ -14,7 +14,8 @@ pub(crate) fn has_nodes(stream: &Stream) -> bool
     ensures { IsTrue result ↔ HasNodes (stream_view stream.now) }
 {
     match stream {
-        Stream::Filter(_) | Stream::Identity | Stream::FileReader(_) | Stream::FileWriter(_) => true,
+        Stream::Filter(_) | Stream::Identity | Stream::FileReader(_) | Stream::FileWriter(_) =>
+            true,
         Stream::Pipeline(children) => are_children(children),
         Stream::SplitJoin(_, children, _) => are_children(children),
         Stream::FeedbackLoop(_, body, _, loop_stream, _) => {

@@ -1,5 +1,7 @@
--- Declarations, assignments and expressions as statements, and the parts of a `for`, are read again.
-use Rattle.std.proofs.Common.{◌≡◌, ℕ, suc, ◌+◌, ◌-◌, ◌≤◌, max, true, false, List, [], ◌∷◌, length, Option, Some, None, Result, Ok, refl, arith}
+-- Declarations, assignments and expressions as statements, and the parts of a `for`, are read
+-- again.
+use Rattle.std.proofs.Common.{◌≡◌, ℕ, suc, ◌+◌, ◌-◌, ◌≤◌, max, true, false, List, [], ◌∷◌, length}
+use Rattle.std.proofs.Common.{Option, Some, None, Result, Ok, refl, arith}
 use Rattle.std.specs.List.{AllByRecursion}
 use denote.Enum.Bare.{true_same}
 use Rattle.strc_lex.specs.contracts.token.Punctuation.{the_type as punctuation_type}
@@ -14,11 +16,29 @@ use Rattle.strc_syntax.specs.declared.tree.StepOperator.TheVariants as step
 use Rattle.strc_syntax.specs.declared.tree.AssignOperator.{AssignOperator}
 use Rattle.strc_syntax.specs.declared.tree.AssignOperator.TheVariants as assign
 use Rattle.strc_syntax.specs.Tree as tree
-use Rattle.strc_grammar.specs.Grammar.{binary_punctuation, assign_punctuation, expr_spelled, each_spelled, highest, type_spelled, initial_spelled, variable_spelled, next_spelled, variables_spelled, declared_spelled, part_spelled, condition_spelled, bracketed_spelled, heading_spelled, lowest_precedence, IsExpr, IsOptional, IsVariableType, IsVariable, AreVariables, IsStep, IsFirst, expr_height, optional_height, type_height, variable_height, declared_height, stmt_height}
-use Rattle.strc_grammar.specs.Reading.{◌>>=◌, punctuation_at, is_punctuation, is_keyword, name, brace, initial, variable, no_comma, next_variable, more_variables, variables, int_type, variable_type, declared, declare, evaluate, assign_to, assign_element, assign_at, assignment, after_value, simple, optional, part, ended, bracketed, argument, condition, last_part, after_first, for_heading}
+use Rattle.strc_grammar.specs.Grammar.{binary_punctuation, assign_punctuation, expr_spelled}
+use Rattle.strc_grammar.specs.Grammar.{each_spelled, highest, type_spelled, initial_spelled}
+use Rattle.strc_grammar.specs.Grammar.{variable_spelled, next_spelled, variables_spelled}
+use Rattle.strc_grammar.specs.Grammar.{declared_spelled, part_spelled, condition_spelled}
+use Rattle.strc_grammar.specs.Grammar.{bracketed_spelled, heading_spelled, lowest_precedence}
+use Rattle.strc_grammar.specs.Grammar.{IsExpr, IsOptional, IsVariableType, IsVariable, AreVariables}
+use Rattle.strc_grammar.specs.Grammar.{IsStep, IsFirst, expr_height, optional_height, type_height}
+use Rattle.strc_grammar.specs.Grammar.{variable_height, declared_height, stmt_height}
+use Rattle.strc_grammar.specs.Reading.{◌>>=◌, punctuation_at, is_punctuation, is_keyword, name}
+use Rattle.strc_grammar.specs.Reading.{brace, initial, variable, no_comma, next_variable}
+use Rattle.strc_grammar.specs.Reading.{more_variables, variables, int_type, variable_type, declared}
+use Rattle.strc_grammar.specs.Reading.{declare, evaluate, assign_to, assign_element, assign_at}
+use Rattle.strc_grammar.specs.Reading.{assignment, after_value, simple, optional, part, ended}
+use Rattle.strc_grammar.specs.Reading.{bracketed, argument, condition, last_part, after_first}
+use Rattle.strc_grammar.specs.Reading.{for_heading}
 use Rattle.strc_grammar.specs.Streams.{Inner, keyword_statement, shallow}
-use Rattle.strc_grammar.proofs.Completeness.{Complete, Complete-then, Complete-inside, Complete-leaf, Complete-raised, expect_punctuation}
-use Rattle.strc_grammar.proofs.ExpressionCompleteness.{Stops, Stops-semicolon, Stops-comma, Stops-bracket, Stops-square, Stops-assign, expr_length, height_some, expression_completeness, closed_completeness, found}
+use Rattle.strc_grammar.proofs.Completeness.{Complete, Complete-then, Complete-inside}
+use Rattle.strc_grammar.proofs.Completeness.{Complete-leaf, Complete-raised, expect_punctuation}
+use Rattle.strc_grammar.proofs.ExpressionCompleteness.{Stops, Stops-semicolon, Stops-comma}
+use Rattle.strc_grammar.proofs.ExpressionCompleteness.{Stops-bracket, Stops-square, Stops-assign}
+use Rattle.strc_grammar.proofs.ExpressionCompleteness.{expr_length, height_some}
+use Rattle.strc_grammar.proofs.ExpressionCompleteness.{expression_completeness, closed_completeness}
+use Rattle.strc_grammar.proofs.ExpressionCompleteness.{found}
 use Rattle.strc_grammar.proofs.Lists.{TallCompleteness, each_taller_completeness}
 
 -- what follows an expression that is a statement, an initialiser or a part of a `for`
@@ -29,69 +49,92 @@ pub record Ends (rest : List TokenKind) : Type 0 where
 
 pub Ends-semicolon : (rest : List TokenKind) → Ends (token.Punctuation punctuation.Semicolon ∷ rest)
 unfolding assign_at punctuation_at is_punctuation
-Ends-semicolon rest = record { stops = Stops-semicolon lowest_precedence rest; no_assign = refl; no_initial = refl }
+Ends-semicolon rest = record
+    { stops = Stops-semicolon lowest_precedence rest; no_assign = refl; no_initial = refl }
 
 pub Ends-bracket : (rest : List TokenKind) → Ends (token.Punctuation punctuation.CloseParen ∷ rest)
 unfolding assign_at punctuation_at is_punctuation
-Ends-bracket rest = record { stops = Stops-bracket lowest_precedence rest; no_assign = refl; no_initial = refl }
+Ends-bracket rest = record
+    { stops = Stops-bracket lowest_precedence rest; no_assign = refl; no_initial = refl }
 
 pub Ends-comma : (rest : List TokenKind) → Ends (token.Punctuation punctuation.Comma ∷ rest)
 unfolding assign_at punctuation_at is_punctuation
-Ends-comma rest = record { stops = Stops-comma lowest_precedence rest; no_assign = refl; no_initial = refl }
+Ends-comma rest = record
+    { stops = Stops-comma lowest_precedence rest; no_assign = refl; no_initial = refl }
 
 -- the higher of two parts that were read
-pub Complete-max : (d low high : ℕ) {Y : Type 0} (y : Y) (read : Result Y Fault) → low ≤ d → Complete d high y read → Complete d (max low high) y read
-Complete-max d low high y read le complete = record { fits = λ h. complete.fits (omega arith); over = λ h. complete.over (omega arith) }
+pub Complete-max : (d low high : ℕ) {Y : Type 0} (y : Y) (read : Result Y Fault) → low ≤ d →
+    Complete d high y read → Complete d (max low high) y read
+Complete-max d low high y read le complete = record
+    { fits = λ h. complete.fits (omega arith); over = λ h. complete.over (omega arith) }
 
-pub Complete-done : (d height : ℕ) {Y : Type 0} (y : Y) (read : Result Y Fault) → height ≤ d → read ≡ Ok y → Complete d height y read
+pub Complete-done : (d height : ℕ) {Y : Type 0} (y : Y) (read : Result Y Fault) → height ≤ d → read
+    ≡ Ok y → Complete d height y read
 Complete-done d height y read le e = record { fits = λ h. e; over = λ h. absurd (omega arith) }
 
 -- ---- declarations of variables
 
-initial_completeness : (begun : Option tree.Expr) → IsOptional begun → (d : ℕ) (rest : List TokenKind) → Ends rest
-    → Complete d (optional_height begun) (begun, optional_height begun, rest) (initial d (initial_spelled begun rest))
+initial_completeness : (begun : Option tree.Expr) → IsOptional begun → (d : ℕ)
+    (rest : List TokenKind) → Ends rest
+    → Complete d (optional_height begun) (begun, optional_height begun, rest)
+    (initial d (initial_spelled begun rest))
 unfolding initial is_punctuation
-initial_completeness None shape d rest ends = rw ends.no_initial (Complete-done d 0 (None, 0, rest) _ (omega arith) refl)
+initial_completeness None shape d rest ends = rw ends.no_initial
+    (Complete-done d 0 (None, 0, rest) _ (omega arith) refl)
 initial_completeness (Some e) shape d rest ends =
-    Complete-then d (expr_height e) (expr_height e) (found e rest) (Some e, expr_height e, rest) _ _ (expression_completeness e shape d rest ends.stops) (omega arith)
+    Complete-then d (expr_height e) (expr_height e) (found e rest) (Some e, expr_height e, rest) _
+    _ (expression_completeness e shape d rest ends.stops) (omega arith)
     (λ low. Complete-done d (expr_height e) (Some e, expr_height e, rest) _ low refl)
 
 abbrev seen_as : tree.Variable → List TokenKind → tree.Variable × ℕ × List TokenKind
 seen_as v rest = (v, variable_height v, rest)
 
-variable_completeness : (v : tree.Variable) → IsVariable v → (d : ℕ) (rest : List TokenKind) → Ends rest
+variable_completeness : (v : tree.Variable) → IsVariable v → (d : ℕ) (rest : List TokenKind) → Ends
+    rest
     → Complete d (variable_height v) (seen_as v rest) (variable d (variable_spelled v rest))
 unfolding variable name
 variable_completeness v shape d rest ends =
-    Complete-then d (variable_height v) (variable_height v) (v.initial, variable_height v, rest) (seen_as v rest) _ _ (initial_completeness v.initial shape d rest ends) (omega arith)
+    Complete-then d (variable_height v) (variable_height v) (v.initial, variable_height v, rest)
+    (seen_as v rest) _ _ (initial_completeness v.initial shape d rest ends) (omega arith)
     (λ low. Complete-done d (variable_height v) (seen_as v rest) _ low refl)
 
-pub initial_length : (begun : Option tree.Expr) (rest : List TokenKind) → optional_height begun + length rest ≤ length (initial_spelled begun rest)
+pub initial_length : (begun : Option tree.Expr) (rest : List TokenKind) → optional_height begun +
+    length rest ≤ length (initial_spelled begun rest)
 initial_length None rest = omega arith
 initial_length (Some e) rest = omega (arith, expr_length e rest)
 
-pub variable_length : (v : tree.Variable) (rest : List TokenKind) → variable_height v + length rest + 1 ≤ length (variable_spelled v rest)
+pub variable_length : (v : tree.Variable) (rest : List TokenKind) → variable_height v + length rest
+    + 1 ≤ length (variable_spelled v rest)
 variable_length v rest = omega (arith, initial_length v.initial rest)
 
-pub nexts_length : (others : List tree.Variable) (rest : List TokenKind) → highest variable_height others + length rest ≤ length (each_spelled next_spelled others rest)
+pub nexts_length : (others : List tree.Variable) (rest : List TokenKind) → highest variable_height
+    others + length rest ≤ length (each_spelled next_spelled others rest)
 nexts_length [] rest = omega arith
-nexts_length (v ∷ others) rest = omega (arith, variable_length v (each_spelled next_spelled others rest), nexts_length others rest)
+nexts_length (v ∷ others) rest = omega
+    (arith, variable_length v (each_spelled next_spelled others rest), nexts_length others rest)
 
-pub variables_length : (vs : List tree.Variable) (rest : List TokenKind) → highest variable_height vs + length rest ≤ length (variables_spelled vs rest)
+pub variables_length : (vs : List tree.Variable) (rest : List TokenKind) → highest variable_height
+    vs + length rest ≤ length (variables_spelled vs rest)
 variables_length [] rest = omega arith
-variables_length (v ∷ others) rest = omega (arith, variable_length v (each_spelled next_spelled others rest), nexts_length others rest)
+variables_length (v ∷ others) rest = omega
+    (arith, variable_length v (each_spelled next_spelled others rest), nexts_length others rest)
 
-pub type_length : (kind : tree.VariableType) (rest : List TokenKind) → type_height kind + length rest + 1 ≤ length (type_spelled kind rest)
+pub type_length : (kind : tree.VariableType) (rest : List TokenKind) → type_height kind + length
+    rest + 1 ≤ length (type_spelled kind rest)
 type_length tree.Boolean rest = omega arith
 type_length tree.Int rest = omega arith
-type_length (tree.Array size) rest = omega (arith, expr_length size (token.Punctuation punctuation.CloseBracket ∷ rest))
+type_length (tree.Array size) rest = omega
+    (arith, expr_length size (token.Punctuation punctuation.CloseBracket ∷ rest))
 
-pub declared_length : (kind : tree.VariableType) (vs : List tree.Variable) (rest : List TokenKind) → declared_height kind vs + length rest + 1 ≤ length (declared_spelled kind vs rest)
-declared_length kind vs rest = omega (arith, type_length kind (variables_spelled vs rest), variables_length vs rest)
+pub declared_length : (kind : tree.VariableType) (vs : List tree.Variable) (rest : List TokenKind)
+    → declared_height kind vs + length rest + 1 ≤ length (declared_spelled kind vs rest)
+declared_length kind vs rest = omega
+    (arith, type_length kind (variables_spelled vs rest), variables_length vs rest)
 
 module _ (d : ℕ) where
   abbrev IsNextCompleteness : tree.Variable → Type 0
-  IsNextCompleteness v = TallCompleteness next_spelled variable_height (next_variable d) no_comma Ends d v
+  IsNextCompleteness v = TallCompleteness next_spelled variable_height (next_variable d) no_comma
+      Ends d v
 
   next_completeness : (v : tree.Variable) → IsVariable v → IsNextCompleteness v
   unfolding next_variable no_comma is_punctuation
@@ -102,16 +145,22 @@ module _ (d : ℕ) where
     long = λ rest. omega (arith, variable_length v rest);
   }
 
-  nexts_completeness : (others : List tree.Variable) → AllByRecursion IsVariable others → AllByRecursion IsNextCompleteness others
+  nexts_completeness : (others : List tree.Variable) → AllByRecursion IsVariable others →
+      AllByRecursion IsNextCompleteness others
   nexts_completeness [] shape = tt
-  nexts_completeness (v ∷ others) shape = (next_completeness v shape.0, nexts_completeness others shape.1)
+  nexts_completeness (v ∷ others) shape =
+      (next_completeness v shape.0, nexts_completeness others shape.1)
 
-  follow : (others : List tree.Variable) → AllByRecursion IsNextCompleteness others → (rest : List TokenKind) → Ends rest → Ends (each_spelled next_spelled others rest)
+  follow : (others : List tree.Variable) → AllByRecursion IsNextCompleteness others →
+      (rest : List TokenKind) → Ends rest → Ends (each_spelled next_spelled others rest)
   follow [] complete rest ends = ends
-  follow (v ∷ others) complete rest ends = complete.0.follows (each_spelled next_spelled others rest)
+  follow (v ∷ others) complete rest ends = complete.0.follows
+      (each_spelled next_spelled others rest)
 
-  variables_completeness : (vs : List tree.Variable) → AreVariables vs → (rest : List TokenKind) → Ends rest → no_comma rest ≡ Some rest
-      → Complete d (highest variable_height vs) ((vs, highest variable_height vs), rest) (variables d (variables_spelled vs rest))
+  variables_completeness : (vs : List tree.Variable) → AreVariables vs → (rest : List TokenKind) →
+      Ends rest → no_comma rest ≡ Some rest
+      → Complete d (highest variable_height vs) ((vs, highest variable_height vs), rest)
+      (variables d (variables_spelled vs rest))
   unfolding variables more_variables
   variables_completeness [] shape rest ends stop = absurd shape
   variables_completeness (v ∷ others) shape rest ends stop =
@@ -119,45 +168,70 @@ module _ (d : ℕ) where
       let high : ℕ = max (variable_height v) (highest variable_height others) in
       let complete = nexts_completeness others shape.1 in
       let follows : Ends past = follow others complete rest ends in
-      Complete-then d (variable_height v) high (seen_as v past) ((v ∷ others, high), rest) _ _ (variable_completeness v shape.0 d past follows) (omega arith)
-      (λ low. Complete-max d (variable_height v) (highest variable_height others) ((v ∷ others, high), rest) _ low
-      (each_taller_completeness next_spelled variable_height (next_variable d) no_comma Ends d others complete (v ∷ []) (variable_height v) (length past + 1) rest rest stop ends (omega arith)))
+      Complete-then d (variable_height v) high (seen_as v past) ((v ∷ others, high), rest) _ _
+      (variable_completeness v shape.0 d past follows) (omega arith)
+      (λ low. Complete-max d (variable_height v) (highest variable_height others)
+      ((v ∷ others, high), rest) _ low
+      (each_taller_completeness next_spelled variable_height (next_variable d) no_comma Ends d
+      others complete (v ∷ []) (variable_height v) (length past + 1) rest rest stop ends
+      (omega arith)))
 
   -- the type stands before a name
-  type_completeness : (kind : tree.VariableType) → IsVariableType kind → (rest : List TokenKind) → is_punctuation punctuation.OpenBracket rest ≡ false
-      → Complete d (type_height kind) (kind, type_height kind, rest) (variable_type d (type_spelled kind rest))
+  type_completeness : (kind : tree.VariableType) → IsVariableType kind → (rest : List TokenKind) →
+      is_punctuation punctuation.OpenBracket rest ≡ false
+      → Complete d (type_height kind) (kind, type_height kind, rest)
+      (variable_type d (type_spelled kind rest))
   unfolding variable_type int_type is_punctuation
-  type_completeness tree.Boolean shape rest none = Complete-done d 0 (tree.Boolean, 0, rest) _ (omega arith) refl
-  type_completeness tree.Int shape rest none = rw none (Complete-done d 0 (tree.Int, 0, rest) _ (omega arith) refl)
+  type_completeness tree.Boolean shape rest none = Complete-done d 0 (tree.Boolean, 0, rest) _
+      (omega arith) refl
+  type_completeness tree.Int shape rest none = rw none
+      (Complete-done d 0 (tree.Int, 0, rest) _ (omega arith) refl)
   type_completeness (tree.Array size) shape rest none =
-      Complete-then d (expr_height size) (expr_height size) (found size rest) (tree.Array size, expr_height size, rest) _ _
-      (closed_completeness size shape d punctuation.CloseBracket rest (Stops-square lowest_precedence rest)) (omega arith)
-      (λ low. Complete-done d (expr_height size) (tree.Array size, expr_height size, rest) _ low refl)
+      Complete-then d (expr_height size) (expr_height size) (found size rest)
+      (tree.Array size, expr_height size, rest) _ _
+      (closed_completeness size shape d punctuation.CloseBracket rest
+      (Stops-square lowest_precedence rest)) (omega arith)
+      (λ low. Complete-done d (expr_height size) (tree.Array size, expr_height size, rest) _ low
+      refl)
 
-  no_index_before : (vs : List tree.Variable) → AreVariables vs → (rest : List TokenKind) → is_punctuation punctuation.OpenBracket (variables_spelled vs rest) ≡ false
+  no_index_before : (vs : List tree.Variable) → AreVariables vs → (rest : List TokenKind) →
+      is_punctuation punctuation.OpenBracket (variables_spelled vs rest) ≡ false
   unfolding is_punctuation
   no_index_before [] shape rest = absurd shape
   no_index_before (v ∷ others) shape rest = refl
 
-  pub declared_completeness : (kind : tree.VariableType) (vs : List tree.Variable) → IsVariableType kind → AreVariables vs → (rest : List TokenKind) → Ends rest → no_comma rest ≡ Some rest
-      → Complete d (declared_height kind vs) ((kind, vs), declared_height kind vs, rest) (declared d (declared_spelled kind vs rest))
+  pub declared_completeness : (kind : tree.VariableType) (vs : List tree.Variable) → IsVariableType
+      kind → AreVariables vs → (rest : List TokenKind) → Ends rest → no_comma rest ≡ Some rest
+      → Complete d (declared_height kind vs) ((kind, vs), declared_height kind vs, rest)
+      (declared d (declared_spelled kind vs rest))
   unfolding declared
   declared_completeness kind vs typed shape rest ends stop =
       let past = variables_spelled vs rest in
       let high : ℕ = declared_height kind vs in
-      Complete-then d (type_height kind) high (kind, type_height kind, past) ((kind, vs), high, rest) _ _ (type_completeness kind typed past (no_index_before vs shape rest)) (omega arith) (λ low.
+      Complete-then d (type_height kind) high (kind, type_height kind, past)
+      ((kind, vs), high, rest) _ _
+      (type_completeness kind typed past (no_index_before vs shape rest)) (omega arith)
+      (λ low.
       Complete-max d (type_height kind) (highest variable_height vs) ((kind, vs), high, rest) _ low
-      (Complete-then d (highest variable_height vs) (highest variable_height vs) ((vs, highest variable_height vs), rest) ((kind, vs), high, rest) _ _ (variables_completeness vs shape rest ends stop) (omega arith)
+      (Complete-then d (highest variable_height vs) (highest variable_height vs)
+      ((vs, highest variable_height vs), rest) ((kind, vs), high, rest) _ _
+      (variables_completeness vs shape rest ends stop) (omega arith)
       (λ also. Complete-done d (highest variable_height vs) ((kind, vs), high, rest) _ also refl)))
 
-no_comma_semicolon : (rest : List TokenKind) → no_comma (token.Punctuation punctuation.Semicolon ∷ rest) ≡ Some (token.Punctuation punctuation.Semicolon ∷ rest)
+no_comma_semicolon : (rest : List TokenKind) → no_comma
+    (token.Punctuation punctuation.Semicolon ∷ rest) ≡ Some
+    (token.Punctuation punctuation.Semicolon ∷ rest)
 unfolding no_comma is_punctuation
 no_comma_semicolon rest = refl
 
 -- a declaration before its semicolon
-pub fields_completeness : (kind : tree.VariableType) (vs : List tree.Variable) → IsVariableType kind → AreVariables vs → (d : ℕ) (rest : List TokenKind)
-    → Complete d (declared_height kind vs) ((kind, vs), declared_height kind vs, token.Punctuation punctuation.Semicolon ∷ rest) (declared d (declared_spelled kind vs (token.Punctuation punctuation.Semicolon ∷ rest)))
-fields_completeness kind vs typed shape d rest = declared_completeness d kind vs typed shape (token.Punctuation punctuation.Semicolon ∷ rest) (Ends-semicolon rest) (no_comma_semicolon rest)
+pub fields_completeness : (kind : tree.VariableType) (vs : List tree.Variable) → IsVariableType
+    kind → AreVariables vs → (d : ℕ) (rest : List TokenKind)
+    → Complete d (declared_height kind vs)
+    ((kind, vs), declared_height kind vs, token.Punctuation punctuation.Semicolon ∷ rest)
+    (declared d (declared_spelled kind vs (token.Punctuation punctuation.Semicolon ∷ rest)))
+fields_completeness kind vs typed shape d rest = declared_completeness d kind vs typed shape
+    (token.Punctuation punctuation.Semicolon ∷ rest) (Ends-semicolon rest) (no_comma_semicolon rest)
 
 -- ---- how an expression begins
 
@@ -172,43 +246,173 @@ pub record Opens (tokens : List TokenKind) : Type 0 where
 
 opens_name : (x : List ℕ) (rest : List TokenKind) → Opens (token.Name x ∷ rest)
 unfolding shallow part brace is_punctuation is_keyword
-opens_name x rest = record { no_semicolon = refl; no_bracket = refl; no_brace = refl; no_else = refl; is_part = λ depth. refl; is_ended = λ depth inner. refl }
+opens_name x rest = record {
+  no_semicolon = refl;
+  no_bracket = refl;
+  no_brace = refl;
+  no_else = refl;
+  is_part = λ depth.
+      refl;
+  is_ended = λ depth inner. refl;
+}
 
 pub opens : (e : tree.Expr) (rest : List TokenKind) → Opens (expr_spelled e rest)
 unfolding shallow keyword_statement part brace is_punctuation is_keyword
-opens (tree.Number value) rest = record { no_semicolon = refl; no_bracket = refl; no_brace = refl; no_else = refl; is_part = λ depth. refl; is_ended = λ depth inner. refl }
-opens (tree.Truth true) rest = record { no_semicolon = refl; no_bracket = refl; no_brace = refl; no_else = refl; is_part = λ depth. refl; is_ended = λ depth inner. refl }
-opens (tree.Truth false) rest = record { no_semicolon = refl; no_bracket = refl; no_brace = refl; no_else = refl; is_part = λ depth. refl; is_ended = λ depth inner. refl }
+opens (tree.Number value) rest = record {
+  no_semicolon = refl;
+  no_bracket = refl;
+  no_brace = refl;
+  no_else = refl;
+  is_part = λ depth.
+      refl;
+  is_ended = λ depth inner. refl;
+}
+opens (tree.Truth true) rest = record {
+  no_semicolon = refl;
+  no_bracket = refl;
+  no_brace = refl;
+  no_else = refl;
+  is_part = λ depth.
+      refl;
+  is_ended = λ depth inner. refl;
+}
+opens (tree.Truth false) rest = record {
+  no_semicolon = refl;
+  no_bracket = refl;
+  no_brace = refl;
+  no_else = refl;
+  is_part = λ depth.
+      refl;
+  is_ended = λ depth inner. refl;
+}
 opens (tree.Read x) rest = opens_name x rest
-opens (tree.Element x at) rest = opens_name x (token.Punctuation punctuation.OpenBracket ∷ expr_spelled at (token.Punctuation punctuation.CloseBracket ∷ rest))
-opens tree.Pop rest = record { no_semicolon = refl; no_bracket = refl; no_brace = refl; no_else = refl; is_part = λ depth. refl; is_ended = λ depth inner. refl }
-opens (tree.Peek at) rest = record { no_semicolon = refl; no_bracket = refl; no_brace = refl; no_else = refl; is_part = λ depth. refl; is_ended = λ depth inner. refl }
-opens (tree.Group inner) rest = record { no_semicolon = refl; no_bracket = refl; no_brace = refl; no_else = refl; is_part = λ depth. refl; is_ended = λ depth inner. refl }
-opens (tree.Unary unary.Negate operand) rest = record { no_semicolon = refl; no_bracket = refl; no_brace = refl; no_else = refl; is_part = λ depth. refl; is_ended = λ depth inner. refl }
-opens (tree.Unary unary.Not operand) rest = record { no_semicolon = refl; no_bracket = refl; no_brace = refl; no_else = refl; is_part = λ depth. refl; is_ended = λ depth inner. refl }
-opens (tree.Unary unary.Complement operand) rest = record { no_semicolon = refl; no_bracket = refl; no_brace = refl; no_else = refl; is_part = λ depth. refl; is_ended = λ depth inner. refl }
-opens (tree.Step step.IncrementFirst x) rest = record { no_semicolon = refl; no_bracket = refl; no_brace = refl; no_else = refl; is_part = λ depth. refl; is_ended = λ depth inner. refl }
-opens (tree.Step step.DecrementFirst x) rest = record { no_semicolon = refl; no_bracket = refl; no_brace = refl; no_else = refl; is_part = λ depth. refl; is_ended = λ depth inner. refl }
-opens (tree.Step step.IncrementAfter x) rest = opens_name x (token.Punctuation punctuation.PlusPlus ∷ rest)
-opens (tree.Step step.DecrementAfter x) rest = opens_name x (token.Punctuation punctuation.MinusMinus ∷ rest)
-opens (tree.StepElement step.IncrementFirst x at) rest = record { no_semicolon = refl; no_bracket = refl; no_brace = refl; no_else = refl; is_part = λ depth. refl; is_ended = λ depth inner. refl }
-opens (tree.StepElement step.DecrementFirst x at) rest = record { no_semicolon = refl; no_bracket = refl; no_brace = refl; no_else = refl; is_part = λ depth. refl; is_ended = λ depth inner. refl }
-opens (tree.StepElement step.IncrementAfter x at) rest = opens_name x (token.Punctuation punctuation.OpenBracket ∷ expr_spelled at (token.Punctuation punctuation.CloseBracket ∷ token.Punctuation punctuation.PlusPlus ∷ rest))
-opens (tree.StepElement step.DecrementAfter x at) rest = opens_name x (token.Punctuation punctuation.OpenBracket ∷ expr_spelled at (token.Punctuation punctuation.CloseBracket ∷ token.Punctuation punctuation.MinusMinus ∷ rest))
-opens (tree.Binary o left right) rest = opens left (token.Punctuation (binary_punctuation o) ∷ expr_spelled right rest)
-opens (tree.Conditional c a b) rest = opens c (token.Punctuation punctuation.Question ∷ expr_spelled a (token.Punctuation punctuation.Colon ∷ expr_spelled b rest))
+opens (tree.Element x at) rest = opens_name x
+    (token.Punctuation punctuation.OpenBracket ∷ expr_spelled at
+    (token.Punctuation punctuation.CloseBracket ∷ rest))
+opens tree.Pop rest = record {
+  no_semicolon = refl;
+  no_bracket = refl;
+  no_brace = refl;
+  no_else = refl;
+  is_part = λ depth.
+      refl;
+  is_ended = λ depth inner. refl;
+}
+opens (tree.Peek at) rest = record {
+  no_semicolon = refl;
+  no_bracket = refl;
+  no_brace = refl;
+  no_else = refl;
+  is_part = λ depth.
+      refl;
+  is_ended = λ depth inner. refl;
+}
+opens (tree.Group inner) rest = record {
+  no_semicolon = refl;
+  no_bracket = refl;
+  no_brace = refl;
+  no_else = refl;
+  is_part = λ depth.
+      refl;
+  is_ended = λ depth inner. refl;
+}
+opens (tree.Unary unary.Negate operand) rest = record {
+  no_semicolon = refl;
+  no_bracket = refl;
+  no_brace = refl;
+  no_else = refl;
+  is_part = λ depth.
+      refl;
+  is_ended = λ depth inner. refl;
+}
+opens (tree.Unary unary.Not operand) rest = record {
+  no_semicolon = refl;
+  no_bracket = refl;
+  no_brace = refl;
+  no_else = refl;
+  is_part = λ depth.
+      refl;
+  is_ended = λ depth inner. refl;
+}
+opens (tree.Unary unary.Complement operand) rest = record {
+  no_semicolon = refl;
+  no_bracket = refl;
+  no_brace = refl;
+  no_else = refl;
+  is_part = λ depth.
+      refl;
+  is_ended = λ depth inner. refl;
+}
+opens (tree.Step step.IncrementFirst x) rest = record {
+  no_semicolon = refl;
+  no_bracket = refl;
+  no_brace = refl;
+  no_else = refl;
+  is_part = λ depth.
+      refl;
+  is_ended = λ depth inner. refl;
+}
+opens (tree.Step step.DecrementFirst x) rest = record {
+  no_semicolon = refl;
+  no_bracket = refl;
+  no_brace = refl;
+  no_else = refl;
+  is_part = λ depth.
+      refl;
+  is_ended = λ depth inner. refl;
+}
+opens (tree.Step step.IncrementAfter x) rest = opens_name x
+    (token.Punctuation punctuation.PlusPlus ∷ rest)
+opens (tree.Step step.DecrementAfter x) rest = opens_name x
+    (token.Punctuation punctuation.MinusMinus ∷ rest)
+opens (tree.StepElement step.IncrementFirst x at) rest = record {
+  no_semicolon = refl;
+  no_bracket = refl;
+  no_brace = refl;
+  no_else = refl;
+  is_part = λ depth.
+      refl;
+  is_ended = λ depth inner. refl;
+}
+opens (tree.StepElement step.DecrementFirst x at) rest = record {
+  no_semicolon = refl;
+  no_bracket = refl;
+  no_brace = refl;
+  no_else = refl;
+  is_part = λ depth.
+      refl;
+  is_ended = λ depth inner. refl;
+}
+opens (tree.StepElement step.IncrementAfter x at) rest = opens_name x
+    (token.Punctuation punctuation.OpenBracket ∷ expr_spelled at
+    (token.Punctuation punctuation.CloseBracket ∷ token.Punctuation punctuation.PlusPlus ∷
+    rest))
+opens (tree.StepElement step.DecrementAfter x at) rest = opens_name x
+    (token.Punctuation punctuation.OpenBracket ∷ expr_spelled at
+    (token.Punctuation punctuation.CloseBracket ∷ token.Punctuation punctuation.MinusMinus ∷
+    rest))
+opens (tree.Binary o left right) rest = opens left
+    (token.Punctuation (binary_punctuation o) ∷ expr_spelled right rest)
+opens (tree.Conditional c a b) rest = opens c
+    (token.Punctuation punctuation.Question ∷ expr_spelled a
+    (token.Punctuation punctuation.Colon ∷ expr_spelled b rest))
 
-opens_step : (s : tree.Stmt) → IsStep s → (s ≡ tree.Empty → ⊥) → (rest : List TokenKind) → Opens (part_spelled s rest)
+opens_step : (s : tree.Stmt) → IsStep s → (s ≡ tree.Empty → ⊥) → (rest : List TokenKind) → Opens
+    (part_spelled s rest)
 opens_step tree.Empty shape some rest = absurd (some refl)
 opens_step (tree.Evaluate value) shape some rest = opens value rest
-opens_step (tree.Assign x o value) shape some rest = opens_name x (token.Punctuation (assign_punctuation o) ∷ expr_spelled value rest)
+opens_step (tree.Assign x o value) shape some rest = opens_name x
+    (token.Punctuation (assign_punctuation o) ∷ expr_spelled value rest)
 opens_step (tree.AssignElement x at o value) shape some rest =
-    opens_name x (token.Punctuation punctuation.OpenBracket ∷ expr_spelled at (token.Punctuation punctuation.CloseBracket ∷ token.Punctuation (assign_punctuation o) ∷ expr_spelled value rest))
+    opens_name x (token.Punctuation punctuation.OpenBracket ∷ expr_spelled at
+    (token.Punctuation punctuation.CloseBracket ∷ token.Punctuation (assign_punctuation o) ∷
+    expr_spelled value rest))
 opens_step _ shape some rest = absurd shape
 
 -- ---- expressions and assignments
 
-assign_at_punctuation : (o : AssignOperator) (rest : List TokenKind) → assign_at (token.Punctuation (assign_punctuation o) ∷ rest) ≡ Some o
+assign_at_punctuation : (o : AssignOperator) (rest : List TokenKind) → assign_at
+    (token.Punctuation (assign_punctuation o) ∷ rest) ≡ Some o
 unfolding assign_at punctuation_at
 assign_at_punctuation assign.Set rest = refl
 assign_at_punctuation assign.Add rest = refl
@@ -225,51 +429,78 @@ module _ (d : ℕ) (rest : List TokenKind) (ends : Ends rest) where
   less : suc d - 1 ≡ d
   less = omega arith
 
-  evaluate_completeness : (e : tree.Expr) → IsExpr e → Complete (suc d) (stmt_height (tree.Evaluate e)) (made (tree.Evaluate e) rest) (simple (suc d) (expr_spelled e rest))
+  evaluate_completeness : (e : tree.Expr) → IsExpr e → Complete (suc d)
+      (stmt_height (tree.Evaluate e)) (made (tree.Evaluate e) rest)
+      (simple (suc d) (expr_spelled e rest))
   unfolding simple after_value evaluate
   evaluate_completeness e shape =
-      rw less (Complete-inside d (expr_height e) (expr_height e + 1) (found e rest) (made (tree.Evaluate e) rest) _ _ (expression_completeness e shape d rest ends.stops) (omega arith)
-      (λ low. rw ends.no_assign (Complete-raised (suc d) (expr_height e) (made (tree.Evaluate e) rest) _ refl)))
+      rw less (Complete-inside d (expr_height e) (expr_height e + 1) (found e rest)
+      (made (tree.Evaluate e) rest) _ _ (expression_completeness e shape d rest ends.stops)
+      (omega arith)
+      (λ low. rw ends.no_assign
+      (Complete-raised (suc d) (expr_height e) (made (tree.Evaluate e) rest) _ refl)))
 
   -- after the operator
   to_completeness : (x : List ℕ) (o : AssignOperator) (e : tree.Expr) → IsExpr e
-      → Complete (suc d) (expr_height e + 1) (made (tree.Assign x o e) rest) (assign_to (suc d) x o (expr_spelled e rest))
+      → Complete (suc d) (expr_height e + 1) (made (tree.Assign x o e) rest)
+      (assign_to (suc d) x o (expr_spelled e rest))
   unfolding assign_to
   to_completeness x o e shape =
-      rw less (Complete-inside d (expr_height e) (expr_height e + 1) (found e rest) (made (tree.Assign x o e) rest) _ _ (expression_completeness e shape d rest ends.stops) (omega arith)
+      rw less (Complete-inside d (expr_height e) (expr_height e + 1) (found e rest)
+      (made (tree.Assign x o e) rest) _ _ (expression_completeness e shape d rest ends.stops)
+      (omega arith)
       (λ low. Complete-raised (suc d) (expr_height e) (made (tree.Assign x o e) rest) _ refl))
 
-  element_completeness : (x : List ℕ) (at : tree.Expr) (o : AssignOperator) (e : tree.Expr) → IsExpr e
-      → Complete (suc d) (max (expr_height at + 1) (expr_height e) + 1) (made (tree.AssignElement x at o e) rest) (assign_element (suc d) x at (expr_height at + 1) o (expr_spelled e rest))
+  element_completeness : (x : List ℕ) (at : tree.Expr) (o : AssignOperator) (e : tree.Expr) →
+      IsExpr e
+      → Complete (suc d) (max (expr_height at + 1) (expr_height e) + 1)
+      (made (tree.AssignElement x at o e) rest)
+      (assign_element (suc d) x at (expr_height at + 1) o (expr_spelled e rest))
   unfolding assign_element
   element_completeness x at o e shape =
-      rw less (Complete-inside d (expr_height e) (max (expr_height at + 1) (expr_height e) + 1) (found e rest) (made (tree.AssignElement x at o e) rest) _ _
+      rw less (Complete-inside d (expr_height e) (max (expr_height at + 1) (expr_height e) + 1)
+      (found e rest) (made (tree.AssignElement x at o e) rest) _ _
       (expression_completeness e shape d rest ends.stops) (omega arith)
-      (λ low. Complete-raised (suc d) (max (expr_height at + 1) (expr_height e)) (made (tree.AssignElement x at o e) rest) _ refl))
+      (λ low. Complete-raised (suc d) (max (expr_height at + 1) (expr_height e))
+      (made (tree.AssignElement x at o e) rest) _ refl))
 
   assign_completeness : (x : List ℕ) (o : AssignOperator) (e : tree.Expr) → IsExpr e
-      → Complete (suc d) (stmt_height (tree.Assign x o e)) (made (tree.Assign x o e) rest) (simple (suc d) (part_spelled (tree.Assign x o e) rest))
+      → Complete (suc d) (stmt_height (tree.Assign x o e)) (made (tree.Assign x o e) rest)
+      (simple (suc d) (part_spelled (tree.Assign x o e) rest))
   unfolding simple after_value assignment
   assign_completeness x o e shape =
       let past = expr_spelled e rest in
-      rw less (Complete-inside d 1 (expr_height e + 1) (found (tree.Read x) (token.Punctuation (assign_punctuation o) ∷ past)) (made (tree.Assign x o e) rest) _ _
-      (expression_completeness (tree.Read x) tt d (token.Punctuation (assign_punctuation o) ∷ past) (Stops-assign o lowest_precedence past)) (omega (arith, height_some e))
+      rw less (Complete-inside d 1 (expr_height e + 1)
+      (found (tree.Read x) (token.Punctuation (assign_punctuation o) ∷ past))
+      (made (tree.Assign x o e) rest) _ _
+      (expression_completeness (tree.Read x) tt d (token.Punctuation (assign_punctuation o) ∷ past)
+      (Stops-assign o lowest_precedence past)) (omega (arith, height_some e))
       (λ low. rw (assign_at_punctuation o past) (to_completeness x o e shape)))
 
-  assign_element_completeness : (x : List ℕ) (at : tree.Expr) (o : AssignOperator) (e : tree.Expr) → IsExpr at → IsExpr e
-      → Complete (suc d) (stmt_height (tree.AssignElement x at o e)) (made (tree.AssignElement x at o e) rest) (simple (suc d) (part_spelled (tree.AssignElement x at o e) rest))
+  assign_element_completeness : (x : List ℕ) (at : tree.Expr) (o : AssignOperator) (e : tree.Expr)
+      → IsExpr at → IsExpr e
+      → Complete (suc d) (stmt_height (tree.AssignElement x at o e))
+      (made (tree.AssignElement x at o e) rest)
+      (simple (suc d) (part_spelled (tree.AssignElement x at o e) rest))
   unfolding simple after_value assignment
   assign_element_completeness x at o e at_shape shape =
       let past = expr_spelled e rest in
-      rw less (Complete-inside d (expr_height at + 1) (max (expr_height at + 1) (expr_height e) + 1) (found (tree.Element x at) (token.Punctuation (assign_punctuation o) ∷ past)) (made (tree.AssignElement x at o e) rest) _ _
-      (expression_completeness (tree.Element x at) at_shape d (token.Punctuation (assign_punctuation o) ∷ past) (Stops-assign o lowest_precedence past)) (omega arith)
+      rw less (Complete-inside d (expr_height at + 1)
+      (max (expr_height at + 1) (expr_height e) + 1)
+      (found (tree.Element x at) (token.Punctuation (assign_punctuation o) ∷ past))
+      (made (tree.AssignElement x at o e) rest) _ _
+      (expression_completeness (tree.Element x at) at_shape d
+      (token.Punctuation (assign_punctuation o) ∷ past)
+      (Stops-assign o lowest_precedence past)) (omega arith)
       (λ low. rw (assign_at_punctuation o past) (element_completeness x at o e shape)))
 
-  simple_completeness : (s : tree.Stmt) → IsStep s → (s ≡ tree.Empty → ⊥) → Complete (suc d) (stmt_height s) (made s rest) (simple (suc d) (part_spelled s rest))
+  simple_completeness : (s : tree.Stmt) → IsStep s → (s ≡ tree.Empty → ⊥) → Complete (suc d)
+      (stmt_height s) (made s rest) (simple (suc d) (part_spelled s rest))
   simple_completeness tree.Empty shape some = absurd (some refl)
   simple_completeness (tree.Evaluate e) shape some = evaluate_completeness e shape
   simple_completeness (tree.Assign x o e) shape some = assign_completeness x o e shape
-  simple_completeness (tree.AssignElement x at o e) shape some = assign_element_completeness x at o e shape.0 shape.1
+  simple_completeness (tree.AssignElement x at o e) shape some = assign_element_completeness x at o
+      e shape.0 shape.1
   simple_completeness _ shape some = absurd shape
 
 -- ---- the parts of a `for`, and statements with a semicolon
@@ -293,143 +524,230 @@ module _ (d : ℕ) (m : Punctuation) (is_end : IsEnd m) (rest : List TokenKind) 
   unfolding optional is_punctuation
   nothing_completeness = rw (true_same punctuation_type m m refl) (Complete-leaf d _ _ refl)
 
-  something_completeness : (s : tree.Stmt) → IsStep s → (s ≡ tree.Empty → ⊥) → Complete (suc d) (stmt_height s) (made s past) (optional (suc d) m (part_spelled s past))
+  something_completeness : (s : tree.Stmt) → IsStep s → (s ≡ tree.Empty → ⊥) → Complete (suc d)
+      (stmt_height s) (made s past) (optional (suc d) m (part_spelled s past))
   unfolding optional
   something_completeness s shape some =
-      rw (is_end.stays (part_spelled s past) (opens_step s shape some past)) (simple_completeness d past (is_end.ends rest) s shape some)
+      rw (is_end.stays (part_spelled s past) (opens_step s shape some past))
+      (simple_completeness d past (is_end.ends rest) s shape some)
 
-  optional_completeness : (s : tree.Stmt) → IsStep s → Complete (suc d) (stmt_height s) (made s past) (optional (suc d) m (part_spelled s past))
+  optional_completeness : (s : tree.Stmt) → IsStep s → Complete (suc d) (stmt_height s)
+      (made s past) (optional (suc d) m (part_spelled s past))
   optional_completeness tree.Empty shape = nothing_completeness
-  optional_completeness (tree.Evaluate e) shape = something_completeness (tree.Evaluate e) shape (λ same. absurd cc)
-  optional_completeness (tree.Assign x o e) shape = something_completeness (tree.Assign x o e) shape (λ same. absurd cc)
-  optional_completeness (tree.AssignElement x at o e) shape = something_completeness (tree.AssignElement x at o e) shape (λ same. absurd cc)
+  optional_completeness (tree.Evaluate e) shape = something_completeness (tree.Evaluate e) shape
+      (λ same. absurd cc)
+  optional_completeness (tree.Assign x o e) shape = something_completeness (tree.Assign x o e)
+      shape (λ same. absurd cc)
+  optional_completeness (tree.AssignElement x at o e) shape = something_completeness
+      (tree.AssignElement x at o e) shape (λ same. absurd cc)
   optional_completeness _ shape = absurd shape
 
 module _ (d : ℕ) (rest : List TokenKind) where
-  declare_completeness : (kind : tree.VariableType) (vs : List tree.Variable) → IsFirst (tree.Declare kind vs)
-      → Complete (suc d) (stmt_height (tree.Declare kind vs)) (made (tree.Declare kind vs) (token.Punctuation punctuation.Semicolon ∷ rest)) (declare (suc d) (declared_spelled kind vs (token.Punctuation punctuation.Semicolon ∷ rest)))
+  declare_completeness : (kind : tree.VariableType) (vs : List tree.Variable) → IsFirst
+      (tree.Declare kind vs)
+      → Complete (suc d) (stmt_height (tree.Declare kind vs))
+      (made (tree.Declare kind vs) (token.Punctuation punctuation.Semicolon ∷ rest))
+      (declare (suc d) (declared_spelled kind vs
+      (token.Punctuation punctuation.Semicolon ∷ rest)))
   unfolding declare
   declare_completeness kind vs shape =
       let past : List TokenKind = token.Punctuation punctuation.Semicolon ∷ rest in
-      rw (less d past (Ends-semicolon rest)) (Complete-inside d (declared_height kind vs) (declared_height kind vs + 1) ((kind, vs), declared_height kind vs, past) (made (tree.Declare kind vs) past) _ _
+      rw (less d past (Ends-semicolon rest))
+      (Complete-inside d (declared_height kind vs) (declared_height kind vs + 1)
+      ((kind, vs), declared_height kind vs, past) (made (tree.Declare kind vs) past) _ _
       (fields_completeness kind vs shape.0 shape.1 d rest) (omega arith)
-      (λ low. Complete-raised (suc d) (declared_height kind vs) (made (tree.Declare kind vs) past) _ refl))
+      (λ low. Complete-raised (suc d) (declared_height kind vs) (made (tree.Declare kind vs) past)
+      _ refl))
 
   step_part : (s : tree.Stmt) → IsStep s → (s ≡ tree.Empty → ⊥)
-      → Complete (suc d) (stmt_height s) (made s (token.Punctuation punctuation.Semicolon ∷ rest)) (part (suc d) (part_spelled s (token.Punctuation punctuation.Semicolon ∷ rest)))
+      → Complete (suc d) (stmt_height s) (made s (token.Punctuation punctuation.Semicolon ∷ rest))
+      (part (suc d) (part_spelled s (token.Punctuation punctuation.Semicolon ∷ rest)))
   step_part s shape some =
-      rw ((opens_step s shape some (token.Punctuation punctuation.Semicolon ∷ rest)).is_part (suc d)) (optional_completeness d punctuation.Semicolon end_semicolon rest s shape)
+      rw ((opens_step s shape some (token.Punctuation punctuation.Semicolon ∷ rest)).is_part
+      (suc d)) (optional_completeness d punctuation.Semicolon end_semicolon rest s shape)
 
-  part_completeness : (s : tree.Stmt) → IsFirst s → Complete (suc d) (stmt_height s) (made s (token.Punctuation punctuation.Semicolon ∷ rest)) (part (suc d) (part_spelled s (token.Punctuation punctuation.Semicolon ∷ rest)))
+  part_completeness : (s : tree.Stmt) → IsFirst s → Complete (suc d) (stmt_height s)
+      (made s (token.Punctuation punctuation.Semicolon ∷ rest))
+      (part (suc d) (part_spelled s (token.Punctuation punctuation.Semicolon ∷ rest)))
   unfolding part
-  part_completeness tree.Empty shape = nothing_completeness d punctuation.Semicolon end_semicolon rest
-  part_completeness (tree.Declare tree.Boolean vs) shape = declare_completeness tree.Boolean vs shape
+  part_completeness tree.Empty shape = nothing_completeness d punctuation.Semicolon end_semicolon
+      rest
+  part_completeness (tree.Declare tree.Boolean vs) shape = declare_completeness tree.Boolean vs
+      shape
   part_completeness (tree.Declare tree.Int vs) shape = declare_completeness tree.Int vs shape
-  part_completeness (tree.Declare (tree.Array size) vs) shape = declare_completeness (tree.Array size) vs shape
+  part_completeness (tree.Declare (tree.Array size) vs) shape = declare_completeness
+      (tree.Array size) vs shape
   part_completeness (tree.Evaluate e) shape = step_part (tree.Evaluate e) shape (λ same. absurd cc)
-  part_completeness (tree.Assign x o e) shape = step_part (tree.Assign x o e) shape (λ same. absurd cc)
-  part_completeness (tree.AssignElement x at o e) shape = step_part (tree.AssignElement x at o e) shape (λ same. absurd cc)
+  part_completeness (tree.Assign x o e) shape = step_part (tree.Assign x o e) shape
+      (λ same. absurd cc)
+  part_completeness (tree.AssignElement x at o e) shape = step_part (tree.AssignElement x at o e)
+      shape (λ same. absurd cc)
   part_completeness _ shape = absurd shape
 
-  pub ended_completeness : (s : tree.Stmt) → IsFirst s → Complete (suc d) (stmt_height s) (made s rest) (ended (suc d) (part_spelled s (token.Punctuation punctuation.Semicolon ∷ rest)))
+  pub ended_completeness : (s : tree.Stmt) → IsFirst s → Complete (suc d) (stmt_height s)
+      (made s rest) (ended (suc d)
+      (part_spelled s (token.Punctuation punctuation.Semicolon ∷ rest)))
   unfolding ended
   ended_completeness s shape =
-      Complete-then (suc d) (stmt_height s) (stmt_height s) (made s (token.Punctuation punctuation.Semicolon ∷ rest)) (made s rest) _ _ (part_completeness s shape) (omega arith)
-      (λ low. rw (expect_punctuation punctuation.Semicolon rest) (Complete-done (suc d) (stmt_height s) (made s rest) _ low refl))
+      Complete-then (suc d) (stmt_height s) (stmt_height s)
+      (made s (token.Punctuation punctuation.Semicolon ∷ rest)) (made s rest) _ _
+      (part_completeness s shape) (omega arith)
+      (λ low. rw (expect_punctuation punctuation.Semicolon rest)
+      (Complete-done (suc d) (stmt_height s) (made s rest) _ low refl))
 
-  last_completeness : (s : tree.Stmt) → IsStep s → Complete (suc d) (stmt_height s) (made s rest) (last_part (suc d) (part_spelled s (token.Punctuation punctuation.CloseParen ∷ rest)))
+  last_completeness : (s : tree.Stmt) → IsStep s → Complete (suc d) (stmt_height s) (made s rest)
+      (last_part (suc d) (part_spelled s (token.Punctuation punctuation.CloseParen ∷ rest)))
   unfolding last_part
   last_completeness s shape =
-      Complete-then (suc d) (stmt_height s) (stmt_height s) (made s (token.Punctuation punctuation.CloseParen ∷ rest)) (made s rest) _ _ (optional_completeness d punctuation.CloseParen end_bracket rest s shape) (omega arith)
-      (λ low. rw (expect_punctuation punctuation.CloseParen rest) (Complete-done (suc d) (stmt_height s) (made s rest) _ low refl))
+      Complete-then (suc d) (stmt_height s) (stmt_height s)
+      (made s (token.Punctuation punctuation.CloseParen ∷ rest)) (made s rest) _ _
+      (optional_completeness d punctuation.CloseParen end_bracket rest s shape)
+      (omega arith)
+      (λ low. rw (expect_punctuation punctuation.CloseParen rest)
+      (Complete-done (suc d) (stmt_height s) (made s rest) _ low refl))
 
 module _ (d : ℕ) (rest : List TokenKind) where
   condition_completeness : (tested : Option tree.Expr) → IsOptional tested
-      → Complete d (optional_height tested) (tested, optional_height tested, rest) (condition d (condition_spelled tested (token.Punctuation punctuation.Semicolon ∷ rest)))
+      → Complete d (optional_height tested) (tested, optional_height tested, rest)
+      (condition d (condition_spelled tested (token.Punctuation punctuation.Semicolon ∷ rest)))
   unfolding condition is_punctuation
   condition_completeness None shape = Complete-done d 0 (None, 0, rest) _ (omega arith) refl
   condition_completeness (Some e) shape =
-      let stays : is_punctuation punctuation.Semicolon (expr_spelled e (token.Punctuation punctuation.Semicolon ∷ rest)) ≡ false = (opens e (token.Punctuation punctuation.Semicolon ∷ rest)).no_semicolon in
-      rw stays (Complete-then d (expr_height e) (expr_height e) (found e rest) (Some e, expr_height e, rest) _ _ (closed_completeness e shape d punctuation.Semicolon rest (Stops-semicolon lowest_precedence rest)) (omega arith)
+      let stays : is_punctuation punctuation.Semicolon
+      (expr_spelled e (token.Punctuation punctuation.Semicolon ∷ rest)) ≡ false =
+      (opens e (token.Punctuation punctuation.Semicolon ∷ rest)).no_semicolon in
+      rw stays (Complete-then d (expr_height e) (expr_height e) (found e rest)
+      (Some e, expr_height e, rest) _ _
+      (closed_completeness e shape d punctuation.Semicolon rest
+      (Stops-semicolon lowest_precedence rest)) (omega arith)
       (λ low. Complete-done d (expr_height e) (Some e, expr_height e, rest) _ low refl))
 
 -- the height of what stands in the brackets of a `for`
 abbrev pub heading_height : tree.Stmt → Option tree.Expr → tree.Stmt → ℕ
-heading_height begun tested stepped = max (stmt_height begun) (max (optional_height tested) (stmt_height stepped))
+heading_height begun tested stepped = max (stmt_height begun)
+    (max (optional_height tested) (stmt_height stepped))
 
 module _ (d : ℕ) (rest : List TokenKind) where
-  past_completeness : (tested : Option tree.Expr) (stepped : tree.Stmt) → IsOptional tested → IsStep stepped
-      → Complete (suc d) (max (optional_height tested) (stmt_height stepped)) ((tested, stepped), max (optional_height tested) (stmt_height stepped), rest)
-      (after_first (suc d) (condition_spelled tested (token.Punctuation punctuation.Semicolon ∷ part_spelled stepped (token.Punctuation punctuation.CloseParen ∷ rest))))
+  past_completeness : (tested : Option tree.Expr) (stepped : tree.Stmt) → IsOptional tested →
+      IsStep stepped
+      → Complete (suc d) (max (optional_height tested) (stmt_height stepped))
+      ((tested, stepped), max (optional_height tested) (stmt_height stepped), rest)
+      (after_first (suc d) (condition_spelled tested
+      (token.Punctuation punctuation.Semicolon ∷ part_spelled stepped
+      (token.Punctuation punctuation.CloseParen ∷ rest))))
   unfolding after_first
   past_completeness tested stepped is_tested is_step =
-      let stepping : List TokenKind = part_spelled stepped (token.Punctuation punctuation.CloseParen ∷ rest) in
+      let stepping : List TokenKind = part_spelled stepped
+      (token.Punctuation punctuation.CloseParen ∷ rest) in
       let high : ℕ = max (optional_height tested) (stmt_height stepped) in
-      let all : (Option tree.Expr × tree.Stmt) × ℕ × List TokenKind = ((tested, stepped), high, rest) in
-      Complete-then (suc d) (optional_height tested) high (tested, optional_height tested, stepping) all _ _ (condition_completeness (suc d) stepping tested is_tested) (omega arith) (λ one.
-      Complete-then (suc d) (stmt_height stepped) high (made stepped rest) all _ _ (last_completeness d rest stepped is_step) (omega arith) (λ two.
+      let all : (Option tree.Expr × tree.Stmt) × ℕ × List TokenKind =
+      ((tested, stepped), high, rest) in
+      Complete-then (suc d) (optional_height tested) high
+      (tested, optional_height tested, stepping) all _ _
+      (condition_completeness (suc d) stepping tested is_tested) (omega arith) (λ one.
+      Complete-then (suc d) (stmt_height stepped) high (made stepped rest) all _ _
+      (last_completeness d rest stepped is_step) (omega arith) (λ two.
       Complete-done (suc d) high all _ (omega arith) refl))
 
-  pub heading_completeness : (begun : tree.Stmt) (tested : Option tree.Expr) (stepped : tree.Stmt) → IsFirst begun → IsOptional tested → IsStep stepped
-      → Complete (suc d) (heading_height begun tested stepped) ((begun, tested, stepped), heading_height begun tested stepped, rest) (for_heading (suc d) (heading_spelled begun tested stepped rest))
+  pub heading_completeness : (begun : tree.Stmt) (tested : Option tree.Expr) (stepped : tree.Stmt)
+      → IsFirst begun → IsOptional tested → IsStep stepped
+      → Complete (suc d) (heading_height begun tested stepped)
+      ((begun, tested, stepped), heading_height begun tested stepped, rest)
+      (for_heading (suc d) (heading_spelled begun tested stepped rest))
   unfolding for_heading
   heading_completeness begun tested stepped is_first is_tested is_step =
-      let testing : List TokenKind = condition_spelled tested (token.Punctuation punctuation.Semicolon ∷ part_spelled stepped (token.Punctuation punctuation.CloseParen ∷ rest)) in
+      let testing : List TokenKind = condition_spelled tested
+      (token.Punctuation punctuation.Semicolon ∷ part_spelled stepped
+      (token.Punctuation punctuation.CloseParen ∷ rest)) in
       let high : ℕ = heading_height begun tested stepped in
       let after : ℕ = max (optional_height tested) (stmt_height stepped) in
-      let all : (tree.Stmt × Option tree.Expr × tree.Stmt) × ℕ × List TokenKind = ((begun, tested, stepped), high, rest) in
-      rw (expect_punctuation punctuation.OpenParen (part_spelled begun (token.Punctuation punctuation.Semicolon ∷ testing)))
-      (Complete-then (suc d) (stmt_height begun) high (made begun testing) all _ _ (ended_completeness d testing begun is_first) (omega arith) (λ one.
-      Complete-then (suc d) after high ((tested, stepped), after, rest) all _ _ (past_completeness tested stepped is_tested is_step) (omega arith) (λ two.
+      let all : (tree.Stmt × Option tree.Expr × tree.Stmt) × ℕ × List TokenKind =
+      ((begun, tested, stepped), high, rest) in
+      rw (expect_punctuation punctuation.OpenParen
+      (part_spelled begun (token.Punctuation punctuation.Semicolon ∷ testing)))
+      (Complete-then (suc d) (stmt_height begun) high (made begun testing) all _ _
+      (ended_completeness d testing begun is_first) (omega arith) (λ one.
+      Complete-then (suc d) after high ((tested, stepped), after, rest) all _ _
+      (past_completeness tested stepped is_tested is_step) (omega arith) (λ two.
       Complete-done (suc d) high all _ (omega arith) refl)))
 
   -- an expression in brackets, one depth below
-  pub bracketed_completeness : (e : tree.Expr) → IsExpr e → Complete d (expr_height e) (found e rest) (bracketed (suc d) (bracketed_spelled e rest))
+  pub bracketed_completeness : (e : tree.Expr) → IsExpr e → Complete d (expr_height e)
+      (found e rest) (bracketed (suc d) (bracketed_spelled e rest))
   unfolding bracketed
   bracketed_completeness e shape =
       let less : suc d - 1 ≡ d = omega arith in
-      rw (expect_punctuation punctuation.OpenParen (expr_spelled e (token.Punctuation punctuation.CloseParen ∷ rest)), less) (closed_completeness e shape d punctuation.CloseParen rest (Stops-bracket lowest_precedence rest))
+      rw (
+        expect_punctuation punctuation.OpenParen
+            (expr_spelled e (token.Punctuation punctuation.CloseParen ∷ rest)),
+        less,
+      )
+      (closed_completeness e shape d punctuation.CloseParen rest
+      (Stops-bracket lowest_precedence rest))
 
 module _ (d : ℕ) (rest : List TokenKind) where
-  argument_completeness : (e : tree.Expr) → IsExpr e → Complete (suc d) (expr_height e + 1) (e, expr_height e + 1, rest) (argument (suc d) (bracketed_spelled e (token.Punctuation punctuation.Semicolon ∷ rest)))
+  argument_completeness : (e : tree.Expr) → IsExpr e → Complete (suc d) (expr_height e + 1)
+      (e, expr_height e + 1, rest)
+      (argument (suc d) (bracketed_spelled e (token.Punctuation punctuation.Semicolon ∷ rest)))
   unfolding argument
   argument_completeness e shape =
-      Complete-inside d (expr_height e) (expr_height e + 1) (found e (token.Punctuation punctuation.Semicolon ∷ rest)) (e, expr_height e + 1, rest) _ _ (bracketed_completeness d (token.Punctuation punctuation.Semicolon ∷ rest) e shape) (omega arith)
-      (λ low. rw (expect_punctuation punctuation.Semicolon rest) (Complete-raised (suc d) (expr_height e) (e, expr_height e + 1, rest) _ refl))
+      Complete-inside d (expr_height e) (expr_height e + 1)
+      (found e (token.Punctuation punctuation.Semicolon ∷ rest)) (e, expr_height e + 1, rest) _
+      _ (bracketed_completeness d (token.Punctuation punctuation.Semicolon ∷ rest) e shape)
+      (omega arith)
+      (λ low. rw (expect_punctuation punctuation.Semicolon rest)
+      (Complete-raised (suc d) (expr_height e) (e, expr_height e + 1, rest) _ refl))
 
   -- a statement made of such an expression
   pub of_argument : (e : tree.Expr) → IsExpr e → (make : tree.Expr → tree.Stmt)
-      → Complete (suc d) (expr_height e + 1) {X = tree.Stmt × ℕ × List TokenKind} (make e, expr_height e + 1, rest)
-      (argument (suc d) (bracketed_spelled e (token.Punctuation punctuation.Semicolon ∷ rest)) >>= λ read. Ok (make read.0, read.1, read.2))
+      → Complete (suc d) (expr_height e + 1) {X = tree.Stmt × ℕ × List TokenKind}
+      (make e, expr_height e + 1, rest)
+      (argument (suc d) (bracketed_spelled e (token.Punctuation punctuation.Semicolon ∷ rest)) >>=
+      λ read. Ok (make read.0, read.1, read.2))
   of_argument e shape make =
-      Complete-then (suc d) (expr_height e + 1) (expr_height e + 1) (e, expr_height e + 1, rest) (make e, expr_height e + 1, rest) _ _ (argument_completeness e shape) (omega arith)
-      (λ low. Complete-done (suc d) (expr_height e + 1) (make e, expr_height e + 1, rest) _ low refl)
+      Complete-then (suc d) (expr_height e + 1) (expr_height e + 1) (e, expr_height e + 1, rest)
+      (make e, expr_height e + 1, rest) _ _ (argument_completeness e shape) (omega arith)
+      (λ low. Complete-done (suc d) (expr_height e + 1) (make e, expr_height e + 1, rest) _ low
+      refl)
 
 -- ---- how a statement with a semicolon begins
 
--- a statement with a semicolon is read as one, and begins neither with a closing brace nor with `else`
+-- a statement with a semicolon is read as one, and begins neither with a closing brace nor with
+-- `else`
 pub record Begins (s : tree.Stmt) : Type 0 where
-  pub no_brace : (rest : List TokenKind) → brace (part_spelled s (token.Punctuation punctuation.Semicolon ∷ rest)) ≡ None
-  pub no_else : (rest : List TokenKind) → is_keyword keyword.Else (part_spelled s (token.Punctuation punctuation.Semicolon ∷ rest)) ≡ false
+  pub no_brace : (rest : List TokenKind) → brace
+      (part_spelled s (token.Punctuation punctuation.Semicolon ∷ rest)) ≡ None
+  pub no_else : (rest : List TokenKind) → is_keyword keyword.Else
+      (part_spelled s (token.Punctuation punctuation.Semicolon ∷ rest)) ≡ false
   pub is_ended : (depth : ℕ) (inner : Inner) (rest : List TokenKind)
-      → shallow depth inner (part_spelled s (token.Punctuation punctuation.Semicolon ∷ rest)) ≡ ended depth (part_spelled s (token.Punctuation punctuation.Semicolon ∷ rest))
+      → shallow depth inner (part_spelled s (token.Punctuation punctuation.Semicolon ∷ rest)) ≡
+      ended depth (part_spelled s (token.Punctuation punctuation.Semicolon ∷ rest))
 
 step_begins : (s : tree.Stmt) → IsStep s → (s ≡ tree.Empty → ⊥) → Begins s
 step_begins s shape some = record {
-  no_brace = λ rest. (opens_step s shape some (token.Punctuation punctuation.Semicolon ∷ rest)).no_brace;
-  no_else = λ rest. (opens_step s shape some (token.Punctuation punctuation.Semicolon ∷ rest)).no_else;
-  is_ended = λ depth inner rest. (opens_step s shape some (token.Punctuation punctuation.Semicolon ∷ rest)).is_ended depth inner;
+  no_brace = λ rest. (opens_step s shape some
+      (token.Punctuation punctuation.Semicolon ∷ rest)).no_brace;
+  no_else = λ rest. (opens_step s shape some
+      (token.Punctuation punctuation.Semicolon ∷ rest)).no_else;
+  is_ended = λ depth inner rest.
+      (opens_step s shape some (token.Punctuation punctuation.Semicolon ∷ rest)).is_ended depth
+      inner;
 }
 
 pub begins : (s : tree.Stmt) → IsFirst s → Begins s
 unfolding shallow keyword_statement brace is_punctuation is_keyword
-begins tree.Empty shape = record { no_brace = λ rest. refl; no_else = λ rest. refl; is_ended = λ depth inner rest. refl }
-begins (tree.Declare tree.Boolean vs) shape = record { no_brace = λ rest. refl; no_else = λ rest. refl; is_ended = λ depth inner rest. refl }
-begins (tree.Declare tree.Int vs) shape = record { no_brace = λ rest. refl; no_else = λ rest. refl; is_ended = λ depth inner rest. refl }
-begins (tree.Declare (tree.Array size) vs) shape = record { no_brace = λ rest. refl; no_else = λ rest. refl; is_ended = λ depth inner rest. refl }
+begins tree.Empty shape = record
+    { no_brace = λ rest. refl; no_else = λ rest. refl; is_ended = λ depth inner rest. refl }
+begins (tree.Declare tree.Boolean vs) shape = record
+    { no_brace = λ rest. refl; no_else = λ rest. refl; is_ended = λ depth inner rest. refl }
+begins (tree.Declare tree.Int vs) shape = record
+    { no_brace = λ rest. refl; no_else = λ rest. refl; is_ended = λ depth inner rest. refl }
+begins (tree.Declare (tree.Array size) vs) shape = record
+    { no_brace = λ rest. refl; no_else = λ rest. refl; is_ended = λ depth inner rest. refl }
 begins (tree.Evaluate e) shape = step_begins (tree.Evaluate e) shape (λ same. absurd cc)
 begins (tree.Assign x o e) shape = step_begins (tree.Assign x o e) shape (λ same. absurd cc)
-begins (tree.AssignElement x at o e) shape = step_begins (tree.AssignElement x at o e) shape (λ same. absurd cc)
+begins (tree.AssignElement x at o e) shape = step_begins (tree.AssignElement x at o e) shape
+    (λ same. absurd cc)
 begins _ shape = absurd shape
 
 -- ---- lengths
@@ -451,13 +769,20 @@ stmt_height_some (tree.Println e) = omega arith
 stmt_height_some (tree.Compose c) = omega arith
 
 -- a part has no more height than tokens, with its semicolon
-pub part_length : (s : tree.Stmt) → IsFirst s → (rest : List TokenKind) → stmt_height s + length rest ≤ length (part_spelled s rest) + 1
+pub part_length : (s : tree.Stmt) → IsFirst s → (rest : List TokenKind) → stmt_height s + length
+    rest ≤ length (part_spelled s rest) + 1
 part_length tree.Empty shape rest = omega arith
 part_length (tree.Declare kind vs) shape rest = omega (arith, declared_length kind vs rest)
 part_length (tree.Evaluate e) shape rest = omega (arith, expr_length e rest)
 part_length (tree.Assign x o e) shape rest = omega (arith, expr_length e rest)
 part_length (tree.AssignElement x at o e) shape rest =
-    omega (arith, expr_length at (token.Punctuation punctuation.CloseBracket ∷ token.Punctuation (assign_punctuation o) ∷ expr_spelled e rest), expr_length e rest)
+    omega (
+      arith,
+      expr_length at
+          (token.Punctuation punctuation.CloseBracket ∷ token.Punctuation (assign_punctuation o) ∷
+          expr_spelled e rest),
+      expr_length e rest,
+    )
 part_length _ shape rest = absurd shape
 
 pub step_first : (s : tree.Stmt) → IsStep s → IsFirst s
@@ -467,18 +792,24 @@ step_first (tree.Assign x o e) shape = shape
 step_first (tree.AssignElement x at o e) shape = shape
 step_first _ shape = absurd shape
 
-pub condition_length : (tested : Option tree.Expr) (rest : List TokenKind) → optional_height tested + length rest ≤ length (condition_spelled tested rest)
+pub condition_length : (tested : Option tree.Expr) (rest : List TokenKind) → optional_height tested
+    + length rest ≤ length (condition_spelled tested rest)
 condition_length None rest = omega arith
 condition_length (Some e) rest = omega (arith, expr_length e rest)
 
-pub heading_length : (begun : tree.Stmt) (tested : Option tree.Expr) (stepped : tree.Stmt) → IsFirst begun → IsStep stepped → (rest : List TokenKind)
-    → heading_height begun tested stepped + length rest + 2 ≤ length (heading_spelled begun tested stepped rest)
+pub heading_length : (begun : tree.Stmt) (tested : Option tree.Expr) (stepped : tree.Stmt) →
+    IsFirst begun → IsStep stepped → (rest : List TokenKind)
+    → heading_height begun tested stepped + length rest + 2 ≤ length
+    (heading_spelled begun tested stepped rest)
 heading_length begun tested stepped is_first is_step rest =
-    let stepping : List TokenKind = part_spelled stepped (token.Punctuation punctuation.CloseParen ∷ rest) in
-    let testing : List TokenKind = condition_spelled tested (token.Punctuation punctuation.Semicolon ∷ stepping) in
+    let stepping : List TokenKind = part_spelled stepped
+    (token.Punctuation punctuation.CloseParen ∷ rest) in
+    let testing : List TokenKind = condition_spelled tested
+    (token.Punctuation punctuation.Semicolon ∷ stepping) in
     omega (
       arith,
       part_length begun is_first (token.Punctuation punctuation.Semicolon ∷ testing),
       condition_length tested (token.Punctuation punctuation.Semicolon ∷ stepping),
-      part_length stepped (step_first stepped is_step) (token.Punctuation punctuation.CloseParen ∷ rest),
+      part_length stepped (step_first stepped is_step)
+          (token.Punctuation punctuation.CloseParen ∷ rest),
     )

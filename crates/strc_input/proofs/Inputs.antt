@@ -26,7 +26,8 @@ append_none : {A : Type 0} (l : List A) → l ++ [] ≡ l
 append_none [] = refl
 append_none (first ∷ rest) = ap (λ l. first ∷ l) (append_none rest)
 
-append_more : {A : Type 0} (l : List A) (x : A) (more : List A) → (l ++ x ∷ []) ++ more ≡ l ++ x ∷ more
+append_more : {A : Type 0} (l : List A) (x : A) (more : List A) → (l ++ x ∷ []) ++ more ≡ l ++ x ∷
+    more
 append_more [] x more = refl
 append_more (first ∷ rest) x more = ap (λ l. first ∷ l) (append_more rest x more)
 

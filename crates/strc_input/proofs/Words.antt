@@ -7,7 +7,8 @@ use Rattle.std.specs.Char.{is_digit, digit_value}
 use Rattle.std.specs.Str.Parse.{digits_value_after, digits_value}
 use Rattle.std.specs.Option.{option_map}
 use Rattle.strc_input.specs.Numbers.{numeral, most, signed, minus, int_of}
-use Rattle.strc_input.specs.Reading.{Reading, Reads, Fails, fitting, extended, with_byte, word_ended}
+use Rattle.strc_input.specs.Reading.{Reading, Reads, Fails, fitting, extended, with_byte}
+use Rattle.strc_input.specs.Reading.{word_ended}
 use Rattle.strc_input.specs.declared.numbers.Word.{Word}
 use Rattle.strc_input.specs.declared.numbers.Word.TheVariants as word
 
@@ -25,7 +26,8 @@ pub on_word_append : (last : Option Word) (first : List ℕ) (byte : ℕ) (rest 
     → on_word last (first ++ byte ∷ rest) ≡ on_word (on_word last first) (byte ∷ rest)
 on_word_append last [] byte rest = refl
 on_word_append None (next ∷ first) byte rest = refl
-on_word_append (Some last) (next ∷ first) byte rest = on_word_append (with_byte last next) first byte rest
+on_word_append (Some last) (next ∷ first) byte rest = on_word_append (with_byte last next) first
+    byte rest
 
 -- more digits write no lesser number
 grows : (value : ℕ) (digits : List ℕ) → value ≤ digits_value_after 10 value digits

@@ -35,7 +35,8 @@ string_run (c ∷ inner) (x ∷ rest) (suc n) e all =
     let parts = both_parts (is_string_byte c) (list_all is_string_byte inner) all in
     let run = string_run inner rest n more parts.1 in (
       ap (λ y. y ∷ inner) head ∙ ap (λ ys. x ∷ ys) run.0
-          ∙ sym (run_head is_string_byte x rest (subst (λ y. is_string_byte y ≡ true) head parts.0)),
+          ∙ sym (run_head is_string_byte x rest
+          (subst (λ y. is_string_byte y ≡ true) head parts.0)),
       run.1,
     )
 

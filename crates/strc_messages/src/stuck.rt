@@ -155,10 +155,9 @@ impl Trial<'_> {
 /// Whether a node is a joiner to which a channel comes from a node after it.
 fn is_joiner_of_loop(graph: &Graph, node: usize) -> bool {
     match graph.nodes().get(node) {
-        Some(Node::Joiner(_)) => graph
-            .channels()
-            .iter()
-            .any(|channel| channel.target.node as usize == node && channel.source.node as usize > node),
+        Some(Node::Joiner(_)) => graph.channels().iter().any(|channel| channel.target.node as usize
+            == node
+            && channel.source.node as usize > node),
         _ => false,
     }
 }

@@ -1,6 +1,7 @@
 -- What an anonymous stream sees, from the outermost variable inwards.
 use Rattle.std.proofs.Common.{◌≡◌, ℕ, zero, suc, ◌+◌, ◌-◌, ◌<◌, ℤ, Bool, true, false, ◌||◌, List}
-use Rattle.std.proofs.Common.{[], ◌∷◌, ◌++◌, length, drop, take, Option, Some, None, cond, eqb, ⊎_elim, refl, sym}
+use Rattle.std.proofs.Common.{[], ◌∷◌, ◌++◌, length, drop, take, Option, Some, None, cond, eqb}
+use Rattle.std.proofs.Common.{⊎_elim, refl, sym}
 use Rattle.std.proofs.Common.{ap, ◌∙◌, arith, Vec, drop-cons}
 use Rattle.std.proofs.lemmas.Option.{get_or_from_slice_get}
 use Rattle.std.specs.Prelude.{bytes_eq, slice_get}

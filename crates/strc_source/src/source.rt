@@ -24,11 +24,7 @@ impl<'a> Source<'a> {
     }
 
     /// The source line of a place, where there is one.
-    pub fn excerpt(
-        self,
-        message: &mut Message,
-        place: Option<Extent>,
-    ) -> Result<(), NoMemory> {
+    pub fn excerpt(self, message: &mut Message, place: Option<Extent>) -> Result<(), NoMemory> {
         match place {
             Some(extent) => Ok(message.excerpt(self.text, extent)?),
             None => Ok(()),

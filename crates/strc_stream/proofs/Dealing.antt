@@ -25,7 +25,8 @@ both P (code ∷ first) rest all more = (all.0, both P first rest all.1 more)
 some_weight : (weights : List ℕ) → list_any (λ b. b) (map (nat_lt 0) weights) ≡ true
     → 0 < sum weights
 some_weight [] some = absurd (cc)
-some_weight (zero ∷ rest) some = omega (arith, some_weight rest some, sum_by-cons (λ n. n) zero rest)
+some_weight (zero ∷ rest) some = omega
+    (arith, some_weight rest some, sum_by-cons (λ n. n) zero rest)
 some_weight (suc weight ∷ rest) some = omega (arith, sum_by-cons (λ n. n) (suc weight) rest)
 
 any_of : (sides : List ItemType) → list_any (λ b. b) (map is_int sides) ≡ list_any is_int sides

@@ -1,4 +1,5 @@
--- Which streams are connected: from each node of the flat graph there is a path to each other, along
+-- Which streams are connected: from each node of the flat graph there is a path to each other,
+-- along
 -- the ways of items and against them.
 use Rattle.std.specs.Prelude.{◌≡◌, ℕ, ◌<◌, true}
 use Rattle.strc_dataflow.specs.Flat as flat

@@ -22,7 +22,8 @@ abbrev mutual
   tree_of (FileReader text) = trees.Reader (graphs.FileReader text)
   tree_of (FileWriter text) = trees.One (graphs.FileWriter text)
   tree_of (Pipeline children) = trees.Pipeline (trees_of children)
-  tree_of (SplitJoin splitter children joiner) = trees.SplitJoin (option_map graphs.Splitter splitter)
+  tree_of (SplitJoin splitter children joiner) = trees.SplitJoin
+      (option_map graphs.Splitter splitter)
       (trees_of children) (option_map graphs.Joiner joiner)
   tree_of (FeedbackLoop joiner body splitter loop enqueued) =
       trees.FeedbackLoop (graphs.Joiner joiner) (tree_of body) (graphs.Splitter splitter)

@@ -6,8 +6,8 @@ use std::io::{ErrorKind, Read, Write};
 use std::test::Fail;
 use strc_cli::device::{Sink, Source, Told};
 use strc_cli::execute::{CliError, Status, execute};
-use strc_command::line::Command;
 use strc_cli::program_text::{TextFault, read_text};
+use strc_command::line::Command;
 
 // A source and a printer in a pipeline.
 const MINIMAL: &str = "void->int filter IntSource { int x; work push 1 { push(x++); } }

@@ -110,7 +110,8 @@ module _ (nodes : List NodeCode) (source : ℕ → ℕ → Source) where
         node_placed (graphs.Filter name filter) first before sits
     placed Identity typed first before sits = node_placed graphs.Identity first before sits
     placed (FileReader text) typed first before sits = reader_placed text first before sits
-    placed (FileWriter text) typed first before sits = node_placed (graphs.FileWriter text) first before sits
+    placed (FileWriter text) typed first before sits = node_placed (graphs.FileWriter text) first
+        before sits
     placed (Pipeline children) typed first before sits =
         row_placed children typed.0 typed.1 first before sits
     placed (SplitJoin splitter children joiner) typed first before sits =

@@ -241,7 +241,10 @@ step_element_arrives : (port : Port) (operator : StepOperator) (names : Scope) (
     → StandsAt names from free before given m
     → Related (Arrives names into free before)
     (result_and_then (tested_place o) (λ place. let old = cell_in given.1 name place in let new =
-    value_stepped operator old in Ok (step_value operator old new, cell_set given.1 name place new))) (nodes_done port (element_step_nodes operator (slot_of names name) (size_of names name) from into (free + 1)) m)
+    value_stepped operator old in Ok
+    (step_value operator old new, cell_set given.1 name place new)))
+    (nodes_done port (element_step_nodes operator (slot_of names name) (size_of names name)
+    from into (free + 1)) m)
 step_element_arrives port operator names name into from free before given m None named above roomy
     low room below place_is stands =
     let rest = Act (act.AddConst (free + 1 + 1) (free + 1) (step_amount operator))

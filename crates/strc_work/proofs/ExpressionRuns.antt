@@ -341,7 +341,10 @@ after_runs : (port : Port) (names : Scope) (name : List ℕ) (amount : ℤ) (int
     (machine_at
     slots store)
     free (at
-    slots (slot_of names name)) in let m2 = slot_written m1 (slot_of names name) (wrapped (slot_value m1 (slot_of names name) +ℤ amount)) in Arrives names into free slots (value_in store name, assigned store name new) (slot_written m2 into (slot_value m2 free))
+    slots (slot_of names name)) in let m2 = slot_written m1 (slot_of names name)
+    (wrapped (slot_value m1 (slot_of names name) +ℤ amount)) in Arrives names into free slots
+    (value_in store name, assigned store name new)
+    (slot_written m2 into (slot_value m2 free))
 after_runs port names name amount into free store slots named ready room =
     let slot = slot_of names name in
     let old = value_in store name in

@@ -6,6 +6,7 @@ returns g c meaning graph input startup round startup_order round_order k inputs
     solves = (
       (run_gives meaning graph input keeps startup round startup_order round_order k schedule inputs
           solves).0,
-      answer_is_run meaning graph input keeps startup round startup_order round_order k schedule inputs
+      answer_is_run meaning graph input keeps startup round startup_order round_order k schedule
+          inputs
           solves,
     )

@@ -33,4 +33,5 @@ returns-in-Err-clause-refused c = λ is none.
     let app_is : app_of c.in-Ok.parser ≡ strc_app = c.in-Ok.ensures in
     let kinds = subst (λ (app : App). HasKind (fault_of app words) c.in-Err.error) app_is
     (c.in-Err.ensures.kinds (ap is_simple_and_free app_is)) in
-    has_fault (faults words) (kind_of c.in-Err.error) c.fault_of.result kinds c.fault_of.ensures is none
+    has_fault (faults words) (kind_of c.in-Err.error) c.fault_of.result kinds c.fault_of.ensures is
+    none
