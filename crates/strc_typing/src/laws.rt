@@ -1,7 +1,8 @@
 // What the walk of `strc_check` has to do with the relation, as laws over definitions.
 
 ghost use Rattle.strc_typing.specs.Laws.{WalkGivesTypes, WalkAcceptsValues, TypesAreUnique};
-ghost use Rattle.strc_typing.specs.Laws.{WalkGivesNumbers, NumbersAreUnique, ConstantsMeanTheirValue};
+ghost use Rattle.strc_typing.specs.Laws.{WalkGivesNumbers, NumbersAreUnique};
+ghost use Rattle.strc_typing.specs.Laws.{ConstantsMeanTheirValue};
 ghost use Rattle.strc_typing.specs.Laws.{WalkAcceptsTypes, WalkAcceptsStatements};
 ghost use Rattle.strc_typing.specs.Laws.{WalkAcceptsBlocks, WalkAcceptsRates};
 ghost use Rattle.strc_typing.specs.Laws.{WalkAcceptsMembers, WalkAcceptsFilters};
