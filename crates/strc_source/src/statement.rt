@@ -127,7 +127,8 @@ fn is_mark(token: &Token, mark: Punctuation) -> bool {
 }
 
 /// The use of a name for which a program is refused, where it can be told: with the sought name
-/// there, the program is refused for that.
+/// there, the program is refused for that. So it is at uses before it that are declared; the last
+/// one in the text is taken.
 pub fn refused_use(
     alloc: Global,
     source: Source<'_>,
@@ -137,7 +138,7 @@ pub fn refused_use(
         return Ok(None);
     }
     let mut tried: usize = 0;
-    for token in source.tokens {
+    for token in source.tokens.iter().rev() {
         if tried < MOST && is_name(token, name) {
             tried += 1;
             let place = extent_of(token.span);
