@@ -19,7 +19,8 @@ use Rattle.strc_semantics.specs.Closed.{AreClosed, IsClosedFilter}
 use Rattle.strc_semantics.specs.Firing.{Port, Store, stmts_done, no_traffic, port_of, store_at}
 use Rattle.strc_work.proofs.FilterRuns.{body_closed}
 use Rattle.strc_rate.specs.declared.rates.RateError.{RateError}
-use Rattle.strc_rate.specs.declared.rates.RateError.TheVariants.{RateLimit, RateMismatch, PeekOutside}
+use Rattle.strc_rate.specs.declared.rates.RateError.TheVariants.{RateLimit, RateMismatch}
+use Rattle.strc_rate.specs.declared.rates.RateError.TheVariants.{PeekOutside}
 use Rattle.strc_peeks.specs.Counts.{Counts, stmts_counts}
 use Rattle.strc_peeks.specs.Peeks.{PeekBounds, body_sights}
 use Rattle.strc_base.specs.Results.{result_and_then}
