@@ -6,7 +6,8 @@ use Rattle.strc_interval.specs.Loops.{Locals, locals_after, counted_loop}
 use Rattle.strc_interval.specs.Intervals.{names_of}
 use Rattle.strc_interval.specs.Intervals.{Intervals, intervals_after}
 use Rattle.strc_interval.proofs.IntervalGrowth.{names_after}
-use Rattle.strc_peeks.specs.Counts.{Counts, saturated, no_items, sequence, stmt_counts, stmts_counts}
+use Rattle.strc_peeks.specs.Counts.{Counts, saturated, no_items, sequence, stmt_counts}
+use Rattle.strc_peeks.specs.Counts.{stmts_counts}
 use Rattle.strc_peeks.specs.Counts.{option_counts, variables_counts, turns_counts}
 
 saturated_assoc : (a b c : ℕ) → saturated (saturated (a + b) + c)

@@ -17,7 +17,8 @@ use Rattle.strc_interval.specs.Intervals.{turns_interval}
 use Rattle.strc_peeks.specs.Counts.{Need, need_by, need_of, expr_counts, option_counts, stmt_counts}
 use Rattle.strc_peeks.specs.Entries.{peeks_of_expr, peeks_of_option, peeks_of_variables}
 use Rattle.strc_peeks.specs.Entries.{peeks_of_stmt, peeks_of}
-use Rattle.strc_peeks.specs.Peeks.{PeekSite, NoRun, sight_of, PopInterval, advance, in_turns, unreached}
+use Rattle.strc_peeks.specs.Peeks.{PeekSite, NoRun, sight_of, PopInterval, advance, in_turns}
+use Rattle.strc_peeks.specs.Peeks.{unreached}
 use Rattle.strc_peeks.specs.Peeks.{sides_sites, right_sites, some_turns, turns_sites}
 use Rattle.strc_peeks.specs.Peeks.{expr_sites, option_sites, variables_sites, stmt_sites}
 use Rattle.strc_peeks.specs.Peeks.{stmts_sites, is_closed}

@@ -61,8 +61,8 @@ loop_safe I test_safe turn_safe test body free tests turns kept_test kept_body (
       (λ turning l. (
         turns turning l,
         IfOk-weaker (body turning) I _
-            (λ next m. loop_safe I test_safe turn_safe test body free tests turns kept_test kept_body
-            fuel next m) (kept_body turning l),
+            (λ next m. loop_safe I test_safe turn_safe test body free tests turns kept_test
+            kept_body fuel next m) (kept_body turning l),
       ))
       (turned_holds I free tested.1 k))
       (λ e. tt))
@@ -72,8 +72,8 @@ loop_safe I test_safe turn_safe test body free tests turns kept_test kept_body (
 -- a loop of so many turns
 pub turns_safe : (I : ℕ → Store → Type 0) (turns : ℕ) (test_safe turn_safe : Store → Type 0)
     (test : Store → Result (ℤ × Store) Cause) (body : Store → Result Store Cause)
-    → ((t : ℕ) → TurnsFree (I t)) → ((store : Store) → test_safe store) → ((t : ℕ) (store : Store) → t < turns → I t store
-    → turn_safe store) → ((t : ℕ) (store : Store) → t < turns → I t store
+    → ((t : ℕ) → TurnsFree (I t)) → ((store : Store) → test_safe store)
+    → ((t : ℕ) (store : Store) → t < turns → I t store → turn_safe store) → ((t : ℕ) (store : Store) → t < turns → I t store
     → test store ≡ Ok (truth true, store))
     → ((store : Store) → I turns store → test store ≡ Ok (truth false, store))
     → ((t : ℕ) (store : Store) → t < turns → I t store → IfOk (body store) (I (t + 1)))
@@ -95,9 +95,8 @@ turns_safe I turns test_safe turn_safe test body free tests safe holds ends kept
           (λ turning k. (
             safe t turning lt k,
             IfOk-weaker (body turning) (I (t + 1)) _
-                (λ next l. turns_safe I turns test_safe turn_safe test body free tests safe holds ends kept
-                fuel
-                (t + 1) next (omega arith) l) (kept t turning lt k),
+                (λ next l. turns_safe I turns test_safe turn_safe test body free tests safe holds
+                ends kept fuel (t + 1) next (omega arith) l) (kept t turning lt k),
           ))
           (turned_holds (I t) (free t) store h)))
           (λ (ge : turns ≤ t).

@@ -1,5 +1,6 @@
 -- A closed peek never faults, in any firing of a filter whose rates are accepted.
-use Rattle.std.proofs.Common.{◌≡◌, refl, sym, ap, subst, ◌∙◌, ℕ, suc, ◌+◌, ◌≤◌, Bool, true, List, [], ◌∷◌, ◌++◌, length}
+use Rattle.std.proofs.Common.{◌≡◌, refl, sym, ap, subst, ◌∙◌, ℕ, suc, ◌+◌, ◌≤◌, Bool, true, List}
+use Rattle.std.proofs.Common.{[], ◌∷◌, ◌++◌, length}
 use Rattle.std.proofs.Common.{Option, Some, None, arith}
 use Rattle.std.specs.Prelude.{bytes_eq, is_some}
 use Rattle.std.specs.Option.{IfSome}
@@ -561,7 +562,8 @@ mutual
       unless_hidden (shadows n first) (stmts_write n rest)
       (or_second (stmt_writes n first) _ (fixed n before.0)) before.1 in (
         stmt_safe window port whole entries first names intervals popped place store closed.0
-            first_counted first_fixed ready (stand_first window entries place sites sites_rest stand),
+            first_counted first_fixed ready
+            (stand_first window entries place sites sites_rest stand),
         IfOk-weaker (stmt_done port first store) (Ready inner later) _
             (λ middle h. stmts_safe window port whole entries rest (names_after names first)
             inner later (place + length (peeks_of_stmt first)) middle closed.1 inner_counted

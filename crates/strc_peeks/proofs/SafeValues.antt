@@ -1,6 +1,8 @@
 -- A closed peek of an expression finds its item.
-use Rattle.std.proofs.Common.{◌≡◌, refl, sym, ◌∙◌, ℕ, zero, suc, ◌+◌, ◌<◌, ◌≤◌, ℤ, pos, negsuc, ◌+ℤ◌, Bool}
-use Rattle.std.proofs.Common.{true, false, not, ◌&&◌, List, [], ◌∷◌, length, get_or, Option, Some, None}
+use Rattle.std.proofs.Common.{◌≡◌, refl, sym, ◌∙◌, ℕ, zero, suc, ◌+◌, ◌<◌, ◌≤◌, ℤ, pos, negsuc}
+use Rattle.std.proofs.Common.{◌+ℤ◌, Bool}
+use Rattle.std.proofs.Common.{true, false, not, ◌&&◌, List, [], ◌∷◌, length, get_or, Option, Some}
+use Rattle.std.proofs.Common.{None}
 use Rattle.std.proofs.Common.{arith}
 use Rattle.std.specs.Prelude.{is_some, IsSome, slice_get, if◌then◌else◌}
 use Rattle.std.specs.Option.{IfSome}
@@ -28,7 +30,8 @@ use Rattle.strc_peeks.proofs.EachEntry.{Stand, stand_first, stand_behind}
 use Rattle.strc_peeks.proofs.EachEntry.{stand_chosen, stand_other, stand_right, expr_entries}
 use Rattle.strc_peeks.proofs.LoopParts.{constant_told}
 use Rattle.strc_peeks.proofs.IntervalValues.{IsTold, interval_told}
-use Rattle.strc_peeks.proofs.Readiness.{Ready, Fixed, both_first, both_second, side_some, right_some}
+use Rattle.strc_peeks.proofs.Readiness.{Ready, Fixed, both_first, both_second, side_some}
+use Rattle.strc_peeks.proofs.Readiness.{right_some}
 use Rattle.strc_peeks.proofs.Readiness.{ready_value}
 
 -- a firing may look at so many items, and they are there

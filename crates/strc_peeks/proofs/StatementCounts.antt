@@ -28,7 +28,8 @@ use Rattle.strc_peeks.proofs.LoopParts.{constant_told, cells_sized, Seen, seen_a
 use Rattle.strc_peeks.proofs.CountedLoops.{HasValue, Known, loop_known, At, loop_from}
 use Rattle.strc_peeks.proofs.CountedMoves.{Moves, Counted, stays, moves_same, one_after}
 use Rattle.strc_peeks.proofs.CountedMoves.{nothing_cases, IsStill, CountedOk, advance_counts}
-use Rattle.strc_peeks.proofs.CountedMoves.{side_counts, store_traffic, value_counts, assigned_counts}
+use Rattle.strc_peeks.proofs.CountedMoves.{side_counts, store_traffic, value_counts}
+use Rattle.strc_peeks.proofs.CountedMoves.{assigned_counts}
 use Rattle.strc_peeks.proofs.CountedMoves.{element_assigned_counts, declared_counts, push_counts}
 use Rattle.strc_peeks.proofs.CountedMoves.{one_more_counted}
 

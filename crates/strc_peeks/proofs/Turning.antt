@@ -16,7 +16,8 @@ use Rattle.strc_interval.proofs.IntervalGrowth.{drop_own, with_value_back, with_
 use Rattle.strc_peeks.specs.Counts.{Counts, saturated, Need, need_of, expr_counts, option_counts}
 use Rattle.strc_peeks.specs.Counts.{stmt_counts}
 use Rattle.strc_peeks.specs.Entries.{peeks_of_expr, peeks_of_stmt}
-use Rattle.strc_peeks.specs.Peeks.{PeekSite, Reached, NoRun, PopInterval, pops_of, advance, in_turns}
+use Rattle.strc_peeks.specs.Peeks.{PeekSite, Reached, NoRun, PopInterval, pops_of, advance}
+use Rattle.strc_peeks.specs.Peeks.{in_turns}
 use Rattle.strc_peeks.specs.Peeks.{site_in_turns, unreached, sides_sites, right_sites, some_turns}
 use Rattle.strc_peeks.specs.Peeks.{turns_sites, expr_sites, option_sites, variables_sites}
 use Rattle.strc_peeks.specs.Peeks.{stmt_sites, stmts_sites}
@@ -218,8 +219,9 @@ module _ (turns : ℕ) (counts : Option Counts) where
         let begun' = advance (later popped) passed in
         let turned = stmt_counts (names_of inner) body in
         let is = advance_later popped passed in
-        let test_is : option_sites inner begun' condition ≡ moved (option_sites inner begun condition)
-        = ap (λ p. option_sites inner p condition) is ∙ option_moved condition inner begun in
+        let tested = option_sites inner begun condition in
+        let test_is : option_sites inner begun' condition ≡ moved tested =
+        ap (λ p. option_sites inner p condition) is ∙ option_moved condition inner begun in
         let step_is : stmt_sites inner begun' step ≡ moved (stmt_sites inner begun step) =
         ap (λ p. stmt_sites inner p step) is ∙ stmt_moved step inner begun in
         let body_is : stmt_sites inner begun' body ≡ moved (stmt_sites inner begun body) =

@@ -16,8 +16,8 @@ use Rattle.strc_interval.specs.Intervals.{with_interval, turns_interval, names_o
 -- between how many items a firing has popped when it comes to a place of its text, saturated as
 -- counts are
 pub use Rattle.strc_peeks.specs.declared.sight.PopInterval.{PopInterval}
--- a peek of a text: between which numbers its index lies where that is known, and how many items are
--- popped before it; or no run comes to it
+-- a peek of a text: between which numbers its index lies, where that is known, and how many items
+-- are popped before it; or no run comes to it
 pub use Rattle.strc_peeks.specs.declared.sight.PeekSite.{PeekSite}
 pub use Rattle.strc_peeks.specs.declared.sight.PeekSite.TheVariants.{Reached, NoRun}
 -- what is told of a peek: that it stays within its window, that it can't, neither, so that it is

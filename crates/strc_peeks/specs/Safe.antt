@@ -1,6 +1,6 @@
 -- What a closed peek promises: in each run its item is in the window. A walk over the text goes as
--- its meaning does, keeps the number of the next peek among those of the text, and asks this of each
--- peek that is run.
+-- its meaning does, keeps the number of the next peek among those of the text, and asks this of
+-- each peek that is run.
 use Rattle.std.specs.Prelude.{◌≡◌, ℕ, zero, suc, ◌+◌, ℤ, Bool, true, false, List, [], ◌∷◌, length}
 use Rattle.std.specs.Prelude.{get_or, Option, Some, None, Result, IfOk, IsSome}
 use Rattle.std.specs.Bool.{MatchBool}

@@ -18,13 +18,18 @@ fn rates_of(alloc: Global, bodies: &str) -> Result<Rates, Fail> {
 #[test]
 fn peeks_are_closed_by_their_index(rt: HostRuntime) -> Result<(), Fail> {
     // Each: the rates of the work, its block, and `c` for each peek that is closed, `o` for others.
-    let cases: [(&str, &str, &str); 15] = [
+    let cases: [(&str, &str, &str); 16] = [
         (
             "push 1 pop 1 peek 3",
             "push(peek(0) + peek(2)); pop();",
             "cc",
         ),
         ("push 1 pop 1", "push(peek(f)); pop();", "o"),
+        (
+            "push 1 pop 1",
+            "if (1 < 0) f = peek(9); else f = peek(f); push(peek(0)); pop();",
+            "coc",
+        ),
         ("push 1 pop 1", "push(peek(peek(0))); pop();", "co"),
         ("push 1 pop 1", "push(peek(1 / 0)); pop();", "o"),
         (
