@@ -17,7 +17,6 @@ use Rattle.strc_grammar.proofs.StatementCompleteness.{if_else_completeness, whil
 use Rattle.strc_grammar.proofs.StatementCompleteness.{for_completeness, part_statement, always}
 use Rattle.strc_grammar.proofs.MemberCompleteness.{InsideCompleteness, MemberCompleteness}
 use Rattle.strc_grammar.proofs.MemberCompleteness.{member_completeness, unchained}
-use Rattle.strc_grammar.proofs.MemberCompleteness.{}
 use Rattle.strc_grammar.proofs.MemberCompleteness.{members_completeness as row_of_members_completeness}
 use Rattle.strc_grammar.proofs.CompositionCompleteness.{WithinCompleteness, PartCompleteness}
 use Rattle.strc_grammar.proofs.CompositionCompleteness.{compose_completeness}

@@ -80,7 +80,8 @@ variable_peekless name (tree.Conditional condition chosen other) is = absurd (cc
 bound_by : (name : List ℕ) (operator : BinaryOperator) (left right : tree.Expr) (t : Bool)
     (limit : Option ℤ) → is_order operator && is_variable name left ≡ t → constant right ≡ limit
     → IfSome {T = Bound} (if t then
-    option_map (λ l. record { operator = operator; limit = l }) limit else None) (λ bound. Peekless (peeks_of_expr (tree.Binary operator left right)))
+    option_map (λ l. record { operator = operator; limit = l }) limit else None)
+    (λ bound. Peekless (peeks_of_expr (tree.Binary operator left right)))
 bound_by name operator left right false limit e f = tt
 bound_by name operator left right true None e f = tt
 bound_by name operator left right true (Some limit) e f =

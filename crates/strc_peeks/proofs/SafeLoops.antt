@@ -73,7 +73,8 @@ loop_safe I test_safe turn_safe test body free tests turns kept_test kept_body (
 pub turns_safe : (I : ℕ → Store → Type 0) (turns : ℕ) (test_safe turn_safe : Store → Type 0)
     (test : Store → Result (ℤ × Store) Cause) (body : Store → Result Store Cause)
     → ((t : ℕ) → TurnsFree (I t)) → ((store : Store) → test_safe store)
-    → ((t : ℕ) (store : Store) → t < turns → I t store → turn_safe store) → ((t : ℕ) (store : Store) → t < turns → I t store
+    → ((t : ℕ) (store : Store) → t < turns → I t store → turn_safe store) →
+    ((t : ℕ) (store : Store) → t < turns → I t store
     → test store ≡ Ok (truth true, store))
     → ((store : Store) → I turns store → test store ≡ Ok (truth false, store))
     → ((t : ℕ) (store : Store) → t < turns → I t store → IfOk (body store) (I (t + 1)))

@@ -15,7 +15,9 @@ use Rattle.strc_peeks.proofs.Counting.{for_counts}
 use Rattle.strc_peeks.proofs.Sighting.{stmts_seen}
 use Rattle.strc_interval.proofs.IntervalGrowth.{stands_on_itself, stands_on_after}
 use Rattle.strc_peeks.proofs.peeks.+peeks.Goals as goal
-use Rattle.strc_peeks.proofs.peeks.+peeks.Goals.{check_peeks_in_statement-in-Some-counted+in_ok-turned-in-Some-counted, check_peeks_in_statement-in-None-counted+in_ok-test-in-None-counted+in_ok-step-in-None-counted+in_ok-body-in-None-counted}
+use Rattle.strc_peeks.proofs.peeks.+peeks.Goals.{}
+use Rattle.strc_peeks.proofs.peeks.+peeks.Goals.{check_peeks_in_statement-in-Some-counted+in_ok-turned-in-Some-counted}
+use Rattle.strc_peeks.proofs.peeks.+peeks.Goals.{check_peeks_in_statement-in-None-counted+in_ok-test-in-None-counted+in_ok-step-in-None-counted+in_ok-body-in-None-counted}
 
 pub check_peeks_in_block-loop-statement-init : goal.check_peeks_in_block-loop-statement-init
 check_peeks_in_block-loop-statement-init t c = record {
