@@ -1,6 +1,6 @@
 -- Graphs of nodes and channels that are the flat graph of a stream's tree (StreamIt specification
 -- 2.1, "Streams").
-use Rattle.std.specs.Prelude.{◌≡◌, ℕ, ◌<◌, ◌≤◌, true, [], ◌⊎◌, All, AllPairs, Some, slice_get}
+use Rattle.std.specs.Prelude.{◌≡◌, ℕ, ◌<◌, ◌≤◌, true, List, [], ◌⊎◌, All, AllPairs, Some, slice_get}
 use Rattle.std.specs.Prelude.{count_by}
 use Rattle.strc_dataflow.specs.Flat.{Source}
 use Rattle.strc_dataflow.specs.Flat as flat
