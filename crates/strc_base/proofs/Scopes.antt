@@ -1,5 +1,5 @@
 -- Names in a list, found from its end.
-use Rattle.std.proofs.Common.{◌≡◌, ℕ, zero, suc, ◌+◌, ◌-◌, ◌^◌, ◌<◌, ◌≤◌, Bool, true, false, ◌||◌}
+use Rattle.std.proofs.Common.{◌≡◌, ℕ, zero, suc, ◌+◌, ◌-◌, ◌<◌, ◌≤◌, Bool, true, false, ◌||◌}
 use Rattle.std.proofs.Common.{List, [], ◌∷◌, length, take, drop, reverse, get_or, Option, Some}
 use Rattle.std.proofs.Common.{None, IsSome, ℤ, refl, sym, ap, ◌∙◌, ⊎_elim, arith, subst, cond}
 use Rattle.std.specs.Prelude.{bytes_eq}
@@ -151,11 +151,10 @@ drop-names_in (suc n) (first ∷ rest) = drop-names_in n rest
 -- one more name
 pub IsScope-declare : (seen : List Declared) (old new : List ℕ → Option ℕ) (last : Declared)
     (slot : ℕ)
-    → length seen + 1 < 2 ^ 32 → slot ≡ length seen → last.shadows ≡ old last.name.items
+    → slot ≡ length seen → last.shadows ≡ old last.name.items
     → IsScope seen old → IsUpdated old last.name.items (Some slot) new → IsScope (last ∷ seen) new
 unfolding IsScope
-IsScope-declare seen old new last slot room place shadows scope change = record {
-  few = omega arith;
+IsScope-declare seen old new last slot place shadows scope change = record {
   hidden = (shadows ∙ scope.innermost last.name.items, scope.hidden);
   innermost = λ name. change name ∙ ap (λ slot. cond (bytes_eq last.name.items name) (Some slot)
       (old name)) (place ∙ sym (length-names_in seen))
@@ -168,7 +167,6 @@ pub IsScope-forget : (seen : List Declared) (old new : List ℕ → Option ℕ) 
     → IsScope (last ∷ seen) old → IsUpdated old last.name.items last.shadows new → IsScope seen new
 unfolding IsScope
 IsScope-forget seen old new last scope change = record {
-  few = let more : length (last ∷ seen) < 2 ^ 32 = scope.few in omega arith;
   hidden = scope.hidden.1;
   innermost = λ name. change name ∙ shown name (bytes_eq last.name.items name) scope.hidden.0
       (bytes_eq-Decides last.name.items name).0 (scope.innermost name);

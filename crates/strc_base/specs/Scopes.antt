@@ -1,5 +1,5 @@
 -- What a scope keeps beside its names, the innermost first, so that a look-up needs no walk.
-use Rattle.std.specs.Prelude.{◌≡◌, ℕ, ◌<◌, ◌^◌, List, [], ◌∷◌, Option, length, reverse}
+use Rattle.std.specs.Prelude.{◌≡◌, ℕ, List, [], ◌∷◌, Option, reverse}
 use Rattle.strc_base.specs.declared.scope.Declared.{Declared}
 use Rattle.strc_base.specs.Names.{number_named}
 
@@ -18,10 +18,9 @@ KeepShadowed [] = Unit {0}
 KeepShadowed (first ∷ rest) = (first.shadows ≡ number_named (names_in rest) first.name.items)
     × KeepShadowed rest
 
--- what is true of a scope: its names are few, each keeps what it hides, and the table has the slot
--- of each name's innermost variable
+-- what is true of a scope: each of its names keeps what it hides, and the table has the slot of
+-- each name's innermost variable
 pub record KeepsSlots (seen : List Declared) (table : List ℕ → Option ℕ) : Type 0 where
-  pub few : length seen < 2 ^ 32
   pub hidden : KeepShadowed seen
   pub innermost : (name : List ℕ) → table name ≡ number_named (names_in seen) name
 

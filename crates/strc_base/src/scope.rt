@@ -1,6 +1,6 @@
 // The names of variables that can be seen at a place of the text.
 
-ghost use Rattle.std.specs.Prelude.{◌≡◌, ◌-◌, ◌<◌, ◌≤◌, ◌^◌, suc, [], ◌∷◌, OnOk, OnErr, IfErr};
+ghost use Rattle.std.specs.Prelude.{◌≡◌, ◌-◌, ◌<◌, ◌≤◌, suc, [], ◌∷◌, OnOk, OnErr, IfErr};
 ghost use Rattle.std.specs.Prelude.{IsSome, Some, length, drop, take, slice_get};
 ghost use Rattle.strc_base.specs.Tables.{slot_in, IsUpdated};
 
@@ -14,7 +14,7 @@ use strc_lex::token::Name;
 #[derive(Drop)]
 struct Declared {
     name: Vec<u8>,
-    shadows: Option<u32>,
+    shadows: Option<usize>,
 }
 
 /// Names in the order in which they were declared, numbered from 0. Contracts see the list of the
@@ -23,7 +23,7 @@ struct Declared {
 pub struct Scope {
     declared: Vec<Declared>,
     /// The number of the innermost variable of each name.
-    innermost: HashMap<Vec<u8>, u32>,
+    innermost: HashMap<Vec<u8>, usize>,
 }
 
 impl Model for Scope {
@@ -54,25 +54,25 @@ impl Scope {
     }
 
     /// How many names can be seen.
-    pub fn len(&self) -> u32
+    pub fn len(&self) -> usize
         ensures { result ≡ length self.now }
     {
-        self.declared.len() as u32
+        self.declared.len()
     }
 
     /// The number of the innermost variable of this name.
-    pub fn number_of(&self, name: &Name) -> Option<u32>
+    pub fn number_of(&self, name: &Name) -> Option<usize>
         ensures { result ≡ number_named self.now name.now }
     {
         self.innermost.get(name.as_bytes()).copied()
     }
 
     /// The name of this number.
-    pub fn name_at(&self, number: u32) -> &[u8]
+    pub fn name_at(&self, number: usize) -> &[u8]
         requires { number < length self.now }
         ensures { slice_get self.now (length self.now - suc number) ≡ Some result.now }
     {
-        self.declared[number as usize].name.as_slice()
+        self.declared[number].name.as_slice()
     }
 
     /// Whether one of the names is this one.
@@ -83,7 +83,7 @@ impl Scope {
     }
 
     /// Whether one of the names from this place on is this one.
-    pub fn has_since(&self, start: u32, name: &Name) -> bool
+    pub fn has_since(&self, start: usize, name: &Name) -> bool
         ensures { result ≡ has_name (take (length self.now - start) self.now) name.now }
     {
         match self.number_of(name) {
@@ -97,11 +97,8 @@ impl Scope {
         ensures ok { OnOk result (self.new ≡ name.now ∷ self.old) }
         ensures err { OnErr result (self.new ≡ self.old) }
     {
-        if self.declared.len() >= u32::MAX as usize {
-            return Err(NoMemory);
-        }
         let alloc = *self.declared.allocator();
-        let slot = self.declared.len() as u32;
+        let slot = self.declared.len();
         let shadows = self.innermost.get(name.as_bytes()).copied();
         let key = name.as_bytes().to_vec(alloc)?;
         let name = name.as_bytes().to_vec(alloc)?;
@@ -113,10 +110,10 @@ impl Scope {
     }
 
     /// Forgets the names from this place on.
-    pub fn leave(&mut self, start: u32)
+    pub fn leave(&mut self, start: usize)
         ensures { self.new ≡ drop (length self.old - start) self.old }
     {
-        while self.declared.len() > start as usize {
+        while self.declared.len() > start {
             if let Some(last) = self.declared.pop() {
                 let Declared { name, shadows } = last;
                 put_back(&mut self.innermost, name, shadows);
@@ -126,7 +123,7 @@ impl Scope {
 }
 
 /// Writes the slot of a name into a table. Where memory runs out the table stays as it was.
-fn put_in(table: &mut HashMap<Vec<u8>, u32>, name: Vec<u8>, slot: u32) -> Result<(), NoMemory>
+fn put_in(table: &mut HashMap<Vec<u8>, usize>, name: Vec<u8>, slot: usize) -> Result<(), NoMemory>
     ensures ok { OnOk result (IsUpdated (slot_in table.old) name.items (Some slot)
         (slot_in table.new)) }
     ensures err { OnErr result (table.new.entries ≡ table.old.entries) }
@@ -137,7 +134,7 @@ fn put_in(table: &mut HashMap<Vec<u8>, u32>, name: Vec<u8>, slot: u32) -> Result
 
 /// Writes the slot that a table had for a name before its newest one, or takes the name out. The
 /// name is there, so this cannot want memory.
-fn put_back(table: &mut HashMap<Vec<u8>, u32>, name: Vec<u8>, slot: Option<u32>)
+fn put_back(table: &mut HashMap<Vec<u8>, usize>, name: Vec<u8>, slot: Option<usize>)
     requires { IsSome (slot_in table.old name.items) }
     ensures { IsUpdated (slot_in table.old) name.items slot (slot_in table.new) }
 {

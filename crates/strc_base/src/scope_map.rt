@@ -44,14 +44,14 @@ impl<T> ScopeMap<T> {
     }
 
     /// How many names are in scope.
-    pub fn len(&self) -> u32
+    pub fn len(&self) -> usize
         ensures { result ≡ length self.now }
     {
         self.names.len()
     }
 
     /// The number of the innermost declaration of this name: how many stand outside it.
-    pub fn number_of(&self, name: &Name) -> Option<u32>
+    pub fn number_of(&self, name: &Name) -> Option<usize>
         ensures { result ≡ number_named (plain_names self.now) name.now }
     {
         self.names.number_of(name)
@@ -65,7 +65,7 @@ impl<T> ScopeMap<T> {
     }
 
     /// Whether one of the names from this number on is this one.
-    pub fn has_since(&self, start: u32, name: &Name) -> bool
+    pub fn has_since(&self, start: usize, name: &Name) -> bool
         ensures { result ≡ has_name (take (length self.now - start)
             (plain_names self.now)) name.now }
     {
@@ -87,13 +87,13 @@ impl<T> ScopeMap<T> {
     }
 
     /// Forgets the names from this number on.
-    pub fn leave(&mut self, start: u32)
+    pub fn leave(&mut self, start: usize)
     where
         T: Drop,
         ensures { self.new ≡ drop (length self.old - start) self.old }
     {
         self.names.leave(start);
-        self.values.truncate(start as usize);
+        self.values.truncate(start);
     }
 }
 
@@ -105,18 +105,18 @@ impl<T: Copy> ScopeMap<T> {
         ensures { result ≡ value_named self.now name.now }
     {
         match self.names.number_of(name) {
-            Some(number) => Some(self.values[number as usize]),
+            Some(number) => Some(self.values[number]),
             None => None,
         }
     }
 
     /// The name of this number, with its value.
-    pub fn at(&self, number: u32) -> (&[u8], T)
+    pub fn at(&self, number: usize) -> (&[u8], T)
         requires { number < length self.now }
         ensures { slice_get self.now (length self.now - suc number)
             ≡ Some (record { 0 = result.0.now; 1 = result.1 }) }
     {
-        (self.names.name_at(number), self.values[number as usize])
+        (self.names.name_at(number), self.values[number])
     }
 
     /// Gives the innermost declaration of this name, if there is one, another value.
@@ -124,7 +124,7 @@ impl<T: Copy> ScopeMap<T> {
         ensures { self.new ≡ with_value self.old name.now value }
     {
         match self.names.number_of(name) {
-            Some(number) => self.values[number as usize] = value,
+            Some(number) => self.values[number] = value,
             None => {}
         }
     }

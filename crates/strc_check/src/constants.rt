@@ -45,14 +45,14 @@ impl Constants {
     }
 
     /// How many constants there are, hidden ones too.
-    pub fn len(&self) -> u32
+    pub fn len(&self) -> usize
         ensures { result ≡ length self.now }
     {
         self.values.len()
     }
 
     /// The name of a constant with its value: the one pushed first has the number 0.
-    pub fn at(&self, number: u32) -> (&[u8], i32)
+    pub fn at(&self, number: usize) -> (&[u8], i32)
         requires { number < length self.now }
         ensures { slice_get self.now (length self.now - suc number)
             ≡ Some (record { 0 = result.0.now; 1 = result.1 }) }

@@ -46,7 +46,7 @@ pub(crate) fn resolve_stmt(
     alloc: Global,
     context: &Context,
     names: &mut TypedScope,
-    start: u32,
+    start: usize,
     statement: &Stmt,
 ) -> Result<Stmt, LowerError>
     ensures verdict { IsVerdict stmt_view
@@ -229,7 +229,7 @@ fn resolve_declared(
     alloc: Global,
     context: &Context,
     names: &mut TypedScope,
-    start: u32,
+    start: usize,
     declared: &Variables,
 ) -> Result<Stmt, LowerError>
     ensures verdict { IsVerdict stmt_view
@@ -253,7 +253,7 @@ fn resolve_variables(
     alloc: Global,
     context: &Context,
     names: &mut TypedScope,
-    start: u32,
+    start: usize,
     kind: ValueType,
     variables: &[Variable],
 ) -> Result<Vec<Variable>, LowerError>
@@ -276,7 +276,7 @@ fn resolve_variable(
     alloc: Global,
     context: &Context,
     names: &mut TypedScope,
-    start: u32,
+    start: usize,
     kind: ValueType,
     variable: &Variable,
 ) -> Result<Variable, LowerError>

@@ -41,7 +41,7 @@ impl TypedScope {
     }
 
     /// How many names can be seen.
-    pub fn len(&self) -> u32
+    pub fn len(&self) -> usize
         ensures { result ≡ length self.now }
     {
         self.variables.len()
@@ -55,14 +55,14 @@ impl TypedScope {
     }
 
     /// The number of the innermost variable of this name: how many stand outside it.
-    pub fn number_of(&self, name: &Name) -> Option<u32>
+    pub fn number_of(&self, name: &Name) -> Option<usize>
         ensures { result ≡ number_named (plain_names self.now) name.now }
     {
         self.variables.number_of(name)
     }
 
     /// The name of this number, with its type.
-    pub fn at(&self, number: u32) -> (&[u8], ValueType)
+    pub fn at(&self, number: usize) -> (&[u8], ValueType)
         requires { number < length self.now }
         ensures { slice_get self.now (length self.now - suc number)
             ≡ Some (record { 0 = result.0.now; 1 = result.1 }) }
@@ -71,7 +71,7 @@ impl TypedScope {
     }
 
     /// Whether one of the names from this place on is this one.
-    pub fn has_since(&self, start: u32, name: &Name) -> bool
+    pub fn has_since(&self, start: usize, name: &Name) -> bool
         ensures { result ≡ has_name (take (length self.now - start)
             (plain_names self.now)) name.now }
     {
@@ -87,7 +87,7 @@ impl TypedScope {
     }
 
     /// Forgets the variables from this place on.
-    pub fn leave(&mut self, start: u32)
+    pub fn leave(&mut self, start: usize)
         ensures { self.new ≡ drop (length self.old - start) self.old }
     {
         self.variables.leave(start);

@@ -108,7 +108,7 @@ impl<F: Fn(Task) -> Result<Elaborated, ElabError>> Body<'_, F> {
     #[cycle(body)]
     pub(crate) fn statements(
         &self,
-        start: u32,
+        start: usize,
         block: &[Stmt],
         progress: &mut Progress,
     ) -> Result<(), ElabError>
@@ -130,7 +130,7 @@ impl<F: Fn(Task) -> Result<Elaborated, ElabError>> Body<'_, F> {
     #[cycle(body)]
     fn statement(
         &self,
-        start: u32,
+        start: usize,
         statement: &Stmt,
         progress: &mut Progress,
     ) -> Result<(), ElabError>

@@ -42,7 +42,7 @@ impl IntervalScope {
     }
 
     /// How many names can be seen.
-    pub fn len(&self) -> u32
+    pub fn len(&self) -> usize
         ensures { result ≡ length self.now }
     {
         self.variables.len()
@@ -80,7 +80,7 @@ impl IntervalScope {
     }
 
     /// Forgets the variables from this place on.
-    pub fn leave(&mut self, start: u32)
+    pub fn leave(&mut self, start: usize)
         ensures { self.new ≡ drop (length self.old - start) self.old }
     {
         self.variables.leave(start);

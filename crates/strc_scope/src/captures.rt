@@ -51,7 +51,7 @@ fn keep_unless_hidden(
     alloc: Global,
     variables: &Variables,
     constants: &Constants,
-    number: u32,
+    number: usize,
     left: &mut Constants,
 ) -> Result<(), NoMemory>
     requires within { number < length constants.now }
@@ -70,11 +70,11 @@ fn keep_unless_hidden(
 fn capture(
     alloc: Global,
     variables: &Variables,
-    number: u32,
+    number: usize,
     captures: &mut Constants,
 ) -> Result<(), NoMemory>
     requires within { number < length variables.now.names }
-    requires few { number + 1 < 2 ^ 32 }
+    requires few { number + 1 < 2 ^ 64 }
     ensures { OnOk result (captures.new
         ≡ captured variables.now.names variables.now.variables number
         captures.old) }

@@ -161,7 +161,7 @@ impl Place<'_> {
     /// which sees it. Those of the same block have numbers from `start` on.
     pub fn declare(
         &self,
-        start: u32,
+        start: usize,
         declared: &Variables,
         store: &mut Store,
     ) -> Result<(), ElabError>
@@ -201,7 +201,7 @@ impl Place<'_> {
     /// Declares one variable.
     fn declare_one(
         &self,
-        start: u32,
+        start: usize,
         kind: ValueType,
         cells: usize,
         variable: &Variable,

@@ -55,7 +55,7 @@ impl Variables {
     }
 
     /// How many variables there are.
-    pub fn count(&self) -> u32
+    pub fn count(&self) -> usize
         ensures names { result ≡ length self.now.names }
         ensures variables { result ≡ length self.now.variables }
     {
@@ -67,7 +67,7 @@ impl Variables {
         ensures { result ≡ length (cells_named self.now.variables name.now) }
     {
         match self.names.number_of(name) {
-            Some(slot) => self.cells[slot as usize].len(),
+            Some(slot) => self.cells[slot].len(),
             None => 0,
         }
     }
@@ -77,17 +77,17 @@ impl Variables {
         ensures { result ≡ slice_index_or (cells_named self.now.variables name.now) place (pos 0) }
     {
         match self.names.number_of(name) {
-            Some(slot) => cell_in(&self.cells[slot as usize], place),
+            Some(slot) => cell_in(&self.cells[slot], place),
             None => 0,
         }
     }
 
     /// The first cell of the variable of a number: how many stand outside it.
-    pub fn first_cell(&self, number: u32) -> i32
+    pub fn first_cell(&self, number: usize) -> i32
         requires { number < length self.now.names }
         ensures { result ≡ slice_index_or (cells_of self.now.variables number) 0 (pos 0) }
     {
-        cell_in(&self.cells[number as usize], 0)
+        cell_in(&self.cells[number], 0)
     }
 
     /// A cell of the innermost variable of a name gets a value.
@@ -98,7 +98,7 @@ impl Variables {
         } }
     {
         match self.names.number_of(name) {
-            Some(slot) => put_in(&mut self.cells[slot as usize], place, value),
+            Some(slot) => put_in(&mut self.cells[slot], place, value),
             None => {}
         }
     }
@@ -118,14 +118,14 @@ impl Variables {
     }
 
     /// Forgets the variables from this place on.
-    pub fn leave(&mut self, start: u32)
+    pub fn leave(&mut self, start: usize)
         ensures { self.new ≡ record {
           names = drop (length self.old.names - start) self.old.names;
           variables = drop (length self.old.variables - start) self.old.variables;
         } }
     {
         self.names.leave(start);
-        self.cells.truncate(start as usize);
+        self.cells.truncate(start);
     }
 }
 

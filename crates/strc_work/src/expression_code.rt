@@ -12,7 +12,7 @@ ghost use Rattle.strc_semantics.specs.Firing.{assigned_value};
 
 use crate::layout::{Layout, Place};
 use crate::operands::{
-    after, binary_step, compound_operator, step_amount, step_result, unary_step, variable_slot,
+    binary_step, compound_operator, slot_past, step_amount, step_result, unary_step, variable_slot,
     writes_no_variable,
 };
 use strc_base::memory::NoMemory;
@@ -53,24 +53,24 @@ pub fn emit_expr(
         Expr::Binary(operator, left, right) => match operator {
             // The right side is evaluated only where the left one leaves the value open.
             BinaryOperator::LogicalOr => {
-                emit_expr(code, names, left, free, after(free)?)?;
+                emit_expr(code, names, left, free, names.after(free)?)?;
                 let done = code.fresh();
                 let mut rhs = code.fresh();
-                emit_expr(&mut rhs, names, right, free, after(free)?)?;
+                emit_expr(&mut rhs, names, right, free, names.after(free)?)?;
                 code.put_choice(free, done, rhs)?;
                 code.put(Inst::Copy(into, free))
             }
             BinaryOperator::LogicalAnd => {
-                emit_expr(code, names, left, free, after(free)?)?;
+                emit_expr(code, names, left, free, names.after(free)?)?;
                 let done = code.fresh();
                 let mut rhs = code.fresh();
-                emit_expr(&mut rhs, names, right, free, after(free)?)?;
+                emit_expr(&mut rhs, names, right, free, names.after(free)?)?;
                 code.put_choice(free, rhs, done)?;
                 code.put(Inst::Copy(into, free))
             }
             _ => {
                 let left = emit_operand(code, names, left, writes_no_variable(right), free)?;
-                let right = emit_operand(code, names, right, true, after(free)?)?;
+                let right = emit_operand(code, names, right, true, names.after(free)?)?;
                 code.put(binary_step(*operator, into, left, right))
             }
         },
@@ -92,7 +92,7 @@ pub fn emit_expr(
                 cells: names.size_of(name),
             };
             let index = emit_operand(code, names, index, true, free)?;
-            emit_element_step(code, *operator, place, index, into, after(free)?)
+            emit_element_step(code, *operator, place, index, into, names.after(free)?)
         }
     }
 }
@@ -118,7 +118,7 @@ pub fn emit_operand(
             return Ok(slot);
         }
     }
-    emit_expr(code, names, value, free, after(free)?)?;
+    emit_expr(code, names, value, free, names.after(free)?)?;
     Ok(free)
 }
 
@@ -160,7 +160,7 @@ fn emit_element_step(
     ensures { OnOk result (written code.new ≡ before (written code.old)
         (spec.element_step_nodes operator place.slot place.cells index into free)) }
 {
-    let new = after(free)?;
+    let new = slot_past(*code.line.allocator(), free, 1)?;
     code.put(Inst::Load(free, place.slot, place.cells, index))?;
     code.put(Inst::AddConst(new, free, step_amount(operator)))?;
     code.put(Inst::Store(place.slot, place.cells, index, new))?;
@@ -182,7 +182,7 @@ pub fn emit_evaluation(
             let slot = names.slot_of(name);
             code.put(Inst::AddConst(slot, slot, step_amount(*operator)))
         }
-        _ => emit_expr(code, names, value, free, after(free)?),
+        _ => emit_expr(code, names, value, free, names.after(free)?),
     }
 }
 
@@ -206,7 +206,7 @@ pub fn emit_assign(
         None => emit_expr(code, names, value, into, free),
         Some(operator) => {
             let left = save_old_value(code, into, writes_no_variable(value), free)?;
-            let right = emit_operand(code, names, value, true, after(free)?)?;
+            let right = emit_operand(code, names, value, true, names.after(free)?)?;
             code.put(binary_step(operator, into, left, right))
         }
     }
@@ -248,7 +248,15 @@ pub fn emit_assign_element(
 {
     let free = names.total();
     let index = emit_operand(code, names, index, writes_no_variable(value), free)?;
-    emit_element(code, names, name, index, operator, value, after(free)?)
+    emit_element(
+        code,
+        names,
+        name,
+        index,
+        operator,
+        value,
+        names.after(free)?,
+    )
 }
 
 /// The code of an assignment to the element at an index that stands in a slot.
@@ -292,7 +300,7 @@ fn emit_compound(
     let slot = names.slot_of(name);
     let cells = names.size_of(name);
     code.put(Inst::Load(free, slot, cells, index))?;
-    let right = emit_operand(code, names, value, true, after(free)?)?;
+    let right = emit_operand(code, names, value, true, names.after(free)?)?;
     code.put(binary_step(operator, free, free, right))?;
     code.put(Inst::Store(slot, cells, index, free))
 }

@@ -1,7 +1,9 @@
 // The variables that can be seen at a place of the text, with the slots of their cells.
 
-ghost use Rattle.std.specs.Prelude.{◌≡◌, ◌-◌, [], ◌∷◌, OnOk, length, drop};
+ghost use Rattle.std.specs.Prelude.{◌≡◌, ◌+◌, ◌-◌, ◌^◌, ◌<◌, [], ◌∷◌, IfOk, IsOk, OnOk, length};
+ghost use Rattle.std.specs.Prelude.{drop};
 
+use crate::operands::slot_past;
 use std::alloc::Global;
 use std::marker::Model;
 use strc_base::memory::NoMemory;
@@ -21,6 +23,7 @@ pub struct Place {
 #[derive(Drop)]
 pub struct Layout {
     variables: ScopeMap<Place>,
+    alloc: Global,
 }
 
 impl Model for Layout {
@@ -44,11 +47,12 @@ impl Layout {
     {
         Layout {
             variables: ScopeMap::new(alloc),
+            alloc,
         }
     }
 
     /// How many variables can be seen.
-    pub fn len(&self) -> u32
+    pub fn len(&self) -> usize
         ensures { result ≡ length self.now }
     {
         self.variables.len()
@@ -64,6 +68,14 @@ impl Layout {
         }
         let (_, last) = self.variables.at(count - 1);
         last.slot + last.cells
+    }
+
+    /// The slot after a slot.
+    pub fn after(&self, slot: u32) -> Result<u32, NoMemory>
+        ensures slot { IfOk result (λ next. next ≡ slot + 1) }
+        ensures enough { slot + 1 < 2 ^ 32 → IsOk result }
+    {
+        slot_past(self.alloc, slot, 1)
     }
 
     /// The first slot of the innermost variable of this name, and 0 where there is none.
@@ -91,14 +103,12 @@ impl Layout {
         ensures { OnOk result (self.new ≡ record { 0 = name.now; 1 = cells } ∷ self.old) }
     {
         let slot = self.total();
-        if slot.checked_add(cells).is_none() {
-            return Err(NoMemory);
-        }
+        let _next = slot_past(self.alloc, slot, cells)?;
         self.variables.declare(name, Place { slot, cells })
     }
 
     /// Forgets the variables from this place on.
-    pub fn leave(&mut self, start: u32)
+    pub fn leave(&mut self, start: usize)
         ensures { self.new ≡ drop (length self.old - start) self.old }
     {
         self.variables.leave(start);

@@ -1,6 +1,6 @@
 // Small parts of lowering: slots, operators, and what expressions change.
 
-ghost use Rattle.std.specs.Prelude.{◌≡◌, ◌+◌, IfOk};
+ghost use Rattle.std.specs.Prelude.{◌≡◌, ◌+◌, ◌^◌, ◌<◌, IfOk, IsOk};
 ghost use Rattle.strc_syntax.specs.View.{expr_view, type_view};
 ghost use Rattle.strc_semantics.specs.Scoping as scoping;
 ghost use Rattle.strc_machine.specs.Machine.{End};
@@ -9,6 +9,7 @@ ghost use Rattle.strc_work.specs.Lowering as spec;
 ghost use Rattle.strc_work.specs.Emission.{compound_of};
 
 use crate::layout::Layout;
+use std::alloc::Global;
 use strc_base::memory::NoMemory;
 use strc_machine::inst::Inst;
 use strc_syntax::tree::{
@@ -29,11 +30,18 @@ pub fn cells_of(kind: &VariableType) -> u32
     }
 }
 
-/// The slot after a slot.
-pub fn after(slot: u32) -> Result<u32, NoMemory>
-    ensures { IfOk result (λ next. next ≡ slot + 1) }
+/// The slot so many after a slot. An instruction names slots by 32 bits. Where that slot is past
+/// them, memory for all slots up to it, at least 16 GiB, is asked for, as a start would ask for it.
+pub fn slot_past(alloc: Global, slot: u32, count: u32) -> Result<u32, NoMemory>
+    ensures slot { IfOk result (λ next. next ≡ slot + count) }
+    ensures enough { slot + count < 2 ^ 32 → IsOk result }
 {
-    slot.checked_add(1).ok_or(NoMemory)
+    if let Some(next) = slot.checked_add(count) {
+        return Ok(next);
+    }
+    // Where so much is granted, still no instruction can name the slot.
+    let _slots: Vec<i32> = Vec::with_capacity(alloc, slot as usize + count as usize)?;
+    Err(NoMemory)
 }
 
 /// The slot of an expression that is a variable, in brackets or not.

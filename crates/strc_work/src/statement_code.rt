@@ -12,7 +12,7 @@ use crate::expression_code::{
     emit_assign, emit_assign_element, emit_evaluation, emit_expr, emit_operand,
 };
 use crate::layout::Layout;
-use crate::operands::{cells_of, zeros_step};
+use crate::operands::{cells_of, slot_past, zeros_step};
 use strc_base::memory::NoMemory;
 use strc_machine::builder::Builder;
 use strc_machine::inst::Inst;
@@ -179,7 +179,7 @@ fn emit_variable(
     match &variable.initial {
         None => code.put(zeros_step(into, cells))?,
         Some(value) => {
-            let free = into.checked_add(cells).ok_or(NoMemory)?;
+            let free = slot_past(*code.line.allocator(), into, cells)?;
             emit_expr(code, names, value, into, free)?;
         }
     }

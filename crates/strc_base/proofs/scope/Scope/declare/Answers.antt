@@ -1,4 +1,4 @@
-use Rattle.std.proofs.Common.{◌≡◌, ◌<◌, ◌+◌, ◌^◌, ◌++◌, ◌∷◌, [], Some, length, reverse, sym, ap}
+use Rattle.std.proofs.Common.{◌≡◌, ◌++◌, ◌∷◌, [], Some, length, reverse, sym, ap}
 use Rattle.std.proofs.Common.{◌∙◌, subst, arith, rules}
 use Rattle.std.proofs.lemmas.List.{reverse-append, length-reverse}
 use Rattle.strc_base.specs.declared.scope.Declared.{Declared}
@@ -19,10 +19,9 @@ invariant_of-self-2 c =
     c.in_ok-push.ensures.items ∙ ap (λ l. l ++ last ∷ []) c.in_ok-reserve.ensures.items in
     let turned : reverse c.push.new.self.items ≡ last ∷ reverse all =
     ap reverse items ∙ reverse-append all (last ∷ []) in
-    let room : length (reverse all) + 1 < 2 ^ 32 = omega (arith, length-reverse all) in
     let place : c.len-slot.result ≡ length (reverse all) = omega (arith, length-reverse all) in
     let change = subst (λ name. IsUpdated old name (Some c.len-slot.result) new) key
     c.in_ok-put_in.ensures.ok in
     subst (λ seen. IsScope seen new) (sym turned)
-    (IsScope-declare (reverse all) old new last c.len-slot.result room place shadows
+    (IsScope-declare (reverse all) old new last c.len-slot.result place shadows
     c.self.invariant change)
