@@ -1,6 +1,15 @@
 -- What the tests of a body tell of the filter.
 use Rattle.std.proofs.Common.{◌≡◌, true, false, List, [], ◌∷◌, Result, is_some, unwrap_or, refl, ap}
-use Rattle.std.proofs.Common.{◌∙◌}
+use Rattle.std.proofs.Common.{◌∙◌, Bool, false, not, ◌||◌, Some, Ok, Err}
+use Rattle.std.specs.Prelude.{if◌then◌else◌}
+use Rattle.strc_base.specs.Results.{result_and_then}
+use Rattle.strc_semantics.specs.Filters.{push_rate, pop_rate, item_count, window_size}
+use Rattle.strc_peeks.specs.declared.counts.Counts.{Counts}
+use Rattle.strc_peeks.specs.declared.sight.PeekBounds.{PeekBounds}
+use Rattle.strc_peeks.specs.Counts.{stmts_counts}
+use Rattle.strc_peeks.specs.Peeks.{body_sights}
+use Rattle.strc_rate.specs.declared.rates.RateError.TheVariants.{RateLimit}
+use Rattle.strc_rate.specs.Rates.{are_within_limit, same_rate, with_closed_peeks, counted}
 use Rattle.strc_syntax.specs.Tree as tree
 use Rattle.strc_semantics.specs.Filters.{work_block, work_rates, prework_block, prework_rates}
 use Rattle.strc_semantics.specs.Filters.{body_block, body_rates}
@@ -46,3 +55,19 @@ refusal_same first second broken.RateUnknown same h = same ∙ h
 refusal_same first second (broken.RateMismatch declared counted) same h = same ∙ h
 refusal_same first second broken.PeekOutside same h = same ∙ h
 refusal_same first second broken.NoMemory same h = h
+
+-- a body whose limits, counts and rates pass is judged by its peeks
+pub body_accepted : (lacks : Bool) (rates : List tree.Rate) (block : tree.Stmts) (c : Counts)
+    (sights : List PeekBounds) → (not (are_within_limit rates) || lacks) ≡ false
+    → stmts_counts [] block ≡ Some c → body_sights (window_size rates) block ≡ sights
+    → same_rate (item_count (push_rate rates)) c.pushes ≡ Ok tt
+    → same_rate (item_count (pop_rate rates)) c.pops ≡ Ok tt
+    → body_checked lacks rates block ≡ with_closed_peeks rates sights
+body_accepted lacks rates block c sights limits counts told pushes pops =
+    ap (λ t. if t then Err RateLimit
+    else counted rates (stmts_counts [] block) (body_sights (window_size rates) block)) limits
+    ∙ ap (λ x. counted rates x (body_sights (window_size rates) block)) counts
+    ∙ ap (λ s. counted rates (Some c) s) told
+    ∙ ap (λ r. result_and_then r (λ same. result_and_then
+    (same_rate (item_count (pop_rate rates)) c.pops) (λ also. with_closed_peeks rates sights))) pushes
+    ∙ ap (λ r. result_and_then r (λ also. with_closed_peeks rates sights)) pops

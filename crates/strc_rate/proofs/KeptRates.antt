@@ -21,8 +21,10 @@ use Rattle.strc_work.proofs.FilterRuns.{body_closed}
 use Rattle.strc_rate.specs.declared.rates.RateError.{RateError}
 use Rattle.strc_rate.specs.declared.rates.RateError.TheVariants.{RateLimit, RateMismatch}
 use Rattle.strc_rate.specs.declared.rates.RateError.TheVariants.{PeekOutside}
-use Rattle.strc_peeks.specs.Counts.{Counts, stmts_counts}
-use Rattle.strc_peeks.specs.Peeks.{PeekBounds, body_sights}
+use Rattle.strc_peeks.specs.declared.counts.Counts.{Counts}
+use Rattle.strc_peeks.specs.declared.sight.PeekBounds.{PeekBounds}
+use Rattle.strc_peeks.specs.Counts.{stmts_counts}
+use Rattle.strc_peeks.specs.Peeks.{body_sights}
 use Rattle.strc_base.specs.Results.{result_and_then}
 use Rattle.strc_rate.specs.Rates.{BodyRates, FilterRates, within_limit, are_within_limit}
 use Rattle.strc_rate.specs.Rates.{same_rate, some_outside, accepted_rates}

@@ -1,5 +1,5 @@
 -- What is told of the peeks of a filter, and what its closed peeks promise of its firings.
-use Rattle.std.specs.Prelude.{◌≡◌, ℕ, ◌≤◌, ℤ, List, [], length, unwrap_or, IfOk}
+use Rattle.std.specs.Prelude.{◌≡◌, ◌≤◌, ℤ, List, length, unwrap_or, IfOk}
 use Rattle.strc_semantics.specs.declared.body.Body.{Body}
 use Rattle.strc_semantics.specs.declared.body.Body.TheVariants as body
 use Rattle.strc_semantics.specs.Filters.{Filter, body_block, body_rates, window_size}
