@@ -14,7 +14,7 @@ returns-in-Filter-clause-runs g c =
     let setting = setting_of c.args.self.now.task in
     let before = progress_of c.args.progress.now in
     let names = c.args.progress.now.store.variables.names in
-    let after = progress_of c.unnamed-in-Filter.new.progress in
+    let after = progress_of c.unnamed.new.progress in
     let types = c.in-Filter.types in
     let same = ap (λ child. spec.child_run setting names c.args.role (child_view child) before)
     c.in-Filter.is
@@ -23,7 +23,7 @@ returns-in-Filter-clause-runs g c =
     (spec.unnamed_found setting names (FilterText None (filter_parts types.input types.output l))
     before.store)) before) (sym c.deref-in-Filter.ensures.value)
     in
-    subst (λ r. Runs r c.unnamed-in-Filter.result after) (sym same) c.unnamed-in-Filter.ensures.runs
+    subst (λ r. Runs r c.unnamed.result after) (sym same) c.unnamed.ensures.runs
 
 pub returns-in-Composite-clause-runs : goal.returns-in-Composite-clause-runs
 returns-in-Composite-clause-runs g c =
