@@ -2,7 +2,7 @@
 
 use crate::nodes::push_node;
 use std::alloc::{AllocError, Global};
-use strc_graph::graph::{Graph, Node};
+use strc_graph::graph::{Channel, Graph, Node};
 use strc_graph::rates::{pops_at, pushes_at, window_at};
 use strc_source::message::Message;
 
@@ -155,18 +155,27 @@ impl Trial<'_> {
 /// Whether a node is a joiner to which a channel comes from a node after it.
 fn is_joiner_of_loop(graph: &Graph, node: usize) -> bool {
     match graph.nodes().get(node) {
-        Some(Node::Joiner(_)) => graph.channels().iter().any(|channel| channel.target.node as usize
-            == node
-            && channel.source.node as usize > node),
+        Some(Node::Joiner(_)) => graph
+            .channels()
+            .iter()
+            .any(|channel| comes_back(channel, node)),
         _ => false,
     }
 }
 
+/// Whether a channel leads to a node from one after it.
+fn comes_back(channel: &Channel, node: usize) -> bool {
+    channel.target.node as usize == node && channel.source.node as usize > node
+}
+
 /// The nodes that stand in a loop, or in one with it, the joiner first.
 fn push_loop(message: &mut Message, graph: &Graph, joiner: usize) -> Result<(), AllocError> {
+    if joiner >= graph.nodes().len() {
+        return Ok(());
+    }
+    let outer = graph.outer_loop(joiner);
     message.add(b"; stuck is the loop of ")?;
     push_node(message, Some(graph), joiner)?;
-    let outer = graph.outer_loop(joiner);
     let mut named: usize = 1;
     for node in joiner..graph.nodes().len() {
         if node != joiner && graph.outer_loop(node) == outer && named < NAMED {
