@@ -1,4 +1,4 @@
--- After a firing that finds its windows the machine over rings stands as the one over queues.
+-- After a firing that finds its windows the machine over rings is as the one over queues.
 use Rattle.std.proofs.Common.{◌≡◌, refl, sym, ap, ◌∙◌, ℕ, suc, ◌+◌, ◌-◌, ◌<◌, ◌^◌}
 use Rattle.std.proofs.Common.{ℤ, Bool, true, false, cond, eqb, List, [], ◌++◌, length, drop, Option}
 use Rattle.std.proofs.Common.{Some, slice_get, slice_index, slice_index_or, inl, inr, arith}
@@ -30,7 +30,7 @@ use Rattle.strc_admissible.proofs.Changes.{Moves}
 use Rattle.strc_admissible.proofs.Standing.{Stands, ring_holds}
 use Rattle.strc_admissible.proofs.WordsBelow.{words_same, words_one, one_passes_test}
 
--- what has been put is there, and what stood elsewhere still is
+-- what has been put is there, and what was elsewhere still is
 
 put_here : {A : Type 0} (now : ℕ → A) (node : ℕ) (run : A) (other : ℕ) → other ≡ node
     → put now node run other ≡ run

@@ -104,7 +104,7 @@ given_length rings (Some own) more = length-set rings own (extended more (ring_a
 -- ---- the rings at a node's ports
 
 module _ (inputs outputs : List (Option ℕ)) where
-  -- each ring at a port is one of so many, and stands at no other port
+  -- each ring at a port is one of so many, and is at no other port
   pub record ArePlaced (count : ℕ) : Type 0 where
     pub inner : (port number : ℕ) → at_port inputs port ≡ Some number → number < count
     pub outer : (port number : ℕ) → at_port outputs port ≡ Some number → number < count
@@ -223,7 +223,7 @@ module _ (inputs outputs : List (Option ℕ)) where
           given_other rings (at_port outputs own) items number (neither own);
     }
 
-  -- a ring stands where it did
+  -- a ring is where it was
   pub still_placed : (pops : ℕ → ℕ) (pushes : ByPort) (rings after : List Ring)
       → Moves pops pushes rings after → ArePlaced (length rings) → ArePlaced (length after)
   still_placed pops pushes rings after moves placed =

@@ -1,5 +1,5 @@
 -- The codes of a flat graph's nodes are those of the graph of nodes and channels, and so is the
--- code that stands past the last node.
+-- code that is past the last node.
 use Rattle.std.proofs.Common.{◌≡◌, refl, sym, ap, ◌∙◌, ℕ, List, [], ◌∷◌, ◌++◌, length}
 use Rattle.std.proofs.Common.{Some, None, Contains, slice_get, inl, inr, arith}
 use Rattle.std.proofs.lemmas.Bool.{cases_lt}

@@ -1,4 +1,4 @@
--- The rings at the ports of a flat graph's nodes: each channel's ring stands at the channel's two
+-- The rings at the ports of a flat graph's nodes: each channel's ring is at the channel's two
 -- ends, and at no other port.
 use Rattle.std.proofs.Common.{◌≡◌, refl, sym, ap, ◌∙◌, subst, ℕ, ◌<◌, true, false}
 use Rattle.std.proofs.Common.{get_or, List, length, map, Option, Some, None, slice_get, inl, inr}
@@ -183,7 +183,7 @@ module _ (tree : Stream NodeCode) (graph : Graph) (program : IsProgram tree grap
           ∙ sym (ap (λ (own : End). own.node) ends_a));
     }
 
-    -- no ring stands at a port that carries no items
+    -- no ring is at a port that carries no items
     pub idle_empty : (code : NodeCode) → slice_get graph.nodes node ≡ Some code → (port : ℕ)
         → carries_in code port ≡ false → at_port inputs port ≡ None
     idle_empty code there port idle = by_port (at_port inputs port) refl

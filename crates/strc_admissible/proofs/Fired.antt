@@ -1,4 +1,4 @@
--- After an order that finds its windows, each node has fired as often as it stands there.
+-- After an order that finds its windows, each node has fired as often as the order says.
 use Rattle.std.proofs.Common.{◌≡◌, refl, sym, ap, ◌∙◌, ℕ, List, ℤ, arith}
 use Rattle.strc_dataflow.specs.Node.{Meaning}
 use Rattle.strc_dataflow.specs.Histories.{Run, begun, runs, KeepsRates}

@@ -1,4 +1,4 @@
--- The machine over rings stands as the one over queues: its rings hold the queues of the channels.
+-- The machine over rings is as the one over queues: its rings hold the queues of the channels.
 use Rattle.std.proofs.Common.{◌≡◌, refl, sym, ap, ◌∙◌, subst, ℕ, ◌<◌, ◌≤◌, ℤ}
 use Rattle.std.proofs.Common.{Bool, true, false, cond, eqb, List, [], ◌++◌, length, drop, Some}
 use Rattle.std.proofs.Common.{slice_get, slice_index, slice_index_or, eqb-true}

@@ -117,7 +117,7 @@ module _ (inputs outputs : List (Option ℕ)) (rings : List Ring)
   abbrev items : ℕ → List ℤ
   items port = items_at rings (at_port inputs port)
 
-  -- the ring at each port that carries items holds its queue, and none stands at another port
+  -- the ring at each port that carries items holds its queue, and none is at another port
   pub record Shows (code : NodeCode) : Type 0 where
     pub holds : (port : ℕ) → carries_in code port ≡ true → items port ≡ queue port
     pub empty : (port : ℕ) → carries_in code port ≡ false → at_port inputs port ≡ None

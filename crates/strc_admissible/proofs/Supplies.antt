@@ -1,5 +1,5 @@
 -- The channels of a flat graph, in the generic layer of streams: what comes by them, and how many
--- items stand on them.
+-- items are on them.
 use Rattle.std.proofs.Common.{◌≡◌, refl, sym, ap, ◌∙◌, subst, ℕ, ◌+◌, ◌-◌, ℤ, Bool, true, false}
 use Rattle.std.proofs.Common.{List, length, get_or, Option, Some, None, All, slice_get}
 use Rattle.std.specs.Option.{option_map_or}
@@ -84,7 +84,7 @@ module _ (tree : Stream NodeCode) (graph : Graph) (input : List ℤ) (is : IsFla
       ∙ popped_is graph.nodes channel code (each target.node code found) found
       (counts target.node)
 
-  -- how many stand on it
+  -- how many are on it
   pub fill_is : (counts : Firings)
       → orders.fill node_meaning (flat tree) input counts channel.target.node channel.target.port
       ≡ fill (rates_of_channel graph.nodes channel) counts

@@ -21,7 +21,7 @@ use Rattle.strc_admissible.proofs.Codes.{code_is}
 use Rattle.strc_admissible.proofs.Supplies.{element, supply_is}
 use Rattle.strc_admissible.proofs.Totals.{total_idle, reach_is}
 
--- the rates of a channel stand where it does
+-- the rates of a channel are where it is
 pub rates_there : (graph : Graph) (number : ℕ) (channel : Channel)
     → slice_get graph.channels number ≡ Some channel
     → slice_get (rates_of graph) number ≡ Some (rates_of_channel graph.nodes channel)

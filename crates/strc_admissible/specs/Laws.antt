@@ -14,7 +14,7 @@ use Rattle.strc_admissible.specs.Planned.{IsPlanned, AreKnown, items_read}
 use Rattle.strc_admissible.specs.Fits.{Fit}
 
 module _ (schedule : ScheduleParts) where
-  -- the orders of a schedule, and how often each node stands in them
+  -- the orders of a schedule, and how often each node occurs in them
   abbrev pub startup_order : List ℕ
   startup_order = firings_of schedule.startup
 

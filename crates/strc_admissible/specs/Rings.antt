@@ -12,11 +12,11 @@ Ring = Buffer ℤ
 abbrev pub ring_at : List Ring → ℕ → Ring
 ring_at rings number = slice_index_or rings number (buffer [] 0)
 
--- the ring that stands at a port, by the rings of a node's ports
+-- the ring at a port, by the rings of a node's ports
 abbrev pub at_port : List (Option ℕ) → (port : ℕ) → Option ℕ
 at_port ports port = slice_index_or ports port None
 
--- the items at a port; none where no ring stands
+-- the items at a port; none where there is no ring
 abbrev pub items_at : List Ring → Option ℕ → List ℤ
 items_at rings None = []
 items_at rings (Some number) = (ring_at rings number).items

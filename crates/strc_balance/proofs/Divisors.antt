@@ -158,7 +158,7 @@ lowest_terms-is top bottom p q = record {
   coprime = reduced_coprime top bottom p;
 }
 
--- numbers that stand to each other as a fraction's parts do so as its lowest terms
+-- numbers in the ratio of a fraction's parts are in that of its lowest terms
 pub lowest_terms-same : (top bottom x y : ℕ) → 0 < top → x * bottom ≡ y * top
     → x * (lowest_terms top bottom).bottom ≡ y * (lowest_terms top bottom).top
 unfolding lowest_terms
@@ -172,7 +172,7 @@ lowest_terms-same top bottom x y positive h =
     eq_of_mul-eq-mul_left g (divisor_positive top bottom positive) (x * (bottom / g))
     (y * (top / g)) scaled
 
--- of numbers that stand so to each other, each is a multiple of its part
+-- of numbers in such a ratio each is a multiple of its part
 pub lowest_top : (fraction : Fraction) → IsLowest fraction → (x y : ℕ)
     → x * fraction.bottom ≡ y * fraction.top → fraction.top ∣ x
 lowest_top fraction is x y h = coprime_divides fraction.top fraction.bottom x is.coprime

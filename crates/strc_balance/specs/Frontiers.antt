@@ -1,4 +1,4 @@
--- Which channels can give a fraction next: all of them stand in a frontier, and each in the lists
+-- Which channels can give a fraction next: all of them are in a frontier, and each in the lists
 -- of its two ends.
 use Rattle.std.specs.Prelude.{◌≡◌, ◌≢◌, ◌⊎◌, ℕ, ◌^◌, ◌<◌, Bool, true, false, List, [], Contains}
 use Rattle.std.specs.Prelude.{slice_get, slice_index_or, Option, Some, None}
@@ -19,7 +19,7 @@ abbrev pub ArePositive : Fractions → Type 0
 ArePositive fractions = (node : ℕ) (fraction : Fraction)
     → fraction_at fractions node ≡ Some fraction → (0 < fraction.top) × (0 < fraction.bottom)
 
--- each channel that gives a fraction stands in the frontier
+-- each channel that gives a fraction is in the frontier
 abbrev pub Covers : List ℕ → Fractions → List Equation → Type 0
 Covers frontier fractions equations =
     (channel : ℕ) (equation : Equation) (found : ℕ × Fraction)

@@ -11,7 +11,7 @@ tested counts None = Ok counts
 tested counts (Some channel) = Err (refused.Inconsistent channel)
 
 -- the counts of the spread: they may be too large, and then the lowest channel that they don't
--- balance is told
+-- balance is reported
 abbrev pub judged : ℕ → List Equation → Result (List ℕ) BalanceError
 judged size equations =
     let fractions = spread size equations in

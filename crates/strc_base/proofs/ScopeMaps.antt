@@ -67,7 +67,7 @@ value_at {T = T} (first ∷ rest) (value ∷ values) name number d e at =
         omega (arith, length-reverse values, same) in
         inner at ∙ ap Some (sym (get_or-append (reverse values) (value ∷ []) d number in_front))
 
--- the value of a name stands at the name's number
+-- the value of a name is at the name's number
 pub value_named-number : {T : Type 0} (names : List (List ℕ)) (values : List T) (name : List ℕ)
     (number : ℕ) (value : T) → length values ≡ length names → number_named names name ≡ Some number
     → value ≡ get_or values number value
@@ -104,7 +104,7 @@ leave-with_values names values start e =
     ∙ ap (λ n. drop (n - start) (with_values names (reverse values)))
     (sym (length-with_values names (reverse values) turned))
 
--- a name and its value, by how many stand outside them
+-- a name and its value, by how many are outside them
 pub numbered_value : {T : Type 0} (names : List (List ℕ)) (values : List T) (i : ℕ)
     (name : List ℕ) (value : T) → slice_get names i ≡ Some name → slice_get values i ≡ Some value
     → slice_get (with_values names values) i ≡ Some (record { 0 = name; 1 = value })

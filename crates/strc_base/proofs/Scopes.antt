@@ -94,7 +94,7 @@ number_named-below (first ∷ rest) name slot e =
     by_value true below e = let here : length rest ≡ slot = cc in omega arith
     by_value false below e = let h : slot < length rest = below e in omega arith
 
--- whether a name stands from a place on, by the slot of its innermost variable
+-- whether a name is there from a place on, by the slot of its innermost variable
 pub has_name-slot : (names : List (List ℕ)) (name : List ℕ) (start slot : ℕ)
     → number_named names name ≡ Some slot
     → leb start slot ≡ has_name (take (length names - start) names) name

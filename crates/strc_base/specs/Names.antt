@@ -18,7 +18,7 @@ with_values (name ∷ names) (value ∷ values) =
 abbrev pub plain_names : {T : Type 0} → List (List ℕ × T) → List (List ℕ)
 plain_names {T = T} names = map (λ (named : List ℕ × T). named.0) names
 
--- the value that stands beside the innermost declaration of a name
+-- the value beside the innermost declaration of a name
 abbrev pub value_named : {T : Type 0} → List (List ℕ × T) → List ℕ → Option T
 value_named [] name = None
 value_named (first ∷ rest) name = if bytes_eq first.0 name then Some first.1
@@ -31,7 +31,7 @@ with_value (first ∷ rest) name value =
     if bytes_eq first.0 name then record { 0 = first.0; 1 = value } ∷ rest else first
     ∷ with_value rest name value
 
--- the number of the innermost of these names that is this one: how many stand outside it
+-- the number of the innermost of these names that is this one: how many are outside it
 abbrev pub number_named : List (List ℕ) → List ℕ → Option ℕ
 number_named [] name = None
 number_named (first ∷ rest) name = if bytes_eq first name then Some (length rest)

@@ -8,17 +8,17 @@ abbrev pub names_in : List Declared → List (List ℕ)
 names_in [] = []
 names_in (first ∷ rest) = first.name.items ∷ names_in rest
 
--- the names of what stands in order of declaration, the innermost first
+-- the names of what is listed in order of declaration, the innermost first
 unfoldable pub names_of : List Declared → List (List ℕ)
 names_of declared = names_in (reverse declared)
 
--- whether each stands beside the slot of the variable that it hides
+-- whether each is beside the slot of the variable that it shadows
 abbrev pub KeepShadowed : List Declared → Type 0
 KeepShadowed [] = Unit {0}
 KeepShadowed (first ∷ rest) = (first.shadows ≡ number_named (names_in rest) first.name.items)
     × KeepShadowed rest
 
--- what is true of a scope: each of its names keeps what it hides, and the table has the slot of
+-- what is true of a scope: each of its names keeps what it shadows, and the table has the slot of
 -- each name's innermost variable
 pub record KeepsSlots (seen : List Declared) (table : List ℕ → Option ℕ) : Type 0 where
   pub hidden : KeepShadowed seen

@@ -10,7 +10,7 @@ use std::collections::HashMap;
 use std::marker::Model;
 use strc_lex::token::Name;
 
-/// A name, and the number of the variable of this name that it hides.
+/// A name, and the number of the variable of this name that it shadows.
 #[derive(Drop)]
 struct Declared {
     name: Vec<u8>,

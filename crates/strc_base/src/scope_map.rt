@@ -50,7 +50,7 @@ impl<T> ScopeMap<T> {
         self.names.len()
     }
 
-    /// The number of the innermost declaration of this name: how many stand outside it.
+    /// The number of the innermost declaration of this name: how many are outside it.
     pub fn number_of(&self, name: &Name) -> Option<usize>
         ensures { result ≡ number_named (plain_names self.now) name.now }
     {

@@ -2,7 +2,7 @@
 // they are to write.
 // Takes the files of the folder that it runs in. A case is a text NAME.str and its words NAME.args,
 // the command first; its input NAME.in, if it has one; what it writes, NAME.out; the status it ends
-// with, NAME.status, if that isn't 0; and what a person reads of it, NAME.message, if that is told.
+// with, NAME.status, if that isn't 0; and what a person reads of it, NAME.message, if there is one.
 // Gives a line for each case that differs, and at the end how many do.
 // There is no theorem here; the values are those of the language's rules.
 // Stands on strc_cli, whose `command` and `execute_explained` it calls.

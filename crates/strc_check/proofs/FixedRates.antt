@@ -63,7 +63,7 @@ conditional_constant condition chosen other hc ht ho =
     (λ o. Ok (record { kind = chosen.kind; value = tree.Conditional c chosen.value o }))
     (as_constant chosen.kind other ho) (λ o h'. record { 0 = h; 1 = ht; 2 = h' }))
 
--- no expression with a variable, a pop or a peek is accepted where a rate or a length stands
+-- no expression with a variable, a pop or a peek is accepted where a rate or a length is
 constant_gives : (constants : List (List ℕ × ℤ)) (fields : TypedNames) (e : tree.Expr)
     → Gives IsConstantTyped (expr_resolved (rate_context constants) fields e)
 constant_gives constants fields (tree.Number value) = tt
@@ -112,8 +112,8 @@ as_gives constants fields kind e =
     (λ typed. expect_type kind typed) (constant_gives constants fields e)
     (λ typed h. as_constant kind typed h)
 
--- the expression of a rate or of a length, with its constants put in, names no variable and takes
--- no item
+-- the expression of a rate or of a length, with its constants substituted, names no variable and
+-- takes no item
 pub rate_is_constant : (constants : List (List ℕ × ℤ)) (fields : TypedNames) (kind : ValueType)
     (e e' : tree.Expr) → expr_as (rate_context constants) fields kind e ≡ Ok e' → IsConstant e'
 rate_is_constant constants fields kind e e' is =

@@ -818,7 +818,7 @@ named_behind [] names name h = h
 named_behind (first ∷ front) names name h = ap (λ t. bytes_eq first name || t)
     (named_behind front names name h) ∙ or_false (bytes_eq first name)
 
--- a list of names before others, turned round
+-- a list of names before others, reversed
 before_turned : (front back names : List (List ℕ)) → reverse (front ++ names) ++ back ≡ reverse
     names ++ (reverse front ++ back)
 before_turned front back names = ap (λ l. l ++ back) (reverse-append front names) ∙ append_assoc
@@ -853,7 +853,7 @@ all_named back (tree.Init block ∷ rest) = (tt, all_named back rest)
 all_named back (tree.Prework rates block ∷ rest) = (tt, all_named back rest)
 all_named back (tree.Work rates block ∷ rest) = (tt, all_named back rest)
 
--- the names of a declaration stand in front, the last one first
+-- the names of a declaration are in front, the last one first
 names_with-reverse : (names : List (List ℕ)) (variables : List tree.Variable) → names_with names
     variables ≡ reverse (declared_names variables) ++ names
 names_with-reverse names [] = refl

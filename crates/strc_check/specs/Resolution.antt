@@ -1,4 +1,4 @@
--- The rules on names and types, and the filter with its constants put in.
+-- The rules on names and types, and the filter with its constants substituted.
 use Rattle.std.specs.Prelude.{ℕ, ◌+◌, ℤ, pos, Bool, true, false, ◌==◌, ◌&&◌, ◌||◌, not}
 use Rattle.std.specs.Prelude.{if◌then◌else◌, List, [], ◌∷◌, length, Option, Some, None, Result, Ok}
 use Rattle.std.specs.Prelude.{Err, nat_lt}
@@ -34,7 +34,7 @@ abbrev pub where_kept : {A : Type 0} → Bool → Result A LowerError → Result
 where_kept true next = next
 where_kept false next = Err refused.TypeMismatch
 
--- where a text stands: its constants, whether it may pop and peek, push and print, and whether it
+-- where a text is: its constants, whether it may pop and peek, push and print, and whether it
 -- is fixed before the start, so that it reads no variable
 pub record Context : Type 0 where
   pub constants : List (List ℕ × ℤ)
@@ -43,7 +43,7 @@ pub record Context : Type 0 where
   pub prints : Bool
   pub constants_only : Bool
 
--- an expression with its constants put in, and the type of its value
+-- an expression with its constants substituted, and the type of its value
 pub record Typed : Type 0 where
   pub kind : ValueType
   pub value : tree.Expr
@@ -243,7 +243,7 @@ array_type number =
     then Err (refused.ConstFault Index)
     else Ok (record { kind = Array; written = tree.Array (tree.Number number) })
 
--- a declared type, with the constants and the names that can be seen where it stands
+-- a declared type, with the constants and the names that can be seen where it is
 abbrev pub type_resolved : List (List ℕ × ℤ) → TypedNames → tree.VariableType
     → Result ResolvedType LowerError
 type_resolved constants names tree.Boolean = Ok (record { kind = Boolean; written = tree.Boolean })
@@ -301,7 +301,7 @@ abbrev pub given_resolved : Context → TypedNames → Bool → tree.Expr → Re
 given_resolved context names may value = where_kept may (expr_as context names Int value)
 
 abbrev mutual
-  -- a statement, among the names that can be seen, of which so many stand outside its block
+  -- a statement, among the names that can be seen, of which so many are outside its block
   pub stmt_resolved : Context → TypedNames → (outer : ℕ) → tree.Stmt → Result tree.Stmt LowerError
   stmt_resolved context names outer tree.Empty = Ok tree.Empty
   stmt_resolved context names outer (tree.Compose statement) = Err refused.TypeMismatch
@@ -505,7 +505,7 @@ abbrev pub has_parts : List tree.Member → Bool
 has_parts members = (work_count members == 1)
     && (nat_lt (prework_count members) 2 && nat_lt (init_count members) 2)
 
--- a filter with its constants put in, or the first rule that it breaks
+-- a filter with its constants substituted, or the first rule that it breaks
 abbrev pub filter_resolved : List (List ℕ × ℤ) → Filter → Result Filter LowerError
 filter_resolved constants filter =
     where_kept (has_parts filter.members)

@@ -42,7 +42,7 @@ abbrev pub names_after : TypedNames → tree.Stmt → TypedNames
 names_after names (tree.Declare kind variables) = with_declared names (type_of kind) variables
 names_after names _ = names
 
--- the names of the innermost block, where this many stand outside it
+-- the names of the innermost block, where this many are outside it
 abbrev pub block_names : (outer : ℕ) → TypedNames → List (List ℕ)
 block_names outer names = take (length names - outer) (plain_names names)
 

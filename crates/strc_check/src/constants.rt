@@ -10,7 +10,7 @@ use strc_base::scope_map::ScopeMap;
 use strc_lex::token::Name;
 
 /// Names with their values. Contracts see the list of the pairs, the one pushed last first: it
-/// hides earlier ones of its name. A look-up takes expected constant time.
+/// shadows earlier ones of its name. A look-up takes expected constant time.
 #[derive(Drop)]
 pub struct Constants {
     values: ScopeMap<i32>,
@@ -44,7 +44,7 @@ impl Constants {
         self.values.declare(name, value)
     }
 
-    /// How many constants there are, hidden ones too.
+    /// How many constants there are, shadowed ones too.
     pub fn len(&self) -> usize
         ensures { result ≡ length self.now }
     {

@@ -7,7 +7,7 @@ ghost use Rattle.strc_check.specs.Verdicts.{context_of};
 use crate::constants::Constants;
 use strc_syntax::tree::ItemType;
 
-/// Where a text stands: its constants, whether it may pop and peek, push and print, and whether it
+/// Where a text is: its constants, whether it may pop and peek, push and print, and whether it
 /// is fixed before the start, so that it reads no variable.
 #[derive(Drop)]
 pub struct Context<'a> {

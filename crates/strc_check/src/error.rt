@@ -13,7 +13,7 @@ pub enum LowerError {
     /// A name that isn't declared.
     #[error("{text} isn't declared", text = spelled(.name))]
     UnknownName { name: Name },
-    /// A type, kind or part isn't the one that must stand there.
+    /// A type, kind or part isn't the one that must be there.
     #[error("a type, a kind or a part of a filter doesn't fit where it stands")]
     TypeMismatch,
     /// A number that must be known faults when it is computed, or can't be the length of an array.

@@ -119,7 +119,7 @@ pub fn resolve_initial(
 }
 
 /// A name that is read: its innermost variable, which is no array, or else a constant, whose value
-/// is put in.
+/// is substituted.
 fn resolve_name(context: &Context, names: &TypedScope, name: &Name) -> Result<Typed, LowerError>
     ensures { IsVerdict typed_view (judged.name_resolved
         (context_of context.now) names.now name.now) result }

@@ -1,5 +1,5 @@
-// The rules on names and types of filters. A tree that keeps them is copied with its constants put
-// in.
+// The rules on names and types of filters. A tree that keeps them is copied with its constants
+// substituted.
 
 ghost use Rattle.std.specs.Prelude.{◌≡◌, IfOk, OnOk, [], ◌∷◌, map};
 ghost use Rattle.strc_syntax.specs.View.{variable_view, member_view, rate_view, block_view};
@@ -19,14 +19,14 @@ use strc_base::memory::NoMemory;
 use strc_base::scope::Scope;
 use strc_syntax::tree::{FilterTree, ItemType, Member, RateTree, Stmt, Variable, Variables};
 
-/// A body with its constants put in.
+/// A body with its constants substituted.
 #[derive(Drop)]
 pub struct ResolvedWork {
     pub rates: Vec<RateTree>,
     pub block: Vec<Stmt>,
 }
 
-/// The filter of these types and members, with its constants put in.
+/// The filter of these types and members, with its constants substituted.
 pub fn resolve_filter(
     alloc: Global,
     input: ItemType,

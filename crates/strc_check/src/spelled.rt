@@ -3,13 +3,13 @@
 use std::fmt;
 use strc_lex::token::Name;
 
-/// A name as it stands in a text.
+/// A name as it is in a text.
 #[derive(Drop)]
 pub struct NameText<'a> {
     name: &'a Name,
 }
 
-/// A name as it stands in a text.
+/// A name as it is in a text.
 pub fn spelled(name: &Name) -> NameText<'_> {
     NameText { name }
 }

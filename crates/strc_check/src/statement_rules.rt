@@ -40,7 +40,7 @@ pub(crate) fn resolve_block(
     Ok(resolved)
 }
 
-/// A statement, among the names that can be seen; those of its own block stand from `start` on.
+/// A statement, among the names that can be seen; those of its own block are from `start` on.
 #[tactic(auto, using(crate::proofs::TypedGrowth::drop_own, crate::proofs::TypedGrowth::drop_both))]
 pub(crate) fn resolve_stmt(
     alloc: Global,

@@ -27,7 +27,7 @@ pub struct ResolvedType {
     pub written: VariableType,
 }
 
-/// A declared type, with the constants and the names that can be seen where it stands.
+/// A declared type, with the constants and the names that can be seen where it is.
 pub fn resolve_type(
     alloc: Global,
     constants: &Constants,

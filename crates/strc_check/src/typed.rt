@@ -13,7 +13,7 @@ use strc_lex::token::Name;
 use strc_syntax::node;
 use strc_syntax::tree::{BinaryOperator, Expr, StepOperator, UnaryOperator};
 
-/// An expression with its constants put in, and the type of its value.
+/// An expression with its constants substituted, and the type of its value.
 #[derive(Drop)]
 pub struct Typed {
     pub kind: ValueType,

@@ -54,7 +54,7 @@ impl TypedScope {
         self.variables.value_of(name)
     }
 
-    /// The number of the innermost variable of this name: how many stand outside it.
+    /// The number of the innermost variable of this name: how many are outside it.
     pub fn number_of(&self, name: &Name) -> Option<usize>
         ensures { result ≡ number_named (plain_names self.now) name.now }
     {

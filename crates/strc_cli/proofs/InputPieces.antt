@@ -44,7 +44,7 @@ read_more pieces first middle last reading after piece has consumed is = record 
   read = pieces unread has.taken piece ∙ ap (λ r. bytes_read r piece) has.read ∙ is;
 }
 
--- at the end the numbers of all bytes are told
+-- at the end the numbers of all bytes are known
 pub all_read : ReadsInts → (first left : Option (List ℕ)) (reading : Reading)
     (result : Result (List ℤ) ℕ)
     → HasRead first left reading → IsAtEnd left → ended reading ≡ result
@@ -57,7 +57,7 @@ all_read reads (Some bytes) (Some rest) reading result has end is =
     (has.consumed ∙ ap (λ l. has.taken ++ l) end ∙ append-nil has.taken)
     ∙ ap ended has.read ∙ is
 
--- a word that writes no number is told at once
+-- a word that writes no number is reported at once
 pub word_found : FailsForGood → (first left : Option (List ℕ)) (word : ℕ)
     → HasRead first left (Fails word)
     → WritesNumbers first (Err word)

@@ -92,7 +92,7 @@ TellsAnswer answer (Err error.Write) before after = FailedIn (answer_text answer
 TellsAnswer answer (Err error.Read) before after = ⊥
 TellsAnswer answer (Err error.Memory) before after = WroteNothing before after
 
--- an answer is told, or nothing is written where there is none
+-- an answer is reported, or nothing is written where there is none
 abbrev pub IsTold : Result (Result Answer Stop) CliError → Result Status CliError → Device → Device
     → Type 0
 IsTold (Ok answer) result before after = TellsAnswer answer result before after

@@ -23,7 +23,7 @@ ReadsNumbers bytes (Err (stop.BadInput word)) = WritesNumbers bytes (Err word)
 ReadsNumbers bytes (Err stop.Failed) = Unit {0}
 ReadsNumbers bytes (Err stop.NoMemory) = Unit {0}
 
--- the same of the numbers that are to be told
+-- the same of the numbers that are to be given
 abbrev pub IsEnded : Result (List ℤ) ℕ → Result (Vec ℤ Global) ReadStop → Type 0
 IsEnded expected (Ok numbers) = expected ≡ Ok numbers.items
 IsEnded expected (Err (stop.BadInput word)) = expected ≡ Err word

@@ -42,7 +42,7 @@ is_open (Some word) = not word.ends_line
 abbrev pub leaves_open : List Word → Bool
 leaves_open words = is_open (slice_get words (length words - 1))
 
--- the line feed that stands before a line where the words leave theirs open
+-- the line feed that is before a line where the words leave theirs open
 abbrev pub closing : List Word → List ℕ
 closing words = if leaves_open words then line_end else []
 

@@ -79,7 +79,7 @@ each_more : {X : Type 0} (P : X → Type 0) (xs : List X) (x : X) → Each P xs 
 each_more P [] x each here = (here, tt)
 each_more P (y ∷ ys) x each here = (each.0, each_more P ys x each.1 here)
 
--- a change at an argument that has no row stands at the end
+-- a change at an argument that has no row is at the end
 no_row : (id : Text) (change : Row → List Row) (missing rows : List Row) → has_row id rows ≡ false
     → at_row id change missing rows ≡ rows ++ missing
 no_row id change missing [] none = refl

@@ -346,7 +346,7 @@ module _ {Code State Cause Word : Type 0} (meaning : Meaning Code State Cause Wo
 
 -- Joiners
 
--- A place of a cycle stands in the span of a port.
+-- A place of a cycle is in the span of a port.
 abbrev pub InSpan : List ℕ → ℕ → ℕ → Type 0
 InSpan weights place port = (port < length weights) × (sum (take port weights) ≤ place)
     × (place < sum (take port weights) + get_or weights port 0)
@@ -379,7 +379,7 @@ port_span [] place less = absurd (omega arith)
 port_span (weight ∷ weights) place less =
     span_by weight weights place less (port_span weights (place - weight)) (ltb place weight) refl
 
--- An item of a joined cycle stands in its port's items.
+-- An item of a joined cycle is in its port's items.
 item_by :
     (weight : ℕ) (weights : List ℕ) (first : ℕ) (seen : ByPort) (place : ℕ)
     → length (seen first) ≡ weight

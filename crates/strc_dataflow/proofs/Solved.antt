@@ -59,7 +59,7 @@ module _ {Code State Cause Word : Type 0} (meaning : Meaning Code State Cause Wo
   abbrev now : ℕ → Run State Cause Word
   now = runs_at meaning graph counts inputs
 
-  -- What stands at each node of a part has come from the node's sources.
+  -- What is at each node of a part has come from the node's sources.
   abbrev pub Fed : List ByPort → List (ℕ → Source) → Type 0
   Fed taken sources = (i : ℕ) → i < length taken → (port : ℕ)
       → get_or taken i none port ≡ arrived input now (get_or sources i nowhere port)
@@ -73,7 +73,7 @@ module _ {Code State Cause Word : Type 0} (meaning : Meaning Code State Cause Wo
   fed_append (p ∷ x) y (q ∷ s) t e f g (suc i) h port =
       fed_append x y s t (omega arith) (λ j k. f (suc j) (omega arith)) g i (omega arith) port
 
-  -- A part of the solution that fits its part of the graph: as many nodes; where it stands in the
+  -- A part of the solution that fits its part of the graph: as many nodes; where it is in the
   -- graph, it gives what comes from its outlets, and where it takes what comes from some sources,
   -- so do its nodes.
   pub record IsSound (l : Layout Code) (p : Part) : Type 0 where

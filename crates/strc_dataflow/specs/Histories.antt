@@ -76,7 +76,7 @@ module _ {Code State Cause Word : Type 0} (meaning : Meaning Code State Cause Wo
     unfoldable pub advance : ByPort → Run State Cause Word → Run State Cause Word
     advance inputs run = advance_if inputs run run.fault (finds run.fired inputs)
 
-    -- n firings over whole inputs; firings that find no window, or stand after a fault, aren't
+    -- n firings over whole inputs; firings that find no window, or are after a fault, aren't
     -- done.
     unfoldable pub runs : ℕ → ByPort → Run State Cause Word
     runs zero inputs = begun

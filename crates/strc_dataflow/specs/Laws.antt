@@ -205,7 +205,7 @@ IsIdle meaning code port = (firing : ℕ) → (meaning.window code firing port �
     × (meaning.popped code firing port ≡ 0)
 
 -- Two graphs with the same codes, and the same sources at the ports that carry items, run alike:
--- what stands at ports that a node doesn't have or leaves idle, as on void sides, makes no
+-- what is at ports that a node doesn't have or leaves idle, as on void sides, makes no
 -- difference.
 abbrev pub OnlyPortsMatter : (Code State Cause Word : Type 0) → Type 0
 OnlyPortsMatter Code State Cause Word =

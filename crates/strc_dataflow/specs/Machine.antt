@@ -1,4 +1,4 @@
--- The machine that fires nodes one by one on histories, and the fault that stands first in an
+-- The machine that fires nodes one by one on histories, and the fault that comes first in an
 -- order.
 use Rattle.std.specs.Prelude.{ℕ, cond, eqb, ℤ, List, [], ◌∷◌, Option, Some, None}
 use Rattle.strc_dataflow.specs.Node.{Meaning}
@@ -58,7 +58,7 @@ unfoldable pub or_else : {A : Type 0} → Option A → Option A → Option A
 or_else (Some x) other = Some x
 or_else None other = other
 
--- The fault that stands first in an order, among those of the nodes' runs; the counts number the
+-- The fault that comes first in an order, among those of the nodes' runs; the counts number the
 -- firings before the order.
 unfoldable pub first_fault : {State Cause Word : Type 0} → (ℕ → Run State Cause Word) → (ℕ → ℕ)
     → List ℕ → Option (Stop Cause)

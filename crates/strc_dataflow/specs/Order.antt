@@ -14,7 +14,7 @@ unfoldable pub counted : (ℕ → ℕ) → List ℕ → ℕ → ℕ
 counted counts [] = counts
 counted counts (node ∷ order) = counted (raised counts node) order
 
--- How often a node stands in an order.
+-- How often a node occurs in an order.
 unfoldable pub tally : List ℕ → ℕ → ℕ
 tally [] node = 0
 tally (other ∷ order) node = raised (tally order) other node

@@ -23,7 +23,7 @@ pub fn solution_solves<Code, State, Cause, Word>()
 {}
 
 /// The run of start-up and k rounds gives the answer of the stream equations: all words; or the
-/// first round in which the equations fault, the words before it, and the fault that stands first
+/// first round in which the equations fault, the words before it, and the fault that comes first
 /// in the order.
 pub fn run_gives_answer<Code, State, Cause, Word>()
     ensures { RunGivesAnswer Code State Cause Word }
@@ -74,12 +74,12 @@ pub fn order_is_valid_again<Code, State, Cause, Word>()
     ensures { OrderIsValidAgain Code State Cause Word }
 {}
 
-/// What stands at ports that a node doesn't have, or leaves idle, makes no difference to a run.
+/// What is at ports that a node doesn't have, or leaves idle, makes no difference to a run.
 pub fn only_ports_matter<Code, State, Cause, Word>()
     ensures { OnlyPortsMatter Code State Cause Word }
 {}
 
-/// A stream whose nodes stand in a chain, each taking what the one before gives, runs in order,
+/// A stream whose nodes are in a chain, each taking what the one before gives, runs in order,
 /// each node once a round.
 pub fn chain_runs_in_order<Code, State, Cause, Word>()
     ensures { ChainRunsInOrder Code State Cause Word }

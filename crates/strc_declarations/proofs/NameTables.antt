@@ -143,7 +143,7 @@ doubled_here all i x lt at found is some =
     place_from-any 0 names x.name ∙ ap is_some (sym is) ∙ some in
     ap (doubled_from names i) (views-drop all i x lt at) ∙ rw there refl
 
--- where a place is found, the declaration stands there
+-- where a place is found, the declaration is there
 pub record Found (m : ℕ) (all : List Decl) (q : List ℕ) (n : ℕ) : Type 0 where
   pub offset : ℕ
   pub place : n ≡ m + offset

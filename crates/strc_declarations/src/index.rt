@@ -50,7 +50,7 @@ pub fn number_of(
     number_at(numbers, name)
 }
 
-// The number that stands at a name.
+// The number at a name.
 fn number_at(numbers: &IndexMap<&[u8], usize>, name: &[u8]) -> Option<usize>
     ensures { result ≡ get_by (λ k. pointwise nat_eq name.now k.now) numbers.now }
 {

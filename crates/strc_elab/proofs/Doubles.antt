@@ -1,4 +1,4 @@
--- Names that stand twice among others.
+-- Names that occur twice among others.
 use Rattle.std.proofs.Common.{◌≡◌, ℕ, suc, ◌+◌, ◌<◌, ◌≤◌, Bool, true, false, ◌||◌, List, [], ◌∷◌}
 use Rattle.std.proofs.Common.{length, take, drop, get_or, ◌-◌, refl, sym, ap, ◌∙◌, arith}
 use Rattle.std.proofs.Math.Seq.{drop-cons}
@@ -9,7 +9,7 @@ use Rattle.strc_base.specs.Names.{has_name, plain_names}
 use Rattle.strc_check.specs.Typing.{TypedNames}
 use Rattle.strc_scope.specs.Texts.{is_doubled}
 
--- whether one of these names is an earlier one, or stands twice among them
+-- whether one of these names is an earlier one, or occurs twice among them
 abbrev pub doubled_after : (earlier names : List (List ℕ)) → Bool
 doubled_after earlier [] = false
 doubled_after earlier (first ∷ rest) = has_name earlier first

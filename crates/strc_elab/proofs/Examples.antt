@@ -58,7 +58,7 @@ turns_run_out (suc fuel) setting names progress =
     (inside (stmt_run setting names (length names) tree.Empty))))
     (λ turning. turns_run_out fuel setting names _)
 
--- where the main stream's body stands
+-- where the main stream's body is
 abbrev main_setting : Setting
 main_setting = record {
   program = endless_loop;

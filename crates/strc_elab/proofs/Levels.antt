@@ -36,7 +36,7 @@ level_limit_is : 64 ≡ level_limit
 unfolding level_limit
 level_limit_is = refl
 
--- the main stream stands at the first level, and sees no constants
+-- the main stream is at the first level, and sees no constants
 pub main_elaborated-task : (program : List Declaration) (found : ℕ × Declaration)
     (constants : Constants) (text : Text) → constants ≡ []
     → text ≡ text_of found.1.name found.1.stream

@@ -1,5 +1,5 @@
--- Sound streams: well typed, of the types that are told, and of instances; and several of them, in
--- a row or side by side.
+-- Sound streams: well typed, of the types that are stated, and of instances; and several of them,
+-- in a row or side by side.
 use Rattle.std.proofs.Common.{◌≡◌, List, [], ◌∷◌, ◌++◌, true, refl, sym, ap, ◌∙◌}
 use Rattle.std.specs.List.{AllByRecursion}
 use Rattle.strc_syntax.specs.declared.tree.ItemType.{ItemType}

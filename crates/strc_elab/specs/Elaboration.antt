@@ -61,7 +61,7 @@ pub record Elaborated : Type 0 where
   pub types : StreamType
   pub tally : Tally
 
--- what a composite stream's body stands in: the program, its place, and how a child is elaborated
+-- what a composite stream's body is in: the program, its place, and how a child is elaborated
 pub record Setting : Type 0 where
   pub program : List Declaration
   pub place : Place
@@ -119,7 +119,7 @@ looped (suc fuel) test body progress =
 
 -- children
 
--- a child before it is elaborated: where its text stands, its text, and the store after its
+-- a child before it is elaborated: where its text is, its text, and the store after its
 -- arguments
 pub record Found : Type 0 where
   pub place : Place
@@ -154,7 +154,7 @@ named_found setting names name (Some (number, declaration)) arguments store =
       store = bound.1;
     }))))
 
--- a child without a name: it stands in the same declaration, and sees the numbers of its
+-- a child without a name: it is in the same declaration, and sees the numbers of its
 -- surroundings
 abbrev pub unnamed_found : Setting → TypedNames → Text → Store → Found
 unnamed_found setting names text store = record {
@@ -167,7 +167,7 @@ unnamed_found setting names text store = record {
   store = store;
 }
 
--- a built-in child: it stands in the same declaration, and its text names nothing
+-- a built-in child: it is in the same declaration, and its text names nothing
 abbrev pub built_in_found : Setting → Text → Store → Found
 built_in_found setting text store = record {
   place = record { declaration = setting.place.declaration; constants = [] };
@@ -303,7 +303,7 @@ composed setting names (tree.Enqueue value) progress =
 
 abbrev mutual
   -- a statement of a composite stream's body, among the names that can be seen, of which so many
-  -- stand outside its block
+  -- are outside its block
   pub stmt_run : Setting → TypedNames → (outer : ℕ) → tree.Stmt → Progress
       → Result Progress ElabError
   stmt_run setting names outer tree.Empty progress = Ok progress
@@ -362,7 +362,7 @@ abbrev mutual
 unfoldable pub filter_limit : ℕ
 filter_limit = FILTER_LIMIT
 
--- how many levels streams may stand in one another, the main one being the first
+-- how many levels streams may be nested in one another, the main one being the first
 unfoldable pub level_limit : ℕ
 level_limit = LEVEL_LIMIT
 
@@ -376,8 +376,8 @@ abbrev pub started_as : {A : Type 0} → Filter → Result A Cause → Result Fi
 started_as filter (Ok fields) = Ok filter
 started_as filter (Err cause) = Err (refused.ConstFault cause)
 
--- an instance of a filter: its constants are put in, its text is checked, and then its initialisers
--- and `init` run
+-- an instance of a filter: its constants are substituted, its text is checked, and then its
+-- initialisers and `init` run
 abbrev pub instance_of : Place → Filter → Result Filter ElabError
 instance_of place filter =
     result_and_then (ruled place.declaration (filter_resolved place.constants filter))

@@ -160,7 +160,7 @@ row streams = instance.Pipeline (in_a_row streams)
 abbrev adder : Stream
 adder = filter letter_a Int Int adding
 
--- a stream whose text adds itself stands in itself as often as its argument says
+-- a stream whose text adds itself is nested in itself as often as its argument says
 abbrev pub RecursionRow : Type 0
 RecursionRow =
     elaborated recursion None

@@ -32,7 +32,7 @@ text_view (text.Writer between) = texts.WriterText between.now
 abbrev pub program_of : Task → List Declaration
 program_of task = map declaration_view task.declarations.now
 
--- where a task's text stands
+-- where a task's text is
 abbrev pub place_of : Task → texts.Place
 place_of task = record { declaration = task.declaration; constants = task.constants.now }
 
@@ -67,7 +67,7 @@ pub record Elaborates (levels : ℕ) (pre : Task → Type 0)
   pub elaborates : (task : Task) (result : Result Elaborated ElabError) → task.levels ≡ levels
       → post task result → IsMade task result
 
--- what the body of a task's text stands in
+-- what the body of a task's text is in
 abbrev pub setting_of : Task → spec.Setting
 setting_of task = record {
   program = program_of task;

@@ -28,7 +28,7 @@ use strc_semantics::evaluation::is_true;
 use strc_semantics::fault::{Cause, TURN_LIMIT};
 use strc_syntax::tree::{Expr, Stmt};
 
-/// What a body's statements stand in: the task whose text it is, and what elaborates the streams
+/// What a body's statements are in: the task whose text it is, and what elaborates the streams
 /// one level below.
 #[derive(Clone, Copy)]
 pub(crate) struct Body<'a, F> {
@@ -53,7 +53,7 @@ fn turn(store: &mut Store) -> Result<(), ElabError>
 }
 
 impl<F: Fn(Task) -> Result<Elaborated, ElabError>> Body<'_, F> {
-    /// Where the statements stand.
+    /// Where the statements are.
     pub(crate) fn place(&self) -> Place
         ensures { spec_place result ≡ task_place self.now.task }
     {
@@ -104,7 +104,7 @@ impl<F: Fn(Task) -> Result<Elaborated, ElabError>> Body<'_, F> {
     }
 
     /// Runs the statements of a block, each among the names that are declared before it; those of
-    /// its own stand from `start` on.
+    /// its own are from `start` on.
     #[cycle(body)]
     pub(crate) fn statements(
         &self,
@@ -125,7 +125,7 @@ impl<F: Fn(Task) -> Result<Elaborated, ElabError>> Body<'_, F> {
         Ok(())
     }
 
-    /// Runs a statement, among the names that can be seen; those of its own block stand from
+    /// Runs a statement, among the names that can be seen; those of its own block are from
     /// `start` on.
     #[cycle(body)]
     fn statement(

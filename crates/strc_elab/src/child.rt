@@ -144,7 +144,7 @@ impl<F: Fn(Task) -> Result<Elaborated, ElabError>> Body<'_, F> {
         Ok(bound)
     }
 
-    /// Elaborates a child without a name: it stands in the same declaration, and sees the numbers
+    /// Elaborates a child without a name: it is in the same declaration, and sees the numbers
     /// of its surroundings.
     fn unnamed(&self, role: Role, text: Text, progress: &mut Progress) -> Result<(), ElabError>
         requires { IsReady self.now.task (F.pre self.now.elaborate) (F.post self.now.elaborate) }
@@ -163,7 +163,7 @@ impl<F: Fn(Task) -> Result<Elaborated, ElabError>> Body<'_, F> {
         self.elaborated(role, self.task.declaration, &constants, text, progress)
     }
 
-    /// Elaborates a built-in child: it stands in the same declaration, and its text names nothing.
+    /// Elaborates a built-in child: it is in the same declaration, and its text names nothing.
     fn built_in(&self, role: Role, text: Text, progress: &mut Progress) -> Result<(), ElabError>
         requires { IsReady self.now.task (F.pre self.now.elaborate) (F.post self.now.elaborate) }
         ensures runs { Runs (spec.found_run (setting_of self.now.task) role
@@ -290,7 +290,7 @@ fn parameters_of(declaration: &Decl) -> &[Name]
     }
 }
 
-/// Whether a name stands twice among these. It takes expected linear time.
+/// Whether a name occurs twice among these. It takes expected linear time.
 #[tactic(auto, using(crate::proofs::Doubles::doubled_at_first))]
 fn is_doubled(alloc: Global, names: &[Name]) -> Result<bool, NoMemory>
     ensures { IfOk result (λ doubled. doubled ≡ texts.is_doubled names.now) }

@@ -24,7 +24,7 @@ use strc_scope::error::ElabError;
 use strc_stream::stream::Stream;
 use strc_syntax::tree::{Decl, Program};
 
-/// How many levels streams may stand in one another, the main one being the first.
+/// How many levels streams may be nested in one another, the main one being the first.
 const LEVEL_LIMIT: u32 = 64;
 
 /// The stream that a program means: its composite streams' bodies run, up to the first rule that is

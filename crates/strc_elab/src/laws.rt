@@ -2,7 +2,7 @@
 
 ghost use Rattle.strc_elab.specs.Examples.{RecursionRow, EndlessRow, LoopRow, EndlessLoopRow};
 
-/// A stream whose text adds itself stands in itself as often as its argument says.
+/// A stream whose text adds itself is nested in itself as often as its argument says.
 pub fn recursion()
     ensures { RecursionRow }
 {}

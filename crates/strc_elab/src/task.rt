@@ -13,7 +13,7 @@ pub(crate) enum Text<'a> {
     Filter(Option<&'a Name>, StreamType, &'a [Member]),
     Composite(Option<StreamType>, CompositeKind, &'a [Stmt]),
     Identity,
-    /// What stands between the brackets.
+    /// What is between the brackets.
     Reader(&'a StringLiteral),
     Writer(&'a StringLiteral),
 }
@@ -25,7 +25,7 @@ pub(crate) struct Tally {
     pub(crate) filters: u32,
 }
 
-/// A text to be elaborated: the program that it stands in, how many levels it may have, the number
+/// A text to be elaborated: the program that it is in, how many levels it may have, the number
 /// of the declaration that holds it, the constants that it sees, and the tally before it.
 #[derive(Clone, Copy)]
 pub(crate) struct Task<'a> {

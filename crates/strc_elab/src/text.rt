@@ -72,7 +72,7 @@ fn copied(name: Option<&Name>) -> Result<Option<Name>, AllocError>
 }
 
 impl Task<'_> {
-    /// An instance of a filter: its constants are put in, its text is checked, and then its
+    /// An instance of a filter: its constants are substituted, its text is checked, and then its
     /// initialisers and `init` run.
     fn instance(&self, types: StreamType, members: &[Member]) -> Result<Code, ElabError>
         ensures { IsVerdict filter_of (spec.instance_of (place_of self.now)

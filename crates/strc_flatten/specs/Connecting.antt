@@ -28,7 +28,7 @@ pub data Climbs (parents : List ℕ) (node : ℕ) : ℕ → Type 0 where
   Then : {last next : ℕ} → Climbs parents node last → last < length parents
       → slice_index parents last ≡ next → Climbs parents node next
 
--- the greater of two numbers' roots has come to stand under the lesser one
+-- the greater of two numbers' roots has come to be under the lesser one
 pub record AreLinked (old new : List ℕ) (one other : ℕ) : Type 0 where
   pub lesser : ℕ
   pub greater : ℕ

@@ -2,6 +2,6 @@
 use Rattle.strc_flatten.specs.declared.channels.Target.{Target}
 use Rattle.strc_wiring.specs.Wires as wires
 
--- a target, by the items that stand before what comes
+-- a target, by the items that are before what comes
 abbrev pub target_view : Target → wires.Target
 target_view target = record { port = target.port; enqueued = target.enqueued.now }

@@ -12,9 +12,9 @@ use strc_graph::graph::Channel;
 /// Whether there is a path along channels and against them from each number below this one to each
 /// other.
 ///
-/// Numbers that are connected so far stand in one tree, by their parents, and each channel links
+/// Numbers that are connected so far are in one tree, by their parents, and each channel links
 /// the trees of its ends. A tree is about as deep as streams are nested, at most 64 levels: only
-/// streams that take no items stand alone until a joiner links them.
+/// streams that take no items are alone until a joiner links them.
 pub(crate) fn are_connected(
     alloc: Global,
     count: u32,

@@ -1,4 +1,4 @@
-// The joiner of the outermost feedback loop that each node stands in.
+// The joiner of the outermost feedback loop that each node is in.
 
 ghost use Rattle.std.specs.Prelude.{◌≡◌, ◌+◌, ◌≤◌, ◌++◌, length, map, replicate, None, OnOk};
 ghost use Rattle.std.specs.Option.{option_map};

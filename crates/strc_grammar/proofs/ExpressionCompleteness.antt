@@ -328,7 +328,7 @@ IsClimbed e = (d k : ℕ) (rest : List TokenKind) → rank e ≤ k → k < lowes
     → Complete (suc d) (expr_height e) (found e rest)
     (climb (suc d) (expression d) k (expr_spelled e rest))
 
--- read from its leftmost operand on, up to where the loop of its rank stands after it
+-- read from its leftmost operand on, up to where the loop of its rank is after it
 record Spine (d k : ℕ) (e : tree.Expr) (rest : List TokenKind) : Type 0 where
   turns : ℕ
   enough : length rest ≤ turns

@@ -59,7 +59,7 @@ pub ExprRead-some : {depth r : ℕ} {tokens : List TokenKind} {x : tree.Expr × 
     → ExprRead depth r tokens x → 1 ≤ x.1
 ExprRead-some {depth} {r} {tokens} {x} read = omega (arith, height_some x.0, read.high)
 
--- ---- what stands first
+-- ---- what comes first
 
 step_is : (o : StepOperator) (target : List TokenKind → List TokenKind) (past : List TokenKind)
     → step_after past ≡ Some o → target past ≡ step_spelled o target (tail past)
@@ -122,7 +122,7 @@ of_rank_is r (Some found) o e =
           subst (λ (b : Bool). cond b (Some found) None ≡ Some o) is e in absurd cc
     ]
 
--- the operator that stands first is spelled there
+-- the operator that comes first is spelled there
 operator_is : (r : ℕ) (tokens : List TokenKind) (o : BinaryOperator) → operator r tokens ≡ Some o
     → (tokens ≡ token.Punctuation (binary_punctuation o) ∷ tail tokens) × (precedence o ≡ r)
 unfolding operator punctuation_at

@@ -68,7 +68,7 @@ rate_stands rate.Push rest = refl
 rate_stands rate.Pop rest = refl
 rate_stands rate.Peek rest = refl
 
--- a rate stands before another or before the block
+-- a rate comes before another or before the block
 abbrev Stopping : List TokenKind → Type 0
 Stopping rest = Stops lowest_precedence rest
 

@@ -176,7 +176,7 @@ module _ (d : ℕ) where
       others complete (v ∷ []) (variable_height v) (length past + 1) rest rest stop ends
       (omega arith)))
 
-  -- the type stands before a name
+  -- the type is before a name
   type_completeness : (kind : tree.VariableType) → IsVariableType kind → (rest : List TokenKind) →
       is_punctuation punctuation.OpenBracket rest ≡ false
       → Complete d (type_height kind) (kind, type_height kind, rest)
@@ -622,7 +622,7 @@ module _ (d : ℕ) (rest : List TokenKind) where
       (Stops-semicolon lowest_precedence rest)) (omega arith)
       (λ low. Complete-done d (expr_height e) (Some e, expr_height e, rest) _ low refl))
 
--- the height of what stands in the brackets of a `for`
+-- the height of what is in the brackets of a `for`
 abbrev pub heading_height : tree.Stmt → Option tree.Expr → tree.Stmt → ℕ
 heading_height begun tested stepped = max (stmt_height begun)
     (max (optional_height tested) (stmt_height stepped))

@@ -597,7 +597,7 @@ record BehindRead (depth : ℕ) (tokens : List TokenKind)
   high : x.1 ≡ max (optional_height x.0.0) (stmt_height x.0.1)
   low : x.1 ≤ depth
 
--- at least one token stands before these
+-- at least one token is before these
 past_soundness : (d : ℕ) (all tokens : List TokenKind) → length tokens + 1 ≤ length all
     → Sound (BehindRead (suc d) tokens) d all (after_first (suc d) tokens)
 unfolding after_first
@@ -628,7 +628,7 @@ past_soundness d all tokens le =
       low = omega (arith, tested.low, stepped.low);
     }))
 
--- what stands in the brackets of a `for`
+-- what is in the brackets of a `for`
 pub record HeadingRead (depth : ℕ) (tokens : List TokenKind)
     (x : (tree.Stmt × Option tree.Expr × tree.Stmt) × ℕ × List TokenKind) : Type 0 where
   pub spelled : tokens ≡ heading_spelled x.0.0 x.0.1 x.0.2 x.2

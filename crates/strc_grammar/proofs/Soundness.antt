@@ -221,7 +221,7 @@ module _ {S : Type 0} (stop : List TokenKind → Option (List TokenKind))
       (λ s rest k l. repeated_soundness turns n s rest k l) turns so_far tokens kept le
       (stop tokens) refl
 
--- a punctuation mark that stands first
+-- a punctuation mark that comes first
 pub punctuation_is : (wanted : Punctuation) (tokens : List TokenKind)
     → is_punctuation wanted tokens ≡ true → tokens ≡ token.Punctuation wanted ∷ tail tokens
 unfolding is_punctuation

@@ -426,7 +426,7 @@ precedence binary.Remainder = 1
 abbrev pub lowest_precedence : ℕ
 lowest_precedence = 11
 
--- the rank of an expression: its operator's precedence, or 0 where nothing stands between two
+-- the rank of an expression: its operator's precedence, or 0 where nothing is between two
 -- operands
 abbrev pub rank : tree.Expr → ℕ
 rank (tree.Binary operator left right) = precedence operator
@@ -490,7 +490,7 @@ takes_else (tree.While condition body) = takes_else body
 takes_else (tree.For first condition step body) = takes_else body
 takes_else _ = false
 
--- a rate keyword stands at most once
+-- a rate keyword occurs at most once
 abbrev pub AreRates : List tree.Rate → Type 0
 AreRates [] = Unit {0}
 AreRates (first ∷ others) = IsExpr first.rate

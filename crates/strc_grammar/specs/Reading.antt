@@ -72,7 +72,7 @@ abbrev pub punctuation_by : Option TokenKind → Option Punctuation
 punctuation_by (Some (token.Punctuation found)) = Some found
 punctuation_by _ = None
 
--- the punctuation that stands first
+-- the punctuation that comes first
 unfoldable pub punctuation_at : List TokenKind → Option Punctuation
 punctuation_at tokens = punctuation_by (first tokens)
 
@@ -109,7 +109,7 @@ abbrev pub text_by : Option TokenKind → List TokenKind → Read (List ℕ)
 text_by (Some (token.StringLiteral text)) tokens = Ok (text, tail tokens)
 text_by _ tokens = unexpected tokens
 
--- what the string that stands first has between its quotes
+-- what the string that comes first has between its quotes
 unfoldable pub text : List TokenKind → Read (List ℕ)
 text tokens = text_by (first tokens) tokens
 
@@ -176,7 +176,7 @@ abbrev pub of_rank : ℕ → Option BinaryOperator → Option BinaryOperator
 of_rank rank None = None
 of_rank rank (Some operator) = if precedence operator == rank then Some operator else None
 
--- the operator of this rank that stands first
+-- the operator of this rank that comes first
 unfoldable pub operator : ℕ → List TokenKind → Option BinaryOperator
 operator rank tokens = of_rank rank (binary_by (punctuation_at tokens))
 
@@ -185,7 +185,7 @@ step_of (Some punctuation.PlusPlus) = Some step.IncrementAfter
 step_of (Some punctuation.MinusMinus) = Some step.DecrementAfter
 step_of _ = None
 
--- the step of a variable or an element that stands after it
+-- the step of a variable or an element that is after it
 unfoldable pub step_after : List TokenKind → Option StepOperator
 step_after tokens = step_of (punctuation_at tokens)
 
@@ -200,7 +200,7 @@ closed below closing tokens = do
   rest ← expect closing value.2
   Ok (value.0, value.1, rest)
 
--- `[i]`, if it stands there, with the height of what has the index: after the name
+-- `[i]`, if it is there, with the height of what has the index: after the name
 unfoldable pub index : ℕ → Below → List TokenKind → Tall (Option tree.Expr)
 index depth below tokens =
     if is_punctuation punctuation.OpenBracket tokens
@@ -350,7 +350,7 @@ expression (suc depth) rank tokens = ranked (suc depth) (expression depth) rank 
 
 -- ---- variables
 
--- `= e`, if it stands there: the initialiser, its height or 0
+-- `= e`, if it is there: the initialiser, its height or 0
 unfoldable pub initial : ℕ → List TokenKind → Tall (Option tree.Expr)
 initial depth tokens =
     if is_punctuation punctuation.Assign tokens then
@@ -364,7 +364,7 @@ variable depth tokens = do
   begun ← initial depth named.1
   Ok (record { name = named.0; initial = begun.0 }, begun.1, begun.2)
 
--- variables stop where no comma stands
+-- variables stop where there is no comma
 unfoldable pub no_comma : List TokenKind → Option (List TokenKind)
 no_comma tokens = if is_punctuation punctuation.Comma tokens then None else Some tokens
 
@@ -426,7 +426,7 @@ assign_of (Some punctuation.SlashAssign) = Some assign.Divide
 assign_of (Some punctuation.PercentAssign) = Some assign.Remainder
 assign_of _ = None
 
--- the operator of an assignment that stands first
+-- the operator of an assignment that comes first
 unfoldable pub assign_at : List TokenKind → Option AssignOperator
 assign_at tokens = assign_of (punctuation_at tokens)
 
@@ -457,7 +457,7 @@ assign_by depth (tree.Element name at) height operator tokens =
     assign_element depth name at height operator (tail tokens)
 assign_by depth value height operator tokens = evaluate depth value height tokens
 
--- what an operator that stands first makes of the expression before it: an assignment, where that
+-- what an operator that comes first makes of the expression before it: an assignment, where that
 -- is a variable or an element
 unfoldable pub assignment : ℕ → tree.Expr → ℕ → AssignOperator → List TokenKind → Tall tree.Stmt
 assignment depth value height operator tokens = assign_by depth value height operator tokens
@@ -560,7 +560,7 @@ listed_arguments depth tokens =
     else (expression depth lowest_precedence tokens >>= λ read. more_arguments depth
     (read.0 ∷ [], read.1) read.2)
 
--- `(1, 2)`, if it stands there
+-- `(1, 2)`, if it is there
 unfoldable pub arguments : ℕ → List TokenKind → Tall (Option (List tree.Expr))
 arguments depth tokens =
     if is_punctuation punctuation.OpenParen tokens
@@ -568,7 +568,7 @@ arguments depth tokens =
     expect punctuation.CloseParen read.1 >>= λ rest. Ok (Some read.0.0, read.0.1, rest))
     else Ok (None, 0, tokens)
 
--- `()`, if it stands there
+-- `()`, if it is there
 unfoldable pub empty_brackets : List TokenKind → Read Brackets
 empty_brackets tokens =
     if is_punctuation punctuation.OpenParen tokens
@@ -594,7 +594,7 @@ listed_parameters tokens =
     if is_punctuation punctuation.CloseParen tokens then Ok ([], tokens) else
     (parameter tokens >>= λ read. more_parameters (read.0 ∷ []) read.1)
 
--- `(int n, int m)`, if it stands there
+-- `(int n, int m)`, if it is there
 unfoldable pub parameters : List TokenKind → Read (Option (List (List ℕ)))
 parameters tokens =
     if is_punctuation punctuation.OpenParen tokens
@@ -626,7 +626,7 @@ composite_kind_of (Some (token.Keyword keyword.Splitjoin)) = Some composite.Spli
 composite_kind_of (Some (token.Keyword keyword.Feedbackloop)) = Some composite.Feedbackloop
 composite_kind_of _ = None
 
--- the kind of composite stream whose keyword stands first
+-- the kind of composite stream whose keyword comes first
 unfoldable pub composite_kind : List TokenKind → Option CompositeKind
 composite_kind tokens = composite_kind_of (first tokens)
 

@@ -44,7 +44,7 @@ block depth inner tokens = do
   height ← raised depth body.0.1
   Ok (tree.Block (row body.0.0), height, body.1)
 
--- the branch after `else`, with the height of what stands before it
+-- the branch after `else`, with the height of what is before it
 unfoldable pub other_branch : ℕ → Inner → tree.Expr → tree.Stmt → ℕ → List TokenKind
     → Tall tree.Stmt
 other_branch depth inner condition chosen height tokens = do
@@ -52,7 +52,7 @@ other_branch depth inner condition chosen height tokens = do
   high ← raised depth (max height other.1)
   Ok (tree.IfElse condition chosen other.0, high, other.2)
 
--- what follows a branch, to which an `else` belongs that stands there
+-- what follows a branch, to which an `else` belongs that is there
 unfoldable pub after_branch : ℕ → Inner → tree.Expr → tree.Stmt → ℕ → List TokenKind
     → Tall tree.Stmt
 after_branch depth inner condition chosen height tokens =
@@ -91,7 +91,7 @@ rate_kind_of (Some (token.Keyword keyword.Pop)) = Some rate.Pop
 rate_kind_of (Some (token.Keyword keyword.Peek)) = Some rate.Peek
 rate_kind_of _ = None
 
--- the kind of rate whose keyword stands first
+-- the kind of rate whose keyword comes first
 unfoldable pub rate_kind : List TokenKind → Option RateKind
 rate_kind tokens = rate_kind_of (first tokens)
 
@@ -122,7 +122,7 @@ abbrev pub no_rate_by : List TokenKind → Option RateKind → Option (List Toke
 no_rate_by tokens None = Some tokens
 no_rate_by tokens (Some kind) = None
 
--- rates stop where no rate keyword stands
+-- rates stop where there is no rate keyword
 unfoldable pub no_rate : List TokenKind → Option (List TokenKind)
 no_rate tokens = no_rate_by tokens (rate_kind tokens)
 

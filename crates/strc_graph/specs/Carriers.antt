@@ -1,5 +1,5 @@
 -- Which ports carry items (StreamIt specification 2.1, "Split-joins"). A port that never does, as
--- a joiner's of weight 0, stands in the tree of a stream, but no channel leaves it or ends there.
+-- a joiner's of weight 0, is in the tree of a stream, but no channel leaves it or ends there.
 use Rattle.std.specs.Prelude.{◌≡◌, ℕ, nat_lt, Bool, true, false, List}
 use Rattle.std.specs.Prelude.{slice_get, slice_index, slice_index_or}
 use Rattle.std.specs.Option.{option_map_or}

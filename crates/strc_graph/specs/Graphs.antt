@@ -130,7 +130,7 @@ source_in (first ∷ rest) node port = if ends_at node port first then source_of
 
 -- graphs
 
--- nodes, channels between them, and the joiner of the outermost feedback loop that each node stands
+-- nodes, channels between them, and the joiner of the outermost feedback loop that each node is
 -- in
 pub record Graph : Type 0 where
   pub nodes : List NodeCode

@@ -9,7 +9,7 @@ use Rattle.strc_graph.specs.Carriers.{carries_in}
 use Rattle.strc_graph.specs.Meaning.{node_meaning}
 
 -- Two graphs with the same nodes, and the same sources at the ports that carry items and where the
--- program's input is read, run alike: what stands at a joiner's port of weight 0 makes no
+-- program's input is read, run alike: what is at a joiner's port of weight 0 makes no
 -- difference.
 abbrev pub OnlyCarriersMatter : Type 0
 OnlyCarriersMatter =

@@ -35,7 +35,7 @@ channel_view channel = record {
 }
 
 -- a declared graph: its nodes and channels, and for each node the joiner of the outermost feedback
--- loop that it stands in
+-- loop that it is in
 pub record GraphParts : Type 0 where
   pub nodes : List Node
   pub channels : List Channel

@@ -15,9 +15,9 @@ pub enum Node {
     Filter(Instance),
     /// What comes in goes out, item by item.
     Identity,
-    /// It gives the program's input; what stands between its brackets.
+    /// It gives the program's input; what is between its brackets.
     FileReader(StringLiteral),
-    /// It writes each item; what stands between its brackets.
+    /// It writes each item; what is between its brackets.
     FileWriter(StringLiteral),
     Splitter(Splitter),
     /// It takes so many items of each port in turn.
@@ -101,7 +101,7 @@ impl Graph {
     ghost use Rattle.strc_graph.specs.NodeView.{parts_of, graph_view, node_names};
 
     /// The graph of these nodes and channels, and for each node the joiner of the outermost
-    /// feedback loop that it stands in.
+    /// feedback loop that it is in.
     pub fn new(nodes: Vec<Node>, channels: Vec<Channel>, outer_loops: Vec<Option<u32>>) -> Graph
         requires { IsGraph (graph_view (parts_of nodes.items channels.items outer_loops.items)) }
         ensures { result ≡ parts_of nodes.items channels.items outer_loops.items }
@@ -148,7 +148,7 @@ impl Graph {
         name_of(&self.nodes[node])
     }
 
-    /// The joiner of the outermost feedback loop that a node stands in.
+    /// The joiner of the outermost feedback loop that a node is in.
     pub fn outer_loop(&self, node: usize) -> Option<u32>
         requires { node < length self.now.nodes }
         ensures { slice_get self.now.outer_loops node ≡ Some result }

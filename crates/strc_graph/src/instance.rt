@@ -1,4 +1,4 @@
-// A filter of a program, with its constants put in.
+// A filter of a program, with its constants substituted.
 
 ghost use Rattle.std.specs.Prelude.{◌≡◌, IfOk};
 ghost use Rattle.strc_semantics.specs.Filters.{filter_of};
@@ -8,7 +8,7 @@ use strc_base::memory::NoMemory;
 use strc_lex::token::Name;
 use strc_work::code::Code;
 
-/// A filter with its constants put in.
+/// A filter with its constants substituted.
 #[derive(Drop)]
 pub struct Instance {
     /// The name that it is declared by; an anonymous one has none.

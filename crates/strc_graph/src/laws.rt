@@ -2,7 +2,7 @@
 
 ghost use Rattle.strc_graph.specs.Laws.{NodesSplitAndJoin, OnlyCarriersMatter};
 
-/// What stands at a port that carries no items makes no difference to a run.
+/// What is at a port that carries no items makes no difference to a run.
 pub fn only_carriers_matter()
     ensures { OnlyCarriersMatter }
 {}

@@ -7,7 +7,7 @@ use Rattle.strc_input.specs.Numbers.{most, signed, minus, ints}
 use Rattle.strc_input.specs.declared.numbers.Word.{Word}
 use Rattle.strc_input.specs.declared.numbers.Word.TheVariants as word
 
--- the numbers so far, and where the last word stands; or which word writes none
+-- the numbers so far, and where the last word is; or which word writes none
 pub data Reading : Type 0 where
   Reads : (numbers : List ℤ) (last : Word) → Reading
   Fails : (number : ℕ) → Reading

@@ -10,14 +10,14 @@ ghost use Rattle.strc_input.specs.declared.numbers.InputError.TheVariants as err
 use std::alloc::{AllocFailed, Global};
 use thiserror::Error;
 
-/// Where the last word stands.
+/// Where the last word is.
 #[derive(Clone, Copy)]
 pub(crate) enum Word {
     /// White space, or nothing, came last.
     Between,
     /// `-` came last.
     Sign,
-    /// Digits so far, whether `-` stands before them, and what they write.
+    /// Digits so far, whether `-` is before them, and what they write.
     Digits(bool, u32),
 }
 
@@ -40,7 +40,7 @@ impl<T: Drop> From<AllocFailed<T>> for InputError {
     }
 }
 
-/// The numbers of the input as far as it has been read, and where its last word stands.
+/// The numbers of the input as far as it has been read, and where its last word is.
 #[derive(Drop)]
 pub struct Numbers {
     values: Vec<i32>,

@@ -1,11 +1,11 @@
--- Which expressions have the same value in each evaluation, told from the text alone.
+-- Which expressions have the same value in each evaluation, known from the text alone.
 use Rattle.std.specs.Prelude.{ℤ, Bool, true, false, ◌&&◌, Option, Some, None, Result, Ok, Err}
 use Rattle.std.specs.Prelude.{if◌then◌else◌}
 use Rattle.strc_syntax.specs.Tree as tree
 use Rattle.strc_semantics.specs.declared.fault.Cause.{Cause}
 use Rattle.strc_semantics.specs.Constants.{constant_value}
 
--- whether an expression stands on numbers, truth values and operators alone: it names no variable,
+-- whether an expression is made of numbers, truth values and operators alone: it names no variable,
 -- and takes, looks at and changes nothing
 abbrev pub is_constant : tree.Expr → Bool
 is_constant (tree.Number value) = true

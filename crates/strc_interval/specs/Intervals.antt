@@ -1,4 +1,4 @@
--- Between which whole numbers the value of an expression lies, told from the text.
+-- Between which whole numbers the value of an expression lies, known from the text.
 use Rattle.std.specs.Prelude.{ℕ, ℤ, neg_ℤ, ◌+ℤ◌, ◌-ℤ◌, ◌*ℤ◌, ◌-◌, ◌&&◌, List, [], ◌∷◌, Option, Some}
 use Rattle.std.specs.Prelude.{None, map, if◌then◌else◌, bytes_eq}
 use Rattle.std.specs.Option.{option_and_then, option_map}
@@ -90,7 +90,7 @@ binary_interval _ first second = None
 abbrev pub singleton : ℤ → Interval
 singleton value = record { low = value; high = value }
 
--- a constant's value, or else an interval that is told otherwise
+-- a constant's value, or else an interval that is known otherwise
 abbrev pub or_else : Option ℤ → Option Interval → Option Interval
 or_else (Some value) interval = Some (singleton value)
 or_else None interval = interval

@@ -1,4 +1,4 @@
--- Counted loops: `for` loops whose number of turns is told by their text.
+-- Counted loops: `for` loops whose number of turns is known from their text.
 use Rattle.std.specs.Prelude.{ℕ, zero, suc, ℤ, pos, negsuc, neg_ℤ, ◌+ℤ◌, ◌-ℤ◌, ◌*ℤ◌, Bool, true}
 use Rattle.std.specs.Prelude.{false, not, ◌&&◌, ◌||◌, List, [], ◌∷◌, Option, Some, None}
 use Rattle.std.specs.Prelude.{if◌then◌else◌, bytes_eq}
@@ -41,7 +41,7 @@ abbrev pub shadows : List ℕ → tree.Stmt → Bool
 shadows name (tree.Declare kind variables) = declares name variables
 shadows name _ = false
 
--- whether an expression writes the variable that this name has where it stands
+-- whether an expression writes the variable that this name has where it is
 abbrev pub expr_writes : List ℕ → tree.Expr → Bool
 expr_writes name (tree.Number value) = false
 expr_writes name (tree.Truth value) = false
@@ -70,7 +70,7 @@ variables_write name (first ∷ rest) =
     && variables_write name rest)
 
 abbrev mutual
-  -- whether a statement writes the variable that this name has where it stands, and not an inner
+  -- whether a statement writes the variable that this name has where it is, and not an inner
   -- one of the same name
   pub stmt_writes : List ℕ → tree.Stmt → Bool
   stmt_writes name tree.Empty = false

@@ -1,4 +1,4 @@
-// Which expressions have the same value in each evaluation, told from the text alone.
+// Which expressions have the same value in each evaluation, known from the text alone.
 
 ghost use Rattle.std.specs.Prelude.{◌≡◌};
 ghost use Rattle.strc_syntax.specs.View.{expr_view};
@@ -7,7 +7,7 @@ ghost use Rattle.strc_interval.specs.Constant as spec;
 use strc_semantics::evaluation;
 use strc_syntax::tree::Expr;
 
-/// The value of an expression that stands on numbers, truth values and operators alone, and has no
+/// The value of an expression that is made of numbers, truth values and operators alone, and has no
 /// fault.
 pub fn constant(value: &Expr) -> Option<i32>
     ensures { result ≡ spec.constant (expr_view value.now) }

@@ -1,4 +1,4 @@
-// Between which whole numbers the value of an expression lies, told from the text.
+// Between which whole numbers the value of an expression lies, known from the text.
 
 ghost use Rattle.std.specs.Prelude.{◌≡◌};
 ghost use Rattle.strc_syntax.specs.View.{expr_view};

@@ -1,4 +1,4 @@
-// Counted loops: `for` loops whose number of turns is told by their text.
+// Counted loops: `for` loops whose number of turns is known from their text.
 
 ghost use Rattle.std.specs.Prelude.{◌≡◌, ◌≤◌, ◌*◌, ◌+◌, ◌^◌, ◌+ℤ◌, ◌*ℤ◌, pos, unsigned_abs, IfSome};
 ghost use Rattle.std.specs.Prelude.{map, if◌then◌else◌};

@@ -15,7 +15,7 @@ pub fn same_name(first: &Name, second: &Name) -> bool
     first.as_bytes() == second.as_bytes()
 }
 
-/// Whether statements in a row write the variable that this name has where they stand, and not an
+/// Whether statements in a row write the variable that this name has where they are, and not an
 /// inner one of the same name.
 #[cycle(writes)]
 fn block_writes(block: &[Stmt], name: &Name) -> bool
@@ -32,7 +32,7 @@ fn block_writes(block: &[Stmt], name: &Name) -> bool
     false
 }
 
-/// Whether a statement writes the variable that this name has where it stands, and not an inner one
+/// Whether a statement writes the variable that this name has where it is, and not an inner one
 /// of the same name.
 #[cycle(writes)]
 pub fn statement_writes(statement: &Stmt, name: &Name) -> bool

@@ -15,7 +15,7 @@ use Rattle.strc_lex.proofs.TriviaRuns.{trivia_end, bare_end}
 use Rattle.strc_lex.proofs.Only.{token_only}
 use Rattle.strc_lex.proofs.Tokens.{token_meets}
 
--- a token stands within the text
+-- a token is within the text
 pub stands_within : (text : List ℕ) (item : Token) → StandsAt text item
     → item.span.end ≤ length text
 stands_within text item stands = let within = stands.token.within in let rest =
@@ -25,7 +25,7 @@ stands_within text item stands = let within = stands.token.within in let rest =
     stands.ordered in
     omega arith
 
--- where white space or a comment stands, no token begins
+-- where there is white space or a comment, no token begins
 
 token_not_blank : (text : List ℕ) (kind : TokenKind) (len size : ℕ) → IsToken text kind len
     → IsBlank text size → ⊥
@@ -152,7 +152,7 @@ pub found_none : (text : List ℕ) (found : Option (TokenKind × ℕ)) → found
 found_none text None e = λ kind len t. none_is_not_some (kind, len) (e ∙ token_only text kind len t)
 found_none text (Some t) e = tt
 
--- a token found at a place stands there
+-- a token found at a place is there
 pub stands_at : (text : List ℕ) (at len : ℕ) (kind : TokenKind) → IsToken (drop at text) kind len
     → 0 < len → StandsAt text (record { kind = kind; span = record { start = at; end = at + len } })
 stands_at text at len kind t positive =

@@ -70,7 +70,7 @@ kind_only b rest n k l h g = let same : family k ≡ family l =
     sym (begins_family k b (lexeme_begins k b rest n h).1)
     ∙ begins_family l b (lexeme_begins l b rest n g).1 in absurd (cc)
 
--- where a letter stands, the scanner finds something
+-- where there is a letter, the scanner finds something
 missed_letter : (b : ℕ) (rest : List ℕ) → is_letter b ≡ true → token_at (b ∷ rest) ≡ None → ⊥
 missed_letter b rest letter e = some_is_not_none (name_at (b ∷ rest))
     (sym (at_letter b rest letter) ∙ e)
@@ -95,7 +95,7 @@ number_size b rest v n digit t =
     (digit_is_name_byte (get_or (b ∷ rest) n 0) passes) in
     omega (arith, size, most, stops)
 
--- where a number stands, the scanner finds something
+-- where there is a number, the scanner finds something
 missed_number : (b : ℕ) (rest : List ℕ) (v : _) (n : ℕ) → is_digit b ≡ true
     → IsToken (b ∷ rest) (Number v) n → number_at (b ∷ rest) ≡ None → ⊥
 missed_number b rest v n digit t e =
@@ -192,7 +192,7 @@ no_punctuation_at_comment m c rest o e apart = elim (slash_alone m) [
       (bare_slash_at_comment (length (punctuation_text m)) c rest (punctuation_size m) o))
 ]
 
--- where a punctuation mark stands, the scanner finds something
+-- where there is a punctuation mark, the scanner finds something
 missed_punctuation : (b : ℕ) (rest : List ℕ) (m : punctuation.Punctuation) (n : ℕ)
     → IsToken (b ∷ rest) (Punctuation m) n → punctuation_at (b ∷ rest) ≡ None → ⊥
 missed_punctuation b rest m n t e =
@@ -216,7 +216,7 @@ missed_punctuation b rest m n t e =
       by None none bad = punctuation_not_missed (b ∷ rest) m n t.within t.lexeme none
       by (Some v) found bad = some_is_not_none (Punctuation v, length (punctuation_text v)) bad
 
--- where a token stands, the scanner finds something
+-- where there is a token, the scanner finds something
 missed : (text : List ℕ) (k : TokenKind) (n : ℕ) → IsToken text k n → token_at text ≡ None → ⊥
 missed [] k n t e = no_empty_lexeme k (subst (IsLexeme k) (take-nil n) t.lexeme)
 missed (b ∷ rest) (Name name) n t e = missed_letter b rest

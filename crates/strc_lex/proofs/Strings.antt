@@ -20,7 +20,7 @@ use Rattle.strc_lex.proofs.Runs.{run_head, take-run, list_all-take_while}
 quote_is : (b : ℕ) → is_quote b ≡ true → b ≡ 34
 quote_is b quote = grind (arith, nat_tests)
 
--- what stands before a closing quote is the run of string bytes
+-- what is before a closing quote is the run of string bytes
 pub string_run : (inner rest : List ℕ) (n : ℕ) → take n rest ≡ inner ++ 34 ∷ []
     → list_all is_string_byte inner ≡ true
     → (inner ≡ take_while is_string_byte rest) × (is_closed (drop (length inner) rest) ≡ true)
@@ -40,7 +40,7 @@ string_run (c ∷ inner) (x ∷ rest) (suc n) e all =
       run.1,
     )
 
--- how long a string at the front is, and what stands in it
+-- how long a string at the front is, and what is in it
 pub string_size : (b : ℕ) (rest inner : List ℕ) (size : ℕ) → size ≤ length (b ∷ rest)
     → IsLexeme (StringLiteral inner) (take size (b ∷ rest))
     → (inner ≡ take_while is_string_byte rest) × (is_closed (drop (length inner) rest) ≡ true)
@@ -140,7 +140,7 @@ string_meets b rest k n quote e =
           (Some (k, n)) e unclosed))
     ]
 
--- where a string stands, the scanner finds something
+-- where there is a string, the scanner finds something
 pub missed_string : (b : ℕ) (rest inner : List ℕ) (n : ℕ) → n ≤ length (b ∷ rest)
     → IsLexeme (StringLiteral inner) (take n (b ∷ rest)) → string_at (b ∷ rest) ≡ None → ⊥
 missed_string b rest inner n within h e =

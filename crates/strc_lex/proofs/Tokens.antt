@@ -247,7 +247,7 @@ punctuation_short : (m : punctuation.Punctuation)
 punctuation_short m = elim (punctuation_again m)
     [ inl two ↦ (omega arith, omega arith) | inr one ↦ (omega arith, omega arith) ]
 
--- the text of a punctuation mark stands at the front
+-- the text of a punctuation mark is at the front
 punctuation_stands : (text : List ℕ) (m : punctuation.Punctuation) → punctuation_of text ≡ Some m
     → punctuation_text m ≡ take (length (punctuation_text m)) text
 punctuation_stands text m e = same-pointwise (punctuation_text m)
@@ -260,7 +260,7 @@ punctuation_stands text m e = same-pointwise (punctuation_text m)
           find_passes (λ v. starts_with nat_eq text (punctuation_text v)) paired_punctuation m
           (pair ∙ same)
 
--- a punctuation mark of this size stands there
+-- a punctuation mark of this size is there
 pub size_of_punctuation : (text : List ℕ) (m : punctuation.Punctuation) (size : ℕ)
     → size ≤ length text → punctuation_text m ≡ take size text → length (punctuation_text m) ≡ size
 size_of_punctuation text m size within e = ap length e ∙ length-take-le size text within
@@ -271,7 +271,7 @@ begins_true text m size within e = pointwise-same (punctuation_text m)
     (take (length (punctuation_text m)) text)
     (e ∙ ap (λ k. take k text) (sym (size_of_punctuation text m size within e)))
 
--- a punctuation mark that stands at the front is found, or a longer one
+-- a punctuation mark at the front is found, or a longer one
 pub punctuation_not_missed : (text : List ℕ) (m : punctuation.Punctuation) (size : ℕ)
     → size ≤ length text → punctuation_text m ≡ take size text → punctuation_of text ≡ None → ⊥
 punctuation_not_missed text m size within e none = by (pair_of text) refl none where
@@ -314,7 +314,7 @@ punctuation_longest text m found other size within e = by (pair_of text) refl fo
         e in omega arith
   ]
 
--- after a `/` that opens no comment stands no `/` and no `*`
+-- after a `/` that opens no comment is no `/` and no `*`
 slash_apart : (b : ℕ) (rest : List ℕ) → b ≡ 47 → opens_comment (b ∷ rest) ≡ false
     → IsApart (Punctuation symbol.Slash) rest
 slash_apart b [] e plain = tt

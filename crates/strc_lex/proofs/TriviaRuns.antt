@@ -158,7 +158,7 @@ comment_none text None line block = λ len comment. elim comment [
   | inr begins ↦ block len begins
 ]
 
--- where no white space stands, and what is found says that no comment begins
+-- where there is no white space, and what is found says that no comment begins
 pub trivia_none : (text : List ℕ) (found : Option ℕ) → ((len : ℕ) → IsBlank text len → ⊥)
     → IfNone found ((len : ℕ) → IsComment text len → ⊥)
     → IfNone found ((len : ℕ) → IsTrivia text len → ⊥)
@@ -168,7 +168,7 @@ trivia_none text None blank comment = λ len trivia. elim trivia [
   | inr begins ↦ comment len begins
 ]
 
--- where the first byte is none of white space, no white space stands
+-- where the first byte is none of white space, there is no white space
 pub first_black : (text : List ℕ) (first : Option ℕ) → first ≡ slice_get text 0
     → IfSome first (λ b. is_white b ≡ false) → (len : ℕ) → IsBlank text len → ⊥
 first_black [] first e black len blank = absurd blank

@@ -29,7 +29,7 @@ abbrev pub name_at : List ℕ → TokenKind × ℕ
 name_at text = let bytes = take_while is_name_byte text in
     (keyword_or_name bytes (keyword_of bytes), length bytes)
 
--- whether what stands after a number parts it from the next token
+-- whether what is after a number parts it from the next token
 abbrev pub ends_number : List ℕ → Bool
 ends_number [] = true
 ends_number (b ∷ rest) = if is_name_byte b then false else true
@@ -81,7 +81,7 @@ punctuation_at text =
     if opens_comment text then None
     else punctuation_with_length (punctuation_of text)
 
--- whether a quote stands first
+-- whether a quote comes first
 abbrev pub is_closed : List ℕ → Bool
 is_closed [] = false
 is_closed (b ∷ rest) = is_quote b

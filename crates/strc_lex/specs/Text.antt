@@ -1,4 +1,4 @@
--- The tokens of a text: trivia and tokens in turn, each token the longest that can stand there.
+-- The tokens of a text: trivia and tokens in turn, each token the longest that can be there.
 use Rattle.std.specs.Prelude.{◌≡◌, ◌≢◌, ℕ, ◌+◌, ◌-◌, ◌*◌, ◌<◌, ◌≤◌, true, false, List, [], ◌∷◌}
 use Rattle.std.specs.Prelude.{◌++◌, length, take, drop}
 use Rattle.std.specs.List.{list_all}
@@ -35,7 +35,7 @@ abbrev pub number_from : ℕ → List ℕ → ℕ
 number_from high [] = high
 number_from high (b ∷ bytes) = number_from (10 * high + (b - 48)) bytes
 
--- the bytes are a token of this kind, wherever they stand
+-- the bytes are a token of this kind, wherever they are
 abbrev pub IsLexeme : TokenKind → List ℕ → Type 0
 IsLexeme (Name name) bytes = (name ≡ bytes) × IsNameText bytes
     × ((w : keywords.Keyword) → keyword_text w ≢ bytes)
@@ -46,7 +46,7 @@ IsLexeme (Punctuation m) bytes = punctuation_text m ≡ bytes
 IsLexeme (StringLiteral inner) bytes = (bytes ≡ 34 ∷ inner ++ 34 ∷ [])
     × (list_all is_string_byte inner ≡ true)
 
--- No digit, letter or `_` stands right after a number. No `/` or `*` stands right after `/`: a
+-- No digit, letter or `_` is right after a number. No `/` or `*` is right after `/`: a
 -- comment begins there.
 abbrev pub IsApart : TokenKind → List ℕ → Type 0
 IsApart (Number value) (b ∷ rest) = is_name_byte b ≡ false
@@ -61,7 +61,7 @@ pub record IsToken (text : List ℕ) (kind : TokenKind) (len : ℕ) : Type 0 whe
   pub longest : (other : TokenKind) (size : ℕ) → size ≤ length text
       → IsLexeme other (take size text) → size ≤ len
 
--- a token of the text stands at its span
+-- a token of the text is at its span
 pub record StandsAt (text : List ℕ) (item : Token) : Type 0 where
   pub ordered : item.span.start < item.span.end
   pub token : IsToken (drop item.span.start text) item.kind (item.span.end - item.span.start)
@@ -77,13 +77,13 @@ LexesBetween text from (token ∷ tokens) to =
 abbrev pub Lexes : List ℕ → List Token → Type 0
 Lexes text tokens = LexesBetween text 0 tokens (length text)
 
--- at this place stands no white space, no comment begins that is closed, and no token begins
+-- at this place there is no white space, no comment begins that is closed, and no token begins
 pub record IsStuck (text : List ℕ) (at : ℕ) : Type 0 where
   pub within : at < length text
   pub bare : (len : ℕ) → IsTrivia (drop at text) len → ⊥
   pub none : (kind : TokenKind) (len : ℕ) → IsToken (drop at text) kind len → ⊥
 
--- what stands before the place is trivia and tokens, and no token goes on there
+-- what is before the place is trivia and tokens, and no token goes on there
 pub record StopsAt (text : List ℕ) (at : ℕ) : Type 0 where
   pub tokens : List Token
   pub front : LexesBetween text 0 tokens at

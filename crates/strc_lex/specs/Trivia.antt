@@ -1,4 +1,4 @@
--- What stands between tokens: white space and comments.
+-- What is between tokens: white space and comments.
 use Rattle.std.specs.Prelude.{◌≡◌, ◌≢◌, ℕ, ◌+◌, ◌<◌, ◌≤◌, true, List, [], ◌∷◌, length, take, drop}
 use Rattle.std.specs.Prelude.{slice_index, codes, ◌⊎◌}
 use Rattle.strc_lex.specs.Characters.{is_white}
@@ -36,7 +36,7 @@ IsBlank (b ∷ rest) len = (is_white b ≡ true) × (len ≡ 1)
 abbrev pub IsTrivia : List ℕ → ℕ → Type 0
 IsTrivia text len = IsBlank text len ⊎ IsComment text len
 
--- from one place up to another stand trivia of these lengths
+-- from one place up to another are trivia of these lengths
 abbrev pub AreTrivia : List ℕ → ℕ → List ℕ → ℕ → Type 0
 AreTrivia text from [] to = from ≡ to
 AreTrivia text from (len ∷ lens) to = IsTrivia (drop from text) len

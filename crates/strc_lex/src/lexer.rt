@@ -25,7 +25,7 @@ pub fn lex(alloc: Global, text: &[u8]) -> Result<Vec<Token>, LexError>
     ensures only { (tokens : List Token) → Lexes text.now tokens → length text.now ≤ text_limit
         → MatchResult result (λ found. found.items ≡ tokens) (λ e. e ≡ LexError.NoMemory) }
     ensures too_long { IsErrOf result LexError.TextTooLong ↔ (text_limit < length text.now) }
-    // What stands before the byte is trivia and tokens, and no token goes on there.
+    // What is before the byte is trivia and tokens, and no token goes on there.
     ensures stuck { (at : ℕ) → IsErrOf result (LexError.Lex at) → StopsAt text.now at }
 {
     if text.len() > TEXT_LIMIT {

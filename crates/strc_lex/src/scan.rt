@@ -104,7 +104,7 @@ fn is_plain(digits: &[u8]) -> bool
     }
 }
 
-// Whether what stands after a number parts it from the next token.
+// Whether what is after a number parts it from the next token.
 fn ends_number(rest: &[u8]) -> bool
     ensures { result ≡ spec.ends_number rest.now }
 {
@@ -206,7 +206,7 @@ fn string_length(text: &[u8]) -> usize
         .count()
 }
 
-// Whether a quote stands first.
+// Whether a quote comes first.
 fn is_closed(rest: &[u8]) -> bool
     ensures { result ≡ spec.is_closed rest.now }
 {

@@ -4,7 +4,7 @@
 use std::alloc::AllocError;
 use std::marker::Model;
 
-/// A token and where it stands in the text.
+/// A token and where it is in the text.
 #[derive(Debug, Drop)]
 pub struct Token {
     pub kind: TokenKind,
@@ -22,7 +22,7 @@ pub struct Span {
 #[derive(Debug, Drop)]
 pub enum TokenKind {
     Name(Name),
-    /// 0 to 2147483647, or the minimum, for which 2147483648 stands.
+    /// 0 to 2147483647, or the minimum, for which 2147483648 is written.
     Number(i32),
     Keyword(Keyword),
     Punctuation(Punctuation),

@@ -1,4 +1,4 @@
-// What stands between tokens: white space and comments.
+// What is between tokens: white space and comments.
 
 ghost use Rattle.std.specs.Prelude.{◌≡◌, ◌≢◌, ◌<◌, ◌≤◌, ℕ, length, drop, slice_index, codes};
 ghost use Rattle.std.specs.Prelude.{IfSome, IfNone};

@@ -1,4 +1,4 @@
--- How many items stand on channels while an order fires, and the sizes of their buffers.
+-- How many items are on channels while an order fires, and the sizes of their buffers.
 use Rattle.std.specs.Prelude.{ℕ, max, List, [], ◌∷◌}
 use Rattle.strc_startup.specs.declared.channel_rates.ChannelRates.{ChannelRates}
 use Rattle.strc_order.specs.declared.limit.TheConstants.{SIZE_LIMIT}

@@ -3,7 +3,7 @@ use Rattle.std.specs.Prelude.{◌≡◌, ℕ, zero, suc, ◌+◌, List, [], ◌�
 use Rattle.strc_startup.specs.declared.channel_rates.ChannelRates.{ChannelRates}
 use Rattle.strc_order.specs.Firings.{Firings, turns_of, fired, FindsWindows}
 
--- how often each node stands in an order
+-- how often each node occurs in an order
 abbrev pub tally : (order : List ℕ) → Firings
 tally [] other = 0
 tally (node ∷ order) other = turns_of 1 node other + tally order other

@@ -6,6 +6,6 @@
 pub struct Unit {
     /// How many times the list fires.
     pub turns: u32,
-    /// The nodes, by their numbers; a node can stand there more than once.
+    /// The nodes, by their numbers; a node can occur there more than once.
     pub nodes: Vec<u32>,
 }

@@ -19,7 +19,7 @@ use Rattle.strc_syntax.specs.Tree.{row}
 use Rattle.strc_syntax.specs.View.{expr_view, stmt_view, rate_view, declaration_view}
 use Rattle.strc_grammar.specs.Grammar.{kinds}
 
--- what stands between the brackets of a `for`
+-- what is between the brackets of a `for`
 abbrev pub heading_view : ForHeading → tree.Stmt × Option tree.Expr × tree.Stmt
 heading_view h = (stmt_view h.first, option_map expr_view h.condition, stmt_view h.step)
 

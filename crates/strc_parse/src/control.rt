@@ -207,7 +207,7 @@ impl<F: Fn(Global, usize, &[Token]) -> Result<Parsed<'_, Stmt>, ReadError>> Stat
         Ok(Parsed::new(if_of(self.alloc, condition, chosen)?, height, tokens))
     }
 
-    /// The branch after `else`, with the height of what stands before it.
+    /// The branch after `else`, with the height of what is before it.
     #[tactic(auto, unfolding(strc_grammar::specs::Streams::other_branch))]
     fn other_branch<'t>(
         &self,

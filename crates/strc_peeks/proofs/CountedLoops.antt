@@ -217,7 +217,7 @@ known_by_first locals s condition step body None begins = tt
 known_by_first locals s condition step body (Some first) begins =
     known_by_test locals s condition step body first (stmt_writes first.name body) refl begins
 
--- a loop that is told by the text is such a loop
+-- a loop that is known from the text is such a loop
 pub loop_known : (locals : Locals) (s : tree.Stmt) (condition : Option tree.Expr)
     (step body : tree.Stmt) → IfSome (counted_loop locals s condition step body)
     (Known locals s condition step body)

@@ -142,7 +142,7 @@ still_by x true e = inr (
       (sym (same_pops no_items x e)) h,
 )
 
--- either nothing is told, or nothing is moved
+-- either nothing is known, or nothing is moved
 pub nothing_cases : (x : Option Counts) → (require_zero x ≡ None)
     ⊎ ((require_zero x ≡ Some no_items) × IsStill x)
 nothing_cases None = inl refl

@@ -1,4 +1,4 @@
--- Counts that stand one after the other.
+-- Counts one after the other.
 use Rattle.std.proofs.Common.{◌≡◌, ℕ, ◌+◌, List, [], ◌∷◌, Option, Some, None, refl, sym, ap, ◌∙◌}
 use Rattle.std.proofs.Common.{arith}
 use Rattle.strc_syntax.specs.Tree as tree

@@ -1,4 +1,4 @@
--- One entry for each peek of a text, and the numbers at which the entries of its parts stand.
+-- One entry for each peek of a text, and the numbers at which the entries of its parts are.
 use Rattle.std.proofs.Common.{◌≡◌, refl, sym, ap, subst, ◌∙◌, ℕ, zero, suc, ◌+◌, ◌<◌, ℤ, Bool, true}
 use Rattle.std.proofs.Common.{false, List, [], ◌∷◌, ◌++◌, length, map, get_or, Option, Some, None}
 use Rattle.std.proofs.Common.{arith, length-append}
@@ -211,7 +211,7 @@ mutual
       (stmts_entries rest (intervals_after intervals first)
       (advance popped (stmt_counts (names_of intervals) first)))
 
--- ---- where the entries of a part stand
+-- ---- where the entries of a part are
 
 -- from this number on the entries are those of a part
 abbrev pub Stand : (window : ℕ) → (entries : List Bool) → ℕ → List PeekSite → Type 0

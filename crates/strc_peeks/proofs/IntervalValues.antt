@@ -125,7 +125,7 @@ product_within first second x y h k =
 
 -- ---- values
 
--- the value of an expression stands within an interval, and nothing changes
+-- the value of an expression is within an interval, and nothing changes
 pub record IsWithin (port : Port) (e : tree.Expr) (store : Store) (interval : Interval) : Type 0
   where
     pub value : ℤ
@@ -155,7 +155,7 @@ known_told : (interval : Interval) (P : Interval → Type 0)
 known_told interval P h = known_by interval P (within_32_bits interval.low)
     (within_32_bits interval.high) refl refl h
 
--- what stands between numbers of 32 bits doesn't wrap
+-- what is between numbers of 32 bits doesn't wrap
 unwrapped : (low high z : ℤ) → FitsSigned w32 low → FitsSigned w32 high → low ≤ℤ z → z ≤ℤ high
     → wrapped z ≡ z
 unwrapped low high z f g above below =

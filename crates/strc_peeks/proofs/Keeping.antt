@@ -55,11 +55,11 @@ other_cells (first ∷ rest) stepped place value name other =
     other_cells_by first rest stepped place value name other
     (other_cells rest stepped place value name other) (bytes_eq first.0 stepped) refl
 
--- a name that these hide isn't written, nor one that the text doesn't write
+-- a name that these shadow isn't written, nor one that the text doesn't write
 abbrev pub Unwritten : Scope → List ℕ → Bool → Type 0
 Unwritten hiding name written = is_declared hiding name ≡ false → written ≡ false
 
--- one variable less hides the name
+-- one variable less shadows the name
 hidden_less : (first stepped name : List ℕ) (hiding : Bool) (t : Bool) → bytes_eq first name ≡ t
     → bytes_eq first stepped ≡ false → (t || hiding ≡ false → bytes_eq stepped name ≡ false)
     → hiding ≡ false → bytes_eq stepped name ≡ false

@@ -1,5 +1,5 @@
--- The number of turns that is told for a counted loop is the number after which its condition is
--- false for the first time.
+-- The number of turns that is reported for a counted loop is the number after which its condition
+-- is false for the first time.
 use Rattle.std.proofs.Common.{◌≡◌, refl, sym, subst, ◌∙◌, ap, ℕ, zero, suc, ◌+◌, ◌-◌, ◌*◌, ◌^◌, ◌<◌}
 use Rattle.std.proofs.Common.{◌≤◌, ℤ, pos, negsuc, neg_ℤ, ◌+ℤ◌, ◌-ℤ◌, ◌*ℤ◌, Bool, true, false, not}
 use Rattle.std.proofs.Common.{◌&&◌, Some, None, ◌⊎◌, inl, inr, ⊎_elim, arith}
@@ -42,7 +42,7 @@ at_most_true v l n e = grind (arith, ints)
 at_most_false : (v l : ℤ) (k : ℕ) → l -ℤ v +ℤ pos 1 ≡ neg_ℤ (pos k) → not (int_lt l v) ≡ false
 at_most_false v l k e = grind (arith, ints)
 
--- 32 bits hold what stands between two bounds
+-- 32 bits hold what is between two bounds
 pub fits_between : (z : ℤ) → neg_ℤ (pos (2 ^ 31)) ≤ℤ z → z <ℤ pos (2 ^ 31) → FitsSigned w32 z
 fits_between (pos n) low high = record { sfits = omega (arith, ints) }
 fits_between (negsuc n) low high = record { sfits = omega (arith, ints) }
@@ -250,7 +250,7 @@ some_turns first bound move n m order far near f g =
       moves = refl;
     }
 
--- what is told of a loop is so
+-- what is known of a loop is so
 pub record Told (first : First) (bound : Bound) (move : ℤ) (loop : Loop) : Type 0 where
   pub turning : Turning bound move loop
   pub name : loop.name ≡ first.name

@@ -128,7 +128,7 @@ right_some binary.Remainder left value x is e f = e
 
 -- ---- items popped
 
--- after a part that was counted no more are popped than is told
+-- after a part that was counted no more are popped than is known
 within_behind : (a b : Traffic) (popped : PopInterval) (x : Option Counts) → is_some x ≡ true
     → Counted x a b → saturated a.popped ≤ popped.high
     → saturated b.popped ≤ (advance popped x).high
@@ -282,9 +282,9 @@ interval_after intervals (tree.Push value) name e = refl
 interval_after intervals (tree.Print value) name e = refl
 interval_after intervals (tree.Println value) name e = refl
 
--- ---- variables that are not hidden
+-- ---- variables that are not shadowed
 
--- the cells of a name stand after variables of other names
+-- the cells of a name are after variables of other names
 cells_by : (first : List ℕ × List ℤ) (rest : Variables) (name : List ℕ) (t : Bool) → t ≡ false
     → cond t first.1 (cells_named rest name) ≡ cells_named rest name
 cells_by first rest name true e = absurd (cc)
@@ -329,7 +329,7 @@ shown (tree.Push value) scope n name le bare e = bare
 shown (tree.Print value) scope n name le bare e = bare
 shown (tree.Println value) scope n name le bare e = bare
 
--- what a statement neither writes nor hides has the same cells
+-- what a statement neither writes nor shadows has the same cells
 done_cells : (s : tree.Stmt) (before after : Variables) (name : List ℕ)
     → Done (λ n. stmt_writes n s) (names_after (scope_of before) s) before after
     → stmt_writes name s ≡ false → shadows name s ≡ false

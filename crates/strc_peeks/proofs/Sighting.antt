@@ -1,4 +1,4 @@
--- What is told of peeks, one part after the other.
+-- What is known of peeks, one part after the other.
 use Rattle.std.proofs.Common.{◌≡◌, List, ◌∷◌, ◌++◌, Option, None, sym, ap, ◌∙◌, append_assoc}
 use Rattle.strc_syntax.specs.Tree as tree
 use Rattle.strc_peeks.specs.Counts.{Counts, option_counts, stmt_counts}

@@ -166,7 +166,7 @@ none_told : (before : Traffic) (result : Result Store Cause)
     → CountedOk store_traffic None before result
 none_told before result = any_ok result
 
--- what must count nothing either isn't told or moves nothing
+-- what must count nothing either isn't known or moves nothing
 two_nothings : (x y : Option Counts) (before : Traffic) (result : Result Store Cause)
     → (IsStill x → IsStill y → IfOk result (λ after. Moves before after.traffic no_items))
     → CountedOk store_traffic (sequence (require_zero x) (require_zero y)) before result
@@ -254,7 +254,7 @@ more_turns (Some x) before traffic n h = record {
   saturated_pushes = h.saturated_pushes;
 }
 
--- as many turns as are told
+-- as many turns as are reported
 counted_turns : (locals : Locals) (first : tree.Stmt) (condition : Option tree.Expr)
     (step body : tree.Stmt) (loop : Loop) → Known locals first condition step body loop
     → (port : Port) (names scope : Scope) (x : Option Counts) → IsClosedStmt names body
@@ -294,7 +294,7 @@ counted_turns locals first condition step body loop known port names scope x clo
           stays store.traffic;
     }))
 
--- the turns of a `for`, whether it is told or not
+-- the turns of a `for`, whether it is counted or not
 turns_by : (locals : Locals) (first : tree.Stmt) (condition : Option tree.Expr)
     (step body : tree.Stmt) (told : Option Loop) (port : Port) (names scope : Scope)
     (y z : Option Counts) → IsClosedStmt names body → Parts scope y (inside (stmt_done port step))

@@ -1,4 +1,4 @@
--- A statement leaves the variables that stand before it, with the cells of each that its text
+-- A statement leaves the variables that are before it, with the cells of each that its text
 -- doesn't write.
 use Rattle.std.proofs.Common.{◌≡◌, refl, sym, subst, ◌∙◌, ap, ℕ, zero, suc, ◌+◌, ◌≤◌, ℤ, pos, Bool}
 use Rattle.std.proofs.Common.{true, false, cond, ◌&&◌, ◌||◌, not, List, [], ◌∷◌, length, Option}
@@ -63,7 +63,7 @@ left_same writes before after h =
           (below_below n (length before) after le more) ∙ h.cells n name le unwritten;
     }
 
--- what isn't declared after a part isn't before it, and that part doesn't hide it
+-- what isn't declared after a part isn't before it, and that part doesn't shadow it
 abbrev Bares : (shadows : List ℕ → Bool) (before after : Scope) → Type 0
 Bares shadows before after =
     (n : ℕ) (name : List ℕ) → n ≤ length before → is_declared (above n after) name ≡ false
@@ -133,7 +133,7 @@ stmt_bares (tree.Push value) scope n name le bare = (bare, refl)
 stmt_bares (tree.Print value) scope n name le bare = (bare, refl)
 stmt_bares (tree.Println value) scope n name le bare = (bare, refl)
 
--- after what may hide a name
+-- after what may shadow a name
 pub unless_hidden : (hidden written : Bool) → (not hidden && written) ≡ false → hidden ≡ false
     → written ≡ false
 unless_hidden true written e h = absurd (cc)

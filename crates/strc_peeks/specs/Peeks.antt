@@ -1,4 +1,4 @@
--- Which peeks stay within their window, told from the text, and which can't reach into it.
+-- Which peeks stay within their window, as known from the text, and which can't reach into it.
 use Rattle.std.specs.Prelude.{ℕ, ◌+◌, ◌*◌, ◌-◌, zero, suc, ℤ, pos, ◌+ℤ◌, Bool, true, false, not}
 use Rattle.std.specs.Prelude.{◌&&◌, ◌||◌, List, [], ◌∷◌, ◌++◌, Option, Some, None, if◌then◌else◌}
 use Rattle.std.specs.Prelude.{map}
@@ -20,7 +20,7 @@ pub use Rattle.strc_peeks.specs.declared.sight.PopInterval.{PopInterval}
 -- are popped before it; or no run comes to it
 pub use Rattle.strc_peeks.specs.declared.sight.PeekSite.{PeekSite}
 pub use Rattle.strc_peeks.specs.declared.sight.PeekSite.TheVariants.{Reached, NoRun}
--- what is told of a peek: that it stays within its window, that it can't, neither, so that it is
+-- what is known of a peek: that it stays within its window, that it can't, neither, so that it is
 -- tested when it runs, or that no run comes to it
 pub use Rattle.strc_peeks.specs.declared.sight.PeekBounds.{PeekBounds}
 pub use Rattle.strc_peeks.specs.declared.sight.PeekBounds.TheVariants.{Closed, Outside, Open}
@@ -56,7 +56,7 @@ sight_at window popped (Some index) =
     then Outside
     else Open
 
--- what is told of a site before a window
+-- what is known of a site before a window
 abbrev pub sight_of : (window : ℕ) → PeekSite → PeekBounds
 sight_of window (Reached index popped) = sight_at window popped index
 sight_of window NoRun = Unreached
@@ -191,6 +191,6 @@ is_closed Closed = true
 is_closed Unreached = true
 is_closed _ = false
 
--- what is told of each peek of a body before a window, in order of the text
+-- what is known of each peek of a body before a window, in order of the text
 abbrev pub body_sights : (window : ℕ) → tree.Stmts → List PeekBounds
 body_sights window block = map (sight_of window) (stmts_sites [] none_popped block)

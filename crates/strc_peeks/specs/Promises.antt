@@ -1,4 +1,4 @@
--- What is told of a text, as laws about all its runs.
+-- What is known of a text, as laws about all its runs.
 use Rattle.std.specs.Prelude.{◌≡◌, ℕ, ◌≤◌, true, [], length, map, IfOk, IfSome, is_some}
 use Rattle.strc_syntax.specs.Tree as tree
 use Rattle.strc_semantics.specs.Scoping.{Scope}
@@ -18,7 +18,7 @@ CountedItemsAreMoved = (port : Port) (block : tree.Stmts) (names : Scope) (store
     (saturated after.traffic.popped ≡ counts.pops)
     × (saturated (length after.traffic.pushes) ≡ counts.pushes)))
 
--- one entry is told of each peek of a text
+-- one entry is reported of each peek of a text
 abbrev pub EachPeekHasAnEntry : Type 0
 EachPeekHasAnEntry = (window : ℕ) (block : tree.Stmts)
     → length (body_sights window block) ≡ length (peeks_of block)

@@ -1,10 +1,10 @@
-// What is told of a text, as laws about all its runs.
+// What is known of a text, as laws about all its runs.
 
 ghost use Rattle.strc_peeks.specs.Promises.{CountedItemsAreMoved, EachPeekHasAnEntry};
 ghost use Rattle.strc_peeks.specs.Promises.{ClosedPeeksFindItems};
 ghost use Rattle.strc_peeks.specs.Turns.{TurnsAreLeast};
 
-/// A counted loop makes as many turns as are told: its condition holds in each of them, and not
+/// A counted loop makes as many turns as are reported: its condition holds in each of them, and not
 /// after the last one.
 pub fn turns_are_least()
     ensures { TurnsAreLeast }
@@ -15,7 +15,7 @@ pub fn counted_items_are_moved()
     ensures { CountedItemsAreMoved }
 {}
 
-/// One entry is told of each peek of a text, also where no run comes to it.
+/// One entry is reported of each peek of a text, also where no run comes to it.
 pub fn each_peek_has_an_entry()
     ensures { EachPeekHasAnEntry }
 {}

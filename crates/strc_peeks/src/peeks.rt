@@ -26,16 +26,16 @@ use strc_interval::intervals::interval_of;
 use strc_interval::loops::{CountedLoop, counted_loop};
 use strc_syntax::tree::{Expr, Stmt, Variable};
 
-/// What is told of a body.
+/// What is known of a body.
 #[derive(Drop)]
 pub struct BodyPeeks {
     /// How many items a run pushes and pops, where that can be counted.
     pub counts: Option<Counts>,
-    /// What is told of each peek, in order of the text.
+    /// What is known of each peek, in order of the text.
     pub sights: Vec<PeekBounds>,
 }
 
-/// What is told of the statements of a body whose firing may look at so many items.
+/// What is known of the statements of a body whose firing may look at so many items.
 pub fn body_peeks(alloc: Global, block: &[Stmt], window: u32) -> Result<BodyPeeks, NoMemory>
     ensures counts { IfOk result (λ told. told.counts
         ≡ counting.stmts_counts [] (block_view block.now)) }

@@ -26,7 +26,7 @@ pub(crate) enum PeekSite {
     NoRun,
 }
 
-/// What is told of a peek.
+/// What is known of a peek.
 #[derive(Clone, Copy, PartialEq, Eq)]
 pub enum PeekBounds {
     /// It stays within its window.
@@ -94,7 +94,7 @@ fn sight_at(window: u32, popped: PopInterval, index: Option<Interval>) -> PeekBo
     PeekBounds::Open
 }
 
-/// What is told of a peek before a window.
+/// What is known of a peek before a window.
 fn sight_of(window: u32, site: PeekSite) -> PeekBounds
     ensures { result ≡ spec.sight_of window site }
 {
@@ -104,7 +104,7 @@ fn sight_of(window: u32, site: PeekSite) -> PeekBounds
     }
 }
 
-/// What is told of each peek before a window.
+/// What is known of each peek before a window.
 pub(crate) fn sights_of(
     alloc: Global,
     window: u32,

@@ -8,7 +8,7 @@ use Rattle.strc_picture.specs.declared.marks.Mark.TheVariants as mark
 use Rattle.strc_picture.specs.declared.marks.Construct.TheVariants as construct
 
 abbrev mutual
-  -- the marks of a stream: a split-join and a feedback loop stand in a box
+  -- the marks of a stream: a split-join and a feedback loop are in a box
   pub marks_of : Stream → List Mark
   marks_of (Pipeline children) = row_marks children
   marks_of (SplitJoin splitter children joiner) =

@@ -12,7 +12,7 @@ use std::alloc::AllocError;
 use strc_graph::graph::Splitter;
 use strc_stream::stream::Stream;
 
-/// What stands in a box.
+/// What is in a box.
 #[derive(Clone, Copy)]
 pub enum Construct {
     SplitJoin,

@@ -15,7 +15,7 @@ use strc_stream::stream::Stream;
 /// A picture of a stream's flat graph as Graphviz reads it (`dot -Tsvg`): a box with the name of
 /// each node, how often it fires in a round and, where it does, before the first one; a line for
 /// each channel, with what a firing of `work` pushes and pops at its ends, the size of its buffer,
-/// and how many items are enqueued on it. Split-joins and feedback loops stand in boxes. Each
+/// and how many items are enqueued on it. Split-joins and feedback loops are in boxes. Each
 /// channel has a size.
 pub fn picture(
     alloc: Global,

@@ -1,4 +1,4 @@
--- What is told of the peeks of a filter, and what its closed peeks promise of its firings.
+-- What is known of the peeks of a filter, and what its closed peeks promise of its firings.
 use Rattle.std.specs.Prelude.{◌≡◌, ◌≤◌, ℤ, List, length, unwrap_or, IfOk}
 use Rattle.strc_semantics.specs.declared.body.Body.{Body}
 use Rattle.strc_semantics.specs.declared.body.Body.TheVariants as body
@@ -29,7 +29,7 @@ HasSafePeeks filter rates =
     → StmtsAreSafe (port_of filter body window) (rates_of rates body).closed 0
     (body_block body filter.members) (store_at filter fields)
 
--- a peek that is told closed in a filter of known names doesn't fault
+-- a peek that is reported as closed in a filter of known names doesn't fault
 abbrev pub ClosedPeeksNeverFault : Type 0
 ClosedPeeksNeverFault = (filter : Filter) → IsClosedFilter filter
     → IfOk (checked filter) (HasSafePeeks filter)

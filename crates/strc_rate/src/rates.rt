@@ -22,7 +22,7 @@ use thiserror::Error;
 // The highest rate that may be declared.
 const RATE_LIMIT: i32 = 65536;
 
-/// What a firing of a body pushes and pops, and what is told of its peeks.
+/// What a firing of a body pushes and pops, and what is known of its peeks.
 #[derive(Debug, Drop)]
 pub struct BodyRates {
     /// How many items each firing pushes.

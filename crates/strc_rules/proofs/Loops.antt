@@ -1,4 +1,4 @@
--- A loop that goes on while a separator stands, beside the definition's loop of at most so many
+-- A loop that goes on while there is a separator, beside the definition's loop of at most so many
 -- turns.
 use Rattle.std.proofs.Common.{◌≡◌, ℕ, ◌+◌, ◌-◌, ◌<◌, ◌≤◌, true, List, [], ◌∷◌, length, max, zero}
 use Rattle.std.proofs.Common.{suc, ◌∙◌, Option, Some, None, Result, Ok, Err, refl, ap, inl, inr}

@@ -1,4 +1,4 @@
--- What the steps after a held value give.
+-- What the steps after a kept value give.
 use Rattle.std.specs.Prelude.{◌≡◌, ℕ, List, Result, Ok, Err}
 use Rattle.std.specs.Borrow.{Bor}
 use Rattle.strc_lex.specs.declared.token.Token.{Token}

@@ -1,4 +1,4 @@
-// Steps past a value that was read and is held: where one of them stops, the value is dropped.
+// Steps past a value that was read and is kept: where one of them stops, the value is dropped.
 // They are generic, so that what becomes of the value is said and proved once, and not at each of
 // its types.
 

@@ -38,7 +38,7 @@ pub enum Refusal {
     UnknownName {
         name: Name,
     },
-    /// A type, kind or part isn't the one that must stand there; the declaration that holds it.
+    /// A type, kind or part isn't the one that must be there; the declaration that holds it.
     #[error("in declaration {stream}, counted from 0, a type, a kind or a part doesn't fit")]
     TypeMismatch {
         stream: usize,
@@ -49,7 +49,7 @@ pub enum Refusal {
     /// Several declarations can be the main stream, and none is named.
     #[error("several declarations can be the main stream: name the one that is meant")]
     ManyMains,
-    /// A stream would stand deeper than 64 levels, the main one being at level 1.
+    /// A stream would be deeper than 64 levels, the main one being at level 1.
     #[error("streams stand in one another more than 64 levels deep")]
     DepthLimit,
     /// More than 4,096 nodes.

@@ -102,7 +102,7 @@ none_left [] (suc place) past = refl
 none_left (x ∷ xs) zero past = absurd (omega arith)
 none_left (x ∷ xs) (suc place) past = none_left xs place (omega arith)
 
--- what is left may be told otherwise
+-- what is left may be named otherwise
 pub goes_so : (circuit : CircuitView) (whole left other : List ℕ) (before now : MachineView)
     → left ≡ other → Goes circuit whole left before now → Goes circuit whole other before now
 goes_so circuit whole left other before now same h =

@@ -133,7 +133,7 @@ length-spread_out (weight ∷ weights) outputs count cycle items port rings =
     length-spread_out weights outputs count cycle (drop weight items) (suc port) _
     ∙ length-given (at_port outputs port) (firsts count weight cycle items) rings
 
--- ---- where a ring stands
+-- ---- where a ring is
 
 abbrev Stands : List (Option ℕ) → ℕ → Type 0
 Stands ports number = ((port : ℕ) × (at_port ports port ≡ Some number))
@@ -168,7 +168,7 @@ stands (Some other ∷ ports) number =
     by_number (inl same) later = inl (0, ap Some same)
     by_number (inr differs) later = stands_later (Some other) ports number (apart differs) later
 
--- rings of so many stand at ports that are apart
+-- rings of so many are at ports that are apart
 pub are_placed : (inputs outputs : List (Option ℕ)) (count : ℕ) → AreRings count inputs
     → AreRings count outputs → AreApart inputs outputs → ArePlaced inputs outputs count
 are_placed inputs outputs count inner outer apart = record {

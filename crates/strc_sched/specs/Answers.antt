@@ -10,7 +10,7 @@ use Rattle.strc_graph.specs.Graphs.{NodeCode}
 use Rattle.strc_admissible.specs.Rings.{Ring, at_port}
 use Rattle.strc_admissible.specs.Steps.{Step, Stays, Goes, Faults}
 
--- each ring that stands at a port is one of so many
+-- each ring at a port is one of so many
 abbrev pub AreRings : (count : ℕ) → List (Option ℕ) → Type 0
 AreRings count ports = (port number : ℕ) → at_port ports port ≡ Some number → number < count
 
@@ -23,7 +23,7 @@ abbrev pub HasMoved : {E : Type 0} → Step → Result Bool E → (before rings 
 HasMoved step (Ok fired) before rings = MovesBy step fired before rings
 HasMoved step (Err refused) before rings = Unit {0}
 
--- an answer tells whether a node fired, what it left, and that its words stand after those before
+-- an answer tells whether a node fired, what it left, and that its words are after those before
 -- it; or its fault; out of memory tells nothing
 abbrev pub HasStepped : Step → Result Bool Halt → (fields_before fields : List ℤ)
     → (rings_before rings : List Ring) → (words_before words : List Word) → Type 0

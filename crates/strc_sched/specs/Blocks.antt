@@ -11,7 +11,7 @@ use Rattle.strc_admissible.specs.Rings.{Ring, at_port, items_at, given}
 use Rattle.strc_admissible.specs.Wiring.{PortRings, ports_at}
 use Rattle.strc_sched.specs.Answers.{IsPassive}
 
--- no ring stands at two ports
+-- no ring is at two ports
 pub record AreApart (inputs outputs : List (Option ℕ)) : Type 0 where
   pub one_input : (port other number : ℕ) → at_port inputs port ≡ Some number
       → at_port inputs other ≡ Some number → port ≡ other

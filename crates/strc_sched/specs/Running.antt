@@ -26,7 +26,7 @@ machine_view machine = record {
 abbrev pub HoldRings : (count : ℕ) → PortRings → Type 0
 HoldRings count rings = (node : ℕ) → AreRings count (ports_at rings node)
 
--- a machine has a place for each node, and a ring for each port at which one stands
+-- a machine has a place for each node, and a ring for each port that has one
 pub record IsMachine (circuit : CircuitView) (machine : Machine) : Type 0 where
   pub actors : AreActors circuit.codes machine.actors.items
   pub fired : length machine.fired.items ≡ length circuit.codes

@@ -30,7 +30,7 @@ pub(crate) struct Batch {
 pub(crate) enum Kind {
     /// It is an identity between these two rings.
     Identity { from: usize, to: usize },
-    /// No ring stands at two of its ports: so it may deal its items, or join them, many times at
+    /// No ring is at two of its ports: so it may deal its items, or join them, many times at
     /// once.
     Dealer,
     /// It may be any node.

@@ -15,7 +15,7 @@ use strc_graph::graph::{Channel, Graph, Node, Port, input_ports, output_ports};
 #[derive(Drop)]
 pub(crate) struct Circuit<'g> {
     pub(crate) nodes: &'g [Node],
-    /// For each input port the ring that stands there.
+    /// For each input port the ring that is there.
     pub(crate) inputs: PortRings,
     /// For each output port.
     pub(crate) outputs: PortRings,

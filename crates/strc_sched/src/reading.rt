@@ -61,7 +61,7 @@ fn firings_in(unit: &Unit, node: usize) -> u64
     u64::from(unit.turns) * places_of(&unit.nodes, node)
 }
 
-/// How often a node stands in a list.
+/// How often a node occurs in a list.
 fn places_of(nodes: &[u32], node: usize) -> u64
     ensures places { result ≡ tally nodes.now node }
 {

@@ -66,7 +66,7 @@ impl<'a> Window for RingWindow<'a> {
     }
 }
 
-/// The items at a port; none where no ring stands.
+/// The items at a port; none where there is no ring.
 pub(crate) fn window_at<'a>(rings: &'a [Ring], port: Option<usize>) -> RingWindow<'a>
     requires port { IfSome port (λ number. number < length rings.now) }
     ensures { result.front.now ++ result.back.now ≡ items_at rings.now port }

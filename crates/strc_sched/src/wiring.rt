@@ -1,4 +1,4 @@
-// Which ring stands at each port of a graph's nodes.
+// Which ring is at each port of a graph's nodes.
 
 ghost use Rattle.std.specs.Prelude.{◌≡◌, ◌<◌, ◌∷◌, length, map, take, replicate, None, Some};
 ghost use Rattle.std.specs.Prelude.{slice_set, slice_index_or, All, IfOk};
@@ -8,7 +8,7 @@ use std::alloc::{AllocError, Global};
 use std::marker::Model;
 use strc_graph::graph::Port;
 
-/// For each port of each node the number of the ring that stands there. Contracts see lists.
+/// For each port of each node the number of the ring that is there. Contracts see lists.
 #[derive(Drop)]
 pub(crate) struct PortRings {
     rings: Vec<Vec<Option<usize>>>,
@@ -41,7 +41,7 @@ impl PortRings {
         Ok(rings)
     }
 
-    /// No ring stands at any of so many ports of each node.
+    /// No ring is at any of so many ports of each node.
     fn unwired(alloc: Global, counts: &[usize]) -> Result<PortRings, AllocError>
         ensures { IfOk result (λ rings. rings ≡ unwired counts.now) }
     {
@@ -52,7 +52,7 @@ impl PortRings {
         Ok(PortRings { rings })
     }
 
-    /// A ring stands at a port.
+    /// A ring is at a port.
     fn put(&mut self, node: usize, port: usize, ring: usize)
         requires node { node < length self.old }
         requires port { port < length (ports_at self.old node) }

@@ -1,4 +1,4 @@
--- Where the cells of a variable stand.
+-- Where the cells of a variable are.
 use Rattle.std.proofs.Common.{◌≡◌, ℕ, ℤ, zero, suc, ◌-◌, ◌<◌, Bool, true, false, List, [], ◌∷◌}
 use Rattle.std.proofs.Common.{◌++◌, length, drop, take, length-drop, get_or, slice_set, Some, None}
 use Rattle.std.proofs.Common.{cond, refl, sym, ap, ◌∙◌, arith, Vec}

@@ -45,7 +45,7 @@ cells_of_row (first ∷ rest) cells number below =
         ap (λ b. cond b (row_at cells (length rest)) (cells_of (with_cells rest cells) number)) e
         ∙ inner (omega (arith, apart))
 
--- what is hidden is all that counts of the hidden names
+-- what is shadowed is all that counts of the shadowed names
 
 pub unshadowed_alike : (h g : List (List ℕ)) → ((n : List ℕ) → has_name h n ≡ has_name g n)
     → (constants : Constants) → unshadowed h constants ≡ unshadowed g constants
@@ -73,7 +73,7 @@ captures_alike h g alike (name ∷ names) (variable ∷ variables) constants =
     (captures_alike (name.0 ∷ h) (name.0 ∷ g)
     (λ n. ap (λ b. bytes_eq name.0 n || b) (alike n)) names variables constants)
 
--- one more hidden name, after others
+-- one more shadowed name, after others
 
 or_same : (a b : Bool) → (a || b) ≡ (b || a)
 or_same true true = refl
@@ -120,7 +120,7 @@ taken (first ∷ rest) zero x e = let same : first ≡ x = cc in
     ap (λ (y : List ℕ × ValueType). y.0 ∷ []) same
 taken (first ∷ rest) (suc i) x e = ap (λ (l : List (List ℕ)). first.0 ∷ l) (taken rest i x e)
 
--- what is seen of the outer variables, outside the first of which so many stand
+-- what is seen of the outer variables, outside the first of which so many are
 abbrev pub captures_at : TypedNames → Variables → ℕ → Constants → Constants
 captures_at names variables number constants =
     captures_after (take (length names - number) (plain_names names))
@@ -257,7 +257,7 @@ seen_last names variables constants =
     ap (λ n. captures_after (take n (plain_names names)) (drop n names)
     (drop n variables) constants) none
 
--- one more constant that isn't hidden
+-- one more constant that isn't shadowed
 pub unshadowed_kept : (hidden : List (List ℕ)) (one : List ℕ × ℤ) (constants : Constants)
     → has_name hidden one.0 ≡ false → unshadowed hidden (one ∷ constants) ≡ one
     ∷ unshadowed hidden constants

@@ -16,13 +16,13 @@ row_at [] number = []
 row_at (first ∷ rest) zero = first.items
 row_at (first ∷ rest) (suc number) = row_at rest number
 
--- names beside the cells of their variables: the number of a variable is how many stand outside it
+-- names beside the cells of their variables: the number of a variable is how many are outside it
 abbrev pub with_cells : TypedNames → List (Vec ℤ Global) → Variables
 with_cells [] cells = []
 with_cells (name ∷ names) cells = record { 0 = name.0; 1 = row_at cells (length names) }
     ∷ with_cells names cells
 
--- the cells of the variable outside which so many stand
+-- the cells of the variable outside which so many are
 abbrev pub cells_of : Variables → ℕ → List ℤ
 cells_of [] number = []
 cells_of (first ∷ rest) number = if nat_eq (length rest) number then first.1

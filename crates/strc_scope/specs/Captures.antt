@@ -9,7 +9,7 @@ use Rattle.strc_check.specs.declared.types.ValueType.{ValueType}
 use Rattle.strc_scope.specs.Bindings.{cells_of}
 use Rattle.strc_scope.specs.Texts.{Constants, as_constant}
 
--- constants after a variable, outside which so many stand, where none of the inner names is its
+-- constants after a variable, outside which so many are, where none of the inner names is its
 -- own
 abbrev pub captured_one : (inner : List (List ℕ)) → Variables → (number : ℕ)
     → Option (List ℕ × ValueType) → Constants → Constants

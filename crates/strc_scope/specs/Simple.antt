@@ -1,4 +1,4 @@
--- Statements that a body does as they stand, once they are checked: expressions and assignments.
+-- Statements that a body does as they are, once they are checked: expressions and assignments.
 use Rattle.strc_syntax.specs.Tree as tree
 use Rattle.strc_syntax.specs.declared.tree.BinaryOperator.{BinaryOperator}
 use Rattle.strc_syntax.specs.declared.tree.BinaryOperator.TheVariants as binary

@@ -20,7 +20,7 @@ use Rattle.strc_scope.specs.Texts.{Place}
 use Rattle.strc_scope.specs.declared.error.ElabError.{ElabError}
 use Rattle.strc_scope.specs.declared.error.ElabError.TheVariants as refused
 
--- a refusal of the rules on names and types, told of the declaration that holds the text
+-- a refusal of the rules on names and types, reported of the declaration that holds the text
 abbrev pub at_declaration : ℕ → LowerError → ElabError
 at_declaration declaration (lowering.UnknownName name) = refused.UnknownName name
 at_declaration declaration lowering.TypeMismatch = refused.TypeMismatch declaration

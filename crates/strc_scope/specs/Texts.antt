@@ -1,4 +1,4 @@
--- What is to be elaborated: the texts of streams, and the places where they stand.
+-- What is to be elaborated: the texts of streams, and the places where they are.
 use Rattle.std.specs.Prelude.{ℕ, ◌+◌, ℤ, pos, Bool, false, ◌||◌, List, [], ◌∷◌, Option, Some, None}
 use Rattle.std.specs.Prelude.{unwrap_or, if◌then◌else◌, nat_eq, slice_index_or}
 use Rattle.std.specs.Cmp.Lexicographic.{pointwise}
@@ -17,7 +17,7 @@ use Rattle.strc_check.specs.declared.types.ValueType.TheVariants as kind
 abbrev pub Constants : Type 0
 Constants = List (List ℕ × ℤ)
 
--- where a text stands: the number of the declaration that holds it, and the constants that it sees
+-- where a text is: the number of the declaration that holds it, and the constants that it sees
 pub record Place : Type 0 where
   pub declaration : ℕ
   pub constants : Constants
@@ -54,7 +54,7 @@ text_of name (tree.Composite types kind block) = CompositeText (Some types) kind
 abbrev pub parameters_of : Declaration → List (List ℕ)
 parameters_of declaration = unwrap_or declaration.parameters []
 
--- whether a name stands twice among these
+-- whether a name occurs twice among these
 abbrev pub is_doubled : List (List ℕ) → Bool
 is_doubled [] = false
 is_doubled (first ∷ rest) = has_name rest first || is_doubled rest
@@ -66,7 +66,7 @@ declared_from number (first ∷ others) name =
     if pointwise nat_eq name first.name then Some (number, first) else declared_from
     (number + 1) others name
 
--- the constants whose names aren't hidden
+-- the constants whose names aren't shadowed
 abbrev pub unshadowed : (hidden : List (List ℕ)) → Constants → Constants
 unshadowed hidden [] = []
 unshadowed hidden (first ∷ rest) = if has_name hidden first.0 then unshadowed hidden rest else first
@@ -80,7 +80,7 @@ as_constant name kind.Boolean cells outer = outer
 as_constant name kind.Array cells outer = outer
 
 -- what an anonymous stream sees of its surroundings, from the innermost variable outwards: the
--- numbers, with their values at that moment; a variable hides the outer ones of its name, and the
+-- numbers, with their values at that moment; a variable shadows the outer ones of its name, and the
 -- constants, even where it can't be seen itself
 abbrev pub captures_after : (hidden : List (List ℕ)) → TypedNames → Variables → Constants
     → Constants

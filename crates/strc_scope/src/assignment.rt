@@ -16,7 +16,7 @@ use strc_semantics::fault::Cause;
 use strc_syntax::tree::{AssignOperator, BinaryOperator, Expr, Stmt};
 
 /// Does an expression or an assignment whose names and types are checked and whose constants are
-/// put in.
+/// substituted.
 pub fn do_simple(statement: &Stmt, store: &mut Store) -> Result<(), Cause>
     requires { IsSimple (stmt_view statement.now) }
     ensures does { Does (stmt_done no_io (stmt_view statement.now) (store_of store.old)) result

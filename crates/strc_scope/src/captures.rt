@@ -13,7 +13,7 @@ use strc_check::types::ValueType;
 use strc_lex::token::Name;
 
 /// The numbers that can be seen at a place of a body, as constants: the variables' values at this
-/// moment, and the body's own constants, but for those that a variable hides.
+/// moment, and the body's own constants, but for those that a variable shadows.
 pub fn captures(
     alloc: Global,
     variables: &Variables,

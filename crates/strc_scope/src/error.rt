@@ -16,7 +16,7 @@ pub enum ElabError {
     /// A variable or a stream that isn't declared.
     #[error("{text} isn't declared", text = spelled(.name))]
     UnknownName { name: Name },
-    /// A type, kind or part isn't the one that must stand there; the declaration that holds it.
+    /// A type, kind or part isn't the one that must be there; the declaration that holds it.
     #[error("in declaration {stream}, counted from 0, a type, a kind or a part doesn't fit")]
     TypeMismatch { stream: usize },
     /// No declaration can be the main stream, or the named one can't.
@@ -25,7 +25,7 @@ pub enum ElabError {
     /// Several declarations can be the main stream, and none is named.
     #[error("several declarations can be the main stream: name the one that is meant")]
     ManyMains,
-    /// A stream would stand deeper than 64 levels, the main one being at level 1.
+    /// A stream would be deeper than 64 levels, the main one being at level 1.
     #[error("streams stand in one another more than 64 levels deep")]
     DepthLimit,
     /// More than 4,096 nodes.

@@ -13,8 +13,8 @@ use strc_semantics::evaluation::{binary_value, decides, is_true, unary_value};
 use strc_semantics::fault::Cause;
 use strc_syntax::tree::{Expr, StepOperator};
 
-/// The value of an expression whose names and types are checked and whose constants are put in. A
-/// fault is that of the first part that has one, from left to right.
+/// The value of an expression whose names and types are checked and whose constants are
+/// substituted. A fault is that of the first part that has one, from left to right.
 pub fn value(expression: &Expr, store: &mut Store) -> Result<i32, Cause>
     ensures says { Evaluates (value_of no_io (expr_view expression.now) (store_of store.old)) result
         (store_of store.new) }

@@ -29,7 +29,7 @@ use strc_lex::token::Name;
 use strc_semantics::fault::Cause;
 use strc_syntax::tree::{AssignOperator, Expr, Variable, VariableType, Variables};
 
-/// Where a body's statements stand: the number of the declaration that holds them, and the
+/// Where a body's statements are: the number of the declaration that holds them, and the
 /// constants that they see.
 #[derive(Clone, Copy)]
 pub struct Place<'a> {
@@ -38,7 +38,7 @@ pub struct Place<'a> {
     pub constants: &'a Constants,
 }
 
-/// A refusal of the rules on names and types, told of the declaration that holds the text.
+/// A refusal of the rules on names and types, reported of the declaration that holds the text.
 pub fn at_declaration(declaration: usize, error: LowerError) -> ElabError
     ensures { result ≡ spec.at_declaration declaration error }
 {

@@ -82,7 +82,7 @@ impl Variables {
         }
     }
 
-    /// The first cell of the variable of a number: how many stand outside it.
+    /// The first cell of the variable of a number: how many are outside it.
     pub fn first_cell(&self, number: usize) -> i32
         requires { number < length self.now.names }
         ensures { result ≡ slice_index_or (cells_of self.now.variables number) 0 (pos 0) }

@@ -134,7 +134,7 @@ beside-if : (store : Store) (t : Bool) (chosen other : Result ℤ Cause)
 beside-if store true chosen other does does' e e' = e
 beside-if store false chosen other does does' e e' = e'
 
--- a constant expression's value is that of the expression wherever it stands, and nothing changes
+-- a constant expression's value is that of the expression wherever it is, and nothing changes
 pub constant_is_value : (port : Port) (value : tree.Expr) (store : Store) → IsConstant value
     → beside store (constant_value value) ≡ value_of port value store
 constant_is_value port (tree.Number value) store h = refl

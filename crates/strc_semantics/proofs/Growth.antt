@@ -27,7 +27,7 @@ stands_on_declared base names cells (first ∷ rest) h =
     stands_on_declared base (variable ∷ names) cells rest
     (record { inner = variable ∷ h.inner; is = ap (λ l. variable ∷ l) h.is })
 
--- the variables of a declaration stand in front, the last one first
+-- the variables of a declaration are in front, the last one first
 pub with_declared-reverse : (names : Scope) (cells : ℕ) (variables : List tree.Variable)
     → with_declared names cells variables ≡ reverse (sized_all cells variables) ++ names
 with_declared-reverse names cells [] = refl
@@ -65,7 +65,7 @@ drop_inner base names h =
     ap (λ l. drop (length l - length base) l) h.is ∙ ap (λ n. drop n (h.inner ++ base)) e
     ∙ drop-append_seam h.inner base
 
--- a list of variables before others, turned round
+-- a list of variables before others, reversed
 pub reverse_before : (front back names : Scope)
     → reverse (front ++ names) ++ back ≡ reverse names ++ (reverse front ++ back)
 reverse_before front back names = ap (λ l. l ++ back) (reverse-append front names)

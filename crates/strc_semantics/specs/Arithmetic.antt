@@ -37,7 +37,7 @@ shifted_left value count = int_shl w32 value (shift_of count)
 abbrev pub shifted_right : ℤ → ℤ → ℤ
 shifted_right value count = int_shr value (shift_of count)
 
--- a truth value, 0 or 1, turned round
+-- a truth value, 0 or 1, negated
 abbrev pub flipped : ℤ → ℤ
 flipped (pos zero) = pos 1
 flipped _ = pos 0

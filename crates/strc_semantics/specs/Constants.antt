@@ -20,7 +20,7 @@ sides_value operator left right =
     if decides operator left then Ok left else result_and_then right
     (λ value. binary_value operator left value)
 
--- the value of a constant expression; what can't stand in one faults
+-- the value of a constant expression; what can't be in one faults
 abbrev pub constant_value : tree.Expr → Result ℤ Cause
 constant_value (tree.Number value) = Ok value
 constant_value (tree.Truth value) = Ok (truth value)

@@ -104,7 +104,7 @@ abbrev pub body_rates : Body → List tree.Member → List tree.Rate
 body_rates body.Prework members = unwrap_or (prework_rates members) (work_rates members)
 body_rates body.Work members = work_rates members
 
--- the number of a rate: constants are put in
+-- the number of a rate: constants are substituted
 abbrev pub rate_number : tree.Expr → ℤ
 rate_number (tree.Number value) = value
 rate_number _ = pos 0

@@ -133,7 +133,7 @@ value_stepped step.DecrementFirst value = wrapped (value +ℤ neg_ℤ (pos 1))
 value_stepped step.IncrementAfter value = wrapped (value +ℤ pos 1)
 value_stepped step.DecrementAfter value = wrapped (value +ℤ neg_ℤ (pos 1))
 
--- the value of the step itself: the new one where the operator stands first, else the old one
+-- the value of the step itself: the new one where the operator comes first, else the old one
 abbrev pub step_value : StepOperator → (old new : ℤ) → ℤ
 step_value step.IncrementFirst old new = new
 step_value step.DecrementFirst old new = new

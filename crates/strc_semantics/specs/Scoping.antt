@@ -13,7 +13,8 @@ abbrev pub number_in : tree.Expr → ℕ
 number_in (tree.Number (pos n)) = n
 number_in _ = 0
 
--- how many cells a variable of a type has; the length of an array is a number: constants are put in
+-- how many cells a variable of a type has; the length of an array is a number: constants are
+-- substituted
 abbrev pub cells_of : tree.VariableType → ℕ
 cells_of tree.Boolean = 1
 cells_of tree.Int = 1
@@ -40,7 +41,7 @@ abbrev pub is_declared : Scope → List ℕ → Bool
 is_declared [] name = false
 is_declared (first ∷ rest) name = bytes_eq first.0 name || is_declared rest name
 
--- the first slot of the innermost variable of a name: the cells of the variables outside it stand
+-- the first slot of the innermost variable of a name: the cells of the variables outside it are
 -- before its own
 abbrev pub slot_named : Scope → List ℕ → Option ℕ
 slot_named [] name = None

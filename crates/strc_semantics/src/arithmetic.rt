@@ -43,7 +43,7 @@ pub fn truth(value: bool) -> i32
     if value { 1 } else { 0 }
 }
 
-/// A truth value, 0 or 1, turned round.
+/// A truth value, 0 or 1, negated.
 pub fn flip(value: i32) -> i32
     ensures { result ≡ flipped value }
 {

@@ -9,7 +9,7 @@ use crate::arithmetic;
 use crate::fault::Cause;
 use strc_syntax::tree::{BinaryOperator, Expr, UnaryOperator};
 
-/// The value of a constant expression. What can't stand in one faults.
+/// The value of a constant expression. What can't be in one faults.
 pub fn constant_value(value: &Expr) -> Result<i32, Cause>
     ensures { result ≡ constants.constant_value (expr_view value.now) }
 {

@@ -20,7 +20,7 @@ use strc_balance::number_set::NumberSet;
 /// The least counts from these on that prime the channels.
 ///
 /// What a node needs raises the nodes before it at once as far as it asks; each raised node then
-/// asks in turn. So no count is ever above one that primes. Sources stand before their targets, but
+/// asks in turn. So no count is ever above one that primes. Sources come before their targets, but
 /// in feedback loops: the highest node asks first, when what it feeds is done.
 pub(crate) fn primed(
     alloc: Global,

@@ -80,7 +80,7 @@ abbrev pub size_of : Stream → ℕ
 size_of stream = length (nodes_of stream)
 
 abbrev mutual
-  -- the joiner of the outermost feedback loop that each node stands in, the first node of the
+  -- the joiner of the outermost feedback loop that each node is in, the first node of the
   -- stream having this number
   pub outer_loops : (first : ℕ) → Stream → List (Option ℕ)
   outer_loops first (Pipeline children) = row_loops first children

@@ -7,7 +7,7 @@ use Rattle.strc_graph.specs.Graphs.{SplitterCode}
 -- a stream, and streams in a row
 mutual
   pub data Stream : Type 0 where
-    -- a filter with its constants put in, by its declared name; an anonymous one has none
+    -- a filter with its constants substituted, by its declared name; an anonymous one has none
     Filter : (name : Option (List ℕ)) (filter : filters.Filter) → Stream
     Identity : Stream
     FileReader : (text : List ℕ) → Stream

@@ -19,7 +19,7 @@ abbrev pub is_int : ItemType → Bool
 is_int item.Int = true
 is_int item.Void = false
 
--- the side at which a splitter or a joiner stands, where there is one
+-- the side at which a splitter or a joiner is, where there is one
 abbrev pub side_at : {A : Type 0} → Option A → ItemType
 side_at None = item.Void
 side_at (Some node) = item.Int

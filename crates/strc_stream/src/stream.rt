@@ -4,16 +4,16 @@ use strc_graph::graph::Splitter;
 use strc_graph::instance::Instance;
 use strc_lex::token::StringLiteral;
 
-/// A stream, with its constants put in (StreamIt specification 2.1, "Streams").
+/// A stream, with its constants substituted (StreamIt specification 2.1, "Streams").
 #[derive(Drop)]
 pub enum Stream {
     /// A filter.
     Filter(Instance),
     /// What comes in goes out, item by item.
     Identity,
-    /// What gives the program's input; what stands between its brackets.
+    /// What gives the program's input; what is between its brackets.
     FileReader(StringLiteral),
-    /// What writes each item; what stands between its brackets.
+    /// What writes each item; what is between its brackets.
     FileWriter(StringLiteral),
     /// Streams in a row: what one gives is what the next one takes.
     Pipeline(Vec<Stream>),

@@ -214,7 +214,7 @@ pub enum Splitter {
 /// An expression.
 #[derive(Drop)]
 pub enum Expr {
-    /// 0 to 2147483647, or the minimum, for which 2147483648 stands.
+    /// 0 to 2147483647, or the minimum, for which 2147483648 is written.
     Number(i32),
     /// `true` or `false`
     Truth(bool),

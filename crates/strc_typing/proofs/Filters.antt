@@ -32,7 +32,7 @@ use Rattle.strc_typing.proofs.TypesOfExpressions.{initial_gives, initial_ok}
 use Rattle.strc_typing.proofs.Numbers.{number_gives, number_is}
 use Rattle.strc_typing.proofs.Statements.{type_gives, type_ok, stmts_give, stmts_ok}
 
--- a rate above 0 stands on a side where items flow
+-- a rate above 0 is on a side where items flow
 above : (number : ℤ) → pos 0 <ℤ number → int_lt (pos 0) number ≡ true
 above number h = grind (arith, ints)
 

@@ -12,7 +12,7 @@ use Rattle.strc_check.specs.Resolution.{Context, operand_type, sides_type, binar
 abbrev pub IsVariable : TypedNames → List ℕ → ValueType → Type 0
 IsVariable names name kind = value_named names name ≡ Some kind
 
--- it can be seen: the text isn't one that stands over constants alone
+-- it can be seen: the text isn't one that is over constants alone
 abbrev pub SeesVariable : Context → TypedNames → List ℕ → ValueType → Type 0
 SeesVariable context names name kind =
     IsFalse context.constants_only × IsVariable names name kind

@@ -47,7 +47,7 @@ NumbersAreUnique =
     → HasNumber constants names value number → HasNumber constants names value number'
     → number ≡ number'
 
--- the value of an expression that names no variable is that of the expression wherever it stands,
+-- the value of an expression that names no variable is that of the expression wherever it is,
 -- and nothing changes
 abbrev pub ConstantsMeanTheirValue : Type 0
 ConstantsMeanTheirValue = (port : Port) (value : tree.Expr) (store : Store) → IsConstant value

@@ -43,7 +43,7 @@ IsAssignable assign.Divide kind = kind ≡ Int
 IsAssignable assign.Remainder kind = kind ≡ Int
 
 abbrev mutual
-  -- a statement, among the names that can be seen, of which so many stand outside its block
+  -- a statement, among the names that can be seen, of which so many are outside its block
   pub IsWellFormed : Context → TypedNames → (outer : ℕ) → tree.Stmt → Type 0
   IsWellFormed context names outer tree.Empty = Unit {0}
   IsWellFormed context names outer (tree.Compose statement) = ⊥

@@ -33,7 +33,7 @@ pub fn numbers_are_unique()
     ensures { NumbersAreUnique }
 {}
 
-/// The value of an expression that names no variable is that of the expression wherever it stands.
+/// The value of an expression that names no variable is that of the expression wherever it is.
 pub fn constants_mean_their_value()
     ensures { ConstantsMeanTheirValue }
 {}

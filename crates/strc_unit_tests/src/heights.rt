@@ -6,7 +6,7 @@ use std::test::Fail;
 use strc_lex::lexer::lex;
 use strc_parse::{ParseError, one_tree, parse};
 
-// A text with a part that stands so many times in a row, and another one after what follows it.
+// A text with a part that is written so many times in a row, and another one after what follows it.
 fn repeated(
     alloc: Global,
     front: &str,

@@ -6,7 +6,7 @@ use strc_lex::error::LexError;
 use strc_lex::lexer::{lex, one_token_list};
 use strc_lex::token::{Keyword, Name, Punctuation, StringLiteral, Token, TokenKind};
 
-// The tokens as they stand in the text, with a blank between two.
+// The tokens as they are in the text, with a blank between two.
 fn spaced(alloc: Global, text: &[u8], tokens: &[Token]) -> Result<Vec<u8>, AllocError> {
     let mut shown = Vec::new(alloc);
     for token in tokens {

@@ -52,7 +52,7 @@ fn show_types(out: &mut String, types: StreamType) -> Result<(), AllocError> {
     write!(out, "{}->{} ", item(types.input), item(types.output))
 }
 
-// A stream in it is told by its kind and the number of its parts.
+// A stream in it is named by its kind and the number of its parts.
 fn show_child(out: &mut String, child: &Child) -> Result<(), AllocError> {
     match child {
         Child::Named(name, arguments) => {

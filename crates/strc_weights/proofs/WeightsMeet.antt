@@ -21,7 +21,7 @@ use Rattle.strc_stream.specs.Types.{IsSplit, IsJoined, ComesBack}
 some_same : {A : Type 0} (x y : A) → Some x ≡ Some y → x ≡ y
 some_same x y e = cc
 
--- a weight above 0 stands where there are items
+-- a weight above 0 is where there are items
 port_meets : (weight : ℤ) (side : ItemType) (found : ℕ) → port_weight weight side ≡ Some found
     → nat_lt 0 found ≡ is_int side
 port_meets (pos zero) item.Int found e = absurd (cc)

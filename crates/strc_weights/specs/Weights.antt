@@ -53,7 +53,7 @@ written_out weights sides = weights
 abbrev pub weights_for : List ℤ → List ItemType → Option (List ℕ)
 weights_for weights sides = port_weights (written_out weights sides) sides
 
--- or the refusal, told of the declaration that holds them
+-- or the refusal, reported of the declaration that holds them
 abbrev pub weighted : {A : Type 0} → (declaration : ℕ) → Option A → Result A ElabError
 weighted declaration None = Err (refused.BadWeights declaration)
 weighted declaration (Some weights) = Ok weights

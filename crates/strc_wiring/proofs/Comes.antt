@@ -1,4 +1,4 @@
--- Each channel of a stream that stands in a graph joins ports that carry items, and is the source
+-- Each channel of a stream that is in a graph joins ports that carry items, and is the source
 -- that the graph gives the port where it ends.
 use Rattle.std.proofs.Common.{◌≡◌, ℕ, suc, ◌+◌, Bool, true, false, ◌||◌, List, [], ◌∷◌}
 use Rattle.std.proofs.Common.{length, Some, None, Option, slice_index_or, refl}

@@ -1,4 +1,4 @@
--- The channels of a stream leave its nodes, and stand in order of the ports that they leave.
+-- The channels of a stream leave its nodes, and are in order of the ports that they leave.
 use Rattle.std.proofs.Common.{◌≡◌, ℕ, ◌+◌, ◌<◌, ◌≤◌, Bool, true, false, List, [], ◌∷◌}
 use Rattle.std.proofs.Common.{◌++◌, length, Some, None, Option, refl, inl, inr, arith, ◌⊎◌}
 use Rattle.std.proofs.Common.{length-append, AllPairs}

@@ -1,4 +1,4 @@
--- A stream that stands in a graph of nodes and sources: which node stands where, and what comes to
+-- A stream that is in a graph of nodes and sources: which node is where, and what comes to
 -- its input ports.
 use Rattle.std.proofs.Common.{◌≡◌, ℕ, suc, ◌+◌, List, length, Some, None, Option, slice_get}
 use Rattle.strc_dataflow.specs.Flat.{Source}

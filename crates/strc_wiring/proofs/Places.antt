@@ -1,4 +1,4 @@
--- Where a stream's tree is laid out, the stream stands.
+-- Where a stream's tree is laid out, the stream is.
 use Rattle.std.proofs.Common.{◌≡◌, ℕ, suc, ◌+◌, List, [], ◌∷◌, length, Some, None}
 use Rattle.std.proofs.Common.{Option, slice_get, refl, sym, ap, ◌∙◌, subst, arith, length-append}
 use Rattle.std.specs.Option.{option_map}

@@ -1,4 +1,4 @@
--- A layout that stands in a graph of nodes and sources: where its parts stand in it.
+-- A layout that is in a graph of nodes and sources: where its parts are in it.
 use Rattle.std.proofs.Common.{◌≡◌, ℕ, suc, ◌+◌, List, ◌++◌, length, Some, slice_get}
 use Rattle.std.proofs.Common.{ℤ, subst}
 use Rattle.strc_dataflow.specs.Flat.{Source}
@@ -14,7 +14,7 @@ module _ {Code : Type 0} (nodes : List Code) (source : ℕ → ℕ → Source) w
   abbrev pub IsGiven : ℕ → (ℕ → Source) → Type 0
   IsGiven number given = source number ≡ given
 
-  -- the part stands there from this number on, where these sources come in
+  -- the part is there from this number on, where these sources come in
   pub record Sits (part : Layout Code) (first : ℕ) (before : ℕ → Source) : Type 0 where
     pub codes : Numbered IsCode first part.codes
     pub sources : Numbered IsGiven first (part.sources first before)

@@ -31,7 +31,7 @@ use Rattle.strc_wiring.proofs.Served.{served}
 use Rattle.strc_wiring.proofs.Sits.{Sits}
 use Rattle.strc_wiring.proofs.Wired.{comes}
 
--- the stream stands in its own flat graph
+-- the stream is in its own flat graph
 
 abbrev source_at : Stream → ℕ → ℕ → Source
 source_at stream = (meaning_of stream).source

@@ -1,4 +1,4 @@
--- The channels of a whole stream that stands in a graph.
+-- The channels of a whole stream that is in a graph.
 use Rattle.std.proofs.Common.{◌≡◌, ℕ, suc, ◌+◌, Bool, true, false, List, [], ◌++◌}
 use Rattle.std.proofs.Common.{length, Some, Option, slice_index, slice_index_or, refl}
 use Rattle.std.proofs.Common.{nat_lt, ap, ◌∙◌}

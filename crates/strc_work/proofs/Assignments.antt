@@ -247,7 +247,7 @@ joined_by_result port names name size from free place index store m
     (stored_reaches names name size store m3 place new named roomy traffic names_are holds3
     (size3 ∙ same) lt))
 
--- the same value stands where it did after a write of another slot above the variables
+-- the same value is where it was after a write of another slot above the variables
 stands_beside : (names : Scope) (slot free other : ℕ) (before : List ℤ) (given : ℤ × Store)
     (m : Machine) (value : ℤ) → total names ≤ free → free < other → slot ≤ free
     → StandsAt names slot free before given m
@@ -266,7 +266,7 @@ stands_beside names slot free other before given m value above more low stands =
       size = length-set m.slots other value ∙ stands.size;
     }
 
--- a compound assignment, from where the old value stands in a free slot
+-- a compound assignment, from where the old value is in a free slot
 joined_goes_on : (port : Port) (name : List ℕ) (operator : BinaryOperator) (index value : tree.Expr)
     (names : Scope) (store : Store) (slots : List ℤ) (first : ℤ × Store) (m1 : Machine) (place : ℕ)
     (old : ℤ) → let from = operand_slot names (writes_no_variable value) index (total names) in

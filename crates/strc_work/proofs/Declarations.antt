@@ -61,7 +61,7 @@ cleared_at base n slots k room lt =
 
 -- ---- new cells
 
--- the cells of a new variable stand above those of the others
+-- the cells of a new variable are above those of the others
 record Declares (names : Scope) (cells size : ℕ) (given : List ℤ × Store) (after : Machine) : Type 0
   where
     pub traffic : after.traffic ≡ given.1.traffic

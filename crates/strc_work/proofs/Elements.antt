@@ -38,7 +38,7 @@ by_place_test k n place true test e = let is : k ≡ place = cc in
     subst (λ m. m < n) is (ltb-true k n test)
 by_place_test k n place false test e = absurd (cc)
 
--- a place in an array stands below its length
+-- a place in an array is below its length
 place_below : (n : ℕ) (index : ℤ) (place : ℕ) → place_in n index ≡ Some place → place < n
 place_below n (pos k) place e = by_place_test k n place (nat_lt k n) refl e
 place_below n (negsuc k) place e = absurd (cc)
@@ -64,7 +64,7 @@ same_place names name store slots index m from names_are holds named value =
     ∙ ap (λ n. place_in n index) (sym
     (named_size names store.variables slots name names_are holds named))
 
--- an operand stands at or below the first free slot
+-- an operand is at or below the first free slot
 pub operand_low : (port : Port) (e : tree.Expr) (names : Scope) (may_alias : Bool) (free : ℕ)
     (store : Store) (slots : List ℤ) → IsClosed names e → Ready names free store slots
     → operand_slot names may_alias e free ≤ free
@@ -81,7 +81,7 @@ operand_low port e names may_alias free store slots closed ready =
         let above = ready.above in
         omega arith
 
--- a cell that is written stands in its slot
+-- a cell that is written is in its slot
 pub stored_holds : (names : Scope) (name : List ℕ) (store : Store) (slots : List ℤ) (place : ℕ)
     (value : ℤ) → total names ≤ length slots → scope_of store.variables ≡ names
     → Holds store.variables slots → IsNamed names name → place < size_of names name

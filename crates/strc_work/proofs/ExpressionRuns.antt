@@ -402,7 +402,7 @@ step_runs port step.DecrementAfter name names into free store slots closed ready
 
 -- ---- choices
 
--- a value that stands in a free slot, and is copied from there
+-- a value that is in a free slot, and is copied from there
 copied_arrives : (names : Scope) (into slot free : ℕ) (before : List ℤ) (given : ℤ × Store)
     (m : Machine) → StandsAt names slot free before given m
     → Arrives names into free before given (slot_written m into (slot_value m slot))
@@ -416,7 +416,7 @@ copied_arrives names into slot free before given m stands = record {
   size = stands.size;
 }
 
--- a value stands where another did, if what is kept stays kept
+-- a value is where another was, if what is kept stays kept
 stands_further : (names : Scope) (slot free : ℕ) (before between : List ℤ) (given : ℤ × Store)
     (m : Machine) → ((k : ℕ) → total names ≤ k → k < free → at between k ≡ at before k)
     → length between ≡ length before → StandsAt names slot free between given m

@@ -31,7 +31,7 @@ use Rattle.strc_work.proofs.Variables.{slot_of-value, size_of-some, size_of-is}
 use Rattle.strc_work.proofs.Related.{Related, weaker_related}
 use Rattle.strc_machine.proofs.Spelled.{nodes_room-before}
 
--- the machine stands where the store is, with the value about to be written into a slot; the slots
+-- the machine is where the store is, with the value about to be written into a slot; the slots
 -- from `total names` up to `free` are kept
 pub record Arrives (names : Scope) (into free : ℕ) (before : List ℤ) (given : ℤ × Store)
     (after : Machine) : Type 0 where
@@ -42,7 +42,7 @@ pub record Arrives (names : Scope) (into free : ℕ) (before : List ℤ) (given 
   pub kept : (k : ℕ) → total names ≤ k → k < free → at slots k ≡ at before k
   pub size : length slots ≡ length before
 
--- the machine stands where the store is, with the value in a slot
+-- the machine is where the store is, with the value in a slot
 pub record StandsAt (names : Scope) (slot free : ℕ) (before : List ℤ) (given : ℤ × Store)
     (after : Machine) : Type 0 where
   pub traffic : after.traffic ≡ given.1.traffic
@@ -52,7 +52,7 @@ pub record StandsAt (names : Scope) (slot free : ℕ) (before : List ℤ) (given
   pub kept : (k : ℕ) → total names ≤ k → k < free → at after.slots k ≡ at before k
   pub size : length after.slots ≡ length before
 
--- the slots hold the store's variables, which have these names and stand below the free ones
+-- the slots hold the store's variables, which have these names and are below the free ones
 pub record Ready (names : Scope) (free : ℕ) (store : Store) (slots : List ℤ) : Type 0 where
   pub names_are : scope_of store.variables ≡ names
   pub holds : Holds store.variables slots
@@ -69,7 +69,7 @@ Runs port e = (names : Scope) (into free : ℕ) (store : Store) (slots : List �
     → Related (Arrives names into free slots) (value_of port e store)
     (nodes_done port (expr_nodes names e into free) (machine_at slots store))
 
--- a named variable has a cell, and its slots stand below the free ones
+-- a named variable has a cell, and its slots are below the free ones
 pub named_slots : (names : Scope) (variables : Variables) (slots : List ℤ) (name : List ℕ)
     → scope_of variables ≡ names → Holds variables slots → IsNamed names name
     → slot_of names name + size_of names name ≤ total names
@@ -517,14 +517,14 @@ expr_room names (tree.Conditional condition chosen other) into free closed =
       expr_room names chosen into free closed.1,
     )
 
--- an operand that stands in its variable's slot
+-- an operand in its variable's slot
 pub aliased_slot : (names : Scope) (may_alias : Bool) (e : tree.Expr) (slot : ℕ)
     → stands_at names may_alias e ≡ Some slot
     → (may_alias ≡ true) × (variable_slot names e ≡ Some slot)
 aliased_slot names true e slot is = (refl, is)
 aliased_slot names false e slot is = absurd (cc)
 
--- a value that was written into a free slot stands there
+-- a value that was written into a free slot is there
 pub arrived_stands : (names : Scope) (slot : ℕ) (before : List ℤ) (given : ℤ × Store)
     (after : Machine) → total names ≤ slot → slot < length before
     → Arrives names slot (slot + 1) before given after → StandsAt names slot slot before given after

@@ -210,7 +210,7 @@ Holds-bound_onto variables (field ∷ fields) values slots some fits h stands =
     let next : length (take n values) + base + k ≡ base + (n + k) = omega arith in
     ap (at slots) next ∙ stands (n + k) (omega arith) ∙ sym (get_or-drop n values k (pos 0)))
 
--- the store of a filter stands in slots that begin with its fields' values
+-- the store of a filter is in slots that begin with its fields' values
 store_ready : (filter : Filter) (values slots : List ℤ) → IsClosedFilter filter
     → length values ≡ total (sized_fields filter.members)
     → ((k : ℕ) → k < length values → at slots k ≡ at values k)

@@ -46,7 +46,7 @@ pub none_total : (variables : List (List ℕ × Place)) → length variables ≡
 none_total [] e = refl
 none_total (first ∷ rest) e = absurd (omega arith)
 
--- what stands where a name's place tells
+-- what is where a name's place tells
 pub record IsAt (variables : List (List ℕ × Place)) (name : List ℕ) (place : Place) : Type 0 where
   pub slot : slot_named (with_cells variables) name ≡ Some place.slot
   pub cells : size_named (with_cells variables) name ≡ Some place.cells

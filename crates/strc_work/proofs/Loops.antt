@@ -66,13 +66,13 @@ choice_runs port condition chosen other does does' names store slots closed read
 
 -- ---- loops
 
--- a condition's value stands in its slot
+-- a condition's value is in its slot
 pub record Tested (names : Scope) (size slot : ℕ) (given : ℤ × Store) (after : Machine) : Type 0
   where
     pub reaches : Reaches names size given.1 after
     pub value : slot_value after slot ≡ given.0
 
--- without a condition a truth stands in the first free slot
+-- without a condition a truth is in the first free slot
 always_runs : (names : Scope) (store : Store) (slots : List ℤ)
     → Ready names (total names) store slots → total names < length slots
     → Tested names (length slots) (total names) (pos 1, store)

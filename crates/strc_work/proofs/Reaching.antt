@@ -1,4 +1,4 @@
--- Where code leads: a machine that stands where a store is.
+-- Where code leads: a machine that is where a store is.
 use Rattle.std.proofs.Common.{◌≡◌, ℕ, ◌-◌, ◌≤◌, ℤ, List, ◌++◌, length, drop, Result, refl, sym, ap}
 use Rattle.std.proofs.Common.{◌∙◌, subst, arith, append_assoc}
 use Rattle.std.proofs.lemmas.List.{drop-map}
@@ -15,7 +15,7 @@ use Rattle.strc_work.proofs.Variables.{scope_of, Holds, Holds-drop, length-scope
 use Rattle.strc_work.proofs.Related.{Related, weaker_related, map_related}
 use Rattle.strc_work.proofs.Expressions.{StandsAt, Ready, machine_at}
 
--- the machine stands where the store is, among these names
+-- the machine is where the store is, among these names
 pub record Reaches (names : Scope) (size : ℕ) (given : Store) (after : Machine) : Type 0 where
   pub traffic : after.traffic ≡ given.traffic
   pub names_are : scope_of given.variables ≡ names

@@ -1,4 +1,4 @@
--- Variables whose cells stand in slots.
+-- Variables whose cells are in slots.
 use Rattle.std.proofs.Common.{◌≡◌, ◌≢◌, ℕ, zero, suc, ◌+◌, ◌-◌, ◌<◌, ◌≤◌, Bool, true, false, ◌||◌}
 use Rattle.std.proofs.Common.{cond, ℤ, pos, List, [], ◌∷◌, ◌++◌, length, take, drop, map, get_or}
 use Rattle.std.proofs.Common.{set, Some, refl, sym, ap, ◌∙◌, subst, ⊎_elim, arith}
@@ -20,11 +20,11 @@ scope_of = map (λ v. record { 0 = v.0; 1 = length v.1 })
 abbrev pub at : List ℤ → ℕ → ℤ
 at slots slot = get_or slots slot (pos 0)
 
--- a variable's cells stand one after another from a slot on
+-- a variable's cells are one after another from a slot on
 abbrev pub HoldsFrom : (base : ℕ) → (cells slots : List ℤ) → Type 0
 HoldsFrom base cells slots = (k : ℕ) → k < length cells → at slots (base + k) ≡ at cells k
 
--- each variable has a cell, and its cells stand in its slots, after those of the variables outside
+-- each variable has a cell, and its cells are in its slots, after those of the variables outside
 -- it
 abbrev pub Holds : Variables → List ℤ → Type 0
 Holds [] slots = Unit {0}
@@ -34,7 +34,7 @@ Holds (first ∷ rest) slots = (1 ≤ length first.1) × HoldsFrom (total (scope
 pub length-scope_of : (variables : Variables) → length (scope_of variables) ≡ length variables
 length-scope_of variables = length-map variables (λ v. record { 0 = v.0; 1 = length v.1 })
 
--- what stands below the total stays in other slots that are the same there
+-- what is below the total stays in other slots that are the same there
 pub Holds-same : (variables : Variables) (slots slots' : List ℤ)
     → ((k : ℕ) → k < total (scope_of variables) → at slots' k ≡ at slots k) → Holds variables slots
     → Holds variables slots'
@@ -54,7 +54,7 @@ Holds-set_above variables slots slot value above h =
     (λ k lt. let other : k ≢ slot = omega arith in
     get_or-set_other slots slot k value (pos 0) other) h
 
--- where a named variable stands: it has a cell, and its slots, below the total, hold its cells
+-- where a named variable is: it has a cell, and its slots, below the total, hold its cells
 pub record Stands (variables : Variables) (slots : List ℤ) (name : List ℕ) : Type 0 where
   pub slot : ℕ
   pub size : ℕ
@@ -161,7 +161,7 @@ scope_of-with_cell (first ∷ rest) name place value =
     scope_by_test first rest name place value (scope_of-with_cell rest name place value)
     (bytes_eq first.0 name)
 
--- a cell that is written stands in its slot, and the others stay
+-- a cell that is written is in its slot, and the others stay
 written_cells : (base : ℕ) (cells slots : List ℤ) (place : ℕ) (value : ℤ)
     → base + length cells ≤ length slots → place < length cells → HoldsFrom base cells slots
     → HoldsFrom base (set cells place value) (set slots (base + place) value)
@@ -253,7 +253,7 @@ Holds-drop variables slots zero h = h
 Holds-drop [] slots (suc n) h = tt
 Holds-drop (first ∷ rest) slots (suc n) h = Holds-drop rest slots n h.2
 
--- cells that stand from a slot on are a piece of the slots
+-- cells from a slot on are a piece of the slots
 piece_held : (base : ℕ) (cells slots : List ℤ) → base + length cells ≤ length slots
     → HoldsFrom base cells slots → cells ≡ take (length cells) (drop base slots)
 piece_held base cells slots room h =
@@ -278,7 +278,7 @@ values-Holds (first ∷ rest) slots room h =
     ∙ sym (take-add base n slots)
     ∙ ap (λ k. take k slots) turned
 
--- variables that stand in two lists of slots
+-- variables that are in two lists of slots
 pub same_slots : (variables : Variables) (first second : List ℤ) (slot : ℕ) → Holds variables first
     → Holds variables second → slot < total (scope_of variables) → at first slot ≡ at second slot
 same_slots [] first second slot h h' below = absurd (omega arith)

@@ -9,7 +9,7 @@ use Rattle.strc_semantics.specs.declared.word.Word.{Word}
 use Rattle.strc_work.specs.Kept.{Kept}
 use Rattle.strc_semantics.specs.Firing.{Fired}
 
--- a firing gave these values of the fields and these pushes, and its words stand after those before
+-- a firing gave these values of the fields and these pushes, and its words are after those before
 -- it
 pub record HasGiven (outcome : Result Fired Cause) (fields pushes : List ℤ)
     (before after : List Word) : Type 0 where

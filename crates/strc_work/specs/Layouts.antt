@@ -8,7 +8,7 @@ abbrev pub with_cells : List (List ℕ × Place) → Scope
 with_cells [] = []
 with_cells (first ∷ rest) = record { 0 = first.0; 1 = first.1.cells } ∷ with_cells rest
 
--- each variable's cells stand after those of the variables outside it, and are few
+-- each variable's cells are after those of the variables outside it, and are few
 abbrev pub AreLaid : List (List ℕ × Place) → Type 0
 AreLaid [] = Unit {0}
 AreLaid (first ∷ rest) =

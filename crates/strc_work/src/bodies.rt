@@ -159,7 +159,7 @@ fn same_kind(first: RateKind, second: RateKind) -> bool
     }
 }
 
-/// The number of a rate: constants are put in.
+/// The number of a rate: constants are substituted.
 fn rate_number(rate: &Expr) -> i32
     ensures { result ≡ filters.rate_number (expr_view rate.now) }
 {

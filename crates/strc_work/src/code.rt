@@ -1,4 +1,4 @@
-// Lowered code: a filter's tree with its constants put in, and the nodes that mean it.
+// Lowered code: a filter's tree with its constants substituted, and the nodes that mean it.
 
 ghost use Rattle.std.specs.Prelude.{◌≡◌, [], IfOk, is_some};
 ghost use Rattle.strc_syntax.specs.View.{block_view};
@@ -230,7 +230,8 @@ impl Code {
         result
     }
 
-    /// The filter's tree, with its constants put in: each name of a variable in it is declared.
+    /// The filter's tree, with its constants substituted: each name of a variable in it is
+    /// declared.
     pub fn tree(&self) -> &FilterTree
         ensures tree { result.now ≡ self.now }
         ensures known { IsClosedFilter (filters.filter_of self.now) }

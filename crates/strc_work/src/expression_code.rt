@@ -147,7 +147,7 @@ fn emit_step(
     }
 }
 
-/// The code of `a[i]++` and its like, where the index stands in a slot.
+/// The code of `a[i]++` and its like, where the index is in a slot.
 #[tactic(auto, using(strc_machine::proofs::Nodes::before_assoc))]
 fn emit_element_step(
     code: &mut Builder,
@@ -259,7 +259,7 @@ pub fn emit_assign_element(
     )
 }
 
-/// The code of an assignment to the element at an index that stands in a slot.
+/// The code of an assignment to the element at an index that is in a slot.
 #[tactic(auto, using(crate::proofs::Emitted::elements))]
 fn emit_element(
     code: &mut Builder,

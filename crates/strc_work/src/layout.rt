@@ -10,7 +10,7 @@ use strc_base::memory::NoMemory;
 use strc_base::scope_map::ScopeMap;
 use strc_lex::token::Name;
 
-/// Where a variable's cells stand: the first slot, and how many there are.
+/// Where a variable's cells are: the first slot, and how many there are.
 #[derive(Clone, Copy)]
 pub struct Place {
     pub slot: u32,

@@ -12,14 +12,14 @@ use strc_check::error::LowerError;
 use strc_check::resolution;
 use strc_syntax::tree::{FilterTree, ItemType, Member};
 
-/// The code of a filter, with its constants put in.
+/// The code of a filter, with its constants substituted.
 pub fn lower(alloc: Global, tree: &FilterTree, constants: &Constants) -> Result<Code, LowerError>
     ensures { IsVerdict filter_of (filter_resolved constants.now (filter_of tree.now)) result }
 {
     lower_parts(alloc, tree.input, tree.output, &tree.members, constants)
 }
 
-/// The code of a filter that is given by its types and its members, with its constants put in.
+/// The code of a filter that is given by its types and its members, with its constants substituted.
 pub fn lower_parts(
     alloc: Global,
     input: ItemType,

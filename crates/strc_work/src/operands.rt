@@ -16,8 +16,8 @@ use strc_syntax::tree::{
     AssignOperator, BinaryOperator, Expr, StepOperator, UnaryOperator, VariableType,
 };
 
-/// How many cells a variable of a type has. The length of an array is a number: constants are put
-/// in.
+/// How many cells a variable of a type has. The length of an array is a number: constants are
+/// substituted.
 pub fn cells_of(kind: &VariableType) -> u32
     ensures { result ≡ scoping.cells_of (type_view kind.now) }
 {
