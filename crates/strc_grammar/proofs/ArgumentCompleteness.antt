@@ -31,8 +31,9 @@ use Rattle.strc_grammar.proofs.Completeness.{Complete, Complete-then, expect_pun
 use Rattle.strc_grammar.proofs.ExpressionCompleteness.{expr_length, expression_completeness, found}
 use Rattle.strc_grammar.proofs.Lists.{TallCompleteness, each_taller_completeness, ItemCompleteness}
 use Rattle.strc_grammar.proofs.Lists.{each_completeness}
-use Rattle.strc_grammar.proofs.SimpleCompleteness.{Ends, Ends-bracket, Ends-comma, Complete-max}
-use Rattle.strc_grammar.proofs.SimpleCompleteness.{Complete-done, opens}
+use Rattle.strc_grammar.proofs.VariableCompleteness.{Ends, Ends-bracket, Ends-comma, Complete-max}
+use Rattle.strc_grammar.proofs.VariableCompleteness.{Complete-done}
+use Rattle.strc_grammar.proofs.SimpleCompleteness.{opens}
 
 no_comma_bracket : (rest : List TokenKind)
     → no_comma (token.Punctuation punctuation.CloseParen ∷ rest)

@@ -32,7 +32,8 @@ use Rattle.strc_grammar.proofs.Completeness.{Complete, Complete-then, Complete-i
 use Rattle.strc_grammar.proofs.Completeness.{Complete-raised, expect_punctuation}
 use Rattle.strc_grammar.proofs.Completeness.{expect_keyword_lem}
 use Rattle.strc_grammar.proofs.ExpressionCompleteness.{Stops-semicolon, closed_completeness, found}
-use Rattle.strc_grammar.proofs.SimpleCompleteness.{made, Complete-done}
+use Rattle.strc_grammar.proofs.VariableCompleteness.{Complete-done}
+use Rattle.strc_grammar.proofs.SimpleCompleteness.{made}
 use Rattle.strc_grammar.proofs.ArgumentCompleteness.{arguments_completeness, brackets_completeness}
 use Rattle.strc_grammar.proofs.ArgumentCompleteness.{stream_type_completeness, kind_stands}
 use Rattle.strc_grammar.proofs.ArgumentCompleteness.{kind_is_no_filter, int_items_completeness}

@@ -3,6 +3,7 @@ pub mod Repeated
 pub mod Completeness
 pub mod ExpressionCompleteness
 pub mod Lists
+pub mod VariableCompleteness
 pub mod SimpleCompleteness
 pub mod ArgumentCompleteness
 pub mod StatementCompleteness

@@ -30,7 +30,7 @@ use Rattle.strc_grammar.proofs.ExpressionCompleteness.{Stops, Stops-keyword, Sto
 use Rattle.strc_grammar.proofs.ExpressionCompleteness.{expr_length, expression_completeness, found}
 use Rattle.strc_grammar.proofs.Lists.{gathered, gathered_none, gathered_more, TallCompleteness}
 use Rattle.strc_grammar.proofs.Lists.{each_taller_completeness}
-use Rattle.strc_grammar.proofs.SimpleCompleteness.{Complete-done, fields_completeness}
+use Rattle.strc_grammar.proofs.VariableCompleteness.{Complete-done, fields_completeness}
 use Rattle.strc_grammar.proofs.StatementCompleteness.{listed, row_listed, rates_length}
 use Rattle.strc_grammar.proofs.StatementCompleteness.{member_length, StmtCompleteness}
 use Rattle.strc_grammar.proofs.StatementCompleteness.{brace_closing, row_completeness}

@@ -26,7 +26,7 @@ use Rattle.strc_grammar.specs.Streams.{Inner, statements, rate_kind, has_rate, r
 use Rattle.strc_grammar.specs.Streams.{rate_turn, no_rate_by, no_rate, rates, braced, init, phase}
 use Rattle.strc_grammar.specs.Streams.{fields, member, members}
 use Rattle.strc_grammar.proofs.ExpressionCompleteness.{expr_length}
-use Rattle.strc_grammar.proofs.SimpleCompleteness.{declared_length}
+use Rattle.strc_grammar.proofs.VariableCompleteness.{declared_length}
 use Rattle.strc_grammar.proofs.StatementCompleteness.{rates_length, member_length}
 use Rattle.strc_grammar.proofs.Soundness.{Sound, Sound-ok, Sound-then, Sound-on, Sound-expect}
 use Rattle.strc_grammar.proofs.Soundness.{Stopped, repeated_soundness, brace_is, each_spelled-push}

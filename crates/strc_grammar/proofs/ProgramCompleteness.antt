@@ -20,7 +20,7 @@ use Rattle.strc_grammar.specs.Streams.{heading, filter, composite, stream, decla
 use Rattle.strc_grammar.specs.Streams.{declarations}
 use Rattle.strc_grammar.proofs.Completeness.{Complete, Complete-then, expect_punctuation}
 use Rattle.strc_grammar.proofs.Lists.{ItemCompleteness, each_completeness}
-use Rattle.strc_grammar.proofs.SimpleCompleteness.{Complete-done}
+use Rattle.strc_grammar.proofs.VariableCompleteness.{Complete-done}
 use Rattle.strc_grammar.proofs.ArgumentCompleteness.{parameters_completeness}
 use Rattle.strc_grammar.proofs.ArgumentCompleteness.{stream_type_completeness, kind_stands}
 use Rattle.strc_grammar.proofs.ArgumentCompleteness.{kind_is_no_filter}

@@ -29,9 +29,9 @@ use Rattle.strc_grammar.specs.Reading.{after_value_by, after_value, simple, opti
 use Rattle.strc_grammar.specs.Reading.{bracketed, argument, condition, last_part, after_first}
 use Rattle.strc_grammar.specs.Reading.{for_heading}
 use Rattle.strc_grammar.proofs.ExpressionCompleteness.{expr_length}
-use Rattle.strc_grammar.proofs.SimpleCompleteness.{variable_length, type_length, heading_height}
-use Rattle.strc_grammar.proofs.SimpleCompleteness.{part_length, step_first, condition_length}
-use Rattle.strc_grammar.proofs.SimpleCompleteness.{stmt_height_some}
+use Rattle.strc_grammar.proofs.VariableCompleteness.{variable_length, type_length}
+use Rattle.strc_grammar.proofs.SimpleCompleteness.{heading_height, part_length, step_first}
+use Rattle.strc_grammar.proofs.SimpleCompleteness.{condition_length, stmt_height_some}
 use Rattle.strc_grammar.proofs.Soundness.{Sound, Sound-then, Sound-on, Sound-expect, Sound-name}
 use Rattle.strc_grammar.proofs.Soundness.{Sound-raised, Stopped, repeated_soundness, punctuation_is}
 use Rattle.strc_grammar.proofs.Soundness.{each_spelled-push, highest-push, All-push}

@@ -28,10 +28,11 @@ use Rattle.strc_grammar.proofs.Completeness.{Complete, Complete-then, Complete-i
 use Rattle.strc_grammar.proofs.Completeness.{Complete-raised}
 use Rattle.strc_grammar.proofs.ExpressionCompleteness.{expr_length, found}
 use Rattle.strc_grammar.proofs.Lists.{TallCompleteness, each_taller_completeness}
+use Rattle.strc_grammar.proofs.VariableCompleteness.{declared_length}
 use Rattle.strc_grammar.proofs.SimpleCompleteness.{made, ended_completeness, heading_height}
 use Rattle.strc_grammar.proofs.SimpleCompleteness.{heading_completeness, bracketed_completeness}
-use Rattle.strc_grammar.proofs.SimpleCompleteness.{begins, declared_length, part_length}
-use Rattle.strc_grammar.proofs.SimpleCompleteness.{heading_length, stmt_height_some}
+use Rattle.strc_grammar.proofs.SimpleCompleteness.{begins, part_length, heading_length}
+use Rattle.strc_grammar.proofs.SimpleCompleteness.{stmt_height_some}
 
 -- ---- how a statement begins
 
