@@ -1,5 +1,5 @@
 -- What the words of a command line are taken for, by what clap says of them.
-use Rattle.std.proofs.Common.{◌≡◌, ◌∙◌, ◌⊎◌, List, [], Option, Result, Ok, Err, IfOk, subst, sym}
+use Rattle.std.proofs.Common.{◌≡◌, ◌∙◌, ◌⊎◌, List, [], Option, Result, Ok, Err, IfOk, subst}
 use Rattle.std.proofs.Common.{ap}
 use Rattle.std.proofs.Common.{inl, inr}
 use Rattle.clap.specs.Walk.{Row, Text}
