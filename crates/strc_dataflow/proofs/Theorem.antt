@@ -107,7 +107,8 @@ queues_hold meaning graph input order within = (
 -- The run over queues.
 pub stream_queue_run : {Code State Cause Word : Type 0} → QueueRunGivesAnswer Code State Cause Word
 stream_queue_run meaning stream input startup round startup_order round_order k within =
-    let same = fifo_run-whole_run meaning (flat stream) input within round_order startup_order k in (
+    let same = fifo_run-whole_run meaning (flat stream) input within round_order startup_order k
+    in (
       same,
       λ keeps schedule. rw same (stream_run_gives meaning stream input startup round
           startup_order round_order k keeps schedule),

@@ -69,5 +69,6 @@ body_accepted lacks rates block c sights limits counts told pushes pops =
     ∙ ap (λ x. counted rates x (body_sights (window_size rates) block)) counts
     ∙ ap (λ s. counted rates (Some c) s) told
     ∙ ap (λ r. result_and_then r (λ same. result_and_then
-    (same_rate (item_count (pop_rate rates)) c.pops) (λ also. with_closed_peeks rates sights))) pushes
+    (same_rate (item_count (pop_rate rates)) c.pops) (λ also. with_closed_peeks rates sights)))
+    pushes
     ∙ ap (λ r. result_and_then r (λ also. with_closed_peeks rates sights)) pops
