@@ -13,7 +13,7 @@ use Rattle.strc_check.specs.Resolution.{Typed, expect_type, read_as, constant_re
 use Rattle.strc_check.specs.Resolution.{sides_type, binary_type, unary_typed, binary_typed}
 use Rattle.strc_check.specs.Resolution.{conditional_typed, peek_typed, group_typed, expr_resolved}
 use Rattle.strc_check.specs.Resolution.{expr_as, rate_context}
-use Rattle.strc_check.proofs.Resolving.{Gives, then_gives, any_gives, kept_gives}
+use Rattle.strc_check.proofs.ResolvingStatements.{Gives, then_gives, any_gives, kept_gives}
 
 -- a typed expression is constant
 abbrev IsConstantTyped : Typed → Type 0

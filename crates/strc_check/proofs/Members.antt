@@ -19,11 +19,11 @@ pub init_judged : (constants : List (List ℕ × ℤ)) (input output : ItemType)
     → m ≡ Init block → result_and_then (judged.body_resolved context fields (block_view items))
     (λ b. Ok (tree.Init b)) ≡ judged.member_resolved constants input output fields before
     (member_view m)
-init_judged constants input output fields before context m block items at held is =
+init_judged constants input output fields before context m block items at same is =
     ap (λ s. result_and_then (judged.body_resolved s fields (block_view items))
     (λ b. Ok (tree.Init b))) at
     ∙ ap (λ l. result_and_then (judged.body_resolved (judged.init_context constants) fields
-    (block_view l)) (λ b. Ok (tree.Init b))) held
+    (block_view l)) (λ b. Ok (tree.Init b))) same
     ∙ ap (judged.member_resolved constants input output fields before)
     (sym (member_view-Init block))
     ∙ ap (λ x. judged.member_resolved constants input output fields before (member_view x)) (sym is)
@@ -51,9 +51,9 @@ pub prework_judged : (constants : List (List ℕ × ℤ)) (input output : ItemTy
     (work_judged constants input output fields written items)
     (λ w. Ok (tree.Prework w.rates w.block))
     ≡ judged.member_resolved constants input output fields before (member_view m)
-prework_judged constants input output fields before m rates block written items held held' is =
+prework_judged constants input output fields before m rates block written items same same' is =
     work_same constants input output fields
-    (λ w. Ok (tree.Prework w.rates w.block)) written rates.items items block.items held held'
+    (λ w. Ok (tree.Prework w.rates w.block)) written rates.items items block.items same same'
     ∙ ap (judged.member_resolved constants input output fields before)
     (sym (member_view-Prework rates block))
     ∙ ap (λ x. judged.member_resolved constants input output fields before (member_view x)) (sym is)
@@ -65,9 +65,9 @@ pub main_work_judged : (constants : List (List ℕ × ℤ)) (input output : Item
     → result_and_then (work_judged constants input output fields written items)
     (λ w. Ok (tree.Work w.rates w.block))
     ≡ judged.member_resolved constants input output fields before (member_view m)
-main_work_judged constants input output fields before m rates block written items held held' is =
+main_work_judged constants input output fields before m rates block written items same same' is =
     work_same constants input output fields
-    (λ w. Ok (tree.Work w.rates w.block)) written rates.items items block.items held held'
+    (λ w. Ok (tree.Work w.rates w.block)) written rates.items items block.items same same'
     ∙ ap (judged.member_resolved constants input output fields before)
     (sym (member_view-Work rates block))
     ∙ ap (λ x. judged.member_resolved constants input output fields before (member_view x)) (sym is)

@@ -1,5 +1,5 @@
 -- The judgement of a block or of members, from what is judged so far and what is left.
-use Rattle.std.proofs.Common.{◌≡◌, ℕ, ◌+◌, List, [], ◌∷◌, ◌++◌, map, Result, Ok, Err, refl, sym, ap}
+use Rattle.std.proofs.Common.{◌≡◌, ℕ, List, [], ◌∷◌, ◌++◌, map, Result, Ok, Err, refl, sym, ap}
 use Rattle.std.proofs.Common.{◌∙◌}
 use Rattle.strc_base.specs.Results.{result_and_then}
 use Rattle.strc_syntax.specs.Tree as tree
@@ -29,19 +29,19 @@ block_onto-push (first ∷ others) last rest =
     ap (tree.Then (stmt_view first)) (block_onto-push others last rest)
 
 -- what is left of a judgement, after what is judged already
-abbrev pub block_behind : List Stmt → Result tree.Stmts LowerError → Result tree.Stmts LowerError
-block_behind resolved left = result_and_then left (λ rest. Ok (block_onto resolved rest))
+abbrev pub block_after : List Stmt → Result tree.Stmts LowerError → Result tree.Stmts LowerError
+block_after resolved left = result_and_then left (λ rest. Ok (block_onto resolved rest))
 
-pub block_behind_none : (left : Result tree.Stmts LowerError) → block_behind [] left ≡ left
-block_behind_none (Ok rest) = refl
-block_behind_none (Err refusal) = refl
+pub block_after_none : (left : Result tree.Stmts LowerError) → block_after [] left ≡ left
+block_after_none (Ok rest) = refl
+block_after_none (Err refusal) = refl
 
 -- one more statement is judged
-pub block_behind_more : (resolved : List Stmt) (last : Stmt) (left : Result tree.Stmts LowerError)
-    → block_behind (resolved ++ last ∷ []) left
-    ≡ block_behind resolved (result_and_then left (λ rest. Ok (tree.Then (stmt_view last) rest)))
-block_behind_more resolved last (Ok rest) = ap Ok (block_onto-push resolved last rest)
-block_behind_more resolved last (Err refusal) = refl
+pub block_after_more : (resolved : List Stmt) (last : Stmt) (left : Result tree.Stmts LowerError)
+    → block_after (resolved ++ last ∷ []) left
+    ≡ block_after resolved (result_and_then left (λ rest. Ok (tree.Then (stmt_view last) rest)))
+block_after_more resolved last (Ok rest) = ap Ok (block_onto-push resolved last rest)
+block_after_more resolved last (Err refusal) = refl
 
 -- a refusal passes through
 pub refusal_through : {A B : Type 0} (first : Result A LowerError) (go : A → Result B LowerError)
@@ -60,56 +60,56 @@ refusal_same first second (refused.ConstFault cause) same h = sym same ∙ h
 refusal_same first second refused.NoMemory same h = h
 
 -- the judgement of a list, after what is judged already
-abbrev pub list_behind : {X A : Type 0} → (X → A) → List X → Result (List A) LowerError
+abbrev pub list_after : {X A : Type 0} → (X → A) → List X → Result (List A) LowerError
     → Result (List A) LowerError
-list_behind view resolved left = result_and_then left (λ rest. Ok (map view resolved ++ rest))
+list_after view resolved left = result_and_then left (λ rest. Ok (map view resolved ++ rest))
 
-pub list_behind_none : {X A : Type 0} (view : X → A) (left : Result (List A) LowerError)
-    → list_behind view [] left ≡ left
-list_behind_none view (Ok rest) = refl
-list_behind_none view (Err refusal) = refl
+pub list_after_none : {X A : Type 0} (view : X → A) (left : Result (List A) LowerError)
+    → list_after view [] left ≡ left
+list_after_none view (Ok rest) = refl
+list_after_none view (Err refusal) = refl
 
 map-push : {X A : Type 0} (view : X → A) (xs : List X) (last : X) (rest : List A)
     → map view (xs ++ last ∷ []) ++ rest ≡ map view xs ++ view last ∷ rest
 map-push view [] last rest = refl
 map-push view (first ∷ others) last rest = ap (λ l. view first ∷ l) (map-push view others last rest)
 
-pub list_behind_more : {X A : Type 0} (view : X → A) (resolved : List X) (last : X)
-    (left : Result (List A) LowerError) → list_behind view (resolved ++ last ∷ []) left
-    ≡ list_behind view resolved (result_and_then left (λ rest. Ok (view last ∷ rest)))
-list_behind_more view resolved last (Ok rest) = ap Ok (map-push view resolved last rest)
-list_behind_more view resolved last (Err refusal) = refl
+pub list_after_more : {X A : Type 0} (view : X → A) (resolved : List X) (last : X)
+    (left : Result (List A) LowerError) → list_after view (resolved ++ last ∷ []) left
+    ≡ list_after view resolved (result_and_then left (λ rest. Ok (view last ∷ rest)))
+list_after_more view resolved last (Ok rest) = ap Ok (map-push view resolved last rest)
+list_after_more view resolved last (Err refusal) = refl
 
 -- the judgement of one more item, before those that are left
-pub list_behind_step : {X A : Type 0} (view : X → A) (resolved : List X) (y : X)
+pub list_after_step : {X A : Type 0} (view : X → A) (resolved : List X) (y : X)
     (first : Result A LowerError) (left : Result (List A) LowerError) → first ≡ Ok (view y)
-    → list_behind view (resolved ++ y ∷ []) left
-    ≡ list_behind view resolved (result_and_then first
+    → list_after view (resolved ++ y ∷ []) left
+    ≡ list_after view resolved (result_and_then first
     (λ first'. result_and_then left (λ rest'. Ok (first' ∷ rest'))))
-list_behind_step view resolved y first left h =
-    list_behind_more view resolved y left
-    ∙ ap (λ r. list_behind view resolved (result_and_then r
+list_after_step view resolved y first left h =
+    list_after_more view resolved y left
+    ∙ ap (λ r. list_after view resolved (result_and_then r
     (λ first'. result_and_then left (λ rest'. Ok (first' ∷ rest'))))) (sym h)
 
 -- the judgement of one more statement
-pub block_behind_step : (context : judged.Context) (names names' : TypedNames) (outer : ℕ)
+pub block_after_step : (context : judged.Context) (names names' : TypedNames) (outer : ℕ)
     (resolved : List Stmt) (x : tree.Stmt) (y : Stmt) (rest : tree.Stmts)
     → judged.stmt_resolved context names outer x ≡ Ok (stmt_view y) → names' ≡ names_after names x
-    → block_behind (resolved ++ y ∷ []) (judged.stmts_resolved context names' outer rest)
-    ≡ block_behind resolved (judged.stmts_resolved context names outer (tree.Then x rest))
-block_behind_step context names names' outer resolved x y rest h scope =
+    → block_after (resolved ++ y ∷ []) (judged.stmts_resolved context names' outer rest)
+    ≡ block_after resolved (judged.stmts_resolved context names outer (tree.Then x rest))
+block_after_step context names names' outer resolved x y rest h scope =
     let left = judged.stmts_resolved context (names_after names x) outer rest in
     let go : tree.Stmt → Result tree.Stmts LowerError =
     λ first'. result_and_then left (λ rest'. Ok (tree.Then first' rest')) in
-    ap (λ n. block_behind (resolved ++ y ∷ []) (judged.stmts_resolved context n outer rest)) scope
-    ∙ block_behind_more resolved y left
-    ∙ ap (λ r. block_behind resolved (result_and_then r go)) (sym h)
+    ap (λ n. block_after (resolved ++ y ∷ []) (judged.stmts_resolved context n outer rest)) scope
+    ∙ block_after_more resolved y left
+    ∙ ap (λ r. block_after resolved (result_and_then r go)) (sym h)
 
 -- the refusal of a statement is that of its block
 pub block_refused : (context : judged.Context) (names : TypedNames) (outer : ℕ)
     (resolved : List Stmt) (x : tree.Stmt) (rest : tree.Stmts) (e : LowerError)
     → IsRefusal (judged.stmt_resolved context names outer x) e
-    → IsRefusal (block_behind resolved (judged.stmts_resolved context names outer
+    → IsRefusal (block_after resolved (judged.stmts_resolved context names outer
     (tree.Then x rest))) e
 block_refused context names outer resolved x rest e h =
     refusal_through (judged.stmts_resolved context names outer (tree.Then x rest))

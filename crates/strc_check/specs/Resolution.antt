@@ -26,7 +26,7 @@ use Rattle.strc_check.specs.declared.types.ValueType.TheVariants.{Int, Boolean, 
 use Rattle.strc_base.specs.Names.{has_name, value_named}
 use Rattle.strc_semantics.specs.Filters.{Filter, work_count}
 use Rattle.strc_check.specs.Typing.{TypedNames, same_type, is_array, names_with, names_after}
-use Rattle.strc_check.specs.Typing.{block_names, fields_behind}
+use Rattle.strc_check.specs.Typing.{block_names, names_after_fields}
 use Rattle.strc_semantics.specs.Constants.{constant_value}
 
 -- goes on where a rule is kept
@@ -510,5 +510,5 @@ abbrev pub filter_resolved : List (List ℕ × ℤ) → Filter → Result Filter
 filter_resolved constants filter =
     where_kept (has_parts filter.members)
     (result_and_then (members_resolved constants filter.input filter.output
-    (fields_behind [] filter.members) [] filter.members) (λ members'.
+    (names_after_fields [] filter.members) [] filter.members) (λ members'.
     Ok (record filter { members = members' })))

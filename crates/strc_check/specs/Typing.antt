@@ -47,10 +47,10 @@ abbrev pub block_names : (outer : ℕ) → TypedNames → List (List ℕ)
 block_names outer names = take (length names - outer) (plain_names names)
 
 -- the fields after these members, with those before them
-abbrev pub fields_behind : TypedNames → List tree.Member → TypedNames
-fields_behind names [] = names
-fields_behind names (tree.Fields kind variables ∷ rest) =
-    fields_behind (with_declared names (type_of kind) variables) rest
-fields_behind names (tree.Init block ∷ rest) = fields_behind names rest
-fields_behind names (tree.Prework rates block ∷ rest) = fields_behind names rest
-fields_behind names (tree.Work rates block ∷ rest) = fields_behind names rest
+abbrev pub names_after_fields : TypedNames → List tree.Member → TypedNames
+names_after_fields names [] = names
+names_after_fields names (tree.Fields kind variables ∷ rest) =
+    names_after_fields (with_declared names (type_of kind) variables) rest
+names_after_fields names (tree.Init block ∷ rest) = names_after_fields names rest
+names_after_fields names (tree.Prework rates block ∷ rest) = names_after_fields names rest
+names_after_fields names (tree.Work rates block ∷ rest) = names_after_fields names rest

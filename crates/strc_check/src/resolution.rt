@@ -65,7 +65,7 @@ pub fn resolve_filter(
 
 /// The fields with their types.
 fn typed_fields(alloc: Global, members: &[Member]) -> Result<TypedScope, NoMemory>
-    ensures { IfOk result (λ names. names ≡ typing.fields_behind [] (members_of members.now)) }
+    ensures { IfOk result (λ names. names ≡ typing.names_after_fields [] (members_of members.now)) }
 {
     let mut fields = TypedScope::new(alloc);
     for member in members {

@@ -6,7 +6,7 @@ use Rattle.strc_check.specs.declared.types.ValueType.{ValueType}
 use Rattle.strc_check.specs.declared.types.ValueType.TheVariants.{Int, Boolean, Array}
 use Rattle.strc_check.specs.Typing.{same_type}
 use Rattle.strc_check.specs.Resolution.{where_kept}
-use Rattle.strc_check.proofs.Resolving.{Gives}
+use Rattle.strc_check.proofs.ResolvingStatements.{Gives}
 
 -- a test that is kept holds of what follows
 pub kept_gives : {B : Type 0} (Q : B → Type 0) (kept : Bool) (next : Result B LowerError)

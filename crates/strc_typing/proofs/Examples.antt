@@ -10,7 +10,7 @@ use Rattle.strc_check.specs.Typing.{same_type}
 use Rattle.strc_check.specs.Resolution.{Context, Typed, expr_resolved, stmt_resolved}
 use Rattle.strc_check.specs.Resolution.{filter_resolved, number_resolved, rate_context}
 use Rattle.strc_check.specs.Resolution.{init_context}
-use Rattle.strc_check.proofs.Resolving.{Gives}
+use Rattle.strc_check.proofs.ResolvingStatements.{Gives}
 use Rattle.strc_typing.specs.Expressions.{HasType}
 use Rattle.strc_typing.specs.Numbers.{HasNumber}
 use Rattle.strc_typing.specs.Examples.{example_names, example_constants, HaveTypes, HaveNoType}

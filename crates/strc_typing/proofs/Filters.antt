@@ -12,7 +12,7 @@ use Rattle.strc_syntax.specs.declared.tree.ItemType.{ItemType}
 use Rattle.strc_semantics.specs.Filters.{Filter, work_count}
 use Rattle.strc_check.specs.declared.error.LowerError.{LowerError}
 use Rattle.strc_check.specs.declared.types.ValueType.{ValueType}
-use Rattle.strc_check.specs.Typing.{TypedNames, type_of, fields_behind}
+use Rattle.strc_check.specs.Typing.{TypedNames, type_of, names_after_fields}
 use Rattle.strc_check.specs.Resolution.{Context, ResolvedType, Work, where_kept, initial_resolved}
 use Rattle.strc_check.specs.Resolution.{number_resolved, type_resolved, carries_items, side_of}
 use Rattle.strc_check.specs.Resolution.{init_context, body_context, rate_fits, rate_resolved}
@@ -20,7 +20,7 @@ use Rattle.strc_check.specs.Resolution.{rates_resolved, field_resolved, fields_r
 use Rattle.strc_check.specs.Resolution.{fields_after, body_resolved, work_resolved, member_resolved}
 use Rattle.strc_check.specs.Resolution.{members_resolved, prework_count, init_count, has_parts}
 use Rattle.strc_check.specs.Resolution.{filter_resolved}
-use Rattle.strc_check.proofs.Resolving.{Gives, then_gives}
+use Rattle.strc_check.proofs.ResolvingStatements.{Gives, then_gives}
 use Rattle.strc_typing.specs.Expressions.{InitialHasType}
 use Rattle.strc_typing.specs.Numbers.{HasNumber}
 use Rattle.strc_typing.specs.Statements.{IsDeclarable, AreWellFormed}
@@ -344,7 +344,7 @@ filter_gives : (constants : List (List ℕ × ℤ)) (filter : Filter)
     → Gives (λ (f : Filter). IsWellTyped constants filter) (filter_resolved constants filter)
 filter_gives constants filter =
     let ms = filter.members in
-    let fields = fields_behind [] ms in
+    let fields = names_after_fields [] ms in
     let Q : Filter → Type 0 = λ f. IsWellTyped constants filter in
     let walked = members_resolved constants filter.input filter.output fields [] ms in
     kept_gives Q (has_parts ms)
@@ -363,7 +363,7 @@ filter_ok : (constants : List (List ℕ × ℤ)) (filter : Filter) → IsWellTyp
     → IsOk (filter_resolved constants filter)
 filter_ok constants filter h =
     let ms = filter.members in
-    let fields = fields_behind [] ms in
+    let fields = names_after_fields [] ms in
     let walked = members_resolved constants filter.input filter.output fields [] ms in
     let go : List tree.Member → Result Filter LowerError =
     λ ms'. Ok (record filter { members = ms' }) in

@@ -21,8 +21,8 @@ use Rattle.strc_check.specs.Resolution.{Typed, expect_type, read_as, constant_re
 use Rattle.strc_check.specs.Resolution.{sides_type, binary_type, unary_typed, binary_typed}
 use Rattle.strc_check.specs.Resolution.{conditional_typed, peek_typed, group_typed, expr_resolved}
 use Rattle.strc_check.specs.Resolution.{expr_as, rate_context, value_given, number_resolved}
-use Rattle.strc_check.proofs.Resolving.{Gives, then_gives, any_gives}
-use Rattle.strc_check.proofs.Resolving as resolving
+use Rattle.strc_check.proofs.ResolvingStatements.{Gives, then_gives, any_gives}
+use Rattle.strc_check.proofs.ResolvingStatements as resolving
 use Rattle.strc_typing.specs.Expressions.{HasType}
 use Rattle.strc_typing.specs.Numbers.{constant_variables, constant_store, Means, HasNumber}
 use Rattle.strc_typing.proofs.Accepting.{then_is}
@@ -186,7 +186,7 @@ module _ (constants : List (List ℕ × ℤ)) where
             (constant_cells constants name value is),
       )
 
-  -- the walk puts constants in, and the meaning stays
+  -- the walk substitutes constants, and the meaning stays
   expr_means : (names : TypedNames) (e : tree.Expr)
       → Gives (TypedMeansAs e) (expr_resolved (rate_context constants) names e)
   expr_means names (tree.Number value) = (tt, λ port traffic. refl)

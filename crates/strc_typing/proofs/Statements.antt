@@ -22,7 +22,7 @@ use Rattle.strc_check.specs.Resolution.{number_resolved, array_type, type_resolv
 use Rattle.strc_check.specs.Resolution.{variable_resolved, variables_resolved, assigned_type}
 use Rattle.strc_check.specs.Resolution.{assign_resolved, element_assign_resolved, given_resolved}
 use Rattle.strc_check.specs.Resolution.{stmt_resolved, stmts_resolved}
-use Rattle.strc_check.proofs.Resolving.{Gives, then_gives}
+use Rattle.strc_check.proofs.ResolvingStatements.{Gives, then_gives}
 use Rattle.strc_typing.specs.Expressions.{IsVariable, SeesVariable, HasType, InitialHasType}
 use Rattle.strc_typing.specs.Numbers.{HasNumber}
 use Rattle.strc_typing.specs.Statements.{IsLength, IsDeclarable, AreDeclared, IsAssignable}

@@ -19,7 +19,7 @@ use Rattle.strc_check.specs.Resolution.{binary_type, unary_typed, binary_typed, 
 use Rattle.strc_check.specs.Resolution.{peek_typed, group_typed, step_resolved, array_resolved}
 use Rattle.strc_check.specs.Resolution.{element_typed, step_element_typed, expr_resolved, expr_as}
 use Rattle.strc_check.specs.Resolution.{initial_resolved}
-use Rattle.strc_check.proofs.Resolving.{Gives, then_gives}
+use Rattle.strc_check.proofs.ResolvingStatements.{Gives, then_gives}
 use Rattle.strc_typing.specs.Expressions.{IsVariable, SeesVariable, NameHasType}
 use Rattle.strc_typing.specs.Expressions.{HasType, InitialHasType}
 use Rattle.strc_typing.proofs.Accepting.{kept_gives, kept_is, then_is, any_ok, given, is_ok_of}

@@ -5,7 +5,7 @@ use Rattle.strc_syntax.specs.Tree as tree
 use Rattle.strc_syntax.specs.declared.tree.ItemType.{ItemType}
 use Rattle.strc_semantics.specs.Filters.{Filter, work_count}
 use Rattle.strc_check.specs.declared.types.ValueType.{ValueType}
-use Rattle.strc_check.specs.Typing.{TypedNames, type_of, fields_behind}
+use Rattle.strc_check.specs.Typing.{TypedNames, type_of, names_after_fields}
 use Rattle.strc_check.specs.Resolution.{Context, carries_items, side_of, init_context, body_context}
 use Rattle.strc_check.specs.Resolution.{fields_after, prework_count, init_count}
 use Rattle.strc_typing.specs.Expressions.{InitialHasType}
@@ -63,4 +63,4 @@ pub record IsWellTyped (constants : List (List ℕ × ℤ)) (filter : Filter) : 
   pub prework : prework_count filter.members ≤ 1
   pub init : init_count filter.members ≤ 1
   pub members : AreWellFormedMembers constants filter.input filter.output
-      (fields_behind [] filter.members) [] filter.members
+      (names_after_fields [] filter.members) [] filter.members

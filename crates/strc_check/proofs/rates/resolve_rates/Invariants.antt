@@ -1,11 +1,11 @@
 use Rattle.std.proofs.Common.{◌≡◌, drop, map}
 use Rattle.strc_syntax.specs.View.{rate_view}
 use Rattle.strc_check.specs.Resolution.{rates_resolved}
-use Rattle.strc_check.proofs.Resolved.{list_behind}
+use Rattle.strc_check.proofs.Resolved.{list_after}
 use Rattle.strc_check.proofs.rates.resolve_rates.Given as goal
 
 abbrev pub invariant-loop-rate : goal.invariant-loop-rate
-invariant-loop-rate l = list_behind rate_view l.resolved.items
+invariant-loop-rate l = list_after rate_view l.resolved.items
     (rates_resolved l.constants l.fields l.input l.output
     (map rate_view (drop l.rate-index l.rates)))
     ≡ rates_resolved l.constants l.fields l.input l.output (map rate_view l.rates)

@@ -2,12 +2,12 @@ use Rattle.std.proofs.Common.{◌≡◌, drop}
 use Rattle.strc_syntax.specs.View.{member_view}
 use Rattle.strc_semantics.specs.Filters.{members_of}
 use Rattle.strc_check.specs.Resolution.{members_resolved}
-use Rattle.strc_check.proofs.Resolved.{list_behind}
+use Rattle.strc_check.proofs.Resolved.{list_after}
 use Rattle.strc_check.proofs.resolution.resolve_filter.Given as goal
 
 abbrev pub invariant-loop-member : goal.invariant-loop-member
 invariant-loop-member l = record {
-  left : list_behind member_view l.resolved.items
+  left : list_after member_view l.resolved.items
       (members_resolved l.constants l.input l.output l.fields l.before
       (members_of (drop l.member-index l.members)))
       ≡ members_resolved l.constants l.input l.output l.initial.fields l.initial.before

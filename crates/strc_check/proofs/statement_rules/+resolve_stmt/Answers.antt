@@ -8,7 +8,7 @@ use Rattle.strc_check.specs.Resolution.{stmt_resolved, stmts_resolved}
 use Rattle.strc_check.specs.Verdicts.{context_of}
 use Rattle.strc_syntax.proofs.Blocks.{stmt_view-Block, block_view-drop}
 use Rattle.strc_check.proofs.TypedGrowth.{stands_on_after}
-use Rattle.strc_check.proofs.Resolved.{block_behind, block_behind_step, block_refused}
+use Rattle.strc_check.proofs.Resolved.{block_after, block_after_step, block_refused}
 use Rattle.strc_check.proofs.Resolved.{block_onto-Done, refusal_same, refusal_through}
 use Rattle.strc_check.proofs.statement_rules.+resolve_stmt.Goals as goal
 
@@ -25,12 +25,12 @@ loop-inner-preserved t c =
     let names = c.in_ok-resolve_stmt-in-Block.ensures.names in
     record {
       left =
-          ap (λ l. block_behind l (stmts_resolved context c.resolve_stmt.new.names start rest))
+          ap (λ l. block_after l (stmts_resolved context c.resolve_stmt.new.names start rest))
           c.in_ok-push-in-Block.ensures.items
-          ∙ block_behind_step context c.loop-inner.names c.resolve_stmt.new.names start
+          ∙ block_after_step context c.loop-inner.names c.resolve_stmt.new.names start
           c.loop-inner.resolved.items (stmt_view x) y rest
           c.in_ok-resolve_stmt-in-Block.ensures.verdict names
-          ∙ ap (λ b. block_behind c.loop-inner.resolved.items
+          ∙ ap (λ b. block_after c.loop-inner.resolved.items
           (stmts_resolved context c.loop-inner.names start b))
           (sym (block_view-drop items i x lt c.inner-item.is))
           ∙ c.loop-inner.invariant.left;
@@ -54,7 +54,7 @@ returns-in_err-resolve_stmt-in-Block-clause-verdict t c =
     (stmt_view x) (block_view (drop (i + 1) items)) e
     c.in_err-resolve_stmt-in-Block.ensures.verdict in
     let left =
-    ap (λ b. block_behind c.loop-inner.resolved.items
+    ap (λ b. block_after c.loop-inner.resolved.items
     (stmts_resolved context c.loop-inner.names start b))
     (sym (block_view-drop items i x lt c.inner-item.is))
     ∙ c.loop-inner.invariant.left
@@ -80,7 +80,7 @@ returns-after-loop-inner-clause-verdict t c =
     c.deref-inner-items.ensures.value)
     ∙ sym (ap (λ n. stmts_resolved context names n (block_view items)) c.len-inner_start.ensures)
     ∙ sym c.loop-inner.invariant.left
-    ∙ ap (λ l. block_behind c.loop-inner.resolved.items
+    ∙ ap (λ l. block_after c.loop-inner.resolved.items
     (stmts_resolved context c.loop-inner.names start (block_view l)))
     (drop_of_length-le items c.loop-inner-test.false)
     ∙ ap Ok (block_onto-Done c.loop-inner.resolved.items) in

@@ -6,7 +6,7 @@ use Rattle.strc_check.specs.Resolution.{stmts_resolved}
 use Rattle.strc_check.specs.Verdicts.{context_of}
 use Rattle.strc_syntax.proofs.Blocks.{block_view-drop}
 use Rattle.strc_check.proofs.TypedGrowth.{stands_on_after}
-use Rattle.strc_check.proofs.Resolved.{block_behind, block_behind_step, block_refused}
+use Rattle.strc_check.proofs.Resolved.{block_after, block_after_step, block_refused}
 use Rattle.strc_check.proofs.Resolved.{block_onto-Done, refusal_same}
 use Rattle.strc_check.proofs.statement_rules.resolve_block.Goals as goal
 
@@ -23,12 +23,12 @@ loop-inner-preserved c =
     let names = c.in_ok-resolve_stmt.ensures.names in
     record {
       left =
-          ap (λ l. block_behind l (stmts_resolved context c.resolve_stmt.new.names start rest))
+          ap (λ l. block_after l (stmts_resolved context c.resolve_stmt.new.names start rest))
           c.in_ok-push.ensures.items
-          ∙ block_behind_step context c.loop-inner.names c.resolve_stmt.new.names start
+          ∙ block_after_step context c.loop-inner.names c.resolve_stmt.new.names start
           c.loop-inner.resolved.items (stmt_view x) y rest c.in_ok-resolve_stmt.ensures.verdict
           names
-          ∙ ap (λ b. block_behind c.loop-inner.resolved.items
+          ∙ ap (λ b. block_after c.loop-inner.resolved.items
           (stmts_resolved context c.loop-inner.names start b))
           (sym (block_view-drop items i x lt c.inner-item.is))
           ∙ c.loop-inner.invariant.left;
@@ -48,7 +48,7 @@ returns-in_err-resolve_stmt-clause-verdict c =
     let p = err_from_is_err_and c.from_residual.result c.from_residual.ensures.1 in
     let here = block_refused context c.loop-inner.names start c.loop-inner.resolved.items
     (stmt_view x) (block_view (drop (i + 1) items)) e c.in_err-resolve_stmt.ensures.verdict in
-    let left = ap (λ b. block_behind c.loop-inner.resolved.items
+    let left = ap (λ b. block_after c.loop-inner.resolved.items
     (stmts_resolved context c.loop-inner.names start b))
     (sym (block_view-drop items i x lt c.inner-item.is)) ∙ c.loop-inner.invariant.left
     ∙ ap (λ n. stmts_resolved context c.args.names.now n (block_view items))
@@ -62,7 +62,7 @@ returns-clause-verdict c =
     let start = c.len-start.result in
     sym (ap (λ n. stmts_resolved context c.args.names.now n (block_view items)) c.len-start.ensures)
     ∙ sym c.loop-inner.invariant.left
-    ∙ ap (λ l. block_behind c.loop-inner.resolved.items
+    ∙ ap (λ l. block_after c.loop-inner.resolved.items
     (stmts_resolved context c.loop-inner.names start (block_view l)))
     (drop_of_length-le items c.loop-inner-test.false)
     ∙ ap Ok (block_onto-Done c.loop-inner.resolved.items)

@@ -3,12 +3,12 @@ use Rattle.strc_syntax.specs.View.{variable_view}
 use Rattle.strc_check.specs.Typing.{with_declared}
 use Rattle.strc_check.specs.Resolution.{variables_resolved}
 use Rattle.strc_check.specs.Verdicts.{context_of}
-use Rattle.strc_check.proofs.Resolved.{list_behind}
+use Rattle.strc_check.proofs.Resolved.{list_after}
 use Rattle.strc_check.proofs.statement_rules.resolve_variables.Given as goal
 
 abbrev pub invariant-loop-variable : goal.invariant-loop-variable
 invariant-loop-variable l = record {
-  left : list_behind variable_view l.resolved.items
+  left : list_after variable_view l.resolved.items
       (variables_resolved (context_of l.context) l.names l.start l.kind
       (map variable_view (drop l.variable-index l.variables)))
       ≡ variables_resolved (context_of l.context) l.initial.names l.start l.kind
