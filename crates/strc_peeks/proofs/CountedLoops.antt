@@ -171,13 +171,13 @@ known_by_move : (locals : Locals) (s : tree.Stmt) (condition : tree.Expr) (step 
     (Known locals s (Some condition) step body)
 known_by_move locals s condition step body first bound None begins unwritten bounds steps = tt
 known_by_move locals s condition step body first bound (Some move) begins unwritten bounds steps =
-    IfSome_then (loop_of first bound move) (loop_told first bound move bounds.0) (λ loop told.
-    let name = sym told.name in
-    let by_move = sym told.turning.moves in
+    IfSome_then (loop_of first bound move) (loop_told first bound move bounds.0) (λ loop reported.
+    let name = sym reported.name in
+    let by_move = sym reported.turning.moves in
     record {
       begins = subst (λ n. Begins locals s (record { name = n; value = loop.start })) name
           (subst (λ v. Begins locals s (record { name = first.name; value = v }))
-          (sym told.start) begins);
+          (sym reported.start) begins);
       unwritten = subst (λ n. stmt_writes n body ≡ false) name unwritten;
       bound = bound;
       tests = subst (λ n. (port : Port) (store : Store)
@@ -186,7 +186,7 @@ known_by_move locals s condition step body first bound (Some move) begins unwrit
           bounds.1;
       steps = subst (λ n. Steps n step loop.move) name
           (subst (Steps first.name step) by_move steps);
-      turning = subst (λ m. Turning bound m loop) by_move told.turning;
+      turning = subst (λ m. Turning bound m loop) by_move reported.turning;
     })
 
 known_by_bound : (locals : Locals) (s : tree.Stmt) (condition : tree.Expr) (step body : tree.Stmt)

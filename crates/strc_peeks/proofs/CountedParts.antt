@@ -235,14 +235,14 @@ expr_peekless port entries (tree.Binary operator left right) place store none = 
 expr_peekless port entries (tree.Conditional condition chosen other) place store none =
     let peeks_sides = peeks_of_expr chosen ++ peeks_of_expr other in
     let sides = empty_second (peeks_of_expr condition) peeks_sides none in
-    let behind = place + length (peeks_of_expr condition) in
-    let last = behind + length (peeks_of_expr chosen) in (
+    let past = place + length (peeks_of_expr condition) in
+    let last = past + length (peeks_of_expr chosen) in (
       expr_peekless port entries condition place store
           (empty_first (peeks_of_expr condition) peeks_sides none),
       IfOk-weaker (value_of port condition store) (λ test. Unit {0}) _
-          (λ test any. match_by (is_true test.0) (ExprIsSafe port entries behind chosen test.1)
+          (λ test any. match_by (is_true test.0) (ExprIsSafe port entries past chosen test.1)
           (ExprIsSafe port entries last other test.1)
-          (λ e. expr_peekless port entries chosen behind test.1
+          (λ e. expr_peekless port entries chosen past test.1
           (empty_first (peeks_of_expr chosen) (peeks_of_expr other) sides))
           (λ e. expr_peekless port entries other last test.1
           (empty_second (peeks_of_expr chosen) (peeks_of_expr other) sides)))

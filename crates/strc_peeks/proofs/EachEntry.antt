@@ -81,12 +81,12 @@ turned_entries : (turns : ℕ) (body : List PeekSite) (peeks : List tree.Expr)
 turned_entries zero body peeks e = unreached_entries peeks
 turned_entries (suc turns) body peeks e = e
 
-turns_entries : (told : Option Loop) (condition : Option tree.Expr) (step : tree.Stmt)
+turns_entries : (reported : Option Loop) (condition : Option tree.Expr) (step : tree.Stmt)
     (tested stepped run : List PeekSite) (turned : Loop → List PeekSite)
-    (peeks : List tree.Expr) → IfSome told (λ loop. HasFreeParts condition step)
+    (peeks : List tree.Expr) → IfSome reported (λ loop. HasFreeParts condition step)
     → AsMany tested (peeks_of_option condition) → AsMany stepped (peeks_of_stmt step)
     → AsMany run peeks → ((loop : Loop) → AsMany (turned loop) peeks)
-    → AsMany (turns_sites told (tested ++ (stepped ++ run)) turned peeks)
+    → AsMany (turns_sites reported (tested ++ (stepped ++ run)) turned peeks)
     (peeks_of_option condition ++ (peeks_of_stmt step ++ peeks))
 turns_entries None condition step tested stepped run turned peeks free e f g each =
     two_parts tested (stepped ++ run) (peeks_of_option condition) (peeks_of_stmt step ++ peeks) e
@@ -238,10 +238,10 @@ stand_second window entries place (x ∷ rest) second h =
     (stand_second window entries (place + 1) rest second h.1)
 
 -- after a part with so many peeks
-pub stand_behind : (window : ℕ) (entries : List Bool) (place : ℕ) (first second : List PeekSite)
+pub stand_after : (window : ℕ) (entries : List Bool) (place : ℕ) (first second : List PeekSite)
     (peeks : List tree.Expr) → AsMany first peeks → Stand window entries place (first ++ second)
     → Stand window entries (place + length peeks) second
-stand_behind window entries place first second peeks e h =
+stand_after window entries place first second peeks e h =
     subst (λ n. Stand window entries (place + n) second) e
     (stand_second window entries place first second h)
 
@@ -293,10 +293,10 @@ module _ (window : ℕ) (entries : List Bool) (place : ℕ) where
       → Stand window entries place (sides_sites known chosen other peeks_chosen peeks_other)
       → Stand window entries (place + length peeks_chosen) other
   stand_other None value chosen other peeks_chosen peeks_other e same taken h =
-      stand_behind window entries place chosen other peeks_chosen e h
+      stand_after window entries place chosen other peeks_chosen e h
   stand_other (Some v) value chosen other peeks_chosen peeks_other e same taken h =
       let test : is_true v ≡ false = ap is_true (sym same) ∙ taken in
-      stand_behind window entries place (unreached peeks_chosen) other peeks_chosen
+      stand_after window entries place (unreached peeks_chosen) other peeks_chosen
       (unreached_entries peeks_chosen)
       (subst (λ t. Stand window entries place (if t then chosen ++ unreached peeks_other
       else unreached peeks_chosen ++ other)) test h)

@@ -189,11 +189,11 @@ read_told intervals name (Some interval) is =
 negated_told : (intervals : Intervals) (e : tree.Expr) (interval : Interval)
     → IsTold intervals e interval → IfSome (interval_negated interval)
     (IsTold intervals (tree.Unary unary.Negate e))
-negated_told intervals e interval told =
+negated_told intervals e interval reported =
     known_told (record { low = neg_ℤ interval.high; high = neg_ℤ interval.low })
     (IsTold intervals (tree.Unary unary.Negate e))
     (λ f g port store holds.
-    let h = told port store holds in
+    let h = reported port store holds in
     let low = h.within.0 in
     let high = h.within.1 in
     let above : neg_ℤ interval.high ≤ℤ neg_ℤ h.value = omega (arith, ints) in
@@ -211,10 +211,11 @@ unary_told : (intervals : Intervals) (operator : UnaryOperator) (e : tree.Expr)
     (interval : Option Interval) → IfSome interval (IsTold intervals e)
     → IfSome (option_and_then (unary_interval operator) interval)
     (IsTold intervals (tree.Unary operator e))
-unary_told intervals operator e None told = tt
-unary_told intervals unary.Negate e (Some interval) told = negated_told intervals e interval told
-unary_told intervals unary.Not e (Some interval) told = tt
-unary_told intervals unary.Complement e (Some interval) told = tt
+unary_told intervals operator e None reported = tt
+unary_told intervals unary.Negate e (Some interval) reported =
+    negated_told intervals e interval reported
+unary_told intervals unary.Not e (Some interval) reported = tt
+unary_told intervals unary.Complement e (Some interval) reported = tt
 
 -- an operator between values that are known, and whose result is
 abbrev Gives : BinaryOperator → (v w z : ℤ) → Type 0

@@ -129,11 +129,11 @@ right_some binary.Remainder left value x is e f = e
 -- ---- items popped
 
 -- after a part that was counted no more are popped than is known
-within_behind : (a b : Traffic) (popped : PopInterval) (x : Option Counts) → is_some x ≡ true
+within_after : (a b : Traffic) (popped : PopInterval) (x : Option Counts) → is_some x ≡ true
     → Counted x a b → saturated a.popped ≤ popped.high
     → saturated b.popped ≤ (advance popped x).high
-within_behind a b popped None e h le = absurd (cc)
-within_behind a b popped (Some x) e h le =
+within_after a b popped None e h le = absurd (cc)
+within_after a b popped (Some x) e h le =
     let more = h.popped in
     let size = h.saturated_pops in
     omega arith
@@ -290,14 +290,14 @@ cells_by : (first : List ℕ × List ℤ) (rest : Variables) (name : List ℕ) (
 cells_by first rest name true e = absurd (cc)
 cells_by first rest name false e = refl
 
-cells_behind : (k : ℕ) (variables : Variables) (name : List ℕ)
+cells_after : (k : ℕ) (variables : Variables) (name : List ℕ)
     → is_declared (take k (scope_of variables)) name ≡ false
     → cells_named variables name ≡ cells_named (drop k variables) name
-cells_behind zero variables name bare = refl
-cells_behind (suc k) [] name bare = refl
-cells_behind (suc k) (first ∷ rest) name bare =
+cells_after zero variables name bare = refl
+cells_after (suc k) [] name bare = refl
+cells_after (suc k) (first ∷ rest) name bare =
     cells_by first rest name (bytes_eq first.0 name) (or_first (bytes_eq first.0 name) _ bare)
-    ∙ cells_behind k rest name (or_second (bytes_eq first.0 name) _ bare)
+    ∙ cells_after k rest name (or_second (bytes_eq first.0 name) _ bare)
 
 shown_declared : (variables : List tree.Variable) (scope : Scope) (cells n : ℕ) (name : List ℕ)
     → n ≤ length scope → is_declared (above n scope) name ≡ false → declares name variables ≡ false
@@ -343,7 +343,7 @@ done_cells s before after name done unwritten bare =
     ≡ above (length before) (names_after (scope_of before) s) =
     ap (λ k. take (k - length before) (scope_of after)) (sym (scope_length after))
     ∙ ap (above (length before)) done.exact in
-    cells_behind (length after - length before) after name
+    cells_after (length after - length before) after name
     (ap (λ l. is_declared l name) hiding ∙ shown s (scope_of before) (length before) name
     (omega arith) empty bare)
     ∙ done.grown.cells (length before) name (omega arith) (λ e. unwritten)
@@ -382,7 +382,7 @@ ready_same writes intervals popped x before after e fixed ready moves same = rec
   holds = holds_same intervals before after
       (λ name known. same_cells writes before.variables after.variables name same
       (fixed name known)) ready.holds;
-  within = within_behind before.traffic after.traffic popped x e moves ready.within;
+  within = within_after before.traffic after.traffic popped x e moves ready.within;
 }
 
 pub ready_value : (port : Port) (e : tree.Expr) (intervals : Intervals) (popped : PopInterval)
@@ -418,7 +418,7 @@ ready_stmt port s names intervals popped store closed counted fixed ready =
           (seen_after s (names_of intervals)
           (scope_of store.variables) names closed ready.seen));
       holds = λ name. later after h.1 name (known_before intervals s name);
-      within = within_behind store.traffic after.traffic popped
+      within = within_after store.traffic after.traffic popped
           (stmt_counts (names_of intervals) s) counted h.0 ready.within;
     })
     (both_ok (stmt_done port s store) _ _

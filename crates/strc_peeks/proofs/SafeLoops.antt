@@ -49,7 +49,7 @@ pub loop_safe : (I : Store → Type 0) (test_safe turn_safe : Store → Type 0)
     → ((store : Store) → I store → IfOk (body store) I) → (fuel : ℕ) (store : Store) → I store
     → LoopIsSafe fuel test_safe turn_safe test body store
 loop_safe I test_safe turn_safe test body free tests turns kept_test kept_body zero store h = tt
-loop_safe I test_safe turn_safe test body free tests turns kept_test kept_body (suc fuel) store h = (
+loop_safe I test_safe turn_safe test body free tests turn kept_test kept_body (suc fuel) store h = (
   tests store h,
   IfOk-weaker (test store) (λ tested. I tested.1) _
       (λ tested k.
@@ -59,9 +59,9 @@ loop_safe I test_safe turn_safe test body free tests turns kept_test kept_body (
       (λ e.
       IfOk-weaker (turned tested.1) I _
       (λ turning l. (
-        turns turning l,
+        turn turning l,
         IfOk-weaker (body turning) I _
-            (λ next m. loop_safe I test_safe turn_safe test body free tests turns kept_test
+            (λ next m. loop_safe I test_safe turn_safe test body free tests turn kept_test
             kept_body fuel next m) (kept_body turning l),
       ))
       (turned_holds I free tested.1 k))

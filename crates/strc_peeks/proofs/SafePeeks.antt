@@ -45,7 +45,7 @@ use Rattle.strc_peeks.proofs.SafeValues.{IsWhole, expr_safe}
 use Rattle.strc_peeks.proofs.SafeLoops.{loop_safe, fixed_with, names_with, turn_writes, ready_turn}
 use Rattle.strc_peeks.proofs.SafeLoops.{counted_safe}
 use Rattle.strc_peeks.proofs.CountedParts.{HasFreeParts, option_peekless, counted_free}
-use Rattle.strc_peeks.proofs.EachEntry.{Stand, stand_first, stand_behind}
+use Rattle.strc_peeks.proofs.EachEntry.{Stand, stand_first, stand_after}
 use Rattle.strc_peeks.proofs.EachEntry.{stand_chosen, stand_other, stand_turn, expr_entries}
 use Rattle.strc_peeks.proofs.EachEntry.{option_entries, stmt_entries}
 
@@ -93,7 +93,7 @@ variables_safe window port whole entries cells (first ∷ rest) names intervals 
           unless_hidden (bytes_eq first.name n) (variables_write n rest)
           (or_second (option_writes n first.initial) _ (fixed n before.0))
           (or_first (bytes_eq first.name n) _ before.1)) h
-          (stand_behind window entries place sites sites_rest (peeks_of_option first.initial)
+          (stand_after window entries place sites sites_rest (peeks_of_option first.initial)
           (option_entries first.initial intervals popped) stand))
           (ready_initial port cells first.name first.initial intervals popped store closed.1
           first_counted first_fixed ready),
@@ -169,7 +169,7 @@ other_turns_safe window port whole entries condition step body names intervals p
     let fixed_body : Fixed intervals (λ name. stmt_writes name body) =
     λ n e. or_second (stmt_writes n step) _
     (or_second (option_writes n condition) _ (fixed n e)) in
-    let behind_body : (s : Store) → Ready intervals popped s
+    let past_body : (s : Store) → Ready intervals popped s
     → IfOk (inside (stmt_done port body) s) (Ready intervals popped) =
     λ s r. IfOk-weaker (inside (stmt_done port body) s) (Ready intervals (advance popped z)) _
     (λ after h. ready_still intervals popped z after none_z h)
@@ -189,7 +189,7 @@ other_turns_safe window port whole entries condition step body names intervals p
       IfOk-weaker (inside (stmt_done port body) s) (Ready intervals popped) _
           (λ after h. safe_step intervals popped step_place after
           (nothing_some y none_y) fixed_step h stand_step)
-          (behind_body s r),
+          (past_body s r),
     ))
     (λ s r. IfOk-weaker (condition_value port condition s)
     (λ given. Ready intervals (advance popped x) given.1) _
@@ -197,7 +197,7 @@ other_turns_safe window port whole entries condition step body names intervals p
     (ready_condition port condition intervals popped s (nothing_some x none_x) fixed_condition r))
     (λ s r.
     then_ok (inside (stmt_done port body) s) (inside (stmt_done port step)) (Ready intervals popped)
-    (Ready intervals popped) (behind_body s r)
+    (Ready intervals popped) (past_body s r)
     (λ middle h. IfOk-weaker (inside (stmt_done port step) middle)
     (Ready intervals (advance popped y)) _
     (λ after k. ready_still intervals popped y after none_y k)
@@ -272,14 +272,15 @@ counted_turns_safe window port entries locals first condition step body loop nam
 
 for_turns_safe : (window : ℕ) (port : Port) → IsWhole window port → (entries : List Bool)
     (locals : Locals) (first : tree.Stmt) (condition : Option tree.Expr) (step body : tree.Stmt)
-    (told : Option Loop) (names : Scope) (intervals : Intervals) (popped : PopInterval)
-    (place : ℕ) (begun : Store) → IfSome told (λ loop. HasFreeParts condition step)
-    → IfSome told (λ loop. Known locals first condition step body loop
+    (reported : Option Loop) (names : Scope) (intervals : Intervals) (popped : PopInterval)
+    (place : ℕ) (begun : Store) → IfSome reported (λ loop. HasFreeParts condition step)
+    → IfSome reported (λ loop. Known locals first condition step body loop
     × HasValue loop.name loop.start begun) → IsClosedStmt names step → IsClosedStmt names body
-    → is_some (turns_counts told (option_counts condition) (stmt_counts (names_of intervals) step)
+    → is_some (turns_counts reported (option_counts condition)
+    (stmt_counts (names_of intervals) step)
     (stmt_counts (names_of intervals) body)) ≡ true
     → Fixed intervals (turn_writes condition step body) → Ready intervals popped begun
-    → Stand window entries place (turns_sites told (option_sites intervals popped condition
+    → Stand window entries place (turns_sites reported (option_sites intervals popped condition
     ++ (stmt_sites intervals popped step ++ stmt_sites intervals popped body))
     (λ loop. stmt_sites (with_interval intervals loop.name (turns_interval loop))
     (in_turns popped loop.turns (stmt_counts (names_of intervals) body)) body) (peeks_of_stmt body))
@@ -294,13 +295,13 @@ for_turns_safe window port whole entries locals first condition step body None n
     let stepped = stmt_sites intervals popped step in
     let run = stmt_sites intervals popped body in
     let step_place = place + length (peeks_of_option condition) in
-    let rest = stand_behind window entries place tested (stepped ++ run) (peeks_of_option condition)
+    let rest = stand_after window entries place tested (stepped ++ run) (peeks_of_option condition)
     (option_entries condition intervals popped) stand in
     other_turns_safe window port whole entries condition step body names intervals popped place
     step_place (step_place + length (peeks_of_stmt step)) begun closed_step closed_body counted
     fixed ready (stand_first window entries place tested (stepped ++ run) stand)
     (stand_first window entries step_place stepped run rest)
-    (stand_behind window entries step_place stepped run (peeks_of_stmt step)
+    (stand_after window entries step_place stepped run (peeks_of_stmt step)
     (stmt_entries step intervals popped) rest) safe_step safe_body
 for_turns_safe window port whole entries locals first condition step body (Some loop) names
     intervals popped place begun free known closed_step closed_body counted fixed ready stand
@@ -347,7 +348,7 @@ mutual
   stmt_safe window port whole entries (tree.AssignElement name index operator value) names intervals
       popped place store closed counted fixed ready stand =
       let later = advance popped (expr_counts index) in
-      let behind = place + length (peeks_of_expr index) in
+      let past = place + length (peeks_of_expr index) in
       let sites = expr_sites intervals popped index in
       let sites_value = expr_sites intervals later value in
       let fixed_index : Fixed intervals (λ n. expr_writes n index) =
@@ -359,16 +360,16 @@ mutual
         expr_safe window port whole entries index intervals popped place store index_counted
             fixed_index ready (stand_first window entries place sites sites_value stand),
         IfOk-weaker (value_of port index store) (λ at. Ready intervals later at.1) _
-            (λ at h. expr_safe window port whole entries value intervals later behind at.1
+            (λ at h. expr_safe window port whole entries value intervals later past at.1
             value_counted fixed_value h
-            (stand_behind window entries place sites sites_value (peeks_of_expr index)
+            (stand_after window entries place sites sites_value (peeks_of_expr index)
             (expr_entries index intervals popped) stand))
             (ready_value port index intervals popped store index_counted fixed_index ready),
       )
   stmt_safe window port whole entries (tree.If condition chosen) names intervals popped place store
       closed counted fixed ready stand =
       let later = advance popped (expr_counts condition) in
-      let behind = place + length (peeks_of_expr condition) in
+      let past = place + length (peeks_of_expr condition) in
       let sites = expr_sites intervals popped condition in
       let chosen_sites = stmt_sites intervals later chosen in
       let sides = sides_sites (constant condition) chosen_sites [] (peeks_of_stmt chosen) [] in
@@ -380,21 +381,21 @@ mutual
       let rest_counted = both_second (expr_counts condition)
       (branch_counts (constant condition) (stmt_counts (names_of intervals) chosen)
       (Some no_items)) counted in
-      let rest_stand : Stand window entries behind sides =
-      stand_behind window entries place sites sides (peeks_of_expr condition)
+      let rest_stand : Stand window entries past sides =
+      stand_after window entries place sites sides (peeks_of_expr condition)
       (expr_entries condition intervals popped) stand in (
         expr_safe window port whole entries condition intervals popped place store first_counted
             fixed_condition ready (stand_first window entries place sites sides stand),
         IfOk-weaker (value_of port condition store)
             (λ test. Ready intervals later test.1 × IfSome (constant condition) (λ v. test.0 ≡ v)) _
             (λ test h.
-            match_by (is_true test.0) (StmtIsSafe port entries behind chosen test.1)
+            match_by (is_true test.0) (StmtIsSafe port entries past chosen test.1)
             (Unit {0})
-            (λ e. stmt_safe window port whole entries chosen names intervals later behind test.1
+            (λ e. stmt_safe window port whole entries chosen names intervals later past test.1
             closed.1 ((side_some (constant condition) test.0
             (stmt_counts (names_of intervals) chosen)
             (Some no_items) h.1 rest_counted).0 e) fixed_chosen h.0
-            (stand_chosen window entries behind (constant condition) test.0 chosen_sites []
+            (stand_chosen window entries past (constant condition) test.0 chosen_sites []
             (peeks_of_stmt chosen) [] h.1 e rest_stand)) (λ e. tt))
             (both_ok (value_of port condition store) _ _
             (ready_value port condition intervals popped store first_counted fixed_condition
@@ -403,7 +404,7 @@ mutual
   stmt_safe window port whole entries (tree.IfElse condition chosen other) names intervals popped
       place store closed counted fixed ready stand =
       let later = advance popped (expr_counts condition) in
-      let behind = place + length (peeks_of_expr condition) in
+      let past = place + length (peeks_of_expr condition) in
       let sites = expr_sites intervals popped condition in
       let chosen_sites = stmt_sites intervals later chosen in
       let other_sites = stmt_sites intervals later other in
@@ -421,8 +422,8 @@ mutual
       let rest_counted = both_second (expr_counts condition)
       (branch_counts (constant condition) (stmt_counts (names_of intervals) chosen)
       (stmt_counts (names_of intervals) other)) counted in
-      let rest_stand : Stand window entries behind sides =
-      stand_behind window entries place sites sides (peeks_of_expr condition)
+      let rest_stand : Stand window entries past sides =
+      stand_after window entries place sites sides (peeks_of_expr condition)
       (expr_entries condition intervals popped) stand in (
         expr_safe window port whole entries condition intervals popped place store first_counted
             fixed_condition ready (stand_first window entries place sites sides stand),
@@ -432,15 +433,15 @@ mutual
             let some = side_some (constant condition) test.0
             (stmt_counts (names_of intervals) chosen)
             (stmt_counts (names_of intervals) other) h.1 rest_counted in
-            match_by (is_true test.0) (StmtIsSafe port entries behind chosen test.1)
-            (StmtIsSafe port entries (behind + length (peeks_of_stmt chosen)) other test.1)
-            (λ e. stmt_safe window port whole entries chosen names intervals later behind test.1
+            match_by (is_true test.0) (StmtIsSafe port entries past chosen test.1)
+            (StmtIsSafe port entries (past + length (peeks_of_stmt chosen)) other test.1)
+            (λ e. stmt_safe window port whole entries chosen names intervals later past test.1
             closed.1 (some.0 e) fixed_chosen h.0
-            (stand_chosen window entries behind (constant condition) test.0 chosen_sites other_sites
+            (stand_chosen window entries past (constant condition) test.0 chosen_sites other_sites
             (peeks_of_stmt chosen) (peeks_of_stmt other) h.1 e rest_stand))
             (λ e. stmt_safe window port whole entries other names intervals later
-            (behind + length (peeks_of_stmt chosen)) test.1 closed.2 (some.1 e) fixed_other h.0
-            (stand_other window entries behind (constant condition) test.0 chosen_sites other_sites
+            (past + length (peeks_of_stmt chosen)) test.1 closed.2 (some.1 e) fixed_other h.0
+            (stand_other window entries past (constant condition) test.0 chosen_sites other_sites
             (peeks_of_stmt chosen) (peeks_of_stmt other)
             (stmt_entries chosen intervals later) h.1 e rest_stand)))
             (both_ok (value_of port condition store) _ _
@@ -451,7 +452,7 @@ mutual
       closed counted fixed ready stand =
       let x = expr_counts condition in
       let y = stmt_counts (names_of intervals) body in
-      let behind = place + length (peeks_of_expr condition) in
+      let past = place + length (peeks_of_expr condition) in
       let sites = expr_sites intervals popped condition in
       let sites_body = stmt_sites intervals popped body in
       let none_x = both_first (require_zero x) _ counted in
@@ -461,14 +462,14 @@ mutual
       let fixed_body : Fixed intervals (λ n. stmt_writes n body) =
       λ n e. or_second (expr_writes n condition) _ (fixed n e) in
       loop_safe (Ready intervals popped) (λ s. ExprIsSafe port entries place condition s)
-      (λ s. StmtIsSafe port entries behind body s) (value_of port condition)
+      (λ s. StmtIsSafe port entries past body s) (value_of port condition)
       (inside (stmt_done port body)) (ready_free intervals popped)
       (λ s r. expr_safe window port whole entries condition intervals popped place s
       (nothing_some x none_x) fixed_condition r
       (stand_first window entries place sites sites_body stand))
-      (λ s r. stmt_safe window port whole entries body names intervals popped behind s closed.1
+      (λ s r. stmt_safe window port whole entries body names intervals popped past s closed.1
       (nothing_some y none_y) fixed_body r
-      (stand_behind window entries place sites sites_body (peeks_of_expr condition)
+      (stand_after window entries place sites sites_body (peeks_of_expr condition)
       (expr_entries condition intervals popped) stand))
       (λ s r. IfOk-weaker (value_of port condition s)
       (λ given. Ready intervals (advance popped x) given.1) _
@@ -482,12 +483,12 @@ mutual
   stmt_safe window port whole entries (tree.For first condition step body) names intervals popped
       place store closed counted fixed ready stand =
       let locals = names_of intervals in
-      let told = counted_loop locals first condition step body in
+      let reported = counted_loop locals first condition step body in
       let inner = intervals_after intervals first in
       let later = advance popped (stmt_counts locals first) in
-      let behind = place + length (peeks_of_stmt first) in
+      let past = place + length (peeks_of_stmt first) in
       let sites = stmt_sites intervals popped first in
-      let turns = turns_sites told (option_sites inner later condition
+      let turns = turns_sites reported (option_sites inner later condition
       ++ (stmt_sites inner later step ++ stmt_sites inner later body))
       (λ loop. stmt_sites (with_interval inner loop.name (turns_interval loop))
       (in_turns later loop.turns (stmt_counts (names_of inner) body)) body)
@@ -496,24 +497,24 @@ mutual
       λ n e. or_first (stmt_writes n first) _ (fixed n e) in
       let first_counted = both_first (stmt_counts locals first) _ counted in
       let rest_counted = both_second (stmt_counts locals first)
-      (turns_counts told (option_counts condition)
+      (turns_counts reported (option_counts condition)
       (stmt_counts (locals_after locals first) step)
       (stmt_counts (locals_after locals first) body)) counted in
       let inner_counted = subst (λ l. is_some
-      (turns_counts told (option_counts condition) (stmt_counts l step) (stmt_counts l body))
+      (turns_counts reported (option_counts condition) (stmt_counts l step) (stmt_counts l body))
       ≡ true) (sym (names_after_intervals intervals first)) rest_counted in
-      let turns_stand : Stand window entries behind turns =
-      stand_behind window entries place sites turns (peeks_of_stmt first)
+      let turns_stand : Stand window entries past turns =
+      stand_after window entries place sites turns (peeks_of_stmt first)
       (stmt_entries first intervals popped) stand in (
         stmt_safe window port whole entries first names intervals popped place store closed.0
             first_counted first_fixed ready (stand_first window entries place sites turns stand),
         IfOk-weaker (stmt_done port first store)
             (λ begun. Ready inner later begun
-            × IfSome told (λ loop. Known locals first condition step body loop
+            × IfSome reported (λ loop. Known locals first condition step body loop
             × HasValue loop.name loop.start begun)) _
             (λ begun h.
-            for_turns_safe window port whole entries locals first condition step body told
-            (names_after names first) inner later behind begun
+            for_turns_safe window port whole entries locals first condition step body reported
+            (names_after names first) inner later past begun
             (counted_free locals first condition step body) h.1 closed.2 closed.3 inner_counted
             (fixed_inner intervals first condition step body fixed) h.0 turns_stand
             (λ r p n s c f d k. stmt_safe window port whole entries step
@@ -522,7 +523,7 @@ mutual
             (names_after names first) r p n s closed.3 c f d k))
             (both_ok (stmt_done port first store) _ _
             (ready_stmt port first names intervals popped store closed.0 first_counted first_fixed
-            ready) (begins_by locals first condition step body told port store
+            ready) (begins_by locals first condition step body reported port store
             ready.seen (loop_known locals first condition step body))),
       )
   stmt_safe window port whole entries (tree.Push value) names intervals popped place store closed
@@ -568,7 +569,7 @@ mutual
             (λ middle h. stmts_safe window port whole entries rest (names_after names first)
             inner later (place + length (peeks_of_stmt first)) middle closed.1 inner_counted
             rest_fixed h
-            (stand_behind window entries place sites sites_rest (peeks_of_stmt first)
+            (stand_after window entries place sites sites_rest (peeks_of_stmt first)
             (stmt_entries first intervals popped) stand))
             (ready_stmt port first names intervals popped store closed.0 first_counted first_fixed
             ready),

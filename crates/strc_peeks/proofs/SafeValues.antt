@@ -26,7 +26,7 @@ use Rattle.strc_peeks.specs.Entries.{peeks_of_expr}
 use Rattle.strc_peeks.specs.Safe.{PeekIsSafe, ExprIsSafe}
 use Rattle.strc_peeks.proofs.Results.{and_first, and_second, or_first, or_second, both_ok, ok_known}
 use Rattle.strc_peeks.proofs.Results.{match_by}
-use Rattle.strc_peeks.proofs.EachEntry.{Stand, stand_first, stand_behind}
+use Rattle.strc_peeks.proofs.EachEntry.{Stand, stand_first, stand_after}
 use Rattle.strc_peeks.proofs.EachEntry.{stand_chosen, stand_other, stand_right, expr_entries}
 use Rattle.strc_peeks.proofs.LoopParts.{constant_told}
 use Rattle.strc_peeks.proofs.IntervalValues.{IsTold, interval_told}
@@ -84,9 +84,9 @@ peek_by : (window : ℕ) (port : Port) → IsWhole window port
     → sight_at window (advance popped (expr_counts index)) interval ≡ Closed
     → IfOk (value_of port index store) (λ place. IsSome
     (item_ahead port place.1.traffic.popped place.0))
-peek_by window port whole intervals popped index store None ready told e = absurd (cc)
-peek_by window port whole intervals popped index store (Some interval) ready told e =
-    let value = told port store ready.holds in
+peek_by window port whole intervals popped index store None ready reported e = absurd (cc)
+peek_by window port whole intervals popped index store (Some interval) ready reported e =
+    let value = reported port store ready.holds in
     let count = pops_of (expr_counts index) in
     let test = closed_by (not (int_lt interval.low (pos 0))
     && int_lt (interval.high +ℤ pos (saturated (popped.high + count))) (pos window)) _ e in
@@ -149,7 +149,7 @@ expr_safe window port whole entries (tree.Peek index) intervals popped place sto
           (stand_first window entries place sites one stand),
       peek_safe window port whole entries intervals popped
           (place + length (peeks_of_expr index)) index store ready
-          (stand_behind window entries place sites one (peeks_of_expr index)
+          (stand_after window entries place sites one (peeks_of_expr index)
           (expr_entries index intervals popped) stand).0,
     )
 expr_safe window port whole entries (tree.Group inner) intervals popped place store counted fixed
@@ -168,7 +168,7 @@ expr_safe window port whole entries (tree.StepElement operator name index) inter
 expr_safe window port whole entries (tree.Binary operator left right) intervals popped place store
     counted fixed ready stand =
     let later = advance popped (expr_counts left) in
-    let behind = place + length (peeks_of_expr left) in
+    let past = place + length (peeks_of_expr left) in
     let sites = expr_sites intervals popped left in
     let sites_right = expr_sites intervals later right in
     let seen_right = right_sites (need_of operator left) sites_right (peeks_of_expr right) in
@@ -179,8 +179,8 @@ expr_safe window port whole entries (tree.Binary operator left right) intervals 
     λ n e. or_first (expr_writes n left) _ (fixed n e) in
     let rest_fixed : Fixed intervals (λ name. expr_writes name right) =
     λ n e. or_second (expr_writes n left) _ (fixed n e) in
-    let rest_stand : Stand window entries behind seen_right =
-    stand_behind window entries place sites seen_right (peeks_of_expr left)
+    let rest_stand : Stand window entries past seen_right =
+    stand_after window entries place sites seen_right (peeks_of_expr left)
     (expr_entries left intervals popped) stand in (
       expr_safe window port whole entries left intervals popped place store first_counted
           first_fixed ready (stand_first window entries place sites seen_right stand),
@@ -188,11 +188,11 @@ expr_safe window port whole entries (tree.Binary operator left right) intervals 
           (λ first. Ready intervals later first.1 × IfSome (constant left) (λ v. first.0 ≡ v)) _
           (λ first h.
           match_by (decides operator first.0) (Unit {0})
-          (ExprIsSafe port entries behind right first.1)
+          (ExprIsSafe port entries past right first.1)
           (λ e. tt)
-          (λ e. expr_safe window port whole entries right intervals later behind first.1
+          (λ e. expr_safe window port whole entries right intervals later past first.1
           (right_some operator left first.0 (expr_counts right) h.1 rest_counted e) rest_fixed
-          h.0 (stand_right window entries behind operator left first.0 sites_right
+          h.0 (stand_right window entries past operator left first.0 sites_right
           (peeks_of_expr right) h.1 e rest_stand)))
           (both_ok (value_of port left store) _ _
           (ready_value port left intervals popped store first_counted first_fixed ready)
@@ -201,7 +201,7 @@ expr_safe window port whole entries (tree.Binary operator left right) intervals 
 expr_safe window port whole entries (tree.Conditional condition chosen other) intervals popped place
     store counted fixed ready stand =
     let later = advance popped (expr_counts condition) in
-    let behind = place + length (peeks_of_expr condition) in
+    let past = place + length (peeks_of_expr condition) in
     let sites = expr_sites intervals popped condition in
     let chosen_sites = expr_sites intervals later chosen in
     let other_sites = expr_sites intervals later other in
@@ -218,8 +218,8 @@ expr_safe window port whole entries (tree.Conditional condition chosen other) in
     let other_fixed : Fixed intervals (λ name. expr_writes name other) =
     λ n e. or_second (expr_writes n chosen) _
     (or_second (expr_writes n condition) _ (fixed n e)) in
-    let rest_stand : Stand window entries behind sides =
-    stand_behind window entries place sites sides (peeks_of_expr condition)
+    let rest_stand : Stand window entries past sides =
+    stand_after window entries place sites sides (peeks_of_expr condition)
     (expr_entries condition intervals popped) stand in (
       expr_safe window port whole entries condition intervals popped place store first_counted
           first_fixed ready (stand_first window entries place sites sides stand),
@@ -228,15 +228,15 @@ expr_safe window port whole entries (tree.Conditional condition chosen other) in
           (λ test h.
           let some = side_some (constant condition) test.0 (expr_counts chosen)
           (expr_counts other) h.1 rest_counted in
-          match_by (is_true test.0) (ExprIsSafe port entries behind chosen test.1)
-          (ExprIsSafe port entries (behind + length (peeks_of_expr chosen)) other test.1)
-          (λ e. expr_safe window port whole entries chosen intervals later behind test.1
+          match_by (is_true test.0) (ExprIsSafe port entries past chosen test.1)
+          (ExprIsSafe port entries (past + length (peeks_of_expr chosen)) other test.1)
+          (λ e. expr_safe window port whole entries chosen intervals later past test.1
           (some.0 e) chosen_fixed h.0
-          (stand_chosen window entries behind (constant condition) test.0 chosen_sites other_sites
+          (stand_chosen window entries past (constant condition) test.0 chosen_sites other_sites
           (peeks_of_expr chosen) (peeks_of_expr other) h.1 e rest_stand))
           (λ e. expr_safe window port whole entries other intervals later
-          (behind + length (peeks_of_expr chosen)) test.1 (some.1 e) other_fixed h.0
-          (stand_other window entries behind (constant condition) test.0 chosen_sites other_sites
+          (past + length (peeks_of_expr chosen)) test.1 (some.1 e) other_fixed h.0
+          (stand_other window entries past (constant condition) test.0 chosen_sites other_sites
           (peeks_of_expr chosen) (peeks_of_expr other)
           (expr_entries chosen intervals later) h.1 e rest_stand)))
           (both_ok (value_of port condition store) _ _

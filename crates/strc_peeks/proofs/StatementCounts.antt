@@ -296,12 +296,12 @@ counted_turns locals first condition step body loop known port names scope x clo
 
 -- the turns of a `for`, whether it is counted or not
 turns_by : (locals : Locals) (first : tree.Stmt) (condition : Option tree.Expr)
-    (step body : tree.Stmt) (told : Option Loop) (port : Port) (names scope : Scope)
+    (step body : tree.Stmt) (reported : Option Loop) (port : Port) (names scope : Scope)
     (y z : Option Counts) → IsClosedStmt names body → Parts scope y (inside (stmt_done port step))
     → Parts scope z (inside (stmt_done port body)) → (store : Store)
-    → scope_of store.variables ≡ scope → IfSome told
+    → scope_of store.variables ≡ scope → IfSome reported
     (λ loop. Known locals first condition step body loop × HasValue loop.name loop.start store)
-    → CountedOk store_traffic (turns_counts told (option_counts condition) y z) store.traffic
+    → CountedOk store_traffic (turns_counts reported (option_counts condition) y z) store.traffic
     (looped (suc turn_limit) (condition_value port condition)
     (λ turn. result_and_then (inside (stmt_done port body) turn) (inside (stmt_done port step)))
     store)
@@ -317,9 +317,10 @@ turns_by locals first condition step body
 
 -- the variable of a counted loop has its first value after the first part
 pub begins_by : (locals : Locals) (first : tree.Stmt) (condition : Option tree.Expr)
-    (step body : tree.Stmt) (told : Option Loop) (port : Port) (store : Store)
-    → Seen locals (scope_of store.variables) → IfSome told (Known locals first condition step body)
-    → IfOk (stmt_done port first store) (λ begun. IfSome told
+    (step body : tree.Stmt) (reported : Option Loop) (port : Port) (store : Store)
+    → Seen locals (scope_of store.variables)
+    → IfSome reported (Known locals first condition step body)
+    → IfOk (stmt_done port first store) (λ begun. IfSome reported
     (λ loop. Known locals first condition step body loop × HasValue loop.name loop.start begun))
 begins_by locals first condition step body None port store seen known =
     any_ok (stmt_done port first store)
@@ -437,31 +438,31 @@ mutual
       =
       let scope = names_after (scope_of store.variables) first in
       let inner = locals_after locals first in
-      let told = counted_loop locals first condition step body in
+      let reported = counted_loop locals first condition step body in
       let seen_inner : Seen inner scope =
       seen_after first locals (scope_of store.variables) names closed.0 seen in
       let loop : Store → Result Store Cause =
       looped (suc turn_limit) (condition_value port condition)
       (λ turn. result_and_then (inside (stmt_done port body) turn)
       (inside (stmt_done port step))) in
-      let x = turns_counts told (option_counts condition) (stmt_counts inner step)
+      let x = turns_counts reported (option_counts condition) (stmt_counts inner step)
       (stmt_counts inner body) in
       inside_counts (sequence (stmt_counts locals first) x)
       (λ outer. result_and_then (stmt_done port first outer) loop) store
       (then_ok (stmt_done port first store) loop
       (λ begun. Counted (stmt_counts locals first) store.traffic begun.traffic
       × (Done (λ name. stmt_writes name first) scope store.variables begun.variables
-      × IfSome told (λ l. Known locals first condition step body l
+      × IfSome reported (λ l. Known locals first condition step body l
       × HasValue l.name l.start begun)))
       (λ after. Counted (sequence (stmt_counts locals first) x) store.traffic after.traffic)
       (both_ok (stmt_done port first store) _ _
       (stmt_counted port first locals names store closed.0 seen)
       (both_ok (stmt_done port first store) _ _ (stmt_keeps port first names store closed.0)
-      (begins_by locals first condition step body told port store seen
+      (begins_by locals first condition step body reported port store seen
       (loop_known locals first condition step body))))
       (λ begun h. advance_counts store_traffic store.traffic begun.traffic
       (stmt_counts locals first) x (loop begun) h.0
-      (turns_by locals first condition step body told port (names_after names first) scope
+      (turns_by locals first condition step body reported port (names_after names first) scope
       (stmt_counts inner step) (stmt_counts inner body) closed.3
       (inside_parts port step (names_after names first) scope (stmt_counts inner step) closed.2
       (λ s is. stmt_counted port step inner (names_after names first) s closed.2

@@ -92,10 +92,10 @@ module _ (turns : ℕ) (counts : Option Counts) where
   some_moved zero body body' peeks e = unreached_moved peeks
   some_moved (suc others) body body' peeks e = e
 
-  turns_moved : (told : Option Loop) (parts parts' : List PeekSite)
+  turns_moved : (reported : Option Loop) (parts parts' : List PeekSite)
       (body body' : Loop → List PeekSite) (peeks : List tree.Expr) → parts' ≡ moved parts
       → ((loop : Loop) → body' loop ≡ moved (body loop))
-      → turns_sites told parts' body' peeks ≡ moved (turns_sites told parts body peeks)
+      → turns_sites reported parts' body' peeks ≡ moved (turns_sites reported parts body peeks)
   turns_moved None parts parts' body body' peeks e f = e
   turns_moved (Some loop) parts parts' body body' peeks e f =
       some_moved loop.turns (body loop) (body' loop) peeks (f loop)

@@ -45,11 +45,11 @@ ExprIsSafe port closed place (tree.Binary operator left right) store =
     MatchBool (decides operator first.0) (Unit {0})
     (ExprIsSafe port closed (place + length (peeks_of_expr left)) right first.1))
 ExprIsSafe port closed place (tree.Conditional condition chosen other) store =
-    let behind = place + length (peeks_of_expr condition) in
+    let past = place + length (peeks_of_expr condition) in
     ExprIsSafe port closed place condition store
     × IfOk (value_of port condition store) (λ test.
-    MatchBool (is_true test.0) (ExprIsSafe port closed behind chosen test.1)
-    (ExprIsSafe port closed (behind + length (peeks_of_expr chosen)) other test.1))
+    MatchBool (is_true test.0) (ExprIsSafe port closed past chosen test.1)
+    (ExprIsSafe port closed (past + length (peeks_of_expr chosen)) other test.1))
 
 abbrev pub OptionIsSafe : Port → (closed : List Bool) → (place : ℕ) → Option tree.Expr → Store
     → Type 0
@@ -100,11 +100,11 @@ abbrev mutual
       MatchBool (is_true test.0)
       (StmtIsSafe port closed (place + length (peeks_of_expr condition)) chosen test.1) (Unit {0}))
   StmtIsSafe port closed place (tree.IfElse condition chosen other) store =
-      let behind = place + length (peeks_of_expr condition) in
+      let past = place + length (peeks_of_expr condition) in
       ExprIsSafe port closed place condition store
       × IfOk (value_of port condition store) (λ test.
-      MatchBool (is_true test.0) (StmtIsSafe port closed behind chosen test.1)
-      (StmtIsSafe port closed (behind + length (peeks_of_stmt chosen)) other test.1))
+      MatchBool (is_true test.0) (StmtIsSafe port closed past chosen test.1)
+      (StmtIsSafe port closed (past + length (peeks_of_stmt chosen)) other test.1))
   StmtIsSafe port closed place (tree.While condition body) store =
       LoopIsSafe (suc turn_limit) (λ s. ExprIsSafe port closed place condition s)
       (λ s. StmtIsSafe port closed (place + length (peeks_of_expr condition)) body s)

@@ -37,9 +37,9 @@ pub struct BodyPeeks {
 
 /// What is known of the statements of a body whose firing may look at so many items.
 pub fn body_peeks(alloc: Global, block: &[Stmt], window: u32) -> Result<BodyPeeks, NoMemory>
-    ensures counts { IfOk result (λ told. told.counts
+    ensures counts { IfOk result (λ reported. reported.counts
         ≡ counting.stmts_counts [] (block_view block.now)) }
-    ensures sights { IfOk result (λ told. told.sights.items
+    ensures sights { IfOk result (λ reported. reported.sights.items
         ≡ spec.body_sights window (block_view block.now)) }
 {
     let mut names = IntervalScope::new(alloc);

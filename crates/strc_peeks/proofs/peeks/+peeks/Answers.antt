@@ -16,15 +16,19 @@ use Rattle.strc_peeks.proofs.Sighting.{stmts_seen}
 use Rattle.strc_interval.proofs.IntervalGrowth.{stands_on_itself, stands_on_after}
 use Rattle.strc_peeks.proofs.peeks.+peeks.Goals as goal
 use Rattle.strc_peeks.proofs.peeks.+peeks.Goals.{}
-use Rattle.strc_peeks.proofs.peeks.+peeks.Goals.{check_peeks_in_statement-in-Some-counted+in_ok-turned-in-Some-counted}
-use Rattle.strc_peeks.proofs.peeks.+peeks.Goals.{check_peeks_in_statement-in-None-counted+in_ok-test-in-None-counted+in_ok-step-in-None-counted+in_ok-body-in-None-counted}
+use Rattle.strc_peeks.proofs.peeks.+peeks.Goals.{
+  check_peeks_in_statement-in-Some-counted+in_ok-turned-in-Some-counted,
+}
+use Rattle.strc_peeks.proofs.peeks.+peeks.Goals.{
+  check_peeks_in_statement-in-None-counted+in_ok-test-in-None-counted+in_ok-step-in-None-counted+in_ok-body-in-None-counted,
+}
 
 pub check_peeks_in_block-loop-statement-init : goal.check_peeks_in_block-loop-statement-init
 check_peeks_in_block-loop-statement-init t c = record {
   counted = first_stmts c.no_items.result (names_of c.args.names.now)
       (block_view c.args.block.now) c.no_items.ensures;
   runnable = first_runnable c.no_items.result c.no_items.ensures;
-  told = refl;
+  reported = refl;
   names = stands_on_itself c.args.names.now;
 }
 
@@ -47,11 +51,11 @@ check_peeks_in_block-loop-statement-preserved t c =
           (block_view (drop i all)) c.in_ok-passed.ensures.counts names c.sequence-counts.ensures
           next invariant.counted;
       runnable = runnable_step so_far here c.sequence-counts.result c.sequence-counts.ensures;
-      told = stmts_seen c.loop-statement.sites.items
+      reported = stmts_seen c.loop-statement.sites.items
           c.check_peeks_in_statement.new.sites.items _ c.loop-statement.names
           c.check_peeks_in_statement.new.names c.loop-statement.here c.advance-here.result here x
           rest (block_view (drop i all)) c.in_ok-passed.ensures.counts names c.advance-here.ensures
-          c.in_ok-passed.ensures.sites next invariant.told;
+          c.in_ok-passed.ensures.sites next invariant.reported;
       names = rw names (stands_on_after c.args.names.now c.loop-statement.names x invariant.names);
     }
 
@@ -94,7 +98,7 @@ check_peeks_in_statement-returns-after-counted-clause-counts t c =
     let names : advance ≡ intervals_after intervals first =
     c.in_ok-begun-in-For.ensures.names
     ∙ ap (λ s. intervals_after intervals (stmt_view s)) c.deref-in-For-4.ensures in
-    let told : option_map loop_view c.counted_loop-counted.result
+    let reported : option_map loop_view c.counted_loop-counted.result
     ≡ counted_loop (names_of intervals) first condition step body =
     c.counted_loop-counted.ensures.counted
     ∙ ap (λ s. counted_loop (names_of intervals) (stmt_view s) condition
@@ -114,8 +118,9 @@ check_peeks_in_statement-returns-after-counted-clause-counts t c =
           (stmt_counts (names_of advance) (stmt_view s))) w.deref-in-Some-counted.ensures
           ∙ ap (λ l. turns_counts l (option_counts condition) (stmt_counts (names_of advance) step)
           (stmt_counts (names_of advance) body))
-          (sym (ap (option_map loop_view) w.in-Some-counted.is) ∙ told)
-      | check_peeks_in_statement-in-None-counted+in_ok-test-in-None-counted+in_ok-step-in-None-counted+in_ok-body-in-None-counted w ↦
+          (sym (ap (option_map loop_view) w.in-Some-counted.is) ∙ reported)
+      | check_peeks_in_statement-in-None-counted+in_ok-test-in-None-counted+in_ok-step-in-None-counted+in_ok-body-in-None-counted
+          w ↦
           let same : w.look_inside-in-None-counted.new.names ≡ advance =
           w.in_ok-step-in-None-counted.ensures.names in
           let tested : w.require_zero-in-None-counted.result
@@ -142,7 +147,7 @@ check_peeks_in_statement-returns-after-counted-clause-counts t c =
           ∙ ap (sequence (require_zero (stmt_counts (names_of advance) step))) run)
           ∙ ap (λ l. turns_counts l (option_counts condition) (stmt_counts (names_of advance) step)
           (stmt_counts (names_of advance) body))
-          (sym (ap (option_map loop_view) w.in-None-counted.is) ∙ told)
+          (sym (ap (option_map loop_view) w.in-None-counted.is) ∙ reported)
     ] in
     c.sequence-in-For.ensures
     ∙ for_counts intervals advance first step body condition begun c.match-counted.turned counted

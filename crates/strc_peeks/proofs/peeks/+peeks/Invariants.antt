@@ -13,7 +13,7 @@ invariant-check_peeks_in_block-loop-statement l = record {
       (block_view (drop l.statement-index l.block)))
       ≡ stmts_counts (names_of l.initial.names) (block_view l.block);
   runnable : sequence l.counts (Some no_items) ≡ l.counts;
-  told : l.sites.items ++ stmts_sites l.names l.here
+  reported : l.sites.items ++ stmts_sites l.names l.here
       (block_view (drop l.statement-index l.block)) ≡ l.initial.sites.items
       ++ stmts_sites l.initial.names l.fn.popped (block_view l.block);
   names : StandsOn l.initial.names l.names;

@@ -12,7 +12,7 @@ loop-variable-init c = record {
   counted = first_variables c.no_items.result
       (map variable_view c.args.variables.now) c.no_items.ensures;
   runnable = first_runnable c.no_items.result c.no_items.ensures;
-  told = refl;
+  reported = refl;
   names = refl;
 }
 
@@ -32,11 +32,11 @@ loop-variable-preserved c =
       counted = variables_step so_far here c.sequence-counts.result _ x rest _
           c.in_ok-passed.ensures.counts c.sequence-counts.ensures next invariant.counted;
       runnable = runnable_step so_far here c.sequence-counts.result c.sequence-counts.ensures;
-      told = variables_seen c.loop-variable.sites.items
+      reported = variables_seen c.loop-variable.sites.items
           c.check_peeks_in_option.new.sites.items _ c.loop-variable.names
           c.declare.new.self c.loop-variable.here c.advance-here.result here x rest _
           c.in_ok-passed.ensures.counts names c.advance-here.ensures c.in_ok-passed.ensures.sites
-          next invariant.told;
+          next invariant.reported;
       names = ap (λ r. with_unknown r rest) names
           ∙ ap (with_unknown c.loop-variable.names) (sym next) ∙ invariant.names;
     }

@@ -11,7 +11,7 @@ invariant-loop-variable l = record {
       (map variable_view (drop l.variable-index l.variables)))
       ≡ variables_counts (map variable_view l.variables);
   runnable : sequence l.counts (Some no_items) ≡ l.counts;
-  told : l.sites.items ++ variables_sites l.names l.here
+  reported : l.sites.items ++ variables_sites l.names l.here
       (map variable_view (drop l.variable-index l.variables)) ≡ l.initial.sites.items
       ++ variables_sites l.initial.names l.fn.popped (map variable_view l.variables);
   names : with_unknown l.names (map variable_view (drop l.variable-index l.variables))
