@@ -155,7 +155,7 @@ pub IsScope-declare : (seen : List Declared) (old new : List ℕ → Option ℕ)
     → IsScope seen old → IsUpdated old last.name.items (Some slot) new → IsScope (last ∷ seen) new
 unfolding IsScope
 IsScope-declare seen old new last slot place shadows scope change = record {
-  hidden = (shadows ∙ scope.innermost last.name.items, scope.hidden);
+  shadowed = (shadows ∙ scope.innermost last.name.items, scope.shadowed);
   innermost = λ name. change name ∙ ap (λ slot. cond (bytes_eq last.name.items name) (Some slot)
       (old name)) (place ∙ sym (length-names_in seen))
       ∙ ap (cond (bytes_eq last.name.items name) (Some (length (names_in seen))))
@@ -167,8 +167,8 @@ pub IsScope-forget : (seen : List Declared) (old new : List ℕ → Option ℕ) 
     → IsScope (last ∷ seen) old → IsUpdated old last.name.items last.shadows new → IsScope seen new
 unfolding IsScope
 IsScope-forget seen old new last scope change = record {
-  hidden = scope.hidden.1;
-  innermost = λ name. change name ∙ shown name (bytes_eq last.name.items name) scope.hidden.0
+  shadowed = scope.shadowed.1;
+  innermost = λ name. change name ∙ shown name (bytes_eq last.name.items name) scope.shadowed.0
       (bytes_eq-Decides last.name.items name).0 (scope.innermost name);
 }
   where
@@ -176,8 +176,8 @@ IsScope-forget seen old new last scope change = record {
         → (t ≡ true → last.name.items ≡ name)
         → old name ≡ cond t (Some (length (names_in seen))) (number_named (names_in seen) name)
         → cond t last.shadows (old name) ≡ number_named (names_in seen) name
-    shown name true hidden same e = hidden ∙ ap (number_named (names_in seen)) (same refl)
-    shown name false hidden same e = e
+    shown name true shadowed same e = shadowed ∙ ap (number_named (names_in seen)) (same refl)
+    shown name false shadowed same e = e
 
 -- the innermost name is in the table
 pub IsScope-there : (seen : List Declared) (table : List ℕ → Option ℕ) (last : Declared)

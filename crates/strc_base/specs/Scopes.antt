@@ -21,7 +21,7 @@ KeepShadowed (first ∷ rest) = (first.shadows ≡ number_named (names_in rest) 
 -- what is true of a scope: each of its names keeps what it shadows, and the table has the slot of
 -- each name's innermost variable
 pub record KeepsSlots (seen : List Declared) (table : List ℕ → Option ℕ) : Type 0 where
-  pub hidden : KeepShadowed seen
+  pub shadowed : KeepShadowed seen
   pub innermost : (name : List ℕ) → table name ≡ number_named (names_in seen) name
 
 -- the same, as one fact to those who only use a scope

@@ -17,7 +17,7 @@ use Rattle.strc_grammar.proofs.StatementCompleteness.{if_else_completeness, whil
 use Rattle.strc_grammar.proofs.StatementCompleteness.{for_completeness, part_statement, always}
 use Rattle.strc_grammar.proofs.MemberCompleteness.{InsideCompleteness, MemberCompleteness}
 use Rattle.strc_grammar.proofs.MemberCompleteness.{member_completeness, unchained}
-use Rattle.strc_grammar.proofs.MemberCompleteness.{members_completeness as row_of_members_completeness}
+use Rattle.strc_grammar.proofs.MemberCompleteness.{members_completeness as row_members_completeness}
 use Rattle.strc_grammar.proofs.CompositionCompleteness.{WithinCompleteness, PartCompleteness}
 use Rattle.strc_grammar.proofs.CompositionCompleteness.{compose_completeness}
 
@@ -122,4 +122,4 @@ pub members_completeness : (items : List tree.Member) → AllByRecursion IsMembe
     (members d (statement d) (each_spelled member_spelled items
     (token.Punctuation punctuation.CloseBrace ∷ rest)))
 members_completeness items shape d rest =
-    row_of_members_completeness d items (all_members_completeness items shape) rest
+    row_members_completeness d items (all_members_completeness items shape) rest

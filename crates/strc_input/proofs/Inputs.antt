@@ -6,7 +6,7 @@ use Rattle.std.specs.List.{slice_split, onto_first}
 use Rattle.std.specs.Char.{is_ascii_whitespace}
 use Rattle.std.proofs.lemmas.List.Splits.{slice_split-cons_yes, slice_split-cons_no}
 use Rattle.strc_input.specs.Numbers.{words_of, words, int_of, put_first, ints_from, ints}
-use Rattle.strc_input.specs.Reading.{goes_on, byte_read, bytes_read, told}
+use Rattle.strc_input.specs.Reading.{goes_on, byte_read, bytes_read, reported}
 use Rattle.strc_input.specs.Reading.{ended, unread, ReadsInts, FailsForGood, with_byte, word_ended}
 use Rattle.strc_input.specs.declared.numbers.Word.{Word}
 use Rattle.strc_input.specs.declared.numbers.Word.TheVariants as word
@@ -67,15 +67,16 @@ darker [] byte dark is = (is, tt)
 darker (first ∷ rest) byte dark is = (dark.0, darker rest byte dark.1 is)
 
 -- the end of the input ends a word as white space does
-told_ends : (numbers : List ℤ) (last : Option Word)
-    → ended (goes_on numbers last) ≡ told (ends numbers last)
-told_ends numbers None = refl
-told_ends numbers (Some last) = refl
+reported_ends : (numbers : List ℤ) (last : Option Word)
+    → ended (goes_on numbers last) ≡ reported (ends numbers last)
+reported_ends numbers None = refl
+reported_ends numbers (Some last) = refl
 
-told_added : (numbers : List ℤ) (value : Option ℤ)
-    → told (added numbers value) ≡ with_before numbers (put_first value (length numbers) (Ok []))
-told_added numbers None = refl
-told_added numbers (Some value) = refl
+reported_added : (numbers : List ℤ) (value : Option ℤ)
+    → reported (added numbers value)
+    ≡ with_before numbers (put_first value (length numbers) (Ok []))
+reported_added numbers None = refl
+reported_added numbers (Some value) = refl
 
 -- a byte of a word, and white space
 byte_on : (numbers : List ℤ) (last : Option Word) (byte : ℕ) → IsDark byte
@@ -105,9 +106,9 @@ ReadsOn rest = (numbers : List ℤ) (first : List ℕ) → AreDark first
 end_read : ReadsOn []
 end_read numbers [] dark = ap Ok (sym (append_none numbers))
 end_read numbers (byte ∷ more) dark =
-    told_ends numbers (on_word (Some word.Between) (byte ∷ more))
-    ∙ ap told (word_ends numbers byte more)
-    ∙ told_added numbers (int_of (byte ∷ more))
+    reported_ends numbers (on_word (Some word.Between) (byte ∷ more))
+    ∙ ap reported (word_ends numbers byte more)
+    ∙ reported_added numbers (int_of (byte ∷ more))
     ∙ ap (λ l. with_before numbers (ints_from (length numbers) (words_of l)))
     (sym (split_dark (byte ∷ more) dark))
     ∙ ap (λ l. with_before numbers (ints_from (length numbers) (words l)))

@@ -54,13 +54,13 @@ bytes_read reading [] = reading
 bytes_read reading (byte ∷ rest) = bytes_read (byte_read reading byte) rest
 
 -- the numbers, where the input ends here
-abbrev pub told : Reading → Result (List ℤ) ℕ
-told (Fails number) = Err number
-told (Reads numbers last) = Ok numbers
+abbrev pub reported : Reading → Result (List ℤ) ℕ
+reported (Fails number) = Err number
+reported (Reads numbers last) = Ok numbers
 
 abbrev pub ended : Reading → Result (List ℤ) ℕ
 ended (Fails number) = Err number
-ended (Reads numbers last) = told (word_ended numbers last)
+ended (Reads numbers last) = reported (word_ended numbers last)
 
 -- reading byte by byte gives the numbers of the bytes
 abbrev pub ReadsInts : Type 0
