@@ -224,8 +224,8 @@ module _ (rules : List Rule) (plain : Each IsPlainRule rules) where
   settle_pending (Some p) rows none good = settle_by (arg_by_id rules p.0) p.1 rows
       (found_plain (λ rule. bytes_eq rule.id p.0)) none good
 
-  pub settled_good : (held : Held) → settle_fault rules false held ≡ [] → Each IsGood held.rows → Each
-      IsGood (settled rules held).rows
+  pub settled_good : (held : Held) → settle_fault rules false held ≡ [] → Each IsGood held.rows
+      → Each IsGood (settled rules held).rows
   settled_good held none good = settle_pending held.pending held.rows none good
 
   reacted_good : (rule : Rule) → IsPlainRule rule → (values : List Text) (held : Held) →
