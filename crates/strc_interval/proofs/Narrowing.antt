@@ -48,11 +48,11 @@ too_high (pos n) high fits = let h : n < 2 ^ 31 = fits.sfits in grind arith
 too_high (negsuc n) high fits = cc
 
 -- what a test answered, by what was given
-pub told_true : (t : Bool) (y : ℤ) (given : Option ℤ) → given ≡ cond t (Some y) None
+pub given_true : (t : Bool) (y : ℤ) (given : Option ℤ) → given ≡ cond t (Some y) None
     → is_some given ≡ true → t ≡ true
-told_true true y given e some = refl
-told_true false y given e some = sym (ap is_some e) ∙ some
+given_true true y given e some = refl
+given_true false y given e some = sym (ap is_some e) ∙ some
 
-pub told_value : (t : Bool) (x y : ℤ) → Some x ≡ cond t (Some y) None → x ≡ y
-told_value true x y e = cc
-told_value false x y e = cc
+pub given_value : (t : Bool) (x y : ℤ) → Some x ≡ cond t (Some y) None → x ≡ y
+given_value true x y e = cc
+given_value false x y e = cc

@@ -9,10 +9,10 @@ first_view first = record { name = first.name.now; value = first.value }
 
 -- a counted loop
 abbrev pub loop_view : CountedLoop → loops.Loop
-loop_view told = record {
-  name = told.name.now;
-  start = told.start;
-  move = told.step;
+loop_view found = record {
+  name = found.name.now;
+  start = found.start;
+  move = found.step;
   turns =
-      told.turns;
+      found.turns;
 }

@@ -56,7 +56,7 @@ pub fn counted_loop<'a>(
     ensures counted { option_map loop_view result
         ≡ spec.counted_loop (names_of names.now) (stmt_view first.now)
         (option_map expr_view condition.now) (stmt_view step.now) (stmt_view body.now) }
-    ensures interval { IfSome result (λ told. told.interval ≡ turns_interval (loop_view told)) }
+    ensures interval { IfSome result (λ found. found.interval ≡ turns_interval (loop_view found)) }
 {
     let first = first_of(first, names)?;
     if statement_writes(body, first.name) {
@@ -294,7 +294,7 @@ fn loop_of(name: &Name, start: i32, bound: Bound, step: i64) -> Option<CountedLo
     requires { unsigned_abs step ≤ 2 ^ 31 }
     ensures counted { option_map loop_view result
         ≡ spec.loop_of (record { name = name.now; value = start }) bound step }
-    ensures interval { IfSome result (λ told. told.interval ≡ turns_interval (loop_view told)) }
+    ensures interval { IfSome result (λ found. found.interval ≡ turns_interval (loop_view found)) }
 {
     let away = distance(bound.operator, start, bound.limit);
     let nearer = step_toward_bound(bound.operator, step);
@@ -314,7 +314,7 @@ fn loop_within_i32(name: &Name, start: i32, step: i64, turns: u64) -> Option<Cou
       move = step;
       turns = turns;
     }) }
-    ensures interval { IfSome result (λ told. told.interval ≡ turns_interval (loop_view told)) }
+    ensures interval { IfSome result (λ found. found.interval ≡ turns_interval (loop_view found)) }
 {
     let end = value_within(start, step, turns);
     if end.is_none() {

@@ -5,7 +5,7 @@ use Rattle.std.proofs.lemmas.Int.{to_z-of_z}
 use Rattle.strc_interval.specs.Loops.{Loop, within_32_bits}
 use Rattle.strc_interval.specs.Intervals.{Interval}
 use Rattle.strc_interval.proofs.LoopValues.{last_within}
-use Rattle.strc_interval.proofs.Narrowing.{within_fits, told_true, told_value}
+use Rattle.strc_interval.proofs.Narrowing.{within_fits, given_true, given_value}
 use Rattle.strc_interval.proofs.loops.loop_within_i32.Goals as goal
 
 -- the numbers between two
@@ -22,7 +22,7 @@ returns-in-None-clause-counted c =
     let advance : c.value_within-end.result
     ≡ cond (within_32_bits (start +ℤ pos turns *ℤ step))
     (Some (start +ℤ pos turns *ℤ step)) None = simp to_z-of_z at c.value_within-end.ensures in
-    let kept = told_true _ _ _ advance c.if-is_none.ensures in
+    let kept = given_true _ _ _ advance c.if-is_none.ensures in
     let within : within_32_bits (start +ℤ pos (turns - 1) *ℤ step) ≡ true =
     last_within start step turns fits kept in
     let none : None ≡ cond (within_32_bits (start +ℤ pos c.saturating_sub.result *ℤ step))
@@ -44,8 +44,8 @@ returns-in-Some-clause-counted c =
     let advance : c.value_within-end.result
     ≡ cond (within_32_bits (start +ℤ pos turns *ℤ step))
     (Some (start +ℤ pos turns *ℤ step)) None = simp to_z-of_z at c.value_within-end.ensures in
-    let kept = told_true _ _ _ advance c.if-is_none.ensures in
-    let told : Loop = record {
+    let kept = given_true _ _ _ advance c.if-is_none.ensures in
+    let found : Loop = record {
       name = c.args.name.now;
       start = start;
       move = step;
@@ -55,7 +55,7 @@ returns-in-Some-clause-counted c =
     let sequence : within_32_bits start && within_32_bits (start +ℤ pos turns *ℤ step) ≡ true =
     ap (λ t. t && within_32_bits (start +ℤ pos turns *ℤ step)) (within_fits start fits)
     ∙ kept in
-    simp to_z-of_z (sym (ap (λ t. cond t (Some told) None) sequence))
+    simp to_z-of_z (sym (ap (λ t. cond t (Some found) None) sequence))
 
 pub returns-in-Some-clause-interval : goal.returns-in-Some-clause-interval
 returns-in-Some-clause-interval c =
@@ -68,7 +68,7 @@ returns-in-Some-clause-interval c =
     (Some (start +ℤ pos c.saturating_sub.result *ℤ step)) None =
     simp to_z-of_z at c.in-Some.ensures in
     let last : c.in-Some.last ≡ start +ℤ pos (c.args.turns - 1) *ℤ step =
-    told_value _ _ _ given ∙ ap (λ n. start +ℤ pos n *ℤ step) c.saturating_sub.ensures in
+    given_value _ _ _ given ∙ ap (λ n. start +ℤ pos n *ℤ step) c.saturating_sub.ensures in
     let narrow : FitsSigned w32 c.in-Some.last = search rules in
     let interval : c.between.result ≡ span start c.in-Some.last =
     simp to_z-of_z at c.between.ensures in
