@@ -57,14 +57,15 @@ other_cells (first ∷ rest) stepped place value name other =
 
 -- a name that these shadow isn't written, nor one that the text doesn't write
 abbrev pub Unwritten : Scope → List ℕ → Bool → Type 0
-Unwritten hiding name written = is_declared hiding name ≡ false → written ≡ false
+Unwritten shadowing name written = is_declared shadowing name ≡ false → written ≡ false
 
 -- one variable less shadows the name
-hidden_less : (first stepped name : List ℕ) (hiding : Bool) (t : Bool) → bytes_eq first name ≡ t
-    → bytes_eq first stepped ≡ false → (t || hiding ≡ false → bytes_eq stepped name ≡ false)
-    → hiding ≡ false → bytes_eq stepped name ≡ false
-hidden_less first stepped name hiding false e other unwritten bare = unwritten bare
-hidden_less first stepped name hiding true e other unwritten bare =
+shadowed_less : (first stepped name : List ℕ) (shadowing : Bool) (t : Bool)
+    → bytes_eq first name ≡ t
+    → bytes_eq first stepped ≡ false → (t || shadowing ≡ false → bytes_eq stepped name ≡ false)
+    → shadowing ≡ false → bytes_eq stepped name ≡ false
+shadowed_less first stepped name shadowing false e other unwritten bare = unwritten bare
+shadowed_less first stepped name shadowing true e other unwritten bare =
     by_test (bytes_eq stepped name) refl
   where
     by_test : (u : Bool) → bytes_eq stepped name ≡ u → u ≡ false
@@ -92,7 +93,7 @@ below_cells [] (suc k) stepped place value name unwritten = refl
 below_cells (first ∷ rest) (suc k) stepped place value name unwritten =
     below_cells_by first rest k stepped place value name
     (λ other. below_cells rest k stepped place value name
-    (hidden_less first.0 stepped name (is_declared (take k (scope_of rest)) name)
+    (shadowed_less first.0 stepped name (is_declared (take k (scope_of rest)) name)
     (bytes_eq first.0 name) refl other unwritten))
     (bytes_eq first.0 stepped) refl
 
@@ -319,12 +320,12 @@ same_cell writes before after stepped place value covers h =
       cells = λ n name le unwritten.
           let size : length (with_cell after stepped place value) ≡ length after =
           same_size after (with_cell after stepped place value) shape in
-          let hiding : above n (scope_of before) ≡ take (length after - n) (scope_of after) =
+          let shadowing : above n (scope_of before) ≡ take (length after - n) (scope_of after) =
           sym (ap (above n) h.shape) ∙ ap (λ k. take (k - n) (scope_of after))
           (length-map after _) in
           ap (λ k. cells_named (drop (k - n) (with_cell after stepped place value)) name) size
           ∙ below_cells after (length after - n) stepped place value name
-          (λ bare. covers name (unwritten (ap (λ s. is_declared s name) hiding ∙ bare)))
+          (λ bare. covers name (unwritten (ap (λ s. is_declared s name) shadowing ∙ bare)))
           ∙ h.cells n name le unwritten;
     }
 

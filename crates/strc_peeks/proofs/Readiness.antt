@@ -339,12 +339,12 @@ done_cells s before after name done unwritten bare =
     let none : length (scope_of before) - length before ≡ 0 = omega arith in
     let empty : is_declared (above (length before) (scope_of before)) name ≡ false =
     ap (λ k. is_declared (take k (scope_of before)) name) none in
-    let hiding : take (length after - length before) (scope_of after)
+    let shadowing : take (length after - length before) (scope_of after)
     ≡ above (length before) (names_after (scope_of before) s) =
     ap (λ k. take (k - length before) (scope_of after)) (sym (scope_length after))
     ∙ ap (above (length before)) done.exact in
     cells_after (length after - length before) after name
-    (ap (λ l. is_declared l name) hiding ∙ shown s (scope_of before) (length before) name
+    (ap (λ l. is_declared l name) shadowing ∙ shown s (scope_of before) (length before) name
     (omega arith) empty bare)
     ∙ done.grown.cells (length before) name (omega arith) (λ e. unwritten)
     ∙ ap (λ v. cells_named v name) (below_all before)

@@ -31,7 +31,7 @@ use Rattle.strc_peeks.specs.Safe.{ExprIsSafe, OptionIsSafe, VariablesAreSafe, Lo
 use Rattle.strc_peeks.specs.Safe.{StmtIsSafe, StmtsAreSafe}
 use Rattle.strc_peeks.proofs.Results.{or_first, or_second, then_ok, both_ok, any_ok, match_by}
 use Rattle.strc_peeks.proofs.Keeping.{same_refl}
-use Rattle.strc_peeks.proofs.Unwritten.{TurnsFree, unless_hidden}
+use Rattle.strc_peeks.proofs.Unwritten.{TurnsFree, unless_shadowed}
 use Rattle.strc_peeks.proofs.LoopTurns.{no_moves}
 use Rattle.strc_peeks.proofs.LoopParts.{constant_told, cells_sized, Seen}
 use Rattle.strc_peeks.proofs.CountedLoops.{HasValue, Known, loop_known}
@@ -90,7 +90,7 @@ variables_safe window port whole entries cells (first ∷ rest) names intervals 
           (place + length (peeks_of_option first.initial))
           (declared_in given.1 first.name given.0) closed.2 rest_counted
           (λ n e. let before = known_before intervals (tree.Declare tree.Int only) n e in
-          unless_hidden (bytes_eq first.name n) (variables_write n rest)
+          unless_shadowed (bytes_eq first.name n) (variables_write n rest)
           (or_second (option_writes n first.initial) _ (fixed n before.0))
           (or_first (bytes_eq first.name n) _ before.1)) h
           (stand_after window entries place sites sites_rest (peeks_of_option first.initial)
@@ -115,7 +115,7 @@ fixed_inner : (intervals : Intervals) (first : tree.Stmt) (condition : Option tr
     → Fixed (intervals_after intervals first) (turn_writes condition step body)
 fixed_inner intervals first condition step body fixed name known =
     let before = known_before intervals first name known in
-    unless_hidden (shadows name first) (turn_writes condition step body name)
+    unless_shadowed (shadows name first) (turn_writes condition step body name)
     (or_second (stmt_writes name first) _ (fixed name before.0)) before.1
 
 -- a statement that is safe wherever it is counted
@@ -560,7 +560,7 @@ mutual
       (sym (names_after_intervals intervals first)) rest_counted in
       let rest_fixed : Fixed inner (λ n. stmts_write n rest) =
       λ n e. let before = known_before intervals first n e in
-      unless_hidden (shadows n first) (stmts_write n rest)
+      unless_shadowed (shadows n first) (stmts_write n rest)
       (or_second (stmt_writes n first) _ (fixed n before.0)) before.1 in (
         stmt_safe window port whole entries first names intervals popped place store closed.0
             first_counted first_fixed ready

@@ -134,10 +134,10 @@ stmt_bares (tree.Print value) scope n name le bare = (bare, refl)
 stmt_bares (tree.Println value) scope n name le bare = (bare, refl)
 
 -- after what may shadow a name
-pub unless_hidden : (hidden written : Bool) → (not hidden && written) ≡ false → hidden ≡ false
-    → written ≡ false
-unless_hidden true written e h = absurd (cc)
-unless_hidden false written e h = e
+pub unless_shadowed : (shadowed written : Bool) → (not shadowed && written) ≡ false
+    → shadowed ≡ false → written ≡ false
+unless_shadowed true written e h = absurd (cc)
+unless_shadowed false written e h = e
 
 -- ---- declarations
 
@@ -216,7 +216,7 @@ variables_keep port cells (first ∷ rest) names store closed =
           (λ name. option_writes name first.initial) (λ name. variables_write name rest)
           (λ name. bytes_eq first.name name) store.variables begun.variables after.variables
           (λ name e. or_first (option_writes name first.initial) _ e)
-          (λ name e f. unless_hidden (bytes_eq first.name name) (variables_write name rest)
+          (λ name e f. unless_shadowed (bytes_eq first.name name) (variables_write name rest)
           (or_second (option_writes name first.initial) _ e) f)
           (subst (Bares (λ name. bytes_eq first.name name) (scope_of store.variables)) (sym begins)
           (more_bares (scope_of store.variables) first.name cells)) here k.grown;
@@ -466,7 +466,7 @@ mutual
       (λ after k. grown_then writes (λ name. stmt_writes name first) advance
       (λ name. shadows name first) store.variables begun.variables after.variables
       (λ name e. or_first (stmt_writes name first) _ e)
-      (λ name e f. unless_hidden (shadows name first) (advance name)
+      (λ name e f. unless_shadowed (shadows name first) (advance name)
       (or_second (stmt_writes name first) _ e) f)
       (subst (Bares (λ name. shadows name first) (scope_of store.variables)) (sym h.exact)
       (stmt_bares first (scope_of store.variables))) h.grown
@@ -513,7 +513,7 @@ mutual
       (λ after k. grown_then writes (λ name. stmt_writes name first) (λ name. stmts_write name rest)
       (λ name. shadows name first) store.variables middle.variables after.variables
       (λ name e. or_first (stmt_writes name first) _ e)
-      (λ name e f. unless_hidden (shadows name first) (stmts_write name rest)
+      (λ name e f. unless_shadowed (shadows name first) (stmts_write name rest)
       (or_second (stmt_writes name first) _ e) f)
       (subst (Bares (λ name. shadows name first) (scope_of store.variables)) (sym h.exact)
       (stmt_bares first (scope_of store.variables))) h.grown k)
