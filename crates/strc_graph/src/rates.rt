@@ -75,6 +75,7 @@ pub fn pushes_at(node: &Node, firing: u64, port: usize) -> u128
 }
 
 /// The body of a firing: that of the first one is the prework, where there is one.
+#[inline]
 pub fn body_at(firing: u64) -> Body
     ensures { result ≡ rates.body_at firing }
 {

@@ -18,6 +18,7 @@ use strc_graph::graph::{Node, Splitter};
 
 /// All firings of a batch at once, where its node passes items on and its rings hold them all.
 /// Whether it did; if not, it leaves all as it was.
+#[inline]
 pub(crate) fn pass_at_once(
     circuit: &Circuit,
     batch: Batch,

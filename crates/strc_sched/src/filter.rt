@@ -77,6 +77,7 @@ fn taking_of(code: &Code, body: Body) -> Taking
 
 /// One firing of a filter, by its number. Whether it found its window; if not, it leaves all as it
 /// was.
+#[inline]
 pub(crate) fn fire_filter(
     code: &Code,
     firing: u64,

@@ -99,6 +99,7 @@ impl Machine {
 
     /// Fires a unit's nodes in turn, and the whole list a number of times; as its batch, where it
     /// has one.
+    #[inline]
     fn fire_unit(
         &mut self,
         circuit: &Circuit,
@@ -119,6 +120,7 @@ impl Machine {
     }
 
     /// Fires a batch's node so often; at once where it passes items on and finds them all.
+    #[inline]
     fn fire_batch(&mut self, circuit: &Circuit, batch: Batch) -> Result<(), Stop>
         requires machine { IsMachine (circuit_view circuit.now) self.old }
         requires batch { IsBatch (circuit_view circuit.now) batch }
@@ -139,6 +141,7 @@ impl Machine {
     }
 
     /// Fires a batch's node so often, one firing after another.
+    #[inline]
     fn fire_alone(&mut self, circuit: &Circuit, batch: Batch) -> Result<(), Stop>
         requires machine { IsMachine (circuit_view circuit.now) self.old }
         requires batch { IsBatch (circuit_view circuit.now) batch }
@@ -205,6 +208,7 @@ impl Machine {
     }
 
     /// Fires a batch's node once, where it finds its windows.
+    #[inline]
     fn fire_once(&mut self, circuit: &Circuit, batch: Batch) -> Result<(), Stop>
         requires machine { IsMachine (circuit_view circuit.now) self.old }
         requires batch { IsBatch (circuit_view circuit.now) batch }
@@ -232,6 +236,7 @@ impl Machine {
 
     /// One firing of a batch's node, by its number. Whether it found its windows; if not, it leaves
     /// all as it was.
+    #[inline]
     fn step(&mut self, circuit: &Circuit, batch: Batch, firing: u64) -> Result<bool, Halt>
         requires machine { IsMachine (circuit_view circuit.now) self.old }
         requires batch { IsBatch (circuit_view circuit.now) batch }

@@ -6,6 +6,7 @@ ghost use Rattle.strc_admissible.specs.Rings as spec;
 use crate::ring::{Ring, first_of};
 
 /// So many items leave a ring.
+#[inline(always)]
 pub(crate) fn shorten(ring: &mut Ring, count: usize)
     ensures { ring.new ≡ spec.shortened count ring.old }
 {
@@ -15,6 +16,7 @@ pub(crate) fn shorten(ring: &mut Ring, count: usize)
 
 /// Items join a ring, as many as there is room for. A single one, as most firings push, costs no
 /// copy of a slice.
+#[inline(always)]
 pub(crate) fn extend(ring: &mut Ring, items: &[i32])
     ensures { ring.new ≡ spec.extended items.now ring.old }
 {

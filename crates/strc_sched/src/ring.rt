@@ -56,6 +56,7 @@ impl<'a> Window for RingWindow<'a> {
 
     ghost items = { λ window. window.front.now ++ window.back.now };
 
+    #[inline(always)]
     fn item(&self, place: u32) -> Option<i32> {
         let place = place as usize;
         if place < self.front.len() {
@@ -67,6 +68,7 @@ impl<'a> Window for RingWindow<'a> {
 }
 
 /// The items at a port; none where there is no ring.
+#[inline(always)]
 pub(crate) fn window_at<'a>(rings: &'a [Ring], port: Option<usize>) -> RingWindow<'a>
     requires port { IfSome port (λ number. number < length rings.now) }
     ensures { result.front.now ++ result.back.now ≡ items_at rings.now port }
@@ -84,6 +86,7 @@ pub(crate) fn window_at<'a>(rings: &'a [Ring], port: Option<usize>) -> RingWindo
 }
 
 /// How many items are at a port.
+#[inline(always)]
 pub(crate) fn count_at(rings: &[Ring], port: Option<usize>) -> usize
     requires port { IfSome port (λ number. number < length rings.now) }
     ensures { result ≡ length (items_at rings.now port) }
@@ -95,6 +98,7 @@ pub(crate) fn count_at(rings: &[Ring], port: Option<usize>) -> usize
 }
 
 /// So many items leave the ring at a port.
+#[inline(always)]
 pub(crate) fn take_from(rings: &mut [Ring], port: Option<usize>, count: usize)
     requires port { IfSome port (λ number. number < length rings.old) }
     ensures { rings.new ≡ spec.taken port count rings.old }
@@ -105,6 +109,7 @@ pub(crate) fn take_from(rings: &mut [Ring], port: Option<usize>, count: usize)
 }
 
 /// Items join the ring at a port.
+#[inline(always)]
 pub(crate) fn give_to(rings: &mut [Ring], port: Option<usize>, items: &[i32])
     requires port { IfSome port (λ number. number < length rings.old) }
     ensures { rings.new ≡ spec.given port items.now rings.old }

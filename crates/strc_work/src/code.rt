@@ -289,6 +289,7 @@ impl Code {
     }
 
     /// The routine of a body; without a prework each body is the work.
+    #[inline(always)]
     fn routine(&self, body: Body) -> &Routine
         ensures code { code_of result.now.code ≡ body_nodes body (filters.filter_of self.now) }
         ensures flat { IsFlat result.now.flat (code_of result.now.code) }
@@ -304,6 +305,7 @@ impl Code {
 }
 
 /// The routine of the first firing.
+#[inline(always)]
 fn first_of<'a>(prework: &'a Option<Routine>, work: &'a Routine) -> &'a Routine
     ensures { result.now ≡ first_routine prework.now work.now }
 {

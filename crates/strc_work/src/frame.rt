@@ -21,6 +21,7 @@ impl Model for Frame {
 
 impl Frame {
     /// The items that the last firing pushed, in order. It takes no memory.
+    #[inline]
     pub fn pushes(&self) -> &[i32]
         ensures { result.now ≡ self.now.items }
     {
