@@ -62,6 +62,8 @@ pub(crate) struct Search<'a> {
     runs: bool,
     /// How many texts may still be tried.
     left: usize,
+    /// For how many more one counts at which the probe isn't reached.
+    miss: usize,
 }
 
 impl<'a> Search<'a> {
@@ -75,6 +77,21 @@ impl<'a> Search<'a> {
             replaces: false,
             runs: false,
             left,
+            miss: 0,
+        }
+    }
+
+    /// The same search, in which a text without an answer counts for several: it takes a while.
+    pub(crate) fn with_slow_misses(self, miss: usize) -> Search<'a> {
+        Search {
+            alloc: self.alloc,
+            source: self.source,
+            first: self.first,
+            second: self.second,
+            replaces: self.replaces,
+            runs: self.runs,
+            left: self.left,
+            miss,
         }
     }
 
@@ -88,6 +105,7 @@ impl<'a> Search<'a> {
             replaces: true,
             runs: false,
             left,
+            miss: 0,
         }
     }
 
@@ -105,6 +123,7 @@ impl<'a> Search<'a> {
             replaces: self.replaces,
             runs: true,
             left: self.left,
+            miss: self.miss,
         }
     }
 
@@ -117,16 +136,12 @@ impl<'a> Search<'a> {
         }
     }
 
-    /// The place of a token that was found; none where too many texts were tried.
-    pub(crate) fn place_of(&self, found: Option<usize>) -> Option<Extent> {
-        match found {
-            Some(token) if !self.is_over() => Some(self.source.token_place(token)),
-            _ => None,
-        }
+    /// What was found; nothing where so many texts were tried that it can't be told.
+    pub(crate) fn told(&self, found: usize) -> Option<usize> {
+        if self.is_over() { None } else { Some(found) }
     }
 
-    /// Whether so many texts were tried that nothing can be told.
-    pub(crate) fn is_over(&self) -> bool {
+    fn is_over(&self) -> bool {
         self.left == 0
     }
 
@@ -138,7 +153,11 @@ impl<'a> Search<'a> {
         self.left = self.left.saturating_sub(1);
         let probe = self.first;
         let text = with_part(self.alloc, self.source.text, self.part(token), probe.text)?;
-        Ok(answer_to(self.alloc, self.source, &text)? == probe.answer)
+        if answer_to(self.alloc, self.source, &text)? == probe.answer {
+            return Ok(true);
+        }
+        self.left = self.left.saturating_sub(self.miss);
+        Ok(false)
     }
 
     /// Whether, of two tokens at which these probes are reached, the early one is reached before

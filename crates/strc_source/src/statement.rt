@@ -61,5 +61,8 @@ pub fn refused_use(
             found = search.later(found, place)?;
         }
     }
-    Ok(search.place_of(found))
+    match found {
+        Some(place) if search.told(place).is_some() => Ok(Some(source.token_place(place))),
+        _ => Ok(None),
+    }
 }
