@@ -52,7 +52,7 @@ fn write_fault(
     graph: Option<&Graph>,
     site: FaultSite,
 ) -> Result<Vec<u8>, NoMemory> {
-    let place = place_of_node(source, graph, site.node as usize);
+    let place = place_of_node(alloc, source, graph, site.node as usize)?;
     let mut message = source.begin(alloc, place)?;
     push_node(&mut message, graph, site.node as usize)?;
     message.add(cause_words(site.cause))?;

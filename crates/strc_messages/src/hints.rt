@@ -7,17 +7,18 @@ use strc_source::message::Message;
 use strc_source::nearest::nearest_name;
 use strc_source::source::Source;
 
-/// A hint, where there is one that helps.
+/// A hint, where there is one that helps. `in_statement`: the message is about a statement.
 pub(crate) fn push_hint(
     alloc: Global,
     message: &mut Message,
     source: Source<'_>,
     refusal: &Refusal,
+    in_statement: bool,
 ) -> Result<(), NoMemory> {
     if let Refusal::UnknownName { name } = refusal {
         return push_nearest(alloc, message, source, name.as_bytes());
     }
-    let hint = hint_of(refusal);
+    let hint = hint_of(refusal, in_statement);
     if hint.is_empty() {
         return Ok(());
     }
@@ -44,7 +45,7 @@ fn push_nearest(
 }
 
 /// How a refusal can be mended; nothing where the sentence says enough.
-fn hint_of(refusal: &Refusal) -> &'static [u8] {
+fn hint_of(refusal: &Refusal, in_statement: bool) -> &'static [u8] {
     match refusal {
         Refusal::NoMain => b"the main stream is one like `void->void pipeline Main { .. }`",
         Refusal::ManyMains => b"name the one that is to run with --main NAME",
@@ -56,7 +57,7 @@ fn hint_of(refusal: &Refusal) -> &'static [u8] {
         }
         Refusal::DepthLimit => b"a stream that adds itself needs a condition that ends it",
         Refusal::TwoOutputs => b"one FileWriter, or one filter with print or println, is allowed",
-        Refusal::ConstFault { .. } => {
+        Refusal::ConstFault { .. } if !in_statement => {
             b"look at rates, lengths, initialisers, init, and the loops of composite streams"
         }
         _ => rate_hint(refusal),

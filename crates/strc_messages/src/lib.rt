@@ -8,6 +8,7 @@
 pub mod fault;
 mod hints;
 mod nodes;
+mod origin;
 mod places;
 mod program;
 pub mod refusal;

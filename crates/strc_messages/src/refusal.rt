@@ -13,9 +13,11 @@ use strc_lex::lexer::lex;
 use strc_lex::token::Token;
 use strc_run::refusal::Refusal;
 use strc_source::expected::{Expected, expected_after};
+use strc_source::faulting::faulting_statement;
 use strc_source::message::{Extent, Message};
 use strc_source::source::Source;
 use strc_source::statement::{refused_statement, refused_use};
+use strc_source::weights::refused_weights;
 
 /// What a person reads of a text's refusal: the place in the file, one sentence, the source line
 /// with a mark under the place, and where it helps a hint; a line feed ends the message.
@@ -74,12 +76,12 @@ fn write_message(
     let part = refused_part(alloc, source, refusal)?;
     let place = match part {
         Some(part) => Some(part),
-        None => place_of_refusal(source, graph, refusal),
+        None => place_of_refusal(alloc, source, graph, refusal)?,
     };
     let mut message = source.begin(alloc, place)?;
     push_sentence(alloc, &mut message, source, graph, refusal, part.is_some())?;
     source.excerpt(&mut message, place)?;
-    push_hint(alloc, &mut message, source, refusal)?;
+    push_hint(alloc, &mut message, source, refusal, part.is_some())?;
     Ok(message.end()?)
 }
 
@@ -94,6 +96,8 @@ fn refused_part(
         Refusal::TypeMismatch { stream } | Refusal::BadArguments { stream } => {
             refused_statement(alloc, source, *stream)
         }
+        Refusal::BadWeights { stream } => refused_weights(alloc, source, *stream),
+        Refusal::ConstFault { cause } => faulting_statement(alloc, source, *cause),
         _ => Ok(None),
     }
 }

@@ -21,6 +21,9 @@ pub(crate) fn plain_sentence(
         Refusal::BadArguments { .. } if in_statement => {
             b"the stream that is added here gets another number of arguments than it has parameters"
         }
+        Refusal::BadWeights { .. } if in_statement => {
+            b"the weights in this statement don't fit its children"
+        }
         Refusal::TypeMismatch { .. } | Refusal::BadArguments { .. } | Refusal::BadWeights { .. } =>
             { declaration_sentence(refusal) }
         Refusal::RateUnknown { .. } => b" pushes or pops a number of items that can't be counted",

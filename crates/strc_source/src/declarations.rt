@@ -33,19 +33,48 @@ fn place_numbered(tokens: &[Token], number: usize) -> Option<usize> {
     None
 }
 
-/// The tokens of a declaration after its name, by the declaration's number: from the first one to
-/// before the last brace's next one.
-pub fn body_of(tokens: &[Token], number: usize) -> Option<(usize, usize)> {
+/// The tokens of a declaration from its name on.
+#[derive(Clone, Copy)]
+pub struct Body {
+    pub start: usize,
+    /// The one after its last brace.
+    pub end: usize,
+    /// Whether it is a filter's.
+    pub is_filter: bool,
+}
+
+/// The body of a declaration, by the declaration's number.
+pub fn body_of(tokens: &[Token], number: usize) -> Option<Body> {
     let start = place_numbered(tokens, number)?;
     let mut depth: usize = 0;
     for place in start..tokens.len() {
         let outer = depth;
         depth = depth_after(&tokens[place].kind, depth);
         if outer == 1 && depth == 0 {
-            return Some((start, place + 1));
+            return Some(Body {
+                start,
+                end: place + 1,
+                is_filter: is_filter(tokens, start),
+            });
         }
     }
     None
+}
+
+/// Whether the name at a place is a filter's.
+fn is_filter(tokens: &[Token], place: usize) -> bool {
+    match tokens.get(place.saturating_sub(1)) {
+        Some(token) => is_keyword(token, Keyword::Filter),
+        None => false,
+    }
+}
+
+/// Whether a token is this keyword.
+pub fn is_keyword(token: &Token, keyword: Keyword) -> bool {
+    match token.kind {
+        TokenKind::Keyword(found) => found == keyword,
+        _ => false,
+    }
 }
 
 /// The name of a declaration, where it is declared.

@@ -1,4 +1,4 @@
-// How a program's text is answered that differs from the source in one part.
+// How a program's text is answered that differs from the source in some parts.
 
 use crate::message::Extent;
 use crate::source::Source;
@@ -8,38 +8,65 @@ use strc_elab::elaborate::elaborate;
 use strc_elab::error::ElabError;
 use strc_lex::lexer::lex;
 use strc_parse::parse;
+use strc_semantics::fault::Cause;
 
 /// The longest text that is tried, in bytes: each trial reads all of it.
-pub(crate) const LONGEST: usize = 16_384;
+pub const LONGEST: usize = 16_384;
 
-/// A name that programs don't have.
+/// Two names that programs don't have.
 pub(crate) const SOUGHT: &[u8] = b"strc_sought_place";
 
-/// Whether the program is refused for the sought name, where these bytes stand in place of a part
-/// of its text.
-pub(crate) fn is_reached(
+pub(crate) const OTHER: &[u8] = b"strc_other_place";
+
+/// How a text is answered.
+#[derive(Clone, Copy, PartialEq, Eq)]
+pub(crate) enum Answer {
+    /// The first of the two names isn't declared.
+    Sought,
+    /// The second one isn't.
+    Other,
+    /// A statement, a rate, a length, an initialiser or `init` faults.
+    Fault(Cause),
+    /// Weights of this declaration aren't allowed.
+    BadWeights(usize),
+    /// Any other way.
+    Else,
+}
+
+/// How a text is answered.
+pub(crate) fn answer_to(
     alloc: Global,
     source: Source<'_>,
-    part: Extent,
-    instead: &[u8],
-) -> Result<bool, NoMemory> {
-    let text = with_part(alloc, source.text, part, instead)?;
-    let Ok(tokens) = lex(alloc, &text) else {
-        return Ok(false);
+    text: &[u8],
+) -> Result<Answer, NoMemory> {
+    let Ok(tokens) = lex(alloc, text) else {
+        return Ok(Answer::Else);
     };
     let Ok(program) = parse(alloc, &tokens) else {
-        return Ok(false);
+        return Ok(Answer::Else);
     };
     match elaborate(alloc, &program, source.main) {
-        Ok(_) => Ok(false),
-        Err(ElabError::UnknownName { name }) => Ok(name.as_bytes() == SOUGHT),
+        Err(ElabError::UnknownName { name }) => Ok(answer_of_name(name.as_bytes())),
+        Err(ElabError::ConstFault { cause }) => Ok(Answer::Fault(cause)),
+        Err(ElabError::BadWeights { stream }) => Ok(Answer::BadWeights(stream)),
         Err(ElabError::NoMemory) => Err(NoMemory),
-        Err(_) => Ok(false),
+        _ => Ok(Answer::Else),
     }
 }
 
-/// The text with other bytes in place of a part.
-fn with_part(
+/// The answer of a text in which a name isn't declared.
+fn answer_of_name(name: &[u8]) -> Answer {
+    if name == SOUGHT {
+        Answer::Sought
+    } else if name == OTHER {
+        Answer::Other
+    } else {
+        Answer::Else
+    }
+}
+
+/// A text with other bytes in place of a part.
+pub fn with_part(
     alloc: Global,
     text: &[u8],
     part: Extent,
