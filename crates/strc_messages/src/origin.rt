@@ -8,8 +8,8 @@ use strc_graph::graph::{Graph, Node, Splitter};
 use strc_lex::lexer::lex;
 use strc_source::message::Extent;
 use strc_source::source::Source;
-use strc_source::trial::{LONGEST, with_part};
 use strc_source::unnamed::{SOUGHT_FILTER, SOUGHT_WEIGHT, Unnamed, unnamed_at};
+use strc_trial::trial::{LONGEST, with_part};
 
 /// How many statements are tried.
 const MOST: usize = 100;

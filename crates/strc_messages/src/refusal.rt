@@ -13,11 +13,11 @@ use strc_lex::lexer::lex;
 use strc_lex::token::Token;
 use strc_run::refusal::Refusal;
 use strc_source::expected::{Expected, expected_after};
-use strc_source::faulting::faulting_statement;
 use strc_source::message::{Extent, Message};
 use strc_source::source::Source;
-use strc_source::statement::{refused_statement, refused_use};
-use strc_source::weights::refused_weights;
+use strc_trial::faulting::faulting_statement;
+use strc_trial::statement::{refused_statement, refused_use};
+use strc_trial::weights::refused_weights;
 
 /// What a person reads of a text's refusal: the place in the file, one sentence, the source line
 /// with a mark under the place, and where it helps a hint; a line feed ends the message.

@@ -5,7 +5,7 @@ use crate::message::Extent;
 use strc_lex::token::{Keyword, Punctuation, Token, TokenKind};
 
 /// Whether a statement or a field could begin before a token: after a brace or a semicolon.
-pub(crate) fn can_begin(tokens: &[Token], place: usize) -> bool {
+pub fn can_begin(tokens: &[Token], place: usize) -> bool {
     if place == 0 || place > tokens.len() {
         return false;
     }
@@ -20,7 +20,7 @@ pub(crate) fn can_begin(tokens: &[Token], place: usize) -> bool {
 
 /// The statement or the field that begins with a token, up to its first block or its end. Before
 /// the end of a loop's block it is the loop.
-pub(crate) fn statement_at(tokens: &[Token], place: usize, end: usize) -> Option<Extent> {
+pub fn statement_at(tokens: &[Token], place: usize, end: usize) -> Option<Extent> {
     let first = tokens.get(place)?;
     if !is_mark(first, Punctuation::CloseBrace) {
         return Some(row_of(tokens, place, end));
@@ -32,7 +32,7 @@ pub(crate) fn statement_at(tokens: &[Token], place: usize, end: usize) -> Option
 
 /// The tokens from one on, up to the first semicolon outside of parentheses or before the first
 /// brace.
-pub(crate) fn row_of(tokens: &[Token], place: usize, end: usize) -> Extent {
+pub fn row_of(tokens: &[Token], place: usize, end: usize) -> Extent {
     let mut depth: usize = 0;
     let mut last = place;
     for token in place..end.min(tokens.len()) {

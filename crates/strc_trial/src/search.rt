@@ -1,14 +1,14 @@
 // Where a program gets before it is refused. It is found by asking: a text with a probe in it, as a
 // name that isn't declared, is answered for the probe where that is reached, and else as before.
 
-use crate::declarations::Body;
-use crate::message::Extent;
-use crate::rows::can_begin;
-use crate::source::Source;
 use crate::trial::{Answer, OTHER, SOUGHT, answer_to, with_part};
 use std::alloc::Global;
 use strc_base::memory::NoMemory;
 use strc_semantics::fault::Cause;
+use strc_source::declarations::Body;
+use strc_source::message::Extent;
+use strc_source::rows::can_begin;
+use strc_source::source::Source;
 
 /// What is put into a text, and how a program is answered that reaches it.
 #[derive(Clone, Copy)]

@@ -1,7 +1,5 @@
 // How a program's text is answered that differs from the source in some parts.
 
-use crate::message::Extent;
-use crate::source::Source;
 use std::alloc::Global;
 use strc_base::memory::NoMemory;
 use strc_elab::elaborate::elaborate;
@@ -9,6 +7,8 @@ use strc_elab::error::ElabError;
 use strc_lex::lexer::lex;
 use strc_parse::parse;
 use strc_semantics::fault::Cause;
+use strc_source::message::Extent;
+use strc_source::source::Source;
 
 /// The longest text that is tried, in bytes: each trial reads all of it.
 pub const LONGEST: usize = 16_384;

@@ -1,16 +1,16 @@
 // Which statement, field or header faults before a program runs. It is found by asking: each
 // statement that is reached before the fault is, and of these the one that is reached last.
 
-use crate::declarations::{Body, body_of, is_keyword};
-use crate::message::Extent;
-use crate::rows::{can_begin, statement_at};
 use crate::search::Search;
-use crate::source::Source;
 use crate::trial::LONGEST;
 use std::alloc::Global;
 use strc_base::memory::NoMemory;
 use strc_lex::token::Keyword;
 use strc_semantics::fault::Cause;
+use strc_source::declarations::{Body, body_of, is_keyword};
+use strc_source::message::Extent;
+use strc_source::rows::{can_begin, statement_at};
+use strc_source::source::Source;
 
 /// How many texts are tried.
 const MOST: usize = 600;

@@ -1,14 +1,14 @@
 // Which statement, and which use of a name, a refusal is about. It is found by asking where the
 // program gets before it is refused.
 
-use crate::declarations::{Body, body_of, is_name};
-use crate::message::Extent;
-use crate::rows::{can_begin, statement_at};
 use crate::search::Search;
-use crate::source::Source;
 use crate::trial::LONGEST;
 use std::alloc::Global;
 use strc_base::memory::NoMemory;
+use strc_source::declarations::{Body, body_of, is_name};
+use strc_source::message::Extent;
+use strc_source::rows::{can_begin, statement_at};
+use strc_source::source::Source;
 
 /// At how many places it is tried.
 const MOST: usize = 200;

@@ -1,13 +1,13 @@
 // Which statement's weights aren't allowed. It is found by asking: all others get weights that are.
 
-use crate::declarations::{Body, body_of};
-use crate::message::Extent;
-use crate::rows::row_of;
-use crate::source::Source;
 use crate::trial::{Answer, LONGEST, answer_to, with_part};
 use std::alloc::Global;
 use strc_base::memory::NoMemory;
 use strc_lex::token::{Keyword, Token, TokenKind};
+use strc_source::declarations::{Body, body_of};
+use strc_source::message::Extent;
+use strc_source::rows::row_of;
+use strc_source::source::Source;
 
 /// How many statements of a declaration are tried.
 const MOST: usize = 50;
