@@ -14,14 +14,17 @@ pub(crate) fn shorten(ring: &mut Ring, count: usize)
     ring.truncate_front(left);
 }
 
-/// Items join a ring, as many as there is room for. A single one, as most firings push, costs no
-/// copy of a slice.
+/// Items join a ring, as many as there is room for. One or two, as most firings push, cost no copy
+/// of a slice.
 #[inline(always)]
 pub(crate) fn extend(ring: &mut Ring, items: &[i32])
     ensures { ring.new ≡ spec.extended items.now ring.old }
 {
     if items.len() == 1 {
         let _refused = ring.try_push_back(items[0]);
+    } else if items.len() == 2 {
+        let _first = ring.try_push_back(items[0]);
+        let _second = ring.try_push_back(items[1]);
     } else {
         ring.fill_from_slice(items);
     }
