@@ -241,10 +241,10 @@ option_cases None = inl refl
 option_cases (Some x) = inr (x, refl)
 
 -- with as many turns as there are unknown nodes, no equation gives another
-settled : (size turns : ℕ) (equations : List Equation) (fractions : Fractions)
+none_left : (size turns : ℕ) (equations : List Equation) (fractions : Fractions)
     → All (HasRates size) equations → length fractions ≡ size → unknown fractions ≤ turns
     → first_given (propagated turns equations fractions) equations ≡ None
-settled size zero equations fractions rates same few =
+none_left size zero equations fractions rates same few =
     elim (option_cases (first_given fractions equations)) [
       | inl none ↦ none
       | inr some ↦
@@ -254,7 +254,7 @@ settled size zero equations fractions rates same few =
           (first_given-unknown fractions equations some.0 some.1) in
           absurd (omega arith)
     ]
-settled size (suc turns) equations fractions rates same few =
+none_left size (suc turns) equations fractions rates same few =
     elim (option_cases (first_given fractions equations)) [
       | inl none ↦ ap (λ l. first_given l equations)
           (propagated-done (suc turns) equations fractions none) ∙ none
@@ -265,7 +265,7 @@ settled size (suc turns) equations fractions rates same few =
           (first_given-unknown fractions equations some.0 some.1) in
           ap (λ found. first_given (propagated turns equations (with_given fractions found))
           equations) some.1
-          ∙ settled size turns equations (set fractions some.0.0 (Some some.0.1)) rates
+          ∙ none_left size turns equations (set fractions some.0.0 (Some some.0.1)) rates
           (length-set fractions some.0.0 (Some some.0.1) ∙ same) (omega arith)
     ]
 
@@ -276,12 +276,12 @@ pub spread-length : (size : ℕ) (equations : List Equation) → length (spread 
 spread-length size equations = propagated-length size equations (start_fractions size)
     ∙ start-length size
 
-pub spread-settled : (size : ℕ) (equations : List Equation) → All (HasRates size) equations
+pub spread-none_left : (size : ℕ) (equations : List Equation) → All (HasRates size) equations
     → first_given (spread size equations) equations ≡ None
-spread-settled size equations rates =
+spread-none_left size equations rates =
     let few = unknown-le (start_fractions size) in
     let same = start-length size in
-    settled size size equations (start_fractions size) rates same (omega arith)
+    none_left size size equations (start_fractions size) rates same (omega arith)
 
 -- node 0's fraction is 1
 start-first : (size : ℕ) → 0 < size → fraction_at (start_fractions size) 0 ≡ Some one
@@ -368,5 +368,5 @@ pub spread-known : (size : ℕ) (equations : List Equation) → All (HasRates si
     → AreConnected size equations → (node : ℕ) → node < size → IsKnown (spread size equations) node
 spread-known size equations rates connected node within =
     path-known (spread size equations) equations
-    (first_given-none (spread size equations) equations (spread-settled size equations rates))
+    (first_given-none (spread size equations) equations (spread-none_left size equations rates))
     (connected 0 node (omega arith) within) (one, spread-first size equations (omega arith))

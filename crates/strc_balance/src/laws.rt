@@ -1,4 +1,4 @@
-// What the counts stand on, as a law about all equations, and the counts of small graphs.
+// What the counts rely on, as a law about all equations, and the counts of small graphs.
 
 ghost use Rattle.strc_balance.specs.Examples.{ChangedRates, PreworkLeftOut, ManyItems};
 ghost use Rattle.strc_balance.specs.Examples.{TooManyItems, DealtByWeights, DoubledSide};

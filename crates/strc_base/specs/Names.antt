@@ -1,4 +1,4 @@
--- Names and what they stand for, the innermost first.
+-- Names and what they mean, the innermost first.
 use Rattle.std.specs.Prelude.{ℕ, Bool, false, ◌||◌, List, [], ◌∷◌, length, map, Option, Some, None}
 use Rattle.std.specs.Prelude.{if◌then◌else◌, bytes_eq}
 

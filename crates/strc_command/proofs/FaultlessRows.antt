@@ -224,127 +224,127 @@ module _ (rules : List Rule) (plain : Each IsPlainRule rules) where
   settle_pending (Some p) rows none good = settle_by (arg_by_id rules p.0) p.1 rows
       (found_plain (λ rule. bytes_eq rule.id p.0)) none good
 
-  pub settled_good : (held : Held) → settle_fault rules false held ≡ [] → Each IsGood held.rows
-      → Each IsGood (settled rules held).rows
-  settled_good held none good = settle_pending held.pending held.rows none good
+  pub settled_good : (kept : Held) → settle_fault rules false kept ≡ [] → Each IsGood kept.rows
+      → Each IsGood (settled rules kept).rows
+  settled_good kept none good = settle_pending kept.pending kept.rows none good
 
-  reacted_good : (rule : Rule) → IsPlainRule rule → (values : List Text) (held : Held) →
-      react_fault rules false rule values held ≡ []
-      → Each IsGood held.rows → Each IsGood (reacted rules rule values held).rows
-  reacted_good rule is values held none good =
-      let settles = settle_fault rules false held in
-      let uses = use_fault false rule values (settled rules held).rows in
-      use_good rule is values (settled rules held).rows (none_second settles uses none)
-      (settled_good held (none_first settles uses none) good)
+  reacted_good : (rule : Rule) → IsPlainRule rule → (values : List Text) (kept : Held) →
+      react_fault rules false rule values kept ≡ []
+      → Each IsGood kept.rows → Each IsGood (reacted rules rule values kept).rows
+  reacted_good rule is values kept none good =
+      let settles = settle_fault rules false kept in
+      let uses = use_fault false rule values (settled rules kept).rows in
+      use_good rule is values (settled rules kept).rows (none_second settles uses none)
+      (settled_good kept (none_first settles uses none) good)
 
-  option_good : (rule : Rule) → IsPlainRule rule → (value : Option Text) (held : Held) →
-      option_fault rules false rule value held ≡ []
-      → Each IsGood held.rows → Each IsGood (option_met rules rule value held).0.rows
-  option_good rule is (Some value) held none good = reacted_good rule is (value ∷ []) held none good
-  option_good rule is None held none good = settled_good held none good
+  option_good : (rule : Rule) → IsPlainRule rule → (value : Option Text) (kept : Held) →
+      option_fault rules false rule value kept ≡ []
+      → Each IsGood kept.rows → Each IsGood (option_met rules rule value kept).0.rows
+  option_good rule is (Some value) kept none good = reacted_good rule is (value ∷ []) kept none good
+  option_good rule is None kept none good = settled_good kept none good
 
-  long_good : (found : Option Rule) → IsPlainIn found → (value : Option Text) (held : Held) →
-      long_fault rules false found value held ≡ []
-      → Each IsGood held.rows → Each IsGood (long_met rules found value held).0.rows
-  long_good None is value held none good = good
-  long_good (Some rule) is value held none good = go (takes_values rule) value none good
+  long_good : (found : Option Rule) → IsPlainIn found → (value : Option Text) (kept : Held) →
+      long_fault rules false found value kept ≡ []
+      → Each IsGood kept.rows → Each IsGood (long_met rules found value kept).0.rows
+  long_good None is value kept none good = good
+  long_good (Some rule) is value kept none good = go (takes_values rule) value none good
     where
       go : (b : Bool) (value : Option Text)
-          → (if b then option_fault rules false rule value held else
+          → (if b then option_fault rules false rule value kept else
           (if is_some value then kind.TooManyValues ∷ [] else react_fault rules false rule []
-          held)) ≡ []
-          → Each IsGood held.rows → Each IsGood
-          (if b then option_met rules rule value held else flag_met rules rule value
-          held).0.rows
-      go true value none good = option_good rule is value held none good
+          kept)) ≡ []
+          → Each IsGood kept.rows → Each IsGood
+          (if b then option_met rules rule value kept else flag_met rules rule value
+          kept).0.rows
+      go true value none good = option_good rule is value kept none good
       go false (Some value) none good = good
-      go false None none good = reacted_good rule is [] held none good
+      go false None none good = reacted_good rule is [] kept none good
 
   -- the rest of a bundle keeps rows good
   abbrev KeepsGood : (Text → ℕ → Held → Kinds) → (Text → ℕ → Outcome → Held → Held × Outcome) →
       Type 0
-  KeepsGood fault next = (flags : Text) (skip : ℕ) (so_far : Outcome) (held : Held) → fault flags
-      skip held ≡ [] → Each IsGood held.rows
-      → Each IsGood (next flags skip so_far held).0.rows
+  KeepsGood fault next = (flags : Text) (skip : ℕ) (so_far : Outcome) (kept : Held) → fault flags
+      skip kept ≡ [] → Each IsGood kept.rows
+      → Each IsGood (next flags skip so_far kept).0.rows
 
-  short_good : (found : Option Rule) → IsPlainIn found → (rest : Text) (held : Held)
+  short_good : (found : Option Rule) → IsPlainIn found → (rest : Text) (kept : Held)
       (fault : Held → Kinds) (next : Held → Held × Outcome)
       → ((after : Held) → fault after ≡ [] → Each IsGood after.rows → Each IsGood
       (next after).0.rows)
-      → short_fault rules false found rest held fault ≡ [] → Each IsGood held.rows → Each IsGood
-      (short_met rules found rest held next).0.rows
-  short_good None is rest held fault next keeps none good = good
-  short_good (Some rule) is rest held fault next keeps none good = go (takes_values rule) none good
+      → short_fault rules false found rest kept fault ≡ [] → Each IsGood kept.rows → Each IsGood
+      (short_met rules found rest kept next).0.rows
+  short_good None is rest kept fault next keeps none good = good
+  short_good (Some rule) is rest kept fault next keeps none good = go (takes_values rule) none good
     where
-      go : (b : Bool) → (if b then option_fault rules false rule (attached_value rest) held
-          else or_else (react_fault rules false rule [] held) (fault (reacted rules rule [] held)))
+      go : (b : Bool) → (if b then option_fault rules false rule (attached_value rest) kept
+          else or_else (react_fault rules false rule [] kept) (fault (reacted rules rule [] kept)))
           ≡ []
-          → Each IsGood held.rows
-          → Each IsGood (if b then option_met rules rule (attached_value rest) held else next
-          (reacted rules rule [] held)).0.rows
-      go true none good = option_good rule is (attached_value rest) held none good
+          → Each IsGood kept.rows
+          → Each IsGood (if b then option_met rules rule (attached_value rest) kept else next
+          (reacted rules rule [] kept)).0.rows
+      go true none good = option_good rule is (attached_value rest) kept none good
       go false none good =
-          let after = reacted rules rule [] held in
-          keeps after (none_second (react_fault rules false rule [] held) (fault after) none)
-          (reacted_good rule is [] held
-          (none_first (react_fault rules false rule [] held) (fault after) none) good)
+          let after = reacted rules rule [] kept in
+          keeps after (none_second (react_fault rules false rule [] kept) (fault after) none)
+          (reacted_good rule is [] kept
+          (none_first (react_fault rules false rule [] kept) (fault after) none) good)
 
   bundle_step_good : (fault : Text → ℕ → Held → Kinds)
       (next : Text → ℕ → Outcome → Held → Held × Outcome) → KeepsGood fault next
-      → (first : Option ℕ) (flags : Text) (skip : ℕ) (so_far : Outcome) (held : Held) →
-      bundle_step_fault rules false first flags skip held fault ≡ []
-      → Each IsGood held.rows → Each IsGood
-      (bundle_step rules first flags skip so_far held next).0.rows
-  bundle_step_good fault next keeps None flags skip so_far held none good = good
-  bundle_step_good fault next keeps (Some x) flags zero so_far held none good =
+      → (first : Option ℕ) (flags : Text) (skip : ℕ) (so_far : Outcome) (kept : Held) →
+      bundle_step_fault rules false first flags skip kept fault ≡ []
+      → Each IsGood kept.rows → Each IsGood
+      (bundle_step rules first flags skip so_far kept next).0.rows
+  bundle_step_good fault next keeps None flags skip so_far kept none good = good
+  bundle_step_good fault next keeps (Some x) flags zero so_far kept none good =
       let rest = drop (length (encode_utf8 x)) flags in
-      short_good (arg_by_short rules x) (found_plain _) rest held (fault rest 0)
+      short_good (arg_by_short rules x) (found_plain _) rest kept (fault rest 0)
       (next rest 0 walking.done) (keeps rest 0 walking.done) none good
-  bundle_step_good fault next keeps (Some x) flags (suc skip) so_far held none good = keeps
-      (drop (length (encode_utf8 x)) flags) skip so_far held none good
+  bundle_step_good fault next keeps (Some x) flags (suc skip) so_far kept none good = keeps
+      (drop (length (encode_utf8 x)) flags) skip so_far kept none good
 
   bundle_good : (k : ℕ) → KeepsGood (flags_fault rules false k) (bundle_met rules k)
   unfolding flags_fault bundle_met
-  bundle_good zero flags skip so_far held none good = good
-  bundle_good (suc k) flags skip so_far held none good =
+  bundle_good zero flags skip so_far kept none good = good
+  bundle_good (suc k) flags skip so_far kept none good =
       bundle_step_good (flags_fault rules false k) (bundle_met rules k) (bundle_good k)
-      (slice_get (chars flags) 0) flags skip so_far held none good
+      (slice_get (chars flags) 0) flags skip so_far kept none good
 
-  option_word_good : (found : Option Rule) (id word : Text) (held : Held) → Each IsGood held.rows →
-      Each IsGood (option_word found id word held).0.rows
-  option_word_good None id word held good = good
-  option_word_good (Some rule) id word held good = good
+  option_word_good : (found : Option Rule) (id word : Text) (kept : Held) → Each IsGood kept.rows →
+      Each IsGood (option_word found id word kept).0.rows
+  option_word_good None id word kept good = good
+  option_word_good (Some rule) id word kept good = good
 
-  plain_good : (waiting : Waiting) (word : Text) (held : Held) → Each IsGood held.rows → Each
-      IsGood (plain_word rules waiting word held).0.rows
-  plain_good walking.idle word held good = good
-  plain_good (walking.option id) word held good = option_word_good (arg_by_id rules id) id word
-      held good
-  plain_good walking.positional word held good = good
+  plain_good : (waiting : Waiting) (word : Text) (kept : Held) → Each IsGood kept.rows → Each
+      IsGood (plain_word rules waiting word kept).0.rows
+  plain_good walking.idle word kept good = good
+  plain_good (walking.option id) word kept good = option_word_good (arg_by_id rules id) id word
+      kept good
+  plain_good walking.positional word kept good = good
 
-  after_good : (waiting : Waiting) (word : Text) (held : Held) (outcome : Outcome) → Each IsGood
-      held.rows → Each IsGood (after_flag rules waiting word held outcome).0.rows
-  after_good waiting word held walking.done good = good
-  after_good waiting word held (walking.waits id) good = good
-  after_good waiting word held walking.plain good = plain_good waiting word held good
-  after_good waiting word held walking.refused good = plain_good waiting word held good
+  after_good : (waiting : Waiting) (word : Text) (kept : Held) (outcome : Outcome) → Each IsGood
+      kept.rows → Each IsGood (after_flag rules waiting word kept outcome).0.rows
+  after_good waiting word kept walking.done good = good
+  after_good waiting word kept (walking.waits id) good = good
+  after_good waiting word kept walking.plain good = plain_good waiting word kept good
+  after_good waiting word kept walking.refused good = plain_good waiting word kept good
 
-  other_good : (long : Option (Text × Option Text)) (waiting : Waiting) (word : Text) (held : Held)
-      → flag_word_fault rules false long word held ≡ []
-      → Each IsGood held.rows → Each IsGood (long_or_other rules waiting word long held).0.rows
-  other_good (Some p) waiting word held none good =
-      after_good waiting word _ (long_met rules (arg_by_long rules p.0) p.1 held).1
-      (long_good (arg_by_long rules p.0) (found_plain _) p.1 held none good)
-  other_good None waiting word held none good = go (short_of word) none good
+  other_good : (long : Option (Text × Option Text)) (waiting : Waiting) (word : Text) (kept : Held)
+      → flag_word_fault rules false long word kept ≡ []
+      → Each IsGood kept.rows → Each IsGood (long_or_other rules waiting word long kept).0.rows
+  other_good (Some p) waiting word kept none good =
+      after_good waiting word _ (long_met rules (arg_by_long rules p.0) p.1 kept).1
+      (long_good (arg_by_long rules p.0) (found_plain _) p.1 kept none good)
+  other_good None waiting word kept none good = go (short_of word) none good
     where
-      go : (short : Option Text) → option_map_or (λ flags. bundle_fault rules false flags held)
+      go : (short : Option Text) → option_map_or (λ flags. bundle_fault rules false flags kept)
           short [] ≡ []
-          → Each IsGood held.rows → Each IsGood
-          (short_or_plain rules waiting word short held).0.rows
-      go None none good = plain_good waiting word held good
+          → Each IsGood kept.rows → Each IsGood
+          (short_or_plain rules waiting word short kept).0.rows
+      go None none good = plain_good waiting word kept good
       go (Some flags) none good =
-          after_good waiting word _ (bundle rules flags held).1
-          (bundle_good (length flags) flags held.skip walking.plain (record held { skip = 0 }) none
+          after_good waiting word _ (bundle rules flags kept).1
+          (bundle_good (length flags) flags kept.skip walking.plain (record kept { skip = 0 }) none
           good)
 
 -- ---- the words of a command with no subcommand
@@ -357,57 +357,57 @@ module _ (shape : Shape) (plain : Each IsPlainRule shape.rules)
   no_name walking.positional word = refl
 
   unnamed_good : (name : Option Text) (waiting : Waiting) (position : ℕ) (word : Text)
-      (held : Held) → name ≡ None → other_fault shape name word held ≡ []
-      → Each IsGood held.rows → Each IsGood
-      (subcommand_or_other shape.rules name waiting position word held).0.rows
-  unnamed_good (Some name) waiting position word held is none good = cc
-  unnamed_good None waiting position word held is none good = go (bytes_eq word (45 ∷ 45 ∷ []))
+      (kept : Held) → name ≡ None → other_fault shape name word kept ≡ []
+      → Each IsGood kept.rows → Each IsGood
+      (subcommand_or_other shape.rules name waiting position word kept).0.rows
+  unnamed_good (Some name) waiting position word kept is none good = cc
+  unnamed_good None waiting position word kept is none good = go (bytes_eq word (45 ∷ 45 ∷ []))
       none good
     where
       go : (b : Bool) → (if b then [] else flag_word_fault shape.rules shape.args_override_self
-          (long_of word) word held) ≡ []
-          → Each IsGood held.rows
-          → Each IsGood (if b then (held, walking.trailing position) else long_or_other shape.rules
-          waiting word (long_of word) held).0.rows
+          (long_of word) word kept) ≡ []
+          → Each IsGood kept.rows
+          → Each IsGood (if b then (kept, walking.trailing position) else long_or_other shape.rules
+          waiting word (long_of word) kept).0.rows
       go true none good = good
-      go false none good = other_good shape.rules plain (long_of word) waiting word held
+      go false none good = other_good shape.rules plain (long_of word) waiting word kept
           (rw once at none) good
 
-  word_good : (is_trailing : Bool) (waiting : Waiting) (position : ℕ) (word : Text) (held : Held) →
-      word_fault shape [] is_trailing waiting word held ≡ []
-      → Each IsGood held.rows → Each IsGood
-      (word_met shape.rules [] is_trailing waiting position word held).0.rows
-  word_good true waiting position word held none good = good
-  word_good false waiting position word held none good =
-      unnamed_good (subcommand_met [] waiting word) waiting position word held
+  word_good : (is_trailing : Bool) (waiting : Waiting) (position : ℕ) (word : Text) (kept : Held) →
+      word_fault shape [] is_trailing waiting word kept ≡ []
+      → Each IsGood kept.rows → Each IsGood
+      (word_met shape.rules [] is_trailing waiting position word kept).0.rows
+  word_good true waiting position word kept none good = good
+  word_good false waiting position word kept none good =
+      unnamed_good (subcommand_met [] waiting word) waiting position word kept
       (no_name waiting word) none good
 
-  positional_good : (rule : Rule) (word : Text) (held : Held) → positional_fault shape.rules
-      shape.args_override_self rule held ≡ []
-      → Each IsGood held.rows → Each IsGood (positional_held shape.rules rule word held).rows
-  positional_good rule word held = go (is_pending rule held.pending && takes_several rule)
+  positional_good : (rule : Rule) (word : Text) (kept : Held) → positional_fault shape.rules
+      shape.args_override_self rule kept ≡ []
+      → Each IsGood kept.rows → Each IsGood (positional_held shape.rules rule word kept).rows
+  positional_good rule word kept = go (is_pending rule kept.pending && takes_several rule)
     where
-      go : (b : Bool) → (if b then [] else settle_fault shape.rules shape.args_override_self held)
+      go : (b : Bool) → (if b then [] else settle_fault shape.rules shape.args_override_self kept)
           ≡ []
-          → Each IsGood held.rows → Each IsGood (if b then held else settled shape.rules held).rows
+          → Each IsGood kept.rows → Each IsGood (if b then kept else settled shape.rules kept).rows
       go true none good = good
-      go false none good = settled_good shape.rules plain held (rw once at none) good
+      go false none good = settled_good shape.rules plain kept (rw once at none) good
 
-  value_good : (found : Option Rule) (word : Text) (w : Walk) (held : Held)
-      → option_map_or (λ rule. positional_fault shape.rules shape.args_override_self rule held)
+  value_good : (found : Option Rule) (word : Text) (w : Walk) (kept : Held)
+      → option_map_or (λ rule. positional_fault shape.rules shape.args_override_self rule kept)
       found (stray_fault shape) ≡ []
-      → Each IsGood held.rows → Each IsGood (to_positional shape.rules found word w held).held.rows
-  value_good None word w held none good = good
-  value_good (Some rule) word w held none good = positional_good rule word held none good
+      → Each IsGood kept.rows → Each IsGood (to_positional shape.rules found word w kept).held.rows
+  value_good None word w kept none good = good
+  value_good (Some rule) word w kept none good = positional_good rule word kept none good
 
-  step_good : (word : Text) (w : Walk) (held : Held) (step : Step) → step_fault shape w.position
-      held step ≡ []
-      → Each IsGood held.rows → Each IsGood (after_step shape.rules word w held step).held.rows
-  step_good word w held (walking.next waiting) none good = good
-  step_good word w held (walking.trailing position) none good = good
-  step_good word w held (walking.subcommand name) none good = good
-  step_good word w held walking.value none good = value_good (arg_by_index shape.rules w.position)
-      word w held none good
+  step_good : (word : Text) (w : Walk) (kept : Held) (step : Step) → step_fault shape w.position
+      kept step ≡ []
+      → Each IsGood kept.rows → Each IsGood (after_step shape.rules word w kept step).held.rows
+  step_good word w kept (walking.next waiting) none good = good
+  step_good word w kept (walking.trailing position) none good = good
+  step_good word w kept (walking.subcommand name) none good = good
+  step_good word w kept walking.value none good = value_good (arg_by_index shape.rules w.position)
+      word w kept none good
 
   turn_good : (w : Walk) (word : Text) → turn_fault shape [] w word ≡ [] → Each IsGood w.held.rows
       → Each IsGood (walked shape.rules [] w word).held.rows

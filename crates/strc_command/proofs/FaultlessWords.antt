@@ -50,41 +50,41 @@ abbrev NeverStops : Step → Type 0
 NeverStops (walking.subcommand name) = ⊥
 NeverStops step = Unit {0}
 
-stays_at_name : (rules : List Rule) (word : Text) (w : Walk) (held : Held) (step : Step)
+stays_at_name : (rules : List Rule) (word : Text) (w : Walk) (kept : Held) (step : Step)
     → NeverStops step → StopsAtName w.stopped
-    → StopsAtName (after_step rules word w held step).stopped
-stays_at_name rules word w held (walking.next waiting) never at_name = at_name
-stays_at_name rules word w held (walking.trailing position) never at_name = at_name
-stays_at_name rules word w held (walking.subcommand name) never at_name = absurd never
-stays_at_name rules word w held walking.value never at_name = go (arg_by_index rules w.position)
+    → StopsAtName (after_step rules word w kept step).stopped
+stays_at_name rules word w kept (walking.next waiting) never at_name = at_name
+stays_at_name rules word w kept (walking.trailing position) never at_name = at_name
+stays_at_name rules word w kept (walking.subcommand name) never at_name = absurd never
+stays_at_name rules word w kept walking.value never at_name = go (arg_by_index rules w.position)
   where
-    go : (found : Option Rule) → StopsAtName (to_positional rules found word w held).stopped
+    go : (found : Option Rule) → StopsAtName (to_positional rules found word w kept).stopped
     go None = at_name
     go (Some rule) = tt
 
-plain_never : (rules : List Rule) (waiting : Waiting) (word : Text) (held : Held) → NeverStops
-    (plain_word rules waiting word held).1
-plain_never rules walking.idle word held = tt
-plain_never rules (walking.option id) word held = tt
-plain_never rules walking.positional word held = tt
+plain_never : (rules : List Rule) (waiting : Waiting) (word : Text) (kept : Held) → NeverStops
+    (plain_word rules waiting word kept).1
+plain_never rules walking.idle word kept = tt
+plain_never rules (walking.option id) word kept = tt
+plain_never rules walking.positional word kept = tt
 
-after_never : (rules : List Rule) (waiting : Waiting) (word : Text) (held : Held)
-    (outcome : Outcome) → NeverStops (after_flag rules waiting word held outcome).1
-after_never rules waiting word held walking.done = tt
-after_never rules waiting word held (walking.waits id) = tt
-after_never rules waiting word held walking.plain = plain_never rules waiting word held
-after_never rules waiting word held walking.refused = plain_never rules waiting word held
+after_never : (rules : List Rule) (waiting : Waiting) (word : Text) (kept : Held)
+    (outcome : Outcome) → NeverStops (after_flag rules waiting word kept outcome).1
+after_never rules waiting word kept walking.done = tt
+after_never rules waiting word kept (walking.waits id) = tt
+after_never rules waiting word kept walking.plain = plain_never rules waiting word kept
+after_never rules waiting word kept walking.refused = plain_never rules waiting word kept
 
 other_never : (rules : List Rule) (waiting : Waiting) (word : Text)
-    (long : Option (Text × Option Text)) (held : Held) → NeverStops
-    (long_or_other rules waiting word long held).1
-other_never rules waiting word (Some p) held = after_never rules waiting word _
-    (long_met rules (arg_by_long rules p.0) p.1 held).1
-other_never rules waiting word None held = go (short_of word)
+    (long : Option (Text × Option Text)) (kept : Held) → NeverStops
+    (long_or_other rules waiting word long kept).1
+other_never rules waiting word (Some p) kept = after_never rules waiting word _
+    (long_met rules (arg_by_long rules p.0) p.1 kept).1
+other_never rules waiting word None kept = go (short_of word)
   where
-    go : (short : Option Text) → NeverStops (short_or_plain rules waiting word short held).1
-    go None = plain_never rules waiting word held
-    go (Some flags) = after_never rules waiting word _ (bundle rules flags held).1
+    go : (short : Option Text) → NeverStops (short_or_plain rules waiting word short kept).1
+    go None = plain_never rules waiting word kept
+    go (Some flags) = after_never rules waiting word _ (bundle rules flags kept).1
 
 abbrev names : Names
 names = names_of (built strc_app)
@@ -93,10 +93,10 @@ abbrev top : Shape
 top = (built strc_app).top
 
 -- a subcommand that is met and has no fault is one of the four: `help` has a fault
-met_name : (waiting : Waiting) (word name : Text) (held : Held)
+met_name : (waiting : Waiting) (word name : Text) (kept : Held)
     → subcommand_met names waiting word ≡ Some name
-    → other_fault top (Some name) word held ≡ [] → IsName name
-met_name walking.idle word name held met none =
+    → other_fault top (Some name) word kept ≡ [] → IsName name
+met_name walking.idle word name kept met none =
     go (answers_to word (codes "run", [])) (answers_to word (codes "check", []))
     (answers_to word (codes "plan", [])) (answers_to word (codes "graph", []))
     (answers_to word (codes "help", [])) met none
@@ -106,37 +106,37 @@ met_name walking.idle word name held met none =
         (cond is_run (Some (codes "run", [])) (cond is_check (Some (codes "check", []))
         (cond is_plan (Some (codes "plan", [])) (cond is_graph (Some (codes "graph", []))
         (cond is_help (Some (codes "help", [])) None))))) ≡ Some name
-        → other_fault top (Some name) word held ≡ [] → IsName name
+        → other_fault top (Some name) word kept ≡ [] → IsName name
     go true is_check is_plan is_graph is_help met none = inl cc
     go false true is_plan is_graph is_help met none = inr (inl cc)
     go false false true is_graph is_help met none = inr (inr (inl cc))
     go false false false true is_help met none = inr (inr (inr cc))
     go false false false false true met none =
         let is : name ≡ codes "help" = cc in
-        let bad = subst (λ (n : Text). other_fault top (Some n) word held ≡ []) is none in cc
+        let bad = subst (λ (n : Text). other_fault top (Some n) word kept ≡ []) is none in cc
     go false false false false false met none = cc
-met_name (walking.option id) word name held met none = cc
-met_name walking.positional word name held met none = cc
+met_name (walking.option id) word name kept met none = cc
+met_name walking.positional word name kept met none = cc
 
-met_at_name : (word : Text) (w : Walk) (position : ℕ) (held : Held) (name : Option Text)
+met_at_name : (word : Text) (w : Walk) (position : ℕ) (kept : Held) (name : Option Text)
     (waiting : Waiting) → subcommand_met names waiting word ≡ name
-    → other_fault top name word held ≡ [] → StopsAtName w.stopped
+    → other_fault top name word kept ≡ [] → StopsAtName w.stopped
     → StopsAtName
-    (after_step top.rules word w (subcommand_or_other top.rules name waiting position word held).0
-    (subcommand_or_other top.rules name waiting position word held).1).stopped
-met_at_name word w position held (Some name) waiting met none at_name =
-    met_name waiting word name held met none
-met_at_name word w position held None waiting met none at_name = go (bytes_eq word (45 ∷ 45 ∷ []))
+    (after_step top.rules word w (subcommand_or_other top.rules name waiting position word kept).0
+    (subcommand_or_other top.rules name waiting position word kept).1).stopped
+met_at_name word w position kept (Some name) waiting met none at_name =
+    met_name waiting word name kept met none
+met_at_name word w position kept None waiting met none at_name = go (bytes_eq word (45 ∷ 45 ∷ []))
   where
     go : (b : Bool) → StopsAtName (after_step top.rules word w
-        (if b then (held, walking.trailing position) else long_or_other top.rules waiting word
-        (long_of word) held).0
-        (if b then (held, walking.trailing position) else long_or_other top.rules waiting word
-        (long_of word) held).1).stopped
+        (if b then (kept, walking.trailing position) else long_or_other top.rules waiting word
+        (long_of word) kept).0
+        (if b then (kept, walking.trailing position) else long_or_other top.rules waiting word
+        (long_of word) kept).1).stopped
     go true = at_name
     go false =
         stays_at_name top.rules word w _ _
-        (other_never top.rules waiting word (long_of word) held) at_name
+        (other_never top.rules waiting word (long_of word) kept) at_name
 
 word_at_name : (is_trailing : Bool) (w : Walk) (word : Text)
     → word_fault top names is_trailing w.waiting word w.held ≡ [] → StopsAtName w.stopped

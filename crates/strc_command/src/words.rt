@@ -28,7 +28,7 @@ const BARE_ROUNDS: u32 = 5;
 /// Words that the program doesn't know, or a number past its bounds, are `Words`.
 pub fn command<'a>(alloc: Global, words: &'a [&'a str]) -> Result<Line, LineFault>
     ensures bare { length words.now ≤ 1 → result ≡ Ok default_line }
-    ensures told { 1 < length words.now → IfOk result (AsksFor (texts words.now)) }
+    ensures answered { 1 < length words.now → IfOk result (AsksFor (texts words.now)) }
     ensures refused { result ≡ Err LineFault.Words → faults (texts words.now) ≢ [] }
 {
     if words.len() <= 1 {
@@ -163,7 +163,7 @@ fn main_option<'a>(alloc: Global) -> Arg<'a>
 
 // The line that the matches of the words are.
 fn line_of(alloc: Global, matches: &ArgMatches) -> Result<Line, LineFault>
-    ensures told { IfOk result (IsLineIn (subcommand_rows_of matches.now)) }
+    ensures answered { IfOk result (IsLineIn (subcommand_rows_of matches.now)) }
     ensures refused { result ≡ Err LineFault.Words
         → IsCommand (subcommand_rows_of matches.now) → ⊥ }
 {
@@ -186,7 +186,7 @@ fn line_of(alloc: Global, matches: &ArgMatches) -> Result<Line, LineFault>
 
 // The command of this name, with what was found for its options.
 fn command_of(name: &str, found: &ArgMatches, main: Option<String>) -> Result<Command, LineFault>
-    ensures told { IfOk result (λ command. IsCommandOf name.now (rows_of (found_of found.now))
+    ensures answered { IfOk result (λ command. IsCommandOf name.now (rows_of (found_of found.now))
         command × (main_of command ≡ option_map string_bytes main)) }
     ensures refused { IfErr result (λ fault. IsKnown name.now (rows_of (found_of found.now)) → ⊥) }
 {

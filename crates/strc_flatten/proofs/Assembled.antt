@@ -16,7 +16,7 @@ use Rattle.strc_wiring.proofs.Nodes.{nodes_are_codes}
 use Rattle.strc_wiring.proofs.Paths.{wires_connect}
 use Rattle.strc_wiring.proofs.Whole.{wires_are_flat, wires_are_graphs, wires_are_programs}
 use Rattle.strc_wiring.specs.Wires.{wired}
-use Rattle.strc_flatten.specs.Making.{IsMade, IsUnmade}
+use Rattle.strc_flatten.specs.Assembly.{IsAssembled, HasNoGraph}
 use Rattle.strc_flatten.specs.Verdicts.{IsAccepted, IsRefused, IsFlattened}
 
 -- a refusal by the numbers of nodes alone is one of whatever is said of connections
@@ -32,53 +32,56 @@ refused_before nodes codes Connected refusal.Disconnected same is = absurd (is.3
 refused_before nodes codes Connected refusal.NoMemory same is = tt
 refused_before nodes codes Connected _ same is = absurd is
 
-unmade_refused : (stream : Stream) → IsWellTyped stream
+no_graph_refused : (stream : Stream) → IsWellTyped stream
     → IsAccepted (codes_of stream) (Unit {0}) → (refused : ElabError)
-    → IsUnmade (wired stream) refused
+    → HasNoGraph (wired stream) refused
     → IsRefused (codes_of stream) (IsConnected (meaning_of stream)) refused
-unmade_refused stream typed few refusal.Disconnected unmade = (
+no_graph_refused stream typed few refusal.Disconnected no_graph = (
   few.few,
   few.one_input,
   few.one_output,
-  λ connected. unmade (wires_are_graphs stream typed) ((wires_connect stream typed).1 connected),
+  λ connected. no_graph (wires_are_graphs stream typed) ((wires_connect stream typed).1 connected),
 )
-unmade_refused stream typed few refusal.NoMemory unmade = tt
-unmade_refused stream typed few _ unmade = absurd unmade
+no_graph_refused stream typed few refusal.NoMemory no_graph = tt
+no_graph_refused stream typed few _ no_graph = absurd no_graph
 
 -- the verdict on a well-typed stream with few enough nodes
-pub made_verdict : (stream : Stream) (nodes : List NodeCode) (result : Result GraphParts ElabError)
-    → nodes ≡ nodes_of stream → IsAccepted nodes (Unit {0}) → IsMade (wired stream) result
+pub assembled_verdict : (stream : Stream) (nodes : List NodeCode)
+    (result : Result GraphParts ElabError)
+    → nodes ≡ nodes_of stream → IsAccepted nodes (Unit {0}) → IsAssembled (wired stream) result
     → IsWellTyped stream → IsFlattened stream result
-made_verdict stream nodes (Ok graph) same few made typed =
+assembled_verdict stream nodes (Ok graph) same few assembled typed =
     let codes = same ∙ nodes_are_codes stream typed in
     let accepted = subst (λ l. IsAccepted l (Unit {0})) codes few in
     record {
       few = accepted.few;
       one_input = accepted.one_input;
       one_output = accepted.one_output;
-      connected = (wires_connect stream typed).0 made.1;
+      connected = (wires_connect stream typed).0 assembled.1;
     }
-made_verdict stream nodes (Err refused) same few made typed =
-    unmade_refused stream typed
-    (subst (λ l. IsAccepted l (Unit {0})) (same ∙ nodes_are_codes stream typed) few) refused made
+assembled_verdict stream nodes (Err refused) same few assembled typed =
+    no_graph_refused stream typed
+    (subst (λ l. IsAccepted l (Unit {0})) (same ∙ nodes_are_codes stream typed) few) refused
+    assembled
 
 -- its flat graph
-pub made_flat : (stream : Stream) (result : Result GraphParts ElabError)
-    → IsMade (wired stream) result → IsWellTyped stream
+pub assembled_flat : (stream : Stream) (result : Result GraphParts ElabError)
+    → IsAssembled (wired stream) result → IsWellTyped stream
     → IfOk result (λ graph. IsFlat stream (graph_view graph))
-made_flat stream (Ok graph) made typed =
-    subst (IsFlat stream) (sym made.0) (wires_are_flat stream typed)
-made_flat stream (Err refused) made typed = tt
+assembled_flat stream (Ok graph) assembled typed =
+    subst (IsFlat stream) (sym assembled.0) (wires_are_flat stream typed)
+assembled_flat stream (Err refused) assembled typed = tt
 
 -- the program's
-pub made_program : (stream : Stream) (nodes : List NodeCode) (result : Result GraphParts ElabError)
-    → nodes ≡ nodes_of stream → IsAccepted nodes (Unit {0}) → IsMade (wired stream) result
+pub assembled_program : (stream : Stream) (nodes : List NodeCode)
+    (result : Result GraphParts ElabError)
+    → nodes ≡ nodes_of stream → IsAccepted nodes (Unit {0}) → IsAssembled (wired stream) result
     → IsClosed stream → IfOk result (λ graph. IsProgram (tree_of stream) (graph_view graph))
-made_program stream nodes (Ok graph) same few made closed =
+assembled_program stream nodes (Ok graph) same few assembled closed =
     let accepted = subst (λ l. IsAccepted l (Unit {0})) same few in
-    subst (IsProgram (tree_of stream)) (sym made.0)
+    subst (IsProgram (tree_of stream)) (sym assembled.0)
     (wires_are_programs stream closed accepted.one_input accepted.one_output)
-made_program stream nodes (Err refused) same few made closed = tt
+assembled_program stream nodes (Err refused) same few assembled closed = tt
 
 names_view : (nodes : List Node)
     → map (λ node. node_name (node_view node)) nodes ≡ map node_name (map node_view nodes)
@@ -86,9 +89,9 @@ names_view [] = refl
 names_view (first ∷ rest) = ap (λ l. node_name (node_view first) ∷ l) (names_view rest)
 
 -- the names of its nodes
-pub made_names : (stream : Stream) (result : Result GraphParts ElabError)
-    → IsMade (wired stream) result
+pub assembled_names : (stream : Stream) (result : Result GraphParts ElabError)
+    → IsAssembled (wired stream) result
     → IfOk result (λ graph. node_names graph ≡ map node_name (nodes_of stream))
-made_names stream (Ok graph) made =
-    names_view graph.nodes ∙ ap (λ (g : Graph). map node_name g.nodes) made.0
-made_names stream (Err refused) made = tt
+assembled_names stream (Ok graph) assembled =
+    names_view graph.nodes ∙ ap (λ (g : Graph). map node_name g.nodes) assembled.0
+assembled_names stream (Err refused) assembled = tt

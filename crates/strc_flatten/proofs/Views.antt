@@ -26,16 +26,16 @@ row_view-items n end_of-Stream = refl
 row_view-items n (more_of-Stream first rest) =
     ap (instances.More (stream_view first)) (row_view-items _ rest)
 
-row_view-held : (children : Vec Stream Global)
+row_view-contained : (children : Vec Stream Global)
     → row_view (row_of (Pipeline children)).1 ≡ streams_view children.items
-row_view-held children =
+row_view-contained children =
     let row = row_of (Pipeline children) in
     row_view-items row.0 row.1 ∙ ap streams_view (items_hidden-the_row-Stream-0 children)
 
 -- a pipeline holds the streams of its list
 pub stream_view-Pipeline : (children : Vec Stream Global)
     → stream_view (Pipeline children) ≡ instances.Pipeline (streams_view children.items)
-stream_view-Pipeline children = ap instances.Pipeline (row_view-held children)
+stream_view-Pipeline children = ap instances.Pipeline (row_view-contained children)
 
 -- and so does a split-join
 pub stream_view-SplitJoin : (splitter : Option Splitter) (children : Vec Stream Global)
@@ -45,7 +45,7 @@ pub stream_view-SplitJoin : (splitter : Option Splitter) (children : Vec Stream 
     (option_map (λ weights. weights.items) joiner)
 stream_view-SplitJoin splitter children joiner =
     ap (λ row. instances.SplitJoin (option_map splitter_view splitter) row
-    (option_map (λ weights. weights.items) joiner)) (row_view-held children)
+    (option_map (λ weights. weights.items) joiner)) (row_view-contained children)
 
 -- the streams from a place on: the one there, and those after it
 pub streams_view-drop : (streams : List Stream) (index : ℕ) (stream : Stream)
@@ -58,43 +58,44 @@ streams_view-drop streams index stream less is =
     (sym is)
 
 -- the same of a stream that is one, and of the list that is borrowed
-pub pipeline_view : (stream : Stream) (children : Vec Stream Global) (held : List Stream)
-    → stream ≡ Pipeline children → held ≡ children.items
-    → stream_view stream ≡ instances.Pipeline (streams_view held)
-pipeline_view stream children held is same =
+pub pipeline_view : (stream : Stream) (children : Vec Stream Global) (contained : List Stream)
+    → stream ≡ Pipeline children → contained ≡ children.items
+    → stream_view stream ≡ instances.Pipeline (streams_view contained)
+pipeline_view stream children contained is same =
     ap stream_view is ∙ stream_view-Pipeline children
     ∙ ap (λ l. instances.Pipeline (streams_view l)) (sym same)
 
 pub split_join_view : (stream : Stream) (splitter : Option Splitter)
-    (children : Vec Stream Global) (joiner : Option (Vec ℕ Global)) (held : List Stream)
-    → stream ≡ SplitJoin splitter children joiner → held ≡ children.items
+    (children : Vec Stream Global) (joiner : Option (Vec ℕ Global)) (contained : List Stream)
+    → stream ≡ SplitJoin splitter children joiner → contained ≡ children.items
     → stream_view stream
-    ≡ instances.SplitJoin (option_map splitter_view splitter) (streams_view held)
+    ≡ instances.SplitJoin (option_map splitter_view splitter) (streams_view contained)
     (option_map (λ weights. weights.items) joiner)
-split_join_view stream splitter children joiner held is same =
+split_join_view stream splitter children joiner contained is same =
     ap stream_view is ∙ stream_view-SplitJoin splitter children joiner
     ∙ ap (λ l. instances.SplitJoin (option_map splitter_view splitter) (streams_view l)
     (option_map (λ weights. weights.items) joiner)) (sym same)
 
 -- how many nodes those have
 
-pub pipeline_size : (stream : Stream) (children : Vec Stream Global) (held : List Stream)
-    → stream ≡ Pipeline children → held ≡ children.items
-    → size_of (stream_view stream) ≡ length (row_nodes (streams_view held))
-pipeline_size stream children held is same = ap size_of (pipeline_view stream children held is same)
+pub pipeline_size : (stream : Stream) (children : Vec Stream Global) (contained : List Stream)
+    → stream ≡ Pipeline children → contained ≡ children.items
+    → size_of (stream_view stream) ≡ length (row_nodes (streams_view contained))
+pipeline_size stream children contained is same =
+    ap size_of (pipeline_view stream children contained is same)
 
 pub split_join_size : (stream : Stream) (splitter : Option Splitter)
-    (children : Vec Stream Global) (joiner : Option (Vec ℕ Global)) (held : List Stream)
-    → stream ≡ SplitJoin splitter children joiner → held ≡ children.items
+    (children : Vec Stream Global) (joiner : Option (Vec ℕ Global)) (contained : List Stream)
+    → stream ≡ SplitJoin splitter children joiner → contained ≡ children.items
     → size_of (stream_view stream)
     ≡ length (splitter_nodes (option_map splitter_view splitter))
-    + length (row_nodes (streams_view held))
+    + length (row_nodes (streams_view contained))
     + length (joiner_nodes (option_map (λ weights. weights.items) joiner))
-split_join_size stream splitter children joiner held is same =
+split_join_size stream splitter children joiner contained is same =
     let one = splitter_nodes (option_map splitter_view splitter) in
-    let row = row_nodes (streams_view held) in
+    let row = row_nodes (streams_view contained) in
     let last = joiner_nodes (option_map (λ weights. weights.items) joiner) in
-    ap size_of (split_join_view stream splitter children joiner held is same)
+    ap size_of (split_join_view stream splitter children joiner contained is same)
     ∙ length-append (one ++ row) last
     ∙ ap (λ n. n + length last) (length-append one row)
 

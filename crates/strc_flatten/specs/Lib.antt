@@ -2,4 +2,4 @@ pub mod Verdicts
 pub mod HasNodes
 pub mod TargetView
 pub mod Connecting
-pub mod Making
+pub mod Assembly

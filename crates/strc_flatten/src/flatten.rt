@@ -10,7 +10,7 @@ ghost use Rattle.strc_stream.specs.View.{stream_view};
 ghost use Rattle.strc_stream.specs.Flattening.{IsFlat, tree_of, nodes_of, outer_loops};
 ghost use Rattle.strc_wiring.specs.Wires.{wired};
 ghost use Rattle.strc_flatten.specs.HasNodes.{HasNodes};
-ghost use Rattle.strc_flatten.specs.Making.{IsMade};
+ghost use Rattle.strc_flatten.specs.Assembly.{IsAssembled};
 ghost use Rattle.strc_flatten.specs.Verdicts.{IsFlattened, node_limit};
 
 use crate::channels::wire;
@@ -62,7 +62,7 @@ fn graph_of(alloc: Global, stream: &Stream, nodes: Vec<Node>) -> Result<Graph, E
     requires nodes { map node_view nodes.items ≡ nodes_of (stream_view stream.now) }
     requires few { length nodes.items ≤ node_limit }
     requires parts { HasNodes (stream_view stream.now) }
-    ensures { IsMade (wired (stream_view stream.now)) result }
+    ensures { IsAssembled (wired (stream_view stream.now)) result }
 {
     let mut channels = Vec::new(alloc);
     wire(alloc, 0, stream, None, &mut channels)?;
@@ -79,7 +79,8 @@ fn connected_graph(
     outer_loops: Vec<Option<u32>>,
 ) -> Result<Graph, ElabError>
     requires few { length nodes.items ≤ node_limit }
-    ensures { IsMade (graph_view (parts_of nodes.items channels.items outer_loops.items)) result }
+    ensures { IsAssembled
+        (graph_view (parts_of nodes.items channels.items outer_loops.items)) result }
 {
     if !is_graph(&nodes, &channels, &outer_loops) {
         return Err(ElabError::Disconnected);

@@ -188,12 +188,12 @@ pub stream_type_completeness : (types : StreamType) (rest : List TokenKind)
     → stream_type (stream_type_spelled types rest) ≡ Ok (types, rest)
 stream_type_completeness types rest = types_completeness types.input types.output rest
 
-pub kind_stands : (kind : CompositeKind) (rest : List TokenKind)
+pub kind_read : (kind : CompositeKind) (rest : List TokenKind)
     → composite_kind (kind_keyword kind ∷ rest) ≡ Some kind
 unfolding composite_kind
-kind_stands composite.Pipeline rest = refl
-kind_stands composite.Splitjoin rest = refl
-kind_stands composite.Feedbackloop rest = refl
+kind_read composite.Pipeline rest = refl
+kind_read composite.Splitjoin rest = refl
+kind_read composite.Feedbackloop rest = refl
 
 pub kind_is_no_filter : (kind : CompositeKind) (rest : List TokenKind)
     → is_keyword keyword.Filter (kind_keyword kind ∷ rest) ≡ false

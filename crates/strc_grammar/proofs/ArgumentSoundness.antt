@@ -75,8 +75,8 @@ module _ (depth : ℕ) (all : List TokenKind) where
       (one_taller (next_argument depth) so_far tokens)
   unfolding one_taller next_argument
   next_soundness so_far tokens kept le goes =
-      let stands = comma_is tokens goes in
-      let one : length tokens ≡ suc (length (tail tokens)) = ap count stands in
+      let starts = comma_is tokens goes in
+      let one : length tokens ≡ suc (length (tail tokens)) = ap count starts in
       Sound-then (ExprRead depth lowest_precedence (tail tokens))
       (λ x. Kept x.0 x.1 × (length x.1 ≤ length all)) depth all
       (expression depth lowest_precedence (tail tokens)) _
@@ -87,7 +87,7 @@ module _ (depth : ℕ) (all : List TokenKind) where
         (
           record {
             spelled = kept.0.spelled ∙ ap (λ (ts : List TokenKind). listed_spelled so_far.0 ts)
-                (stands ∙ ap (λ (ts : List TokenKind). token.Punctuation punctuation.Comma ∷ ts)
+                (starts ∙ ap (λ (ts : List TokenKind). token.Punctuation punctuation.Comma ∷ ts)
                 read.spelled)
                 ∙ sym (listed_spelled-push so_far.0 x.0 x.2 kept.1);
             shape = All-push IsExpr so_far.0 x.0 kept.0.shape read.shape;
@@ -157,9 +157,9 @@ arguments_soundness depth tokens =
     let Q : Option (List tree.Expr) × ℕ × List TokenKind → Type 0 = ArgumentsRead depth tokens in
     elim (cases_Bool (is_punctuation punctuation.OpenParen tokens)) [
       | inl is ↦
-          let stands = punctuation_is punctuation.OpenParen tokens is in
+          let starts = punctuation_is punctuation.OpenParen tokens is in
           let inside : List TokenKind = tail tokens in
-          let one : length tokens ≡ suc (length inside) = ap count stands in
+          let one : length tokens ≡ suc (length inside) = ap count starts in
           let read = Sound-then (λ x. ListedRead depth inside x.0 x.1) Q depth tokens
           (listed_arguments depth inside)
           (λ listed. expect punctuation.CloseParen listed.1 >>= λ rest. Ok
@@ -170,7 +170,7 @@ arguments_soundness depth tokens =
           (listed_soundness depth inside) (λ x h. h)) (λ x listed.
           Sound-expect Q depth tokens punctuation.CloseParen x.1 _
           (omega (arith, ap count listed.spelled, listed_length x.0.0 x.1)) (λ rest e. record {
-            spelled = stands ∙ ap (λ (ts : List TokenKind). token.Punctuation punctuation.OpenParen
+            spelled = starts ∙ ap (λ (ts : List TokenKind). token.Punctuation punctuation.OpenParen
                 ∷ ts) (listed.spelled ∙ ap (λ (ts : List TokenKind). listed_spelled x.0.0 ts) e);
             shape = listed.shape;
             high = listed.high;
@@ -194,11 +194,11 @@ module _ (deep : ℕ) where
       let Q : Brackets × List TokenKind → Type 0 = λ x. tokens ≡ brackets_spelled x.0 x.1 in
       elim (cases_Bool (is_punctuation punctuation.OpenParen tokens)) [
         | inl is ↦
-            let stands = punctuation_is punctuation.OpenParen tokens is in
-            let one : length tokens ≡ suc (length (tail tokens)) = ap count stands in
+            let starts = punctuation_is punctuation.OpenParen tokens is in
+            let one : length tokens ≡ suc (length (tail tokens)) = ap count starts in
             let read = Sound-expect Q deep tokens punctuation.CloseParen (tail tokens)
             (λ rest. Ok (pair.Written, rest)) (omega arith)
-            (λ rest e. stands ∙ ap (λ (ts : List TokenKind). token.Punctuation punctuation.OpenParen
+            (λ rest e. starts ∙ ap (λ (ts : List TokenKind). token.Punctuation punctuation.OpenParen
             ∷ ts) e) in
             rw is read
         | inr is ↦
@@ -322,9 +322,9 @@ module _ (deep : ℕ) where
       (one_more next_parameter front tokens)
   unfolding one_more next_parameter
   next_parameter_soundness all front tokens kept le goes =
-      let stands = comma_is tokens goes in
+      let starts = comma_is tokens goes in
       let past : List TokenKind = tail tokens in
-      let one : length tokens ≡ suc (length past) = ap count stands in
+      let one : length tokens ≡ suc (length past) = ap count starts in
       Sound-then (λ x. past ≡ parameter_spelled x.0 x.1)
       (λ x. KeptNames all x.0 x.1 × (length x.1 ≤ length all)) deep all (parameter past) _
       (Sound-on (λ x. past ≡ parameter_spelled x.0 x.1)
@@ -333,7 +333,7 @@ module _ (deep : ℕ) where
       let two : length past ≡ suc (suc (length x.1)) = ap count read in (
         (
           kept.0 ∙ ap (λ (ts : List TokenKind). listed_parameters_spelled front ts)
-              (stands ∙ ap (λ (ts : List TokenKind). token.Punctuation punctuation.Comma ∷ ts) read)
+              (starts ∙ ap (λ (ts : List TokenKind). token.Punctuation punctuation.Comma ∷ ts) read)
               ∙ sym (parameters_spelled-push front x.0 x.1 kept.1),
           IsSome-push front x.0,
         ),
@@ -377,9 +377,9 @@ module _ (deep : ℕ) where
       λ x. tokens ≡ parameters_spelled x.0 x.1 in
       elim (cases_Bool (is_punctuation punctuation.OpenParen tokens)) [
         | inl is ↦
-            let stands = punctuation_is punctuation.OpenParen tokens is in
+            let starts = punctuation_is punctuation.OpenParen tokens is in
             let inside : List TokenKind = tail tokens in
-            let one : length tokens ≡ suc (length inside) = ap count stands in
+            let one : length tokens ≡ suc (length inside) = ap count starts in
             let P : List (List ℕ) × List TokenKind → Type 0 =
             λ x. inside ≡ listed_parameters_spelled x.0 x.1 in
             let read = Sound-then P Q deep tokens (listed_parameters inside)
@@ -388,7 +388,7 @@ module _ (deep : ℕ) where
             (omega arith) (listed_parameters_soundness inside) (λ x h. h)) (λ x listed.
             Sound-expect Q deep tokens punctuation.CloseParen x.1 _
             (omega (arith, ap count listed, listed_parameters_length x.0 x.1)) (λ rest e.
-            stands ∙ ap (λ (ts : List TokenKind). token.Punctuation punctuation.OpenParen ∷ ts)
+            starts ∙ ap (λ (ts : List TokenKind). token.Punctuation punctuation.OpenParen ∷ ts)
             (listed ∙ ap (λ (ts : List TokenKind). listed_parameters_spelled x.0 ts) e))) in
             rw is read
         | inr is ↦

@@ -35,7 +35,7 @@ use Rattle.strc_grammar.proofs.ExpressionCompleteness.{Stops-semicolon, closed_c
 use Rattle.strc_grammar.proofs.VariableCompleteness.{Complete-done}
 use Rattle.strc_grammar.proofs.SimpleCompleteness.{made}
 use Rattle.strc_grammar.proofs.ArgumentCompleteness.{arguments_completeness, brackets_completeness}
-use Rattle.strc_grammar.proofs.ArgumentCompleteness.{stream_type_completeness, kind_stands}
+use Rattle.strc_grammar.proofs.ArgumentCompleteness.{stream_type_completeness, kind_read}
 use Rattle.strc_grammar.proofs.ArgumentCompleteness.{kind_is_no_filter, int_items_completeness}
 use Rattle.strc_grammar.proofs.ArgumentCompleteness.{file_completeness}
 use Rattle.strc_grammar.proofs.MemberCompleteness.{BlockCompleteness, MemberCompleteness}
@@ -161,7 +161,7 @@ module _ (d : ℕ) (rest : List TokenKind) where
   unfolding anonymous_composite
   kind_completeness types kind block complete =
       let high : ℕ = row_height block in
-      rw (kind_stands kind (block_spelled block rest))
+      rw (kind_read kind (block_spelled block rest))
       (Complete-then d high high (block, high, rest)
       (taken (tree.AnonymousComposite types kind block) rest) _ _
       (braced_completeness d block complete rest) (omega arith)

@@ -143,16 +143,16 @@ module _ (d : ℕ) (inner : Inner) (sound : (tokens : List TokenKind)
       → all ≡ stream_type_spelled types (token.Keyword keyword.Filter ∷ past)
       → Sound (ChildRead d all) (d - 1) all (anonymous_filter d inner types past)
   unfolding anonymous_filter
-  unnamed_soundness types all past stands =
+  unnamed_soundness types all past starts =
       let Q : tree.Child × ℕ × List TokenKind → Type 0 = ChildRead d all in
-      let some : length all ≡ suc (suc (suc (suc (length past)))) = ap count stands in
+      let some : length all ≡ suc (suc (suc (suc (length past)))) = ap count starts in
       Sound-expect Q (d - 1) all punctuation.OpenBrace past _ (omega arith) (λ opened e.
       let one : length past ≡ suc (length opened) = ap count e in
       Sound-then (MembersRead d opened) Q (d - 1) all (members d inner opened) _
       (Sound-on (MembersRead d opened) (MembersRead d opened) (d - 1) (d - 1) opened all
       (members d inner opened) (omega arith) (omega arith)
       (members_soundness d inner sound opened) (λ x h. h)) (λ x body. record {
-        spelled = stands ∙ ap (λ (ts : List TokenKind). stream_type_spelled types
+        spelled = starts ∙ ap (λ (ts : List TokenKind). stream_type_spelled types
             (token.Keyword keyword.Filter ∷ ts))
             (e ∙ ap (λ (ts : List TokenKind). token.Punctuation punctuation.OpenBrace ∷ ts)
             (body.spelled ∙ spelled_chain x.0.0
@@ -168,12 +168,12 @@ module _ (d : ℕ) (inner : Inner) (sound : (tokens : List TokenKind)
       → Sound (ChildRead d all) (d - 1) all
       (braced inner past >>= λ block. Ok
       (tree.AnonymousComposite types kind block.0, block.1, block.2))
-  kind_soundness types kind all past stands le =
+  kind_soundness types kind all past starts le =
       Sound-then (BlockRead d past) (ChildRead d all) (d - 1) all (braced inner past) _
       (Sound-on (BlockRead d past) (BlockRead d past) (d - 1) (d - 1) past all
       (braced inner past) le (omega arith) (braced_soundness d inner sound past) (λ x h. h))
       (λ x block. record {
-        spelled = stands ∙ ap (λ (ts : List TokenKind). found_type_spelled types
+        spelled = starts ∙ ap (λ (ts : List TokenKind). found_type_spelled types
             (kind_keyword kind ∷ ts)) block.spelled;
         shape = block.shape;
         high = block.high;
@@ -184,19 +184,19 @@ module _ (d : ℕ) (inner : Inner) (sound : (tokens : List TokenKind)
       → all ≡ found_type_spelled types tokens → length tokens ≤ length all
       → (o : Option CompositeKind) → composite_kind tokens ≡ o
       → Sound (ChildRead d all) (d - 1) all (anonymous_by inner types tokens o)
-  kind_by_soundness types all tokens stands le None e = le
-  kind_by_soundness types all tokens stands le (Some kind) e =
+  kind_by_soundness types all tokens starts le None e = le
+  kind_by_soundness types all tokens starts le (Some kind) e =
       let begins = kind_is kind tokens e in
       let one : length tokens ≡ suc (length (tail tokens)) = ap count begins in
       kind_soundness types kind all (tail tokens)
-      (stands ∙ ap (λ (ts : List TokenKind). found_type_spelled types ts) begins) (omega arith)
+      (starts ∙ ap (λ (ts : List TokenKind). found_type_spelled types ts) begins) (omega arith)
 
   composite_soundness : (types : Option StreamType) (all tokens : List TokenKind)
       → all ≡ found_type_spelled types tokens → length tokens ≤ length all
       → Sound (ChildRead d all) (d - 1) all (anonymous_composite inner types tokens)
   unfolding anonymous_composite
-  composite_soundness types all tokens stands le =
-      kind_by_soundness types all tokens stands le (composite_kind tokens) refl
+  composite_soundness types all tokens starts le =
+      kind_by_soundness types all tokens starts le (composite_kind tokens) refl
 
   typed_soundness : (tokens : List TokenKind)
       → Sound (ChildRead d tokens) (d - 1) tokens (typed_child d inner tokens)
@@ -300,16 +300,16 @@ splitter_soundness limit tokens =
     let Q : tree.Splitter × ℕ × List TokenKind → Type 0 = SplitterRead limit tokens in
     elim (cases_Bool (is_keyword keyword.Duplicate tokens)) [
       | inl is ↦
-          let stands = keyword_is keyword.Duplicate tokens is in
+          let starts = keyword_is keyword.Duplicate tokens is in
           let past : List TokenKind = tail tokens in
-          let one : length tokens ≡ suc (length past) = ap count stands in
+          let one : length tokens ≡ suc (length past) = ap count starts in
           let P : Brackets × List TokenKind → Type 0 = λ y. past ≡ brackets_spelled y.0 y.1 in
           let read = Sound-then P Q limit tokens (empty_brackets past)
           (λ pair. Ok (tree.Duplicate pair.0, 0, pair.1))
           (Sound-on P P limit limit past tokens (empty_brackets past) (omega arith) (omega arith)
           (brackets_soundness limit past) (λ x h. h))
           (λ x e. record {
-            spelled = stands
+            spelled = starts
                 ∙ ap (λ (ts : List TokenKind). token.Keyword keyword.Duplicate ∷ ts) e;
             shape =
                 tt;

@@ -620,11 +620,11 @@ module _ (d : ℕ) (named : List ℕ) (at : Option tree.Expr) (complete : IsInde
       (step_of_place o named at, place_height at + 1, rest)
       (after_name (suc d) (expression d) named (index_spelled at past))
   unfolding after_name after_place
-  step_after_completeness o past no_index stands is_rest =
+  step_after_completeness o past no_index starts is_rest =
       Complete-then (suc d) (place_height at) (place_height at + 1) (at, place_height at, past)
       (step_of_place o named at, place_height at + 1, rest) _ _
       (index_completeness d past at complete no_index) (omega arith)
-      (λ low. rw (stands, is_rest)
+      (λ low. rw (starts, is_rest)
       (Complete-raised (suc d) (place_height at)
       (step_of_place o named at, place_height at + 1, rest) _ refl))
 

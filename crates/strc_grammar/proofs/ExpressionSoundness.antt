@@ -308,12 +308,12 @@ module _ (d : ℕ) where
         let Q : Option tree.Expr × ℕ × List TokenKind → Type 0 = IndexRead (suc d) tokens in
         elim (cases_Bool (is_punctuation punctuation.OpenBracket tokens)) [
           | inl is ↦
-              let stands = punctuation_is punctuation.OpenBracket tokens is in
-              let one : length tokens ≡ suc (length (tail tokens)) = ap count stands in
+              let starts = punctuation_is punctuation.OpenBracket tokens is in
+              let one : length tokens ≡ suc (length (tail tokens)) = ap count starts in
               let read = enclosed_soundness Q punctuation.CloseBracket tokens (tail tokens)
               (λ value height after. Ok (Some value, height, after)) (omega arith)
               (λ x closed. record {
-                spelled = stands ∙ ap (λ (ts : List TokenKind).
+                spelled = starts ∙ ap (λ (ts : List TokenKind).
                     token.Punctuation punctuation.OpenBracket ∷ ts) closed.spelled;
                 shape = closed.shape;
                 high = ap (λ (n : ℕ). n + 1) closed.high;
@@ -473,12 +473,12 @@ module _ (d : ℕ) where
         → tokens ≡ token.Punctuation (binary_punctuation o) ∷ tail tokens → precedence o ≡ suc r
         → ExprRead d r (tail tokens) x → max h x.1 < suc d
         → ExprRead (suc d) (suc r) all (tree.Binary o left x.0, max h x.1 + 1, x.2)
-    joined r all tokens left h o x lefts stands at rights lt =
+    joined r all tokens left h o x lefts starts at rights lt =
         let in_left : h ≡ expr_height left = lefts.high in
         let in_right : x.1 ≡ expr_height x.0 = rights.high in
         record {
           spelled = lefts.spelled ∙ ap (λ (ts : List TokenKind). expr_spelled left ts)
-              (stands ∙ ap (λ (ts : List TokenKind). token.Punctuation (binary_punctuation o) ∷ ts)
+              (starts ∙ ap (λ (ts : List TokenKind). token.Punctuation (binary_punctuation o) ∷ ts)
               rights.spelled);
           shape = (
             omega (arith, lefts.ranked),

@@ -61,12 +61,12 @@ unfolding has_rate
 all_fresh [] = tt
 all_fresh (r ∷ others) = (refl, all_fresh others)
 
-rate_stands : (kind : RateKind) (rest : List TokenKind)
+rate_read : (kind : RateKind) (rest : List TokenKind)
     → rate_kind (rate_keyword kind ∷ rest) ≡ Some kind
 unfolding rate_kind
-rate_stands rate.Push rest = refl
-rate_stands rate.Pop rest = refl
-rate_stands rate.Peek rest = refl
+rate_read rate.Push rest = refl
+rate_read rate.Pop rest = refl
+rate_read rate.Peek rest = refl
 
 -- a rate comes before another or before the block
 abbrev Stopping : List TokenKind → Type 0
@@ -100,10 +100,10 @@ module _ (limit : ℕ) where
       ≡ repeated no_rate (rate_turn limit) t (front ++ a ∷ [], max high (rate_height a)) past
   unfolding repeated
   rate_fits a shape front high t past fresh stops low =
-      let stands = rate_stands a.kind (expr_spelled a.rate past) in
-      let goes_on = no_rate_stays (rate_spelled a past) a.kind stands in
+      let starts = rate_read a.kind (expr_spelled a.rate past) in
+      let goes_on = no_rate_stays (rate_spelled a past) a.kind starts in
       let turn = rate_turn_at limit front high (rate_spelled a past) a.kind a.rate
-      (rate_height a) past stands ((rate_of_completeness a shape front past fresh stops).fits
+      (rate_height a) past starts ((rate_of_completeness a shape front past fresh stops).fits
       low) in
       rw (goes_on, turn) refl
 
@@ -113,10 +113,10 @@ module _ (limit : ℕ) where
       → repeated no_rate (rate_turn limit) (suc t) (front, high) (rate_spelled a past) ≡ Err Nesting
   unfolding repeated rate_turn
   rate_over a shape front high t past fresh stops deep =
-      let stands = rate_stands a.kind (expr_spelled a.rate past) in
-      let goes_on = no_rate_stays (rate_spelled a past) a.kind stands in
+      let starts = rate_read a.kind (expr_spelled a.rate past) in
+      let goes_on = no_rate_stays (rate_spelled a past) a.kind starts in
       let read = (rate_of_completeness a shape front past fresh stops).over deep in
-      rw (goes_on, stands, read) refl
+      rw (goes_on, starts, read) refl
 
   rates_end : (front : List tree.Rate) (high t : ℕ) (rest : List TokenKind) → rate_kind rest ≡ None
       → repeated no_rate (rate_turn limit) (suc t) (front, high) rest ≡ Ok ((front, high), rest)

@@ -92,8 +92,8 @@ module _ (limit : ℕ) (all : List TokenKind) (so_far : List tree.Rate × ℕ) (
   new_rate : (kind : RateKind) → tokens ≡ rate_keyword kind ∷ tail tokens
       → has_rate kind so_far.0 ≡ false → Sound Next limit all
       (expression limit lowest_precedence (tail tokens) >>= pushed kind)
-  new_rate kind stands fresh =
-      let one : length tokens ≡ suc (length (tail tokens)) = ap count stands in
+  new_rate kind starts fresh =
+      let one : length tokens ≡ suc (length (tail tokens)) = ap count starts in
       Sound-then (ExprRead limit lowest_precedence (tail tokens)) Next limit all
       (expression limit lowest_precedence (tail tokens)) (pushed kind)
       (Sound-on (ExprRead limit lowest_precedence (tail tokens))
@@ -103,7 +103,7 @@ module _ (limit : ℕ) (all : List TokenKind) (so_far : List tree.Rate × ℕ) (
         record {
           spelled = kept.spelled ∙ ap (λ (ts : List TokenKind).
               each_spelled rate_spelled so_far.0 ts)
-              (stands ∙ ap (λ (ts : List TokenKind). rate_keyword kind ∷ ts) read.spelled)
+              (starts ∙ ap (λ (ts : List TokenKind). rate_keyword kind ∷ ts) read.spelled)
               ∙ sym (each_spelled-push rate_spelled so_far.0
               (record { kind = kind; rate = x.0 }) x.2);
           shape = AreRates-push so_far.0 (record { kind = kind; rate = x.0 }) kept.shape read.shape

@@ -22,7 +22,7 @@ use Rattle.strc_grammar.proofs.Completeness.{Complete, Complete-then, expect_pun
 use Rattle.strc_grammar.proofs.Lists.{ItemCompleteness, each_completeness}
 use Rattle.strc_grammar.proofs.VariableCompleteness.{Complete-done}
 use Rattle.strc_grammar.proofs.ArgumentCompleteness.{parameters_completeness}
-use Rattle.strc_grammar.proofs.ArgumentCompleteness.{stream_type_completeness, kind_stands}
+use Rattle.strc_grammar.proofs.ArgumentCompleteness.{stream_type_completeness, kind_read}
 use Rattle.strc_grammar.proofs.ArgumentCompleteness.{kind_is_no_filter}
 use Rattle.strc_grammar.proofs.StatementCompleteness.{listed, row_listed, row_length, member_length}
 use Rattle.strc_grammar.proofs.TreeCompleteness.{statements_completeness, members_completeness}
@@ -137,7 +137,7 @@ module _ (limit : ℕ) (x : List ℕ) (given : Option (List (List ℕ))) (rest :
       rw (
         stream_type_completeness types (kind_keyword kind ∷ past),
         kind_is_no_filter kind past,
-        kind_stands kind past,
+        kind_read kind past,
       ) (composite_completeness types kind block shape)
 
   declaration_stays : (s : tree.Stream) → at_end (stream_spelled x given s rest) ≡ None

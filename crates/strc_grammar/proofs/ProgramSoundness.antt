@@ -130,8 +130,8 @@ module _ (types : StreamType) (all past : List TokenKind) where
   filter_soundness : all ≡ stream_type_spelled types (token.Keyword keyword.Filter ∷ past)
       → Sound (DeclarationRead all) least all (filter height_limit types past)
   unfolding filter
-  filter_soundness stands =
-      let some : length all ≡ suc (suc (suc (suc (length past)))) = ap count stands in
+  filter_soundness starts =
+      let some : length all ≡ suc (suc (suc (suc (length past)))) = ap count starts in
       let Q : tree.Declaration × List TokenKind → Type 0 = DeclarationRead all in
       Sound-then (HeadingRead past) Q least all (heading past) _
       (Sound-on (HeadingRead past) (HeadingRead past) least least past all (heading past)
@@ -151,7 +151,7 @@ module _ (types : StreamType) (all past : List TokenKind) where
         stream =
             tree.Filter types.input types.output x.0.0;
       }) x.1
-      (stands ∙ ap (λ (ts : List TokenKind). stream_type_spelled types
+      (starts ∙ ap (λ (ts : List TokenKind). stream_type_spelled types
       (token.Keyword keyword.Filter ∷ ts))
       (e ∙ ap (λ (ts : List TokenKind). token.Name head.0.0
       ∷ parameters_spelled head.0.1 (token.Punctuation punctuation.OpenBrace ∷ ts)) body.spelled))
@@ -161,8 +161,8 @@ module _ (types : StreamType) (all past : List TokenKind) where
       → all ≡ stream_type_spelled types (kind_keyword kind ∷ past)
       → Sound (DeclarationRead all) least all (composite height_limit types kind past)
   unfolding composite
-  composite_soundness kind stands =
-      let some : length all ≡ suc (suc (suc (suc (length past)))) = ap count stands in
+  composite_soundness kind starts =
+      let some : length all ≡ suc (suc (suc (suc (length past)))) = ap count starts in
       let Q : tree.Declaration × List TokenKind → Type 0 = DeclarationRead all in
       Sound-then (HeadingRead past) Q least all (heading past) _
       (Sound-on (HeadingRead past) (HeadingRead past) least least past all (heading past)
@@ -181,19 +181,19 @@ module _ (types : StreamType) (all past : List TokenKind) where
         stream =
             tree.Composite types kind (row x.0.0);
       }) x.1
-      (stands ∙ ap (λ (ts : List TokenKind). stream_type_spelled types (kind_keyword kind ∷ ts))
+      (starts ∙ ap (λ (ts : List TokenKind). stream_type_spelled types (kind_keyword kind ∷ ts))
       (e ∙ ap (λ (ts : List TokenKind). token.Name head.0.0
       ∷ parameters_spelled head.0.1 (token.Punctuation punctuation.OpenBrace ∷ ts)) body.spelled))
       (body.shape, omega (arith, body.high, body.low))))
 
 module _ (types : StreamType) (all tokens : List TokenKind)
-    (stands : all ≡ stream_type_spelled types tokens) where
+    (starts : all ≡ stream_type_spelled types tokens) where
   composite_by_soundness : (o : Option CompositeKind) → composite_kind tokens ≡ o
       → Sound (DeclarationRead all) least all (composite_by height_limit types tokens o)
   composite_by_soundness None e = let some : length all ≡ suc (suc (suc (length tokens))) =
-      ap count stands in omega arith
+      ap count starts in omega arith
   composite_by_soundness (Some kind) e = composite_soundness types all (tail tokens) kind
-      (stands ∙ ap (λ (ts : List TokenKind). stream_type_spelled types ts) (kind_is kind tokens e))
+      (starts ∙ ap (λ (ts : List TokenKind). stream_type_spelled types ts) (kind_is kind tokens e))
 
   stream_soundness : Sound (DeclarationRead all) least all (stream height_limit types tokens)
   unfolding stream
@@ -201,7 +201,7 @@ module _ (types : StreamType) (all tokens : List TokenKind)
       elim (cases_Bool (is_keyword keyword.Filter tokens)) [
         | inl is ↦
             let read = filter_soundness types all (tail tokens)
-            (stands ∙ ap (λ (ts : List TokenKind). stream_type_spelled types ts)
+            (starts ∙ ap (λ (ts : List TokenKind). stream_type_spelled types ts)
             (keyword_is keyword.Filter tokens is)) in
             rw is read
         | inr is ↦

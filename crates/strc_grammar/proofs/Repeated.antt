@@ -85,16 +85,16 @@ pub rate_turn_at : (limit : ℕ) (front : List tree.Rate) (high : ℕ) (tokens :
     → rate_turn limit (front, high) tokens
     ≡ Ok ((front ++ record { kind = kind; rate = value } ∷ [], max high height), after)
 unfolding rate_turn
-rate_turn_at limit front high tokens kind value height after stands is_read =
-    rw (stands, is_read) refl
+rate_turn_at limit front high tokens kind value height after starts is_read =
+    rw (starts, is_read) refl
 
 pub rate_turn_fails : (limit : ℕ) (e : ReadError) (front : List tree.Rate) (high : ℕ)
     (tokens : List TokenKind) (kind : RateKind) → rate_kind tokens ≡ Some kind
     → Fails e (rate_of limit kind front tokens)
     → Fails e (rate_turn limit (front, high) tokens)
 unfolding rate_turn
-rate_turn_fails limit errors.Memory front high tokens kind stands fails = tt
-rate_turn_fails limit (errors.Fault f) front high tokens kind stands fails = rw (stands, fails) refl
+rate_turn_fails limit errors.Memory front high tokens kind starts fails = tt
+rate_turn_fails limit (errors.Fault f) front high tokens kind starts fails = rw (starts, fails) refl
 
 pub no_comma_ends : (tokens : List TokenKind) → is_punctuation punctuation.Comma tokens ≡ false
     → no_comma tokens ≡ Some tokens

@@ -75,14 +75,14 @@ initial_soundness depth tokens =
     let Q : Option tree.Expr × ℕ × List TokenKind → Type 0 = InitialRead depth tokens in
     elim (cases_Bool (is_punctuation punctuation.Assign tokens)) [
       | inl is ↦
-          let stands = punctuation_is punctuation.Assign tokens is in
-          let one : length tokens ≡ suc (length (tail tokens)) = ap count stands in
+          let starts = punctuation_is punctuation.Assign tokens is in
+          let one : length tokens ≡ suc (length (tail tokens)) = ap count starts in
           let read = Sound-then (ExprRead depth lowest_precedence (tail tokens)) Q depth tokens
           (expression depth lowest_precedence (tail tokens))
           (λ value. Ok (Some value.0, value.1, value.2))
           (within depth depth tokens (tail tokens) (omega arith) (omega arith))
           (λ x value. record {
-            spelled = stands ∙ ap (λ (ts : List TokenKind). token.Punctuation punctuation.Assign
+            spelled = starts ∙ ap (λ (ts : List TokenKind). token.Punctuation punctuation.Assign
                 ∷ ts) value.spelled;
             shape = value.shape;
             high = value.high;
@@ -170,8 +170,8 @@ module _ (depth : ℕ) (all : List TokenKind) where
       (one_taller (next_variable depth) so_far tokens)
   unfolding one_taller next_variable
   next_soundness so_far tokens kept le goes =
-      let stands = comma_is tokens goes in
-      let one : length tokens ≡ suc (length (tail tokens)) = ap count stands in
+      let starts = comma_is tokens goes in
+      let one : length tokens ≡ suc (length (tail tokens)) = ap count starts in
       Sound-then (VariableRead depth (tail tokens))
       (λ x. VariablesRead depth all x.0 x.1 × (length x.1 ≤ length all)) depth all
       (variable depth (tail tokens)) _
@@ -180,7 +180,7 @@ module _ (depth : ℕ) (all : List TokenKind) where
       (variable_soundness depth (tail tokens)) (λ x h. h)) (λ x read. (
         record {
           spelled = kept.spelled ∙ ap (λ (ts : List TokenKind). variables_spelled so_far.0 ts)
-              (stands ∙ ap (λ (ts : List TokenKind). token.Punctuation punctuation.Comma ∷ ts)
+              (starts ∙ ap (λ (ts : List TokenKind). token.Punctuation punctuation.Comma ∷ ts)
               read.spelled)
               ∙ sym (variables_spelled-push so_far.0 x.0 x.2 kept.shape);
           shape = AreVariables-push so_far.0 x.0 kept.shape read.shape;
@@ -238,8 +238,8 @@ int_type_soundness depth past =
     let Q : tree.VariableType × ℕ × List TokenKind → Type 0 = TypeRead depth all in
     elim (cases_Bool (is_punctuation punctuation.OpenBracket past)) [
       | inl is ↦
-          let stands = punctuation_is punctuation.OpenBracket past is in
-          let one : length past ≡ suc (length (tail past)) = ap count stands in
+          let starts = punctuation_is punctuation.OpenBracket past is in
+          let one : length past ≡ suc (length (tail past)) = ap count starts in
           let read = Sound-then (ClosedRead depth punctuation.CloseBracket (tail past)) Q depth all
           (closed (expression depth) punctuation.CloseBracket (tail past))
           (λ size. Ok (tree.Array size.0, size.1, size.2))
@@ -247,7 +247,7 @@ int_type_soundness depth past =
           (omega arith))
           (λ x size. record {
             spelled = ap (λ (ts : List TokenKind). token.Keyword keyword.Int ∷ ts)
-                (stands ∙ ap (λ (ts : List TokenKind). token.Punctuation punctuation.OpenBracket
+                (starts ∙ ap (λ (ts : List TokenKind). token.Punctuation punctuation.OpenBracket
                 ∷ ts) size.spelled);
             shape = size.shape;
             high = size.high;
@@ -364,8 +364,8 @@ module _ (d : ℕ) (all : List TokenKind) where
       → all ≡ token.Name x ∷ token.Punctuation (assign_punctuation o) ∷ past
       → Sound IsStepRead d all (assign_to (suc d) x o past)
   unfolding assign_to
-  assign_soundness x o past stands =
-      let two : length all ≡ suc (suc (length past)) = ap count stands in
+  assign_soundness x o past starts =
+      let two : length all ≡ suc (suc (length past)) = ap count starts in
       let read : Sound (ExprRead d lowest_precedence past) d all
       (expression (suc d - 1) lowest_precedence past) =
       rw less (within d d all past (omega arith) (omega arith)) in
@@ -373,7 +373,7 @@ module _ (d : ℕ) (all : List TokenKind) where
       (expression (suc d - 1) lowest_precedence past) _ read (λ v value.
       Sound-raised IsStepRead d all (suc d) v.1 _
       (λ lt. record {
-        spelled = stands ∙ ap (λ (ts : List TokenKind). token.Name x
+        spelled = starts ∙ ap (λ (ts : List TokenKind). token.Name x
             ∷ token.Punctuation (assign_punctuation o) ∷ ts) value.spelled;
         shape = value.shape;
         high = ap (λ (n : ℕ). n + 1) value.high;
@@ -386,11 +386,11 @@ module _ (d : ℕ) (all : List TokenKind) where
       → (h : ℕ) → h ≡ expr_height at + 1 → h ≤ d
       → Sound IsStepRead d all (assign_element (suc d) x at h o past)
   unfolding assign_element
-  element_soundness x at o past stands shape h high low =
+  element_soundness x at o past starts shape h high low =
       let some : length past + 1 ≤ length all =
       omega (
         arith,
-        ap count stands,
+        ap count starts,
         expr_length (tree.Element x at) (token.Punctuation (assign_punctuation o) ∷ past),
       ) in
       let read : Sound (ExprRead d lowest_precedence past) d all
@@ -400,7 +400,7 @@ module _ (d : ℕ) (all : List TokenKind) where
       (expression (suc d - 1) lowest_precedence past) _ read (λ v value.
       Sound-raised IsStepRead d all (suc d) (max h v.1) _
       (λ lt. record {
-        spelled = stands ∙ ap (λ (ts : List TokenKind). expr_spelled (tree.Element x at)
+        spelled = starts ∙ ap (λ (ts : List TokenKind). expr_spelled (tree.Element x at)
             (token.Punctuation (assign_punctuation o) ∷ ts)) value.spelled;
         shape = (shape, value.shape);
         high = omega (arith, high, value.high);
@@ -411,14 +411,14 @@ module _ (d : ℕ) (all : List TokenKind) where
       → all ≡ expr_spelled e past → past ≡ token.Punctuation (assign_punctuation o) ∷ tail past
       → IsExpr e → h ≡ expr_height e → h ≤ d
       → Sound IsStepRead d all (assign_by (suc d) e h o past)
-  assignment_soundness (tree.Read x) h o past spelled stands shape high low =
+  assignment_soundness (tree.Read x) h o past spelled starts shape high low =
       assign_soundness x o (tail past) (spelled
-      ∙ ap (λ (ts : List TokenKind). token.Name x ∷ ts) stands)
-  assignment_soundness (tree.Element x at) h o past spelled stands shape high low =
+      ∙ ap (λ (ts : List TokenKind). token.Name x ∷ ts) starts)
+  assignment_soundness (tree.Element x at) h o past spelled starts shape high low =
       element_soundness x at o (tail past)
-      (spelled ∙ ap (λ (ts : List TokenKind). expr_spelled (tree.Element x at) ts) stands) shape
+      (spelled ∙ ap (λ (ts : List TokenKind). expr_spelled (tree.Element x at) ts) starts) shape
       h high low
-  assignment_soundness e h o past spelled stands shape high low =
+  assignment_soundness e h o past spelled starts shape high low =
       evaluate_soundness e h past spelled shape high low
 
   after_value_soundness : (e : tree.Expr) (h : ℕ) (past : List TokenKind)

@@ -292,11 +292,11 @@ module _ (d : ℕ) (inner : Inner) (sound : (tokens : List TokenKind)
       chosen.spelled) in
       elim (cases_Bool (is_keyword keyword.Else a.2)) [
         | inl is ↦
-            let stands = keyword_is keyword.Else a.2 is in
-            let less : length a.2 ≡ suc (length (tail a.2)) = ap count stands in
+            let starts = keyword_is keyword.Else a.2 is in
+            let less : length a.2 ≡ suc (length (tail a.2)) = ap count starts in
             let read = other_soundness all (tail a.2) c.0 a.0 (max c.1 a.1)
             (spelled ∙ ap (λ (ts : List TokenKind). token.Keyword keyword.If
-            ∷ bracketed_spelled c.0 (stmt_spelled a.0 ts)) stands) condition.shape
+            ∷ bracketed_spelled c.0 (stmt_spelled a.0 ts)) starts) condition.shape
             chosen.shape
             (not_taking a.0 a.2 chosen.free is) (omega (arith, condition.high, chosen.high))
             (omega (arith, condition.low, chosen.low)) (omega arith) in

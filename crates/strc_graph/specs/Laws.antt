@@ -1,4 +1,4 @@
--- What a run of a flat graph stands on, as laws about all graphs.
+-- What a run of a flat graph relies on, as laws about all graphs.
 use Rattle.std.specs.Prelude.{◌≡◌, ℕ, ◌<◌, Bool, true, ℤ, List, map, sum, if◌then◌else◌}
 use Rattle.strc_dataflow.specs.Flat.{Graph}
 use Rattle.strc_dataflow.specs.Answer.{whole_run}

@@ -1,4 +1,4 @@
-// What a run of a flat graph stands on, as laws about all graphs.
+// What a run of a flat graph relies on, as laws about all graphs.
 
 ghost use Rattle.strc_graph.specs.Laws.{NodesSplitAndJoin, OnlyCarriersMatter};
 

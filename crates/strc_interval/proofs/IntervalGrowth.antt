@@ -11,19 +11,19 @@ use Rattle.strc_interval.specs.Loops.{with_locals, locals_after}
 use Rattle.strc_interval.specs.Intervals.{names_of}
 
 -- the names are others, with some inside them
-pub record StandsOn (base names : Intervals) : Type 0 where
+pub record IsBaseOf (base names : Intervals) : Type 0 where
   pub inner : Intervals
   pub is : names ≡ inner ++ base
 
-pub stands_on_itself : (base : Intervals) → StandsOn base base
-stands_on_itself base = record { inner = []; is = refl }
+pub base_of_itself : (base : Intervals) → IsBaseOf base base
+base_of_itself base = record { inner = []; is = refl }
 
 -- a declaration adds names
-pub stands_on_declared : (base names : Intervals) (variables : List tree.Variable)
-    → StandsOn base names → StandsOn base (with_unknown names variables)
-stands_on_declared base names [] h = h
-stands_on_declared base names (first ∷ rest) h =
-    stands_on_declared base (record { 0 = first.name; 1 = None } ∷ names) rest
+pub base_of_declared : (base names : Intervals) (variables : List tree.Variable)
+    → IsBaseOf base names → IsBaseOf base (with_unknown names variables)
+base_of_declared base names [] h = h
+base_of_declared base names (first ∷ rest) h =
+    base_of_declared base (record { 0 = first.name; 1 = None } ∷ names) rest
     (record {
       inner = record { 0 = first.name; 1 = None } ∷ h.inner;
       is =
@@ -31,26 +31,26 @@ stands_on_declared base names (first ∷ rest) h =
     })
 
 -- no other statement adds a name
-pub stands_on_after : (base names : Intervals) (s : tree.Stmt) → StandsOn base names
-    → StandsOn base (intervals_after names s)
-stands_on_after base names (tree.Declare kind variables) h =
-    stands_on_declared base names variables h
-stands_on_after base names tree.Empty h = h
-stands_on_after base names (tree.Compose statement) h = h
-stands_on_after base names (tree.Block body) h = h
-stands_on_after base names (tree.Evaluate value) h = h
-stands_on_after base names (tree.Assign name operator value) h = h
-stands_on_after base names (tree.AssignElement name index operator value) h = h
-stands_on_after base names (tree.If condition chosen) h = h
-stands_on_after base names (tree.IfElse condition chosen other) h = h
-stands_on_after base names (tree.While condition body) h = h
-stands_on_after base names (tree.For first condition step body) h = h
-stands_on_after base names (tree.Push value) h = h
-stands_on_after base names (tree.Print value) h = h
-stands_on_after base names (tree.Println value) h = h
+pub base_of_after : (base names : Intervals) (s : tree.Stmt) → IsBaseOf base names
+    → IsBaseOf base (intervals_after names s)
+base_of_after base names (tree.Declare kind variables) h =
+    base_of_declared base names variables h
+base_of_after base names tree.Empty h = h
+base_of_after base names (tree.Compose statement) h = h
+base_of_after base names (tree.Block body) h = h
+base_of_after base names (tree.Evaluate value) h = h
+base_of_after base names (tree.Assign name operator value) h = h
+base_of_after base names (tree.AssignElement name index operator value) h = h
+base_of_after base names (tree.If condition chosen) h = h
+base_of_after base names (tree.IfElse condition chosen other) h = h
+base_of_after base names (tree.While condition body) h = h
+base_of_after base names (tree.For first condition step body) h = h
+base_of_after base names (tree.Push value) h = h
+base_of_after base names (tree.Print value) h = h
+base_of_after base names (tree.Println value) h = h
 
 -- without the inner ones the names are as before
-pub drop_inner : (base names : Intervals) → StandsOn base names
+pub drop_inner : (base names : Intervals) → IsBaseOf base names
     → drop (length names - length base) names ≡ base
 drop_inner base names h =
     let e : length (h.inner ++ base) - length base ≡ length h.inner =
@@ -62,7 +62,7 @@ drop_inner base names h =
 pub drop_own : (names : Intervals) (s : tree.Stmt)
     → drop (length (intervals_after names s) - length names) (intervals_after names s) ≡ names
 drop_own names s = drop_inner names (intervals_after names s)
-    (stands_on_after names names s (stands_on_itself names))
+    (base_of_after names names s (base_of_itself names))
 
 -- the variables of two statements are forgotten
 pub drop_both : (names : Intervals) (s s' : tree.Stmt)
@@ -70,8 +70,8 @@ pub drop_both : (names : Intervals) (s s' : tree.Stmt)
     (intervals_after (intervals_after names s) s') ≡ names
 drop_both names s s' =
     drop_inner names (intervals_after (intervals_after names s) s')
-    (stands_on_after names (intervals_after names s) s'
-    (stands_on_after names names s (stands_on_itself names)))
+    (base_of_after names (intervals_after names s) s'
+    (base_of_after names names s (base_of_itself names)))
 
 -- the names alone after a declaration, and after a statement
 pub names_declared : (names : Intervals) (variables : List tree.Variable)

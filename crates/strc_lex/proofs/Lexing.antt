@@ -5,7 +5,7 @@ use Rattle.std.proofs.Common.{IfSome, IfNone, length-drop}
 use Rattle.std.proofs.lemmas.Bool.{both_ways}
 use Rattle.strc_lex.specs.Characters.{is_white}
 use Rattle.strc_lex.specs.Trivia.{IsComment, IsBlank, IsTrivia, IsTriviaRun}
-use Rattle.strc_lex.specs.Text.{IsToken, StandsAt, LexesBetween, IsStuck}
+use Rattle.strc_lex.specs.Text.{IsToken, IsAt, LexesBetween, IsStuck}
 use Rattle.strc_lex.specs.Scanning.{token_at}
 use Rattle.strc_lex.specs.declared.token.TokenKind.{TokenKind}
 use Rattle.strc_lex.specs.declared.token.Token.{Token}
@@ -16,13 +16,13 @@ use Rattle.strc_lex.proofs.Only.{token_only}
 use Rattle.strc_lex.proofs.Tokens.{token_meets}
 
 -- a token is within the text
-pub stands_within : (text : List ℕ) (item : Token) → StandsAt text item
+pub within_text : (text : List ℕ) (item : Token) → IsAt text item
     → item.span.end ≤ length text
-stands_within text item stands = let within = stands.token.within in let rest =
+within_text text item is_at = let within = is_at.token.within in let rest =
     length-drop
     item.span.start text in
     let ordered =
-    stands.ordered in
+    is_at.ordered in
     omega arith
 
 -- where there is white space or a comment, no token begins
@@ -53,56 +53,56 @@ token_bare text kind len size token (inr comment) =
     none_is_not_some (kind, len) (sym (token_at_comment text size comment)
     ∙ token_only text kind len token)
 
-pub stands_bare : (text : List ℕ) (item : Token) → StandsAt text item → (size : ℕ)
+pub bare_at_end : (text : List ℕ) (item : Token) → IsAt text item → (size : ℕ)
     → IsTrivia (drop item.span.start text) size → ⊥
-stands_bare text item stands size trivia =
+bare_at_end text item is_at size trivia =
     token_bare (drop item.span.start text) item.kind
-    (item.span.end - item.span.start) size stands.token trivia
+    (item.span.end - item.span.start) size is_at.token trivia
 
 -- one more token, and the trivia_run after it
 pub lexes_push : (text : List ℕ) (from : ℕ) (tokens : List Token) (item : Token) (to : ℕ)
-    → LexesBetween text from tokens item.span.start → StandsAt text item
+    → LexesBetween text from tokens item.span.start → IsAt text item
     → IsTriviaRun text item.span.end to → LexesBetween text from (tokens ++ item ∷ []) to
-lexes_push text from [] item to front stands trivia_run = (front, stands, trivia_run)
-lexes_push text from (first ∷ tokens) item to front stands trivia_run =
-    (front.0, front.1, lexes_push text first.span.end tokens item to front.2 stands trivia_run)
+lexes_push text from [] item to front is_at trivia_run = (front, is_at, trivia_run)
+lexes_push text from (first ∷ tokens) item to front is_at trivia_run =
+    (front.0, front.1, lexes_push text first.span.end tokens item to front.2 is_at trivia_run)
 
-abbrev made : TokenKind → ℕ → ℕ → Token
-made kind start end = record { kind = kind; span = record { start = start; end = end } }
+abbrev token_of : TokenKind → ℕ → ℕ → Token
+token_of kind start end = record { kind = kind; span = record { start = start; end = end } }
 
 token_same : (t u : Token) → t.kind ≡ u.kind → t.span.start ≡ u.span.start → t.span.end ≡ u.span.end
     → t ≡ u
-token_same t u kind start end = ap (λ k. made k t.span.start t.span.end) kind
-    ∙ ap (λ s. made u.kind s t.span.end) start ∙ ap (λ e. made u.kind u.span.start e) end
+token_same t u kind start end = ap (λ k. token_of k t.span.start t.span.end) kind
+    ∙ ap (λ s. token_of u.kind s t.span.end) start ∙ ap (λ e. token_of u.kind u.span.start e) end
 
 -- two tokens after one place are one
 same_token : (text : List ℕ) (from : ℕ) (t u : Token) → IsTriviaRun text from t.span.start
-    → StandsAt text t → IsTriviaRun text from u.span.start → StandsAt text u → t ≡ u
-same_token text from t u trivia_run_t stands_t trivia_run_u stands_u =
+    → IsAt text t → IsTriviaRun text from u.span.start → IsAt text u → t ≡ u
+same_token text from t u trivia_run_t at_t trivia_run_u at_u =
     let start = trivia_end text from t.span.start u.span.start trivia_run_t trivia_run_u
-    (stands_bare text t stands_t) (stands_bare text u stands_u) in
+    (bare_at_end text t at_t) (bare_at_end text u at_u) in
     let here = token_only (drop t.span.start text) t.kind
-    (t.span.end - t.span.start) stands_t.token in
+    (t.span.end - t.span.start) at_t.token in
     let there = token_only (drop u.span.start text) u.kind
-    (u.span.end - u.span.start) stands_u.token in
+    (u.span.end - u.span.start) at_u.token in
     let pair : ◌≡◌ {A = TokenKind × ℕ} (t.kind, t.span.end - t.span.start)
     (u.kind, u.span.end - u.span.start) =
     some_same (sym here ∙ ap (λ s. token_at (drop s text)) start ∙ there) in
     let size : t.span.end - t.span.start ≡ u.span.end - u.span.start =
     ap (λ (p : TokenKind × ℕ). p.1) pair in
-    let order_t = stands_t.ordered in
-    let order_u = stands_u.ordered in
+    let order_t = at_t.ordered in
+    let order_u = at_u.ordered in
     token_same t u (ap (λ (p : TokenKind × ℕ). p.0) pair) start (omega arith)
 
 -- a run of trivia to the end leaves no room for a token
 no_token_in_trivia_run : (text : List ℕ) (from : ℕ) (u : Token)
-    → IsTriviaRun text from (length text) → IsTriviaRun text from u.span.start → StandsAt text u → ⊥
-no_token_in_trivia_run text from u trivia_run trivia_run_u stands =
-    let ends = stands_within text u stands in
-    let ordered = stands.ordered in
+    → IsTriviaRun text from (length text) → IsTriviaRun text from u.span.start → IsAt text u → ⊥
+no_token_in_trivia_run text from u trivia_run trivia_run_u is_at =
+    let ends = within_text text u is_at in
+    let ordered = is_at.ordered in
     let start = trivia_end text from (length text) u.span.start trivia_run trivia_run_u
     (λ len trivia. bare_end text (length text) len (omega arith) trivia)
-    (stands_bare text u stands) in
+    (bare_at_end text u is_at) in
     omega arith
 
 -- one text has one token list
@@ -126,7 +126,7 @@ stuck_lexes text from at [] [] h stuck g =
     (λ len trivia. bare_end text (length text) len (omega arith) trivia) in
     absurd (omega arith)
 stuck_lexes text from at [] (u ∷ us) h stuck g =
-    let start = trivia_end text from at u.span.start h g.0 stuck.bare (stands_bare text u g.1) in
+    let start = trivia_end text from at u.span.start h g.0 stuck.bare (bare_at_end text u g.1) in
     stuck.none u.kind (u.span.end - u.span.start)
     (subst (λ s. IsToken (drop s text) u.kind (u.span.end - u.span.start))
     (sym start) g.1.token)
@@ -153,8 +153,8 @@ found_none text None e = λ kind len t. none_is_not_some (kind, len) (e ∙ toke
 found_none text (Some t) e = tt
 
 -- a token found at a place is there
-pub stands_at : (text : List ℕ) (at len : ℕ) (kind : TokenKind) → IsToken (drop at text) kind len
-    → 0 < len → StandsAt text (record { kind = kind; span = record { start = at; end = at + len } })
-stands_at text at len kind t positive =
+pub is_at_start : (text : List ℕ) (at len : ℕ) (kind : TokenKind) → IsToken (drop at text) kind len
+    → 0 < len → IsAt text (record { kind = kind; span = record { start = at; end = at + len } })
+is_at_start text at len kind t positive =
     let size : len ≡ at + len - at = omega arith in
     record { ordered = omega arith; token = subst (IsToken (drop at text) kind) size t }

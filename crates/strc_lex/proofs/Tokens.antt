@@ -248,9 +248,9 @@ punctuation_short m = elim (punctuation_again m)
     [ inl two ↦ (omega arith, omega arith) | inr one ↦ (omega arith, omega arith) ]
 
 -- the text of a punctuation mark is at the front
-punctuation_stands : (text : List ℕ) (m : punctuation.Punctuation) → punctuation_of text ≡ Some m
+punctuation_at_front : (text : List ℕ) (m : punctuation.Punctuation) → punctuation_of text ≡ Some m
     → punctuation_text m ≡ take (length (punctuation_text m)) text
-punctuation_stands text m e = same-pointwise (punctuation_text m)
+punctuation_at_front text m e = same-pointwise (punctuation_text m)
     (take (length (punctuation_text m)) text) (by (pair_of text) refl e) where
       by : (o : Option punctuation.Punctuation) → pair_of text ≡ o → or_single text o ≡ Some m
           → starts_with nat_eq text (punctuation_text m) ≡ true
@@ -356,17 +356,17 @@ punctuation_meets_by : (b : ℕ) (rest : List ℕ) (k : TokenKind) (n : ℕ) →
     → punctuation_with_length o ≡ Some (k, n) → Meets (b ∷ rest) (k, n)
 punctuation_meets_by b rest k n letter digit quote plain None found e = absurd (cc)
 punctuation_meets_by b rest k n letter digit quote plain (Some m) found e =
-    let stands = punctuation_stands (b ∷ rest) m found in
+    let at_front = punctuation_at_front (b ∷ rest) m found in
     let short = punctuation_short m in
     let cut : length (punctuation_text m) ≡ length (take (length (punctuation_text m)) (b ∷ rest)) =
-    ap length stands in
+    ap length at_front in
     let least = length-take (length (punctuation_text m)) (b ∷ rest) in
     let pair : (Punctuation m, length (punctuation_text m)) ≡ (k, n) = cc in
     subst (Meets (b ∷ rest)) pair (
       record {
         within = omega arith;
-        lexeme = stands;
-        apart = punctuation_apart m b rest stands plain;
+        lexeme = at_front;
+        apart = punctuation_apart m b rest at_front plain;
         longest = lexeme_longest b rest m letter digit quote found;
       },
       short.0,

@@ -62,7 +62,7 @@ pub record IsToken (text : List ℕ) (kind : TokenKind) (len : ℕ) : Type 0 whe
       → IsLexeme other (take size text) → size ≤ len
 
 -- a token of the text is at its span
-pub record StandsAt (text : List ℕ) (item : Token) : Type 0 where
+pub record IsAt (text : List ℕ) (item : Token) : Type 0 where
   pub ordered : item.span.start < item.span.end
   pub token : IsToken (drop item.span.start text) item.kind (item.span.end - item.span.start)
 
@@ -70,7 +70,7 @@ pub record StandsAt (text : List ℕ) (item : Token) : Type 0 where
 abbrev pub LexesBetween : List ℕ → ℕ → List Token → ℕ → Type 0
 LexesBetween text from [] to = IsTriviaRun text from to
 LexesBetween text from (token ∷ tokens) to =
-    IsTriviaRun text from token.span.start × StandsAt text token
+    IsTriviaRun text from token.span.start × IsAt text token
     × LexesBetween text token.span.end tokens to
 
 -- the text is trivia and these tokens in turn

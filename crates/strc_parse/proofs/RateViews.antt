@@ -51,9 +51,9 @@ pub rate_shorter : (limit : ℕ) (kind : RateKind) (so_far : List tree.Rate) (to
     (value : tree.Expr) (height : ℕ) (after : List TokenKind)
     → rate_kind tokens ≡ Some kind → rate_of limit kind so_far tokens ≡ Ok (value, height, after)
     → length after < length tokens
-rate_shorter limit kind so_far tokens value height after stands read =
+rate_shorter limit kind so_far tokens value height after kind_is read =
     omega (
       arith,
-      past_rate tokens kind stands,
+      past_rate tokens kind kind_is,
       rate_within limit kind so_far tokens value height after read,
     )

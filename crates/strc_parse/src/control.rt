@@ -14,9 +14,9 @@ use crate::simple::{ForHeading, argument, bracketed, ended, for_heading};
 use std::alloc::Global;
 use strc_grammar::{Fault, ReadError};
 use strc_lex::token::{Keyword, Punctuation, Token, TokenKind};
-use strc_rules::held::{beside, raise};
 use strc_rules::lookahead::{is_keyword, is_punctuation, peek, tail, unexpected};
 use strc_rules::parsed::Parsed;
+use strc_rules::part::{beside, raise};
 use strc_syntax::node::{block_of, for_of, if_else_of, if_of, while_of};
 use strc_syntax::tree::{Expr, Member, Stmt};
 

@@ -53,7 +53,7 @@ fn filter(alloc: Global, types: StreamType, tokens: &[Token]) -> Result<(Decl, &
 }
 
 /// A composite stream: after its kind.
-#[tactic(auto, unfolding(strc_grammar::specs::Streams::composite), using(strc_syntax::proofs::Views::row_of_views))]
+#[tactic(auto, unfolding(strc_grammar::specs::Streams::composite))]
 fn composite(
     alloc: Global,
     types: StreamType,

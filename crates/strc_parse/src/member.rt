@@ -15,9 +15,9 @@ use std::alloc::Global;
 use strc_grammar::ReadError;
 use strc_lex::token::{Keyword, Punctuation, Token, TokenKind};
 use strc_rules::expression::{LOWEST_PRECEDENCE, expression};
-use strc_rules::held::beside;
 use strc_rules::lookahead::{expect, is_punctuation, peek, tail, unexpected};
 use strc_rules::parsed::Parsed;
+use strc_rules::part::beside;
 use strc_rules::variable::declared;
 use strc_syntax::node::{init_of, prework_of, work_of};
 use strc_syntax::tree::{Expr, Member, RateKind, RateTree, Stmt};
@@ -43,7 +43,7 @@ fn has_rate(kind: RateKind, rates: &[RateTree]) -> bool
 }
 
 /// A rate of this kind, which the rates so far don't have: at its keyword.
-#[tactic(auto, unfolding(strc_grammar::specs::Streams::rate_of), using(crate::proofs::RateViews::has_rate_view))]
+#[tactic(auto, unfolding(strc_grammar::specs::Streams::rate_of))]
 fn rate_of<'t>(
     alloc: Global,
     limit: usize,

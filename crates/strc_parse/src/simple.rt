@@ -13,10 +13,10 @@ use std::alloc::Global;
 use strc_grammar::ReadError;
 use strc_lex::token::{Keyword, Name, Punctuation, Token, TokenKind};
 use strc_rules::expression::{LOWEST_PRECEDENCE, closed, expression};
-use strc_rules::held::{beside, raise};
 use strc_rules::lookahead::{expect, is_punctuation, peek, tail};
 use strc_rules::operator::assign_at;
 use strc_rules::parsed::Parsed;
+use strc_rules::part::{beside, raise};
 use strc_rules::variable::declared;
 use strc_syntax::tree::{AssignOperator, Expr, Stmt};
 

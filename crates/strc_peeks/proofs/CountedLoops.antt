@@ -33,9 +33,9 @@ use Rattle.strc_peeks.specs.Turns.{TurnsAreLeast}
 use Rattle.strc_peeks.proofs.Results.{then_ok, both_ok, done_ok, ok_known, below, below_all}
 use Rattle.strc_peeks.proofs.Keeping.{one_name, Same, same_size, same_cells}
 use Rattle.strc_peeks.proofs.Unwritten.{Done, inside_same, stmt_keeps}
-use Rattle.strc_peeks.proofs.LoopTurns.{compares, Turning, loop_told}
+use Rattle.strc_peeks.proofs.LoopTurns.{compares, Turning, loop_sound}
 use Rattle.strc_peeks.proofs.LoopParts.{constant_done, cells_sized, assigned_is, Seen, seen_sized}
-use Rattle.strc_peeks.proofs.LoopParts.{Bounds, bounds_told, Steps, step_told}
+use Rattle.strc_peeks.proofs.LoopParts.{Bounds, bounds_sound, Steps, step_sound}
 
 -- ---- the first part
 
@@ -81,11 +81,11 @@ declared_by locals only initial (Some value) is known =
     (declared_in store only.name (value ∷ [])) (HasValue only.name value)
     (ap (λ r. result_and_then r go) cells) (declared_first only.name value store)
 
-declared_told : (locals : Locals) (only : tree.Variable) (initial : Option tree.Expr)
+declared_sound : (locals : Locals) (only : tree.Variable) (initial : Option tree.Expr)
     → only.initial ≡ initial → IfSome (valued only.name (option_and_then constant initial))
     (Begins locals (tree.Declare tree.Int (only ∷ [])))
-declared_told locals only None is = tt
-declared_told locals only (Some initial) is =
+declared_sound locals only None is = tt
+declared_sound locals only (Some initial) is =
     declared_by locals only initial (constant initial) is refl
 
 assigned_first : (locals : Locals) (name : List ℕ) (value : ℤ) (store : Store)
@@ -115,39 +115,40 @@ assigned_by locals name e true (Some value) named known =
     (constant_done port e store value known))
     (assigned_first locals name value store seen named)
 
-first_assigned_told : (locals : Locals) (name : List ℕ) (operator : AssignOperator) (e : tree.Expr)
+first_assigned_sound : (locals : Locals) (name : List ℕ) (operator : AssignOperator) (e : tree.Expr)
     → IfSome (first_assigned locals name operator e) (Begins locals (tree.Assign name operator e))
-first_assigned_told locals name assign.Set e =
+first_assigned_sound locals name assign.Set e =
     assigned_by locals name e (has_name locals name) (constant e) refl refl
-first_assigned_told locals name assign.Add e = tt
-first_assigned_told locals name assign.Subtract e = tt
-first_assigned_told locals name assign.Multiply e = tt
-first_assigned_told locals name assign.Divide e = tt
-first_assigned_told locals name assign.Remainder e = tt
+first_assigned_sound locals name assign.Add e = tt
+first_assigned_sound locals name assign.Subtract e = tt
+first_assigned_sound locals name assign.Multiply e = tt
+first_assigned_sound locals name assign.Divide e = tt
+first_assigned_sound locals name assign.Remainder e = tt
 
-first_declared_told : (locals : Locals) (kind : tree.VariableType) (variables : List tree.Variable)
+first_declared_sound : (locals : Locals) (kind : tree.VariableType) (variables : List tree.Variable)
     → IfSome (first_declared kind variables) (Begins locals (tree.Declare kind variables))
-first_declared_told locals tree.Boolean variables = tt
-first_declared_told locals (tree.Array size) variables = tt
-first_declared_told locals tree.Int [] = tt
-first_declared_told locals tree.Int (only ∷ []) = declared_told locals only only.initial refl
-first_declared_told locals tree.Int (first ∷ second ∷ rest) = tt
+first_declared_sound locals tree.Boolean variables = tt
+first_declared_sound locals (tree.Array size) variables = tt
+first_declared_sound locals tree.Int [] = tt
+first_declared_sound locals tree.Int (only ∷ []) = declared_sound locals only only.initial refl
+first_declared_sound locals tree.Int (first ∷ second ∷ rest) = tt
 
-first_told : (locals : Locals) (s : tree.Stmt) → IfSome (first_of locals s) (Begins locals s)
-first_told locals (tree.Declare kind variables) = first_declared_told locals kind variables
-first_told locals (tree.Assign name operator value) = first_assigned_told locals name operator value
-first_told locals tree.Empty = tt
-first_told locals (tree.Compose statement) = tt
-first_told locals (tree.Block body) = tt
-first_told locals (tree.Evaluate value) = tt
-first_told locals (tree.AssignElement array index operator value) = tt
-first_told locals (tree.If condition chosen) = tt
-first_told locals (tree.IfElse condition chosen other) = tt
-first_told locals (tree.While condition body) = tt
-first_told locals (tree.For first condition step body) = tt
-first_told locals (tree.Push value) = tt
-first_told locals (tree.Print value) = tt
-first_told locals (tree.Println value) = tt
+first_sound : (locals : Locals) (s : tree.Stmt) → IfSome (first_of locals s) (Begins locals s)
+first_sound locals (tree.Declare kind variables) = first_declared_sound locals kind variables
+first_sound locals (tree.Assign name operator value) =
+    first_assigned_sound locals name operator value
+first_sound locals tree.Empty = tt
+first_sound locals (tree.Compose statement) = tt
+first_sound locals (tree.Block body) = tt
+first_sound locals (tree.Evaluate value) = tt
+first_sound locals (tree.AssignElement array index operator value) = tt
+first_sound locals (tree.If condition chosen) = tt
+first_sound locals (tree.IfElse condition chosen other) = tt
+first_sound locals (tree.While condition body) = tt
+first_sound locals (tree.For first condition step body) = tt
+first_sound locals (tree.Push value) = tt
+first_sound locals (tree.Print value) = tt
+first_sound locals (tree.Println value) = tt
 
 -- ---- the loop
 
@@ -171,7 +172,7 @@ known_by_move : (locals : Locals) (s : tree.Stmt) (condition : tree.Expr) (step 
     (Known locals s (Some condition) step body)
 known_by_move locals s condition step body first bound None begins unwritten bounds steps = tt
 known_by_move locals s condition step body first bound (Some move) begins unwritten bounds steps =
-    IfSome_then (loop_of first bound move) (loop_told first bound move bounds.0) (λ loop reported.
+    IfSome_then (loop_of first bound move) (loop_sound first bound move bounds.0) (λ loop reported.
     let name = sym reported.name in
     let by_move = sym reported.turning.moves in
     record {
@@ -197,7 +198,7 @@ known_by_bound : (locals : Locals) (s : tree.Stmt) (condition : tree.Expr) (step
 known_by_bound locals s condition step body first None begins unwritten bounds = tt
 known_by_bound locals s condition step body first (Some bound) begins unwritten bounds =
     known_by_move locals s condition step body first bound
-    (move_of first.name step) begins unwritten bounds (step_told first.name step)
+    (move_of first.name step) begins unwritten bounds (step_sound first.name step)
 
 known_by_test : (locals : Locals) (s : tree.Stmt) (condition : Option tree.Expr)
     (step body : tree.Stmt) (first : First) (t : Bool) → stmt_writes first.name body ≡ t
@@ -208,7 +209,7 @@ known_by_test locals s condition step body first true e begins = tt
 known_by_test locals s None step body first false e begins = tt
 known_by_test locals s (Some condition) step body first false e begins =
     known_by_bound locals s condition step body first (bound_of first.name condition) begins e
-    (bounds_told first.name condition)
+    (bounds_sound first.name condition)
 
 known_by_first : (locals : Locals) (s : tree.Stmt) (condition : Option tree.Expr)
     (step body : tree.Stmt) (first : Option First) → IfSome first (Begins locals s)
@@ -222,7 +223,7 @@ pub loop_known : (locals : Locals) (s : tree.Stmt) (condition : Option tree.Expr
     (step body : tree.Stmt) → IfSome (counted_loop locals s condition step body)
     (Known locals s condition step body)
 loop_known locals s condition step body =
-    known_by_first locals s condition step body (first_of locals s) (first_told locals s)
+    known_by_first locals s condition step body (first_of locals s) (first_sound locals s)
 
 -- the condition's value in a turn, and after the last
 module _ {locals : Locals} {s : tree.Stmt} {condition : Option tree.Expr} {step body : tree.Stmt}

@@ -27,7 +27,7 @@ use Rattle.strc_peeks.specs.Counts.{branch_counts, Need, need_by, need_of, neede
 use Rattle.strc_peeks.specs.Counts.{option_counts, variables_counts}
 use Rattle.strc_peeks.proofs.Results.{and_first, and_second, then_ok, both_ok, any_ok}
 use Rattle.strc_peeks.proofs.Keeping.{strict_holds}
-use Rattle.strc_peeks.proofs.LoopParts.{constant_told}
+use Rattle.strc_peeks.proofs.LoopParts.{constant_sound}
 
 -- so many items, as counts are saturated, are popped and pushed from one traffic to another
 pub record Moves (before after : Traffic) (counts : Counts) : Type 0 where
@@ -360,7 +360,7 @@ value_counts port (tree.Binary operator left right) store =
     (λ given. Counted (expr_counts (tree.Binary operator left right)) store.traffic
     given.1.traffic)
     (both_ok (value_of port left store) _ _ (value_counts port left store)
-    (constant_told port left store))
+    (constant_sound port left store))
     (λ first h. advance_counts value_traffic store.traffic first.1.traffic (expr_counts left)
     (needed (need_of operator left) (expr_counts right))
     (joined operator first (value_of port right)) h.0
@@ -373,7 +373,7 @@ value_counts port (tree.Conditional condition chosen other) store =
     (λ given. Counted (expr_counts (tree.Conditional condition chosen other)) store.traffic
     given.1.traffic)
     (both_ok (value_of port condition store) _ _ (value_counts port condition store)
-    (constant_told port condition store))
+    (constant_sound port condition store))
     (λ test h. advance_counts value_traffic store.traffic test.1.traffic (expr_counts condition)
     (branch_counts (constant condition) (expr_counts chosen) (expr_counts other))
     (cond (is_true test.0) (value_of port chosen test.1) (value_of port other test.1)) h.0

@@ -137,8 +137,8 @@ abbrev pub Holds : Intervals → Store → Type 0
 Holds intervals store = (name : List ℕ) → IfSome (interval_named intervals name)
     (λ interval. Within interval (value_in store name))
 
-abbrev pub IsTold : Intervals → tree.Expr → Interval → Type 0
-IsTold intervals e interval = (port : Port) (store : Store) → Holds intervals store
+abbrev pub IsSound : Intervals → tree.Expr → Interval → Type 0
+IsSound intervals e interval = (port : Port) (store : Store) → Holds intervals store
     → IsWithin port e store interval
 
 known_by : (interval : Interval) (P : Interval → Type 0) (a b : Bool)
@@ -149,10 +149,10 @@ known_by interval P true true e f h = h (within_fits interval.low e) (within_fit
 known_by interval P true false e f h = tt
 known_by interval P false b e f h = tt
 
-known_told : (interval : Interval) (P : Interval → Type 0)
+known_sound : (interval : Interval) (P : Interval → Type 0)
     → (FitsSigned w32 interval.low → FitsSigned w32 interval.high → P interval)
     → IfSome (known interval) P
-known_told interval P h = known_by interval P (within_32_bits interval.low)
+known_sound interval P h = known_by interval P (within_32_bits interval.low)
     (within_32_bits interval.high) refl refl h
 
 -- what is between numbers of 32 bits doesn't wrap
@@ -163,21 +163,22 @@ unwrapped low high z f g above below =
     let most = fits_below high g in
     int_wrap_fits w32 z (fits_between z (omega (arith, ints)) (omega (arith, ints)))
 
-singleton_told : (intervals : Intervals) (e : tree.Expr) (v : ℤ) → constant e ≡ Some v
-    → IsTold intervals e (singleton v)
-singleton_told intervals e v is port store holds =
+singleton_sound : (intervals : Intervals) (e : tree.Expr) (v : ℤ) → constant e ≡ Some v
+    → IsSound intervals e (singleton v)
+singleton_sound intervals e v is port store holds =
     record { value = v; done = constant_done port e store v is; within = (≤ℤ_refl v, ≤ℤ_refl v) }
 
-or_told : (intervals : Intervals) (e : tree.Expr) (given : Option ℤ) (other : Option Interval)
-    → constant e ≡ given → IfSome other (IsTold intervals e)
-    → IfSome (or_else given other) (IsTold intervals e)
-or_told intervals e None other is h = h
-or_told intervals e (Some v) other is h = singleton_told intervals e v is
+or_sound : (intervals : Intervals) (e : tree.Expr) (given : Option ℤ) (other : Option Interval)
+    → constant e ≡ given → IfSome other (IsSound intervals e)
+    → IfSome (or_else given other) (IsSound intervals e)
+or_sound intervals e None other is h = h
+or_sound intervals e (Some v) other is h = singleton_sound intervals e v is
 
-read_told : (intervals : Intervals) (name : List ℕ) (interval : Option Interval)
-    → interval_named intervals name ≡ interval → IfSome interval (IsTold intervals (tree.Read name))
-read_told intervals name None is = tt
-read_told intervals name (Some interval) is =
+read_sound : (intervals : Intervals) (name : List ℕ) (interval : Option Interval)
+    → interval_named intervals name ≡ interval
+    → IfSome interval (IsSound intervals (tree.Read name))
+read_sound intervals name None is = tt
+read_sound intervals name (Some interval) is =
     λ port store holds.
     record {
       value = value_in store name;
@@ -186,12 +187,12 @@ read_told intervals name (Some interval) is =
           subst (λ r. IfSome r (λ interval. Within interval (value_in store name))) is (holds name);
     }
 
-negated_told : (intervals : Intervals) (e : tree.Expr) (interval : Interval)
-    → IsTold intervals e interval → IfSome (interval_negated interval)
-    (IsTold intervals (tree.Unary unary.Negate e))
-negated_told intervals e interval reported =
-    known_told (record { low = neg_ℤ interval.high; high = neg_ℤ interval.low })
-    (IsTold intervals (tree.Unary unary.Negate e))
+negated_sound : (intervals : Intervals) (e : tree.Expr) (interval : Interval)
+    → IsSound intervals e interval → IfSome (interval_negated interval)
+    (IsSound intervals (tree.Unary unary.Negate e))
+negated_sound intervals e interval reported =
+    known_sound (record { low = neg_ℤ interval.high; high = neg_ℤ interval.low })
+    (IsSound intervals (tree.Unary unary.Negate e))
     (λ f g port store holds.
     let h = reported port store holds in
     let low = h.within.0 in
@@ -207,15 +208,15 @@ negated_told intervals e interval reported =
       within = (above, below);
     })
 
-unary_told : (intervals : Intervals) (operator : UnaryOperator) (e : tree.Expr)
-    (interval : Option Interval) → IfSome interval (IsTold intervals e)
+unary_sound : (intervals : Intervals) (operator : UnaryOperator) (e : tree.Expr)
+    (interval : Option Interval) → IfSome interval (IsSound intervals e)
     → IfSome (option_and_then (unary_interval operator) interval)
-    (IsTold intervals (tree.Unary operator e))
-unary_told intervals operator e None reported = tt
-unary_told intervals unary.Negate e (Some interval) reported =
-    negated_told intervals e interval reported
-unary_told intervals unary.Not e (Some interval) reported = tt
-unary_told intervals unary.Complement e (Some interval) reported = tt
+    (IsSound intervals (tree.Unary operator e))
+unary_sound intervals operator e None reported = tt
+unary_sound intervals unary.Negate e (Some interval) reported =
+    negated_sound intervals e interval reported
+unary_sound intervals unary.Not e (Some interval) reported = tt
+unary_sound intervals unary.Complement e (Some interval) reported = tt
 
 -- an operator between values that are known, and whose result is
 abbrev Gives : BinaryOperator → (v w z : ℤ) → Type 0
@@ -223,12 +224,13 @@ Gives operator v w z =
     (store : Store) (right : Store → Result (ℤ × Store) Cause) → right store ≡ Ok (w, store)
     → joined operator (v, store) right ≡ Ok (z, store)
 
-both_told : (intervals : Intervals) (operator : BinaryOperator) (left right : tree.Expr)
-    (first second interval : Interval) → IsTold intervals left first → IsTold intervals right second
+both_sound : (intervals : Intervals) (operator : BinaryOperator) (left right : tree.Expr)
+    (first second interval : Interval) → IsSound intervals left first
+    → IsSound intervals right second
     → ((v w : ℤ) → Within first v → Within second w
     → (z : ℤ) × Gives operator v w z × Within interval z)
-    → IsTold intervals (tree.Binary operator left right) interval
-both_told intervals operator left right first second interval h k gives port store holds =
+    → IsSound intervals (tree.Binary operator left right) interval
+both_sound intervals operator left right first second interval h k gives port store holds =
     let v = h port store holds in
     let w = k port store holds in
     let z = gives v.value w.value v.within w.within in
@@ -261,17 +263,17 @@ kept_within : (interval : Interval) (z : ℤ) → FitsSigned w32 interval.low
 kept_within interval z f g low high = subst (Within interval)
     (sym (unwrapped interval.low interval.high z f g low high)) (low, high)
 
-added_told : (intervals : Intervals) (left right : tree.Expr) (first second : Interval)
-    → IsTold intervals left first → IsTold intervals right second
-    → IfSome (intervals_added first second) (IsTold intervals (tree.Binary binary.Add left right))
-added_told intervals left right first second h k =
+added_sound : (intervals : Intervals) (left right : tree.Expr) (first second : Interval)
+    → IsSound intervals left first → IsSound intervals right second
+    → IfSome (intervals_added first second) (IsSound intervals (tree.Binary binary.Add left right))
+added_sound intervals left right first second h k =
     let interval : Interval = record {
       low = first.low +ℤ second.low;
       high =
           first.high +ℤ second.high;
     } in
-    known_told interval (IsTold intervals (tree.Binary binary.Add left right)) (λ f g.
-    both_told intervals binary.Add left right first second interval h k (λ v w a b.
+    known_sound interval (IsSound intervals (tree.Binary binary.Add left right)) (λ f g.
+    both_sound intervals binary.Add left right first second interval h k (λ v w a b.
     let a0 = a.0 in
     let a1 = a.1 in
     let b0 = b.0 in
@@ -282,18 +284,18 @@ added_told intervals left right first second h k =
           (omega (arith, ints)),
     )))
 
-subtracted_told : (intervals : Intervals) (left right : tree.Expr) (first second : Interval)
-    → IsTold intervals left first → IsTold intervals right second
+subtracted_sound : (intervals : Intervals) (left right : tree.Expr) (first second : Interval)
+    → IsSound intervals left first → IsSound intervals right second
     → IfSome (intervals_subtracted first second)
-    (IsTold intervals (tree.Binary binary.Subtract left right))
-subtracted_told intervals left right first second h k =
+    (IsSound intervals (tree.Binary binary.Subtract left right))
+subtracted_sound intervals left right first second h k =
     let interval : Interval = record {
       low = first.low -ℤ second.high;
       high =
           first.high -ℤ second.low;
     } in
-    known_told interval (IsTold intervals (tree.Binary binary.Subtract left right)) (λ f g.
-    both_told intervals binary.Subtract left right first second interval h k (λ v w a b.
+    known_sound interval (IsSound intervals (tree.Binary binary.Subtract left right)) (λ f g.
+    both_sound intervals binary.Subtract left right first second interval h k (λ v w a b.
     let a0 = a.0 in
     let a1 = a.1 in
     let b0 = b.0 in
@@ -303,32 +305,32 @@ subtracted_told intervals left right first second h k =
       kept_within interval (v -ℤ w) f g (omega (arith, ints)) (omega (arith, ints)),
     )))
 
-multiplied_told : (intervals : Intervals) (left right : tree.Expr) (first second : Interval)
-    → IsTold intervals left first → IsTold intervals right second
+multiplied_sound : (intervals : Intervals) (left right : tree.Expr) (first second : Interval)
+    → IsSound intervals left first → IsSound intervals right second
     → IfSome (intervals_multiplied first second)
-    (IsTold intervals (tree.Binary binary.Multiply left right))
-multiplied_told intervals left right first second h k =
+    (IsSound intervals (tree.Binary binary.Multiply left right))
+multiplied_sound intervals left right first second h k =
     let interval : Interval = record {
       low = int_min (int_min (first.low *ℤ second.low) (first.low *ℤ second.high))
           (int_min (first.high *ℤ second.low) (first.high *ℤ second.high));
       high = int_max (int_max (first.low *ℤ second.low) (first.low *ℤ second.high))
           (int_max (first.high *ℤ second.low) (first.high *ℤ second.high));
     } in
-    known_told interval (IsTold intervals (tree.Binary binary.Multiply left right)) (λ f g.
-    both_told intervals binary.Multiply left right first second interval h k (λ v w a b.
+    known_sound interval (IsSound intervals (tree.Binary binary.Multiply left right)) (λ f g.
+    both_sound intervals binary.Multiply left right first second interval h k (λ v w a b.
     let bounds = product_within first second v w a b in
     (wrapped (v *ℤ w), product_gives v w, kept_within interval (v *ℤ w) f g bounds.0 bounds.1)))
 
 binary_by : (intervals : Intervals) (operator : BinaryOperator) (left right : tree.Expr)
-    (first second : Interval) → IsTold intervals left first → IsTold intervals right second
+    (first second : Interval) → IsSound intervals left first → IsSound intervals right second
     → IfSome (binary_interval operator first second)
-    (IsTold intervals (tree.Binary operator left right))
+    (IsSound intervals (tree.Binary operator left right))
 binary_by intervals binary.Add left right first second h k =
-    added_told intervals left right first second h k
+    added_sound intervals left right first second h k
 binary_by intervals binary.Subtract left right first second h k =
-    subtracted_told intervals left right first second h k
+    subtracted_sound intervals left right first second h k
 binary_by intervals binary.Multiply left right first second h k =
-    multiplied_told intervals left right first second h k
+    multiplied_sound intervals left right first second h k
 binary_by intervals binary.LogicalOr left right first second h k = tt
 binary_by intervals binary.LogicalAnd left right first second h k = tt
 binary_by intervals binary.Or left right first second h k = tt
@@ -345,58 +347,59 @@ binary_by intervals binary.ShiftRight left right first second h k = tt
 binary_by intervals binary.Divide left right first second h k = tt
 binary_by intervals binary.Remainder left right first second h k = tt
 
-binary_told : (intervals : Intervals) (operator : BinaryOperator) (left right : tree.Expr)
-    (first second : Option Interval) → IfSome first (IsTold intervals left)
-    → IfSome second (IsTold intervals right)
+binary_sound : (intervals : Intervals) (operator : BinaryOperator) (left right : tree.Expr)
+    (first second : Option Interval) → IfSome first (IsSound intervals left)
+    → IfSome second (IsSound intervals right)
     → IfSome (option_and_then (λ first. option_and_then (binary_interval operator first) second)
-    first) (IsTold intervals (tree.Binary operator left right))
-binary_told intervals operator left right None second h k = tt
-binary_told intervals operator left right (Some first) None h k = tt
-binary_told intervals operator left right (Some first) (Some second) h k =
+    first) (IsSound intervals (tree.Binary operator left right))
+binary_sound intervals operator left right None second h k = tt
+binary_sound intervals operator left right (Some first) None h k = tt
+binary_sound intervals operator left right (Some first) (Some second) h k =
     binary_by intervals operator left right first second h k
 
-conditional_told : (intervals : Intervals) (e : tree.Expr) (given : Option ℤ) → constant e ≡ given
-    → IfSome (option_map singleton given) (IsTold intervals e)
-conditional_told intervals e None is = tt
-conditional_told intervals e (Some v) is = singleton_told intervals e v is
+conditional_sound : (intervals : Intervals) (e : tree.Expr) (given : Option ℤ) → constant e ≡ given
+    → IfSome (option_map singleton given) (IsSound intervals e)
+conditional_sound intervals e None is = tt
+conditional_sound intervals e (Some v) is = singleton_sound intervals e v is
 
 -- a known interval holds of each value
-pub interval_told : (intervals : Intervals) (e : tree.Expr)
-    → IfSome (interval_of intervals e) (IsTold intervals e)
-interval_told intervals (tree.Read name) =
-    read_told intervals name (interval_named intervals name) refl
-interval_told intervals (tree.Group inner) =
-    grouped (interval_of intervals inner) (interval_told intervals inner)
+pub interval_sound : (intervals : Intervals) (e : tree.Expr)
+    → IfSome (interval_of intervals e) (IsSound intervals e)
+interval_sound intervals (tree.Read name) =
+    read_sound intervals name (interval_named intervals name) refl
+interval_sound intervals (tree.Group inner) =
+    grouped (interval_of intervals inner) (interval_sound intervals inner)
   where
-    grouped : (interval : Option Interval) → IfSome interval (IsTold intervals inner)
-        → IfSome interval (IsTold intervals (tree.Group inner))
+    grouped : (interval : Option Interval) → IfSome interval (IsSound intervals inner)
+        → IfSome interval (IsSound intervals (tree.Group inner))
     grouped None h = tt
     grouped (Some interval) h = λ port store holds. let k = h port store holds in
         record { value = k.value; done = k.done; within = k.within }
-interval_told intervals (tree.Unary operator operand) =
-    or_told intervals (tree.Unary operator operand) (constant (tree.Unary operator operand))
+interval_sound intervals (tree.Unary operator operand) =
+    or_sound intervals (tree.Unary operator operand) (constant (tree.Unary operator operand))
     (option_and_then (unary_interval operator) (interval_of intervals operand)) refl
-    (unary_told intervals operator operand (interval_of intervals operand)
-    (interval_told intervals operand))
-interval_told intervals (tree.Binary operator left right) =
-    or_told intervals (tree.Binary operator left right) (constant (tree.Binary operator left right))
+    (unary_sound intervals operator operand (interval_of intervals operand)
+    (interval_sound intervals operand))
+interval_sound intervals (tree.Binary operator left right) =
+    or_sound intervals (tree.Binary operator left right)
+    (constant (tree.Binary operator left right))
     (option_and_then (λ first. option_and_then (binary_interval operator first)
     (interval_of intervals right)) (interval_of intervals left)) refl
-    (binary_told intervals operator left right (interval_of intervals left)
-    (interval_of intervals right) (interval_told intervals left) (interval_told intervals right))
-interval_told intervals (tree.Number value) =
+    (binary_sound intervals operator left right (interval_of intervals left)
+    (interval_of intervals right) (interval_sound intervals left) (interval_sound intervals right))
+interval_sound intervals (tree.Number value) =
     λ port store holds. record {
       value = value;
       done = refl;
       within =
           (≤ℤ_refl value, ≤ℤ_refl value);
     }
-interval_told intervals (tree.Truth value) = tt
-interval_told intervals (tree.Element name index) = tt
-interval_told intervals tree.Pop = tt
-interval_told intervals (tree.Peek index) = tt
-interval_told intervals (tree.Step operator name) = tt
-interval_told intervals (tree.StepElement operator name index) = tt
-interval_told intervals (tree.Conditional condition chosen other) =
-    conditional_told intervals (tree.Conditional condition chosen other)
+interval_sound intervals (tree.Truth value) = tt
+interval_sound intervals (tree.Element name index) = tt
+interval_sound intervals tree.Pop = tt
+interval_sound intervals (tree.Peek index) = tt
+interval_sound intervals (tree.Step operator name) = tt
+interval_sound intervals (tree.StepElement operator name index) = tt
+interval_sound intervals (tree.Conditional condition chosen other) =
+    conditional_sound intervals (tree.Conditional condition chosen other)
     (constant (tree.Conditional condition chosen other)) refl

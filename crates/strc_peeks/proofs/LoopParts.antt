@@ -76,17 +76,17 @@ pub constant_done : (port : Port) (e : tree.Expr) (store : Store) (v : ℤ) → 
     → value_of port e store ≡ Ok (v, store)
 constant_done port e store v h = constant_by port e store v (is_constant e) refl h
 
-told_by : (port : Port) (e : tree.Expr) (store : Store) (known : Option ℤ) → constant e ≡ known
+sound_by : (port : Port) (e : tree.Expr) (store : Store) (known : Option ℤ) → constant e ≡ known
     → IfOk (value_of port e store) (λ given. IfSome known (λ v. given.0 ≡ v))
-told_by port e store None is = any_ok (value_of port e store)
-told_by port e store (Some v) is =
+sound_by port e store None is = any_ok (value_of port e store)
+sound_by port e store (Some v) is =
     ok_known (value_of port e store) (v, store) (λ given. given.0 ≡ v)
     (constant_done port e store v is) refl
 
 -- a known value is the one that an evaluation gives
-pub constant_told : (port : Port) (e : tree.Expr) (store : Store)
+pub constant_sound : (port : Port) (e : tree.Expr) (store : Store)
     → IfOk (value_of port e store) (λ given. IfSome (constant e) (λ v. given.0 ≡ v))
-constant_told port e store = told_by port e store (constant e) refl
+constant_sound port e store = sound_by port e store (constant e) refl
 
 -- ---- cells
 
@@ -255,21 +255,21 @@ bounds_by name operator left right true (Some limit) e f = (
       (constant_done port right store limit f),
 )
 
-pub bounds_told : (name : List ℕ) (e : tree.Expr) → IfSome (bound_of name e) (Bounds name e)
-bounds_told name (tree.Binary operator left right) =
+pub bounds_sound : (name : List ℕ) (e : tree.Expr) → IfSome (bound_of name e) (Bounds name e)
+bounds_sound name (tree.Binary operator left right) =
     bounds_by name operator left right (is_order operator && is_variable name left)
     (constant right) refl refl
-bounds_told name (tree.Number value) = tt
-bounds_told name (tree.Truth value) = tt
-bounds_told name (tree.Read read) = tt
-bounds_told name (tree.Element array index) = tt
-bounds_told name tree.Pop = tt
-bounds_told name (tree.Peek index) = tt
-bounds_told name (tree.Group inner) = tt
-bounds_told name (tree.Unary operator operand) = tt
-bounds_told name (tree.Step operator stepped) = tt
-bounds_told name (tree.StepElement operator array index) = tt
-bounds_told name (tree.Conditional condition chosen other) = tt
+bounds_sound name (tree.Number value) = tt
+bounds_sound name (tree.Truth value) = tt
+bounds_sound name (tree.Read read) = tt
+bounds_sound name (tree.Element array index) = tt
+bounds_sound name tree.Pop = tt
+bounds_sound name (tree.Peek index) = tt
+bounds_sound name (tree.Group inner) = tt
+bounds_sound name (tree.Unary operator operand) = tt
+bounds_sound name (tree.Step operator stepped) = tt
+bounds_sound name (tree.StepElement operator array index) = tt
+bounds_sound name (tree.Conditional condition chosen other) = tt
 
 -- ---- the step
 
@@ -296,21 +296,21 @@ step_by name operator stepped true e =
     ap (λ n. Ok (assigned store n (value_stepped operator (value_in store n)))) same
     ∙ ap (λ v. Ok (assigned store name v)) (stepped_by_one operator (value_in store name))
 
-evaluated_told : (name : List ℕ) (e : tree.Expr)
+evaluated_sound : (name : List ℕ) (e : tree.Expr)
     → IfSome (value_move name e) (Steps name (tree.Evaluate e))
-evaluated_told name (tree.Step operator stepped) =
+evaluated_sound name (tree.Step operator stepped) =
     step_by name operator stepped (bytes_eq stepped name) refl
-evaluated_told name (tree.Number value) = tt
-evaluated_told name (tree.Truth value) = tt
-evaluated_told name (tree.Read read) = tt
-evaluated_told name (tree.Element array index) = tt
-evaluated_told name tree.Pop = tt
-evaluated_told name (tree.Peek index) = tt
-evaluated_told name (tree.Group inner) = tt
-evaluated_told name (tree.Unary operator operand) = tt
-evaluated_told name (tree.StepElement operator array index) = tt
-evaluated_told name (tree.Binary operator left right) = tt
-evaluated_told name (tree.Conditional condition chosen other) = tt
+evaluated_sound name (tree.Number value) = tt
+evaluated_sound name (tree.Truth value) = tt
+evaluated_sound name (tree.Read read) = tt
+evaluated_sound name (tree.Element array index) = tt
+evaluated_sound name tree.Pop = tt
+evaluated_sound name (tree.Peek index) = tt
+evaluated_sound name (tree.Group inner) = tt
+evaluated_sound name (tree.Unary operator operand) = tt
+evaluated_sound name (tree.StepElement operator array index) = tt
+evaluated_sound name (tree.Binary operator left right) = tt
+evaluated_sound name (tree.Conditional condition chosen other) = tt
 
 -- the value of a sum or a difference with a constant
 abbrev Sums : List ℕ → tree.Expr → ℤ → Type 0
@@ -335,59 +335,59 @@ sum_by name left right (Some given) is f = (
       (constant_done port right store given f),
 )
 
-moved_told : (name : List ℕ) (operator : BinaryOperator) (left right : tree.Expr)
+moved_sound : (name : List ℕ) (operator : BinaryOperator) (left right : tree.Expr)
     → is_variable name left ≡ true → IfSome (moved_by operator right)
     (Sums name (tree.Binary operator left right))
-moved_told name binary.Add left right is = (sum_by name left right (constant right) is refl).0
-moved_told name binary.Subtract left right is = (sum_by name left right (constant right) is refl).1
-moved_told name binary.LogicalOr left right is = tt
-moved_told name binary.LogicalAnd left right is = tt
-moved_told name binary.Or left right is = tt
-moved_told name binary.ExclusiveOr left right is = tt
-moved_told name binary.And left right is = tt
-moved_told name binary.Equal left right is = tt
-moved_told name binary.NotEqual left right is = tt
-moved_told name binary.Less left right is = tt
-moved_told name binary.LessOrEqual left right is = tt
-moved_told name binary.Greater left right is = tt
-moved_told name binary.GreaterOrEqual left right is = tt
-moved_told name binary.ShiftLeft left right is = tt
-moved_told name binary.ShiftRight left right is = tt
-moved_told name binary.Multiply left right is = tt
-moved_told name binary.Divide left right is = tt
-moved_told name binary.Remainder left right is = tt
+moved_sound name binary.Add left right is = (sum_by name left right (constant right) is refl).0
+moved_sound name binary.Subtract left right is = (sum_by name left right (constant right) is refl).1
+moved_sound name binary.LogicalOr left right is = tt
+moved_sound name binary.LogicalAnd left right is = tt
+moved_sound name binary.Or left right is = tt
+moved_sound name binary.ExclusiveOr left right is = tt
+moved_sound name binary.And left right is = tt
+moved_sound name binary.Equal left right is = tt
+moved_sound name binary.NotEqual left right is = tt
+moved_sound name binary.Less left right is = tt
+moved_sound name binary.LessOrEqual left right is = tt
+moved_sound name binary.Greater left right is = tt
+moved_sound name binary.GreaterOrEqual left right is = tt
+moved_sound name binary.ShiftLeft left right is = tt
+moved_sound name binary.ShiftRight left right is = tt
+moved_sound name binary.Multiply left right is = tt
+moved_sound name binary.Divide left right is = tt
+moved_sound name binary.Remainder left right is = tt
 
-sum_told_by : (name : List ℕ) (operator : BinaryOperator) (left right : tree.Expr) (t : Bool)
+sum_sound_by : (name : List ℕ) (operator : BinaryOperator) (left right : tree.Expr) (t : Bool)
     → is_variable name left ≡ t → IfSome (if t then moved_by operator right else None)
     (Sums name (tree.Binary operator left right))
-sum_told_by name operator left right false is = tt
-sum_told_by name operator left right true is = moved_told name operator left right is
+sum_sound_by name operator left right false is = tt
+sum_sound_by name operator left right true is = moved_sound name operator left right is
 
-sum_told : (name : List ℕ) (e : tree.Expr) → IfSome (sum_move name e) (Sums name e)
-sum_told name (tree.Binary operator left right) =
-    sum_told_by name operator left right (is_variable name left) refl
-sum_told name (tree.Number value) = tt
-sum_told name (tree.Truth value) = tt
-sum_told name (tree.Read read) = tt
-sum_told name (tree.Element array index) = tt
-sum_told name tree.Pop = tt
-sum_told name (tree.Peek index) = tt
-sum_told name (tree.Group inner) = tt
-sum_told name (tree.Unary operator operand) = tt
-sum_told name (tree.Step operator stepped) = tt
-sum_told name (tree.StepElement operator array index) = tt
-sum_told name (tree.Conditional condition chosen other) = tt
+sum_sound : (name : List ℕ) (e : tree.Expr) → IfSome (sum_move name e) (Sums name e)
+sum_sound name (tree.Binary operator left right) =
+    sum_sound_by name operator left right (is_variable name left) refl
+sum_sound name (tree.Number value) = tt
+sum_sound name (tree.Truth value) = tt
+sum_sound name (tree.Read read) = tt
+sum_sound name (tree.Element array index) = tt
+sum_sound name tree.Pop = tt
+sum_sound name (tree.Peek index) = tt
+sum_sound name (tree.Group inner) = tt
+sum_sound name (tree.Unary operator operand) = tt
+sum_sound name (tree.Step operator stepped) = tt
+sum_sound name (tree.StepElement operator array index) = tt
+sum_sound name (tree.Conditional condition chosen other) = tt
 
-assign_told : (name : List ℕ) (operator : AssignOperator) (value : tree.Expr)
+assign_sound : (name : List ℕ) (operator : AssignOperator) (value : tree.Expr)
     → IfSome (assign_move name operator value) (Sums name (assigned_value name operator value))
-assign_told name assign.Set value = sum_told name value
-assign_told name assign.Add value = moved_told name binary.Add (tree.Read name) value
+assign_sound name assign.Set value = sum_sound name value
+assign_sound name assign.Add value = moved_sound name binary.Add (tree.Read name) value
     (one_name name name refl)
-assign_told name assign.Subtract value = moved_told name binary.Subtract (tree.Read name) value
+assign_sound name assign.Subtract value = moved_sound name binary.Subtract (tree.Read name) value
     (one_name name name refl)
-assign_told name assign.Multiply value = tt
-assign_told name assign.Divide value = tt
-assign_told name assign.Remainder value = tt
+assign_sound name assign.Multiply value = tt
+assign_sound name assign.Divide value = tt
+assign_sound name assign.Remainder value = tt
 
 -- an assignment of a sum moves
 sums_step : (name : List ℕ) (operator : AssignOperator) (value : tree.Expr) (move : Option ℤ)
@@ -398,31 +398,31 @@ sums_step name operator value (Some move) sums =
     λ port store. ap (λ r. result_and_then r (λ given. Ok (assigned given.1 name given.0)))
     (sums port store)
 
-assigned_told_by : (name assigned : List ℕ) (operator : AssignOperator) (value : tree.Expr)
+assigned_sound_by : (name assigned : List ℕ) (operator : AssignOperator) (value : tree.Expr)
     (t : Bool) → bytes_eq assigned name ≡ t
     → IfSome (if t then assign_move name operator value else None)
     (Steps name (tree.Assign assigned operator value))
-assigned_told_by name assigned operator value false e = tt
-assigned_told_by name assigned operator value true e =
+assigned_sound_by name assigned operator value false e = tt
+assigned_sound_by name assigned operator value true e =
     let same : assigned ≡ name = same_name assigned name e in
     subst (λ n. IfSome (assign_move name operator value)
     (Steps name (tree.Assign n operator value))) (sym same)
     (sums_step name operator value (assign_move name operator value)
-    (assign_told name operator value))
+    (assign_sound name operator value))
 
-pub step_told : (name : List ℕ) (s : tree.Stmt) → IfSome (move_of name s) (Steps name s)
-step_told name (tree.Evaluate value) = evaluated_told name value
-step_told name (tree.Assign assigned operator value) =
-    assigned_told_by name assigned operator value (bytes_eq assigned name) refl
-step_told name tree.Empty = tt
-step_told name (tree.Compose statement) = tt
-step_told name (tree.Block body) = tt
-step_told name (tree.Declare kind variables) = tt
-step_told name (tree.AssignElement array index operator value) = tt
-step_told name (tree.If condition chosen) = tt
-step_told name (tree.IfElse condition chosen other) = tt
-step_told name (tree.While condition body) = tt
-step_told name (tree.For first condition step body) = tt
-step_told name (tree.Push value) = tt
-step_told name (tree.Print value) = tt
-step_told name (tree.Println value) = tt
+pub step_sound : (name : List ℕ) (s : tree.Stmt) → IfSome (move_of name s) (Steps name s)
+step_sound name (tree.Evaluate value) = evaluated_sound name value
+step_sound name (tree.Assign assigned operator value) =
+    assigned_sound_by name assigned operator value (bytes_eq assigned name) refl
+step_sound name tree.Empty = tt
+step_sound name (tree.Compose statement) = tt
+step_sound name (tree.Block body) = tt
+step_sound name (tree.Declare kind variables) = tt
+step_sound name (tree.AssignElement array index operator value) = tt
+step_sound name (tree.If condition chosen) = tt
+step_sound name (tree.IfElse condition chosen other) = tt
+step_sound name (tree.While condition body) = tt
+step_sound name (tree.For first condition step body) = tt
+step_sound name (tree.Push value) = tt
+step_sound name (tree.Print value) = tt
+step_sound name (tree.Println value) = tt

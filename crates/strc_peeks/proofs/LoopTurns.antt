@@ -251,49 +251,49 @@ some_turns first bound move n m order far near f g =
     }
 
 -- what is known of a loop is so
-pub record Told (first : First) (bound : Bound) (move : ℤ) (loop : Loop) : Type 0 where
+pub record IsSoundLoop (first : First) (bound : Bound) (move : ℤ) (loop : Loop) : Type 0 where
   pub turning : Turning bound move loop
   pub name : loop.name ≡ first.name
   pub start : loop.start ≡ first.value
 
-told_by : (first : First) (bound : Bound) (move far near : ℤ) → is_order bound.operator ≡ true
+sound_by : (first : First) (bound : Bound) (move far near : ℤ) → is_order bound.operator ≡ true
     → distance bound.operator first.value bound.limit ≡ far
     → step_toward_bound bound.operator move ≡ near
     → IfSome (option_and_then (λ turns. loop_within_i32
     (record { name = first.name; start = first.value; move = move; turns = turns }))
-    (trip_count far near)) (Told first bound move)
-told_by first bound move (negsuc n) near order e f =
+    (trip_count far near)) (IsSoundLoop first bound move)
+sound_by first bound move (negsuc n) near order e f =
     kept (record { name = first.name; start = first.value; move = move; turns = 0 })
-    (Told first bound move)
+    (IsSoundLoop first bound move)
     (λ g h. record {
       turning = no_turns first bound move (suc n) order e;
       name = refl;
       start =
           refl;
     })
-told_by first bound move (pos zero) near order e f =
+sound_by first bound move (pos zero) near order e f =
     kept (record { name = first.name; start = first.value; move = move; turns = 0 })
-    (Told first bound move)
+    (IsSoundLoop first bound move)
     (λ g h. record { turning = no_turns first bound move 0 order e; name = refl; start = refl })
-told_by first bound move (pos (suc n)) (pos (suc m)) order e f =
+sound_by first bound move (pos (suc n)) (pos (suc m)) order e f =
     kept (record {
       name = first.name;
       start = first.value;
       move = move;
       turns =
           div_ceil (suc n) (suc m);
-    }) (Told first bound move)
+    }) (IsSoundLoop first bound move)
     (λ g h. record {
       turning = some_turns first bound move n m order e f g h;
       name = refl;
       start =
           refl;
     })
-told_by first bound move (pos (suc n)) (pos zero) order e f = tt
-told_by first bound move (pos (suc n)) (negsuc m) order e f = tt
+sound_by first bound move (pos (suc n)) (pos zero) order e f = tt
+sound_by first bound move (pos (suc n)) (negsuc m) order e f = tt
 
-pub loop_told : (first : First) (bound : Bound) (move : ℤ) → is_order bound.operator ≡ true
-    → IfSome (loop_of first bound move) (Told first bound move)
-loop_told first bound move order =
-    told_by first bound move (distance bound.operator first.value bound.limit)
+pub loop_sound : (first : First) (bound : Bound) (move : ℤ) → is_order bound.operator ≡ true
+    → IfSome (loop_of first bound move) (IsSoundLoop first bound move)
+loop_sound first bound move order =
+    sound_by first bound move (distance bound.operator first.value bound.limit)
     (step_toward_bound bound.operator move) order refl refl

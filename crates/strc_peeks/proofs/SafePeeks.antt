@@ -33,7 +33,7 @@ use Rattle.strc_peeks.proofs.Results.{or_first, or_second, then_ok, both_ok, any
 use Rattle.strc_peeks.proofs.Keeping.{same_refl}
 use Rattle.strc_peeks.proofs.Unwritten.{TurnsFree, unless_shadowed}
 use Rattle.strc_peeks.proofs.LoopTurns.{no_moves}
-use Rattle.strc_peeks.proofs.LoopParts.{constant_told, cells_sized, Seen}
+use Rattle.strc_peeks.proofs.LoopParts.{constant_sound, cells_sized, Seen}
 use Rattle.strc_peeks.proofs.CountedLoops.{HasValue, Known, loop_known}
 use Rattle.strc_peeks.proofs.CountedMoves.{stays}
 use Rattle.strc_peeks.proofs.StatementCounts.{Parts, inside_parts, begins_by, stmt_counted}
@@ -399,7 +399,7 @@ mutual
             (peeks_of_stmt chosen) [] h.1 e rest_stand)) (λ e. tt))
             (both_ok (value_of port condition store) _ _
             (ready_value port condition intervals popped store first_counted fixed_condition
-            ready) (constant_told port condition store)),
+            ready) (constant_sound port condition store)),
       )
   stmt_safe window port whole entries (tree.IfElse condition chosen other) names intervals popped
       place store closed counted fixed ready stand =
@@ -446,7 +446,7 @@ mutual
             (stmt_entries chosen intervals later) h.1 e rest_stand)))
             (both_ok (value_of port condition store) _ _
             (ready_value port condition intervals popped store first_counted fixed_condition
-            ready) (constant_told port condition store)),
+            ready) (constant_sound port condition store)),
       )
   stmt_safe window port whole entries (tree.While condition body) names intervals popped place store
       closed counted fixed ready stand =

@@ -28,8 +28,8 @@ use Rattle.strc_peeks.proofs.Results.{and_first, and_second, or_first, or_second
 use Rattle.strc_peeks.proofs.Results.{match_by}
 use Rattle.strc_peeks.proofs.EachEntry.{Stand, stand_first, stand_after}
 use Rattle.strc_peeks.proofs.EachEntry.{stand_chosen, stand_other, stand_right, expr_entries}
-use Rattle.strc_peeks.proofs.LoopParts.{constant_told}
-use Rattle.strc_peeks.proofs.IntervalValues.{IsTold, interval_told}
+use Rattle.strc_peeks.proofs.LoopParts.{constant_sound}
+use Rattle.strc_peeks.proofs.IntervalValues.{IsSound, interval_sound}
 use Rattle.strc_peeks.proofs.Readiness.{Ready, Fixed, both_first, both_second, side_some}
 use Rattle.strc_peeks.proofs.Readiness.{right_some}
 use Rattle.strc_peeks.proofs.Readiness.{ready_value}
@@ -80,7 +80,7 @@ value_there window port whole popped count p interval (negsuc n) a b c d e =
 peek_by : (window : ℕ) (port : Port) → IsWhole window port
     → (intervals : Intervals) (popped : PopInterval) (index : tree.Expr) (store : Store)
     (interval : Option Interval) → Ready intervals popped store
-    → IfSome interval (IsTold intervals index)
+    → IfSome interval (IsSound intervals index)
     → sight_at window (advance popped (expr_counts index)) interval ≡ Closed
     → IfOk (value_of port index store) (λ place. IsSome
     (item_ahead port place.1.traffic.popped place.0))
@@ -98,19 +98,19 @@ peek_by window port whole intervals popped index store (Some interval) ready rep
     (and_second (not (int_lt interval.low (pos 0))) _ test)) value.within.0 value.within.1
     ready.within)
 
-told_by : (a b : Bool) → is_closed (if a then Closed else if b then Outside else Open) ≡ true
+sound_by : (a b : Bool) → is_closed (if a then Closed else if b then Outside else Open) ≡ true
     → (if a then Closed else if b then Outside else Open) ≡ Closed
-told_by true b e = refl
-told_by false true e = absurd (cc)
-told_by false false e = absurd (cc)
+sound_by true b e = refl
+sound_by false true e = absurd (cc)
+sound_by false false e = absurd (cc)
 
 -- a peek that is looked at is closed only where it stays within its window
-told_closed : (window : ℕ) (popped : PopInterval) (interval : Option Interval)
+closed_sound : (window : ℕ) (popped : PopInterval) (interval : Option Interval)
     → is_closed (sight_at window popped interval) ≡ true
     → sight_at window popped interval ≡ Closed
-told_closed window popped None e = absurd (cc)
-told_closed window popped (Some index) e =
-    told_by (not (int_lt index.low (pos 0)) && int_lt (index.high +ℤ pos popped.high) (pos window))
+closed_sound window popped None e = absurd (cc)
+closed_sound window popped (Some index) e =
+    sound_by (not (int_lt index.low (pos 0)) && int_lt (index.high +ℤ pos popped.high) (pos window))
     _ e
 
 peek_safe : (window : ℕ) (port : Port) → IsWhole window port
@@ -121,7 +121,7 @@ peek_safe : (window : ℕ) (port : Port) → IsWhole window port
     → PeekIsSafe port entries place index store
 peek_safe window port whole entries intervals popped place index store ready same closed =
     peek_by window port whole intervals popped index store (interval_of intervals index) ready
-    (interval_told intervals index) (told_closed window (advance popped (expr_counts index))
+    (interval_sound intervals index) (closed_sound window (advance popped (expr_counts index))
     (interval_of intervals index) (sym same ∙ closed))
 
 -- each closed peek that an evaluation runs finds its item
@@ -196,7 +196,7 @@ expr_safe window port whole entries (tree.Binary operator left right) intervals 
           (peeks_of_expr right) h.1 e rest_stand)))
           (both_ok (value_of port left store) _ _
           (ready_value port left intervals popped store first_counted first_fixed ready)
-          (constant_told port left store)),
+          (constant_sound port left store)),
     )
 expr_safe window port whole entries (tree.Conditional condition chosen other) intervals popped place
     store counted fixed ready stand =
@@ -241,5 +241,5 @@ expr_safe window port whole entries (tree.Conditional condition chosen other) in
           (expr_entries chosen intervals later) h.1 e rest_stand)))
           (both_ok (value_of port condition store) _ _
           (ready_value port condition intervals popped store first_counted first_fixed ready)
-          (constant_told port condition store)),
+          (constant_sound port condition store)),
     )

@@ -24,7 +24,7 @@ use Rattle.strc_peeks.proofs.Results.{then_ok, both_ok, any_ok}
 use Rattle.strc_peeks.proofs.Keeping.{Same, same_refl, same_holding, value_holds}
 use Rattle.strc_peeks.proofs.Unwritten.{Done, inside_same, looped_holds, stmt_keeps}
 use Rattle.strc_peeks.proofs.LoopTurns.{no_moves}
-use Rattle.strc_peeks.proofs.LoopParts.{constant_told, cells_sized, Seen, seen_after}
+use Rattle.strc_peeks.proofs.LoopParts.{constant_sound, cells_sized, Seen, seen_after}
 use Rattle.strc_peeks.proofs.CountedLoops.{HasValue, Known, loop_known, At, loop_from}
 use Rattle.strc_peeks.proofs.CountedMoves.{Moves, Counted, stays, moves_same, one_after}
 use Rattle.strc_peeks.proofs.CountedMoves.{nothing_cases, IsStill, CountedOk, advance_counts}
@@ -56,7 +56,7 @@ value_in_scope port e store =
     (value_holds (λ s. Same writes store.variables s.variables) writes
     (same_holding writes store.variables) port e store (λ name f. f)
     (same_refl writes store.variables))
-    (constant_told port e store)))
+    (constant_sound port e store)))
 
 -- a test of a loop, and a part that is run in each turn, in these variables
 abbrev Tests : Scope → Option Counts → (Store → Result (ℤ × Store) Cause) → Type 0
@@ -162,9 +162,9 @@ still_part scope x does still parts store is =
     × (scope_of after.variables ≡ scope)) _
     (λ after h. (still store.traffic after.traffic h.0, h.1)) (parts store is)
 
-none_told : (before : Traffic) (result : Result Store Cause)
+none_sound : (before : Traffic) (result : Result Store Cause)
     → CountedOk store_traffic None before result
-none_told before result = any_ok result
+none_sound before result = any_ok result
 
 -- what must count nothing either isn't known or moves nothing
 two_nothings : (x y : Option Counts) (before : Traffic) (result : Result Store Cause)
@@ -174,13 +174,13 @@ two_nothings x y before result go =
     ⊎_elim
     (λ (e : require_zero x ≡ None). subst
     (λ z. CountedOk store_traffic (sequence z (require_zero y)) before result) (sym e)
-    (none_told before result))
+    (none_sound before result))
     (λ (h : (require_zero x ≡ Some no_items) × IsStill x).
     subst (λ z. CountedOk store_traffic (sequence z (require_zero y)) before result) (sym h.0)
     (⊎_elim
     (λ (e : require_zero y ≡ None). subst
     (λ z. CountedOk store_traffic (sequence (Some no_items) z) before result) (sym e)
-    (none_told before result))
+    (none_sound before result))
     (λ (k : (require_zero y ≡ Some no_items) × IsStill y).
     subst (λ z. CountedOk store_traffic (sequence (Some no_items) z) before result) (sym k.0)
     (IfOk-weaker result (λ after. Moves before after.traffic no_items) _
@@ -198,7 +198,7 @@ three_nothings x y z before result go =
     ⊎_elim
     (λ (e : require_zero x ≡ None). subst
     (λ n. CountedOk store_traffic (sequence n (sequence (require_zero y) (require_zero z))) before
-    result) (sym e) (none_told before result))
+    result) (sym e) (none_sound before result))
     (λ (h : (require_zero x ≡ Some no_items) × IsStill x).
     subst (λ n. CountedOk store_traffic (sequence n (sequence (require_zero y) (require_zero z)))
     before result) (sym h.0)

@@ -63,11 +63,11 @@ pub body_accepted : (lacks : Bool) (rates : List tree.Rate) (block : tree.Stmts)
     → same_rate (item_count (push_rate rates)) c.pushes ≡ Ok tt
     → same_rate (item_count (pop_rate rates)) c.pops ≡ Ok tt
     → body_checked lacks rates block ≡ with_closed_peeks rates sights
-body_accepted lacks rates block c sights limits counts told pushes pops =
+body_accepted lacks rates block c sights limits counts known pushes pops =
     ap (λ t. if t then Err RateLimit
     else counted rates (stmts_counts [] block) (body_sights (window_size rates) block)) limits
     ∙ ap (λ x. counted rates x (body_sights (window_size rates) block)) counts
-    ∙ ap (λ s. counted rates (Some c) s) told
+    ∙ ap (λ s. counted rates (Some c) s) known
     ∙ ap (λ r. result_and_then r (λ same. result_and_then
     (same_rate (item_count (pop_rate rates)) c.pops) (λ also. with_closed_peeks rates sights)))
     pushes

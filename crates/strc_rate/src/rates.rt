@@ -110,7 +110,7 @@ pub fn check(alloc: Global, code: &Code) -> Result<Rates, RateError>
     ensures entries { IfOk result (λ rates. HasEntries (filter_of code.now) (rates_view rates)) }
     ensures safe { IfOk result (λ rates. HasSafePeeks (filter_of code.now) (rates_view rates)) }
 {
-    // What is promised of a firing stands on the names of the code's tree, which are known.
+    // What is promised of a firing rests on the names of the code's tree, which are known.
     let _known = code.tree();
     judge(alloc, code)
 }
@@ -167,12 +167,12 @@ fn check_body(alloc: Global, code: &Code, body: Body, lacks: bool) -> Result<Bod
     if !are_within_limit(rates) || lacks {
         return Err(RateError::RateLimit);
     }
-    let told = body_peeks(alloc, code.block(body), code.window(body))?;
-    match told.counts {
+    let found = body_peeks(alloc, code.block(body), code.window(body))?;
+    match found.counts {
         Some(counts) => {
             same_rate(item_count(rates.push), counts.pushes)?;
             same_rate(item_count(rates.pop), counts.pops)?;
-            with_closed_peeks(alloc, code, body, &told.sights)
+            with_closed_peeks(alloc, code, body, &found.sights)
         }
         None => Err(RateError::RateUnknown),
     }

@@ -1,3 +1,3 @@
 pub mod Seen
 pub mod Readers
-pub mod Held
+pub mod Part

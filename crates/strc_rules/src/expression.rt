@@ -9,10 +9,10 @@ ghost use Rattle.strc_grammar.specs.Reading as spec;
 ghost use Rattle.strc_grammar.specs.Reading.{Gives};
 ghost use Rattle.strc_rules.specs.Readers.{ReadsExpressions};
 
-use crate::held::{beside, raise};
 use crate::lookahead::{is_punctuation, tail};
 use crate::operator::operator_at;
 use crate::parsed::Parsed;
+use crate::part::{beside, raise};
 use std::alloc::Global;
 use strc_grammar::{Fault, ReadError};
 use strc_lex::token::{Punctuation, Token};
@@ -202,11 +202,11 @@ impl<F: Fn(Global, usize, usize, &[Token]) -> Result<Parsed<'_, Expr>, ReadError
         let mut height = first_height;
         let mut rest = tokens;
         while let Some(operator) = operator_at(rank, rest) {
-            let (held, right) = beside(left, self.below(rank - 1, tail(rest)))?;
-            let parts = (held, right.value);
+            let (kept, right) = beside(left, self.below(rank - 1, tail(rest)))?;
+            let parts = (kept, right.value);
             let (parts, higher) = raise(self.depth, parts, height.max(right.height))?;
-            let (held, other) = parts;
-            left = binary_of(self.alloc, operator, held, other)?;
+            let (kept, other) = parts;
+            left = binary_of(self.alloc, operator, kept, other)?;
             height = higher;
             rest = right.rest;
         }

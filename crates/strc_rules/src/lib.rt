@@ -9,11 +9,11 @@
 
 pub mod argument;
 pub mod expression;
-pub mod held;
 pub mod lookahead;
 mod operand;
 pub mod operator;
 pub mod parameter;
 pub mod parsed;
+pub mod part;
 pub mod stream_type;
 pub mod variable;

@@ -10,10 +10,10 @@ ghost use Rattle.strc_grammar.specs.Reading.{Gives};
 ghost use Rattle.strc_rules.specs.Readers.{ReadsExpressions};
 
 use crate::expression::ExpressionRules;
-use crate::held::raise;
 use crate::lookahead::{expect, is_punctuation, name, peek, tail, unexpected};
 use crate::operator::step_after;
 use crate::parsed::Parsed;
+use crate::part::raise;
 use std::alloc::Global;
 use strc_grammar::ReadError;
 use strc_lex::token::{Keyword, Name, Punctuation, Token, TokenKind};

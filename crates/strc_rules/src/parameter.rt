@@ -6,8 +6,8 @@ ghost use Rattle.strc_rules.specs.Seen.{seen, seen_names, seen_parameters};
 ghost use Rattle.strc_grammar.specs.Reading as spec;
 ghost use Rattle.strc_grammar.specs.Reading.{Gives};
 
-use crate::held::before;
 use crate::lookahead::{expect_keyword, is_punctuation, name, tail};
+use crate::part::before;
 use std::alloc::Global;
 use strc_grammar::ReadError;
 use strc_lex::token::{Keyword, Name, Punctuation, Token};

@@ -3,7 +3,7 @@
 ghost use Rattle.std.specs.Prelude.{◌≡◌};
 ghost use Rattle.strc_grammar.specs.Grammar.{kinds};
 ghost use Rattle.strc_grammar.specs.Reading as spec;
-ghost use Rattle.strc_rules.specs.Held.{IsRaised, IsClosed};
+ghost use Rattle.strc_rules.specs.Part.{IsRaised, IsClosed};
 
 use crate::lookahead::{expect, raised};
 use strc_grammar::ReadError;

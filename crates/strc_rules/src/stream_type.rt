@@ -6,8 +6,8 @@ ghost use Rattle.strc_rules.specs.Seen.{seen};
 ghost use Rattle.strc_grammar.specs.Reading as spec;
 ghost use Rattle.strc_grammar.specs.Reading.{Gives};
 
-use crate::held::before;
 use crate::lookahead::{expect, expect_keyword, peek, tail, text, unexpected};
+use crate::part::before;
 use strc_grammar::ReadError;
 use strc_lex::token::{Keyword, Punctuation, StringLiteral, Token, TokenKind};
 use strc_syntax::tree::{CompositeKind, ItemType, StreamType};

@@ -9,9 +9,9 @@ ghost use Rattle.strc_grammar.specs.Reading as spec;
 ghost use Rattle.strc_grammar.specs.Reading.{Gives};
 
 use crate::expression::{LOWEST_PRECEDENCE, closed, expression};
-use crate::held::beside;
 use crate::lookahead::{is_punctuation, name, peek, tail, unexpected};
 use crate::parsed::Parsed;
+use crate::part::beside;
 use std::alloc::Global;
 use strc_grammar::ReadError;
 use strc_lex::token::{Keyword, Punctuation, Token, TokenKind};

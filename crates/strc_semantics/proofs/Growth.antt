@@ -11,20 +11,20 @@ use Rattle.strc_syntax.specs.Tree as tree
 use Rattle.strc_semantics.specs.Scoping.{Scope, cells_of, names_after, with_declared}
 
 -- the variables are others, with some inside them
-pub record StandsOn (base names : Scope) : Type 0 where
+pub record IsBaseOf (base names : Scope) : Type 0 where
   pub inner : Scope
   pub is : names ≡ inner ++ base
 
-pub stands_on_itself : (base : Scope) → StandsOn base base
-stands_on_itself base = record { inner = []; is = refl }
+pub base_of_itself : (base : Scope) → IsBaseOf base base
+base_of_itself base = record { inner = []; is = refl }
 
 -- a declaration adds variables
-pub stands_on_declared : (base names : Scope) (cells : ℕ) (variables : List tree.Variable)
-    → StandsOn base names → StandsOn base (with_declared names cells variables)
-stands_on_declared base names cells [] h = h
-stands_on_declared base names cells (first ∷ rest) h =
+pub base_of_declared : (base names : Scope) (cells : ℕ) (variables : List tree.Variable)
+    → IsBaseOf base names → IsBaseOf base (with_declared names cells variables)
+base_of_declared base names cells [] h = h
+base_of_declared base names cells (first ∷ rest) h =
     let variable : List ℕ × ℕ = record { 0 = first.name; 1 = cells } in
-    stands_on_declared base (variable ∷ names) cells rest
+    base_of_declared base (variable ∷ names) cells rest
     (record { inner = variable ∷ h.inner; is = ap (λ l. variable ∷ l) h.is })
 
 -- the variables of a declaration are in front, the last one first
@@ -38,26 +38,26 @@ with_declared-reverse names cells (first ∷ rest) =
     ∙ ap (λ l. l ++ names) (sym (reverse-append (variable ∷ []) (sized_all cells rest)))
 
 -- no other statement adds one
-pub stands_on_after : (base names : Scope) (s : tree.Stmt) → StandsOn base names
-    → StandsOn base (names_after names s)
-stands_on_after base names (tree.Declare kind variables) h =
-    stands_on_declared base names (cells_of kind) variables h
-stands_on_after base names tree.Empty h = h
-stands_on_after base names (tree.Compose statement) h = h
-stands_on_after base names (tree.Block body) h = h
-stands_on_after base names (tree.Evaluate value) h = h
-stands_on_after base names (tree.Assign name operator value) h = h
-stands_on_after base names (tree.AssignElement name index operator value) h = h
-stands_on_after base names (tree.If condition chosen) h = h
-stands_on_after base names (tree.IfElse condition chosen other) h = h
-stands_on_after base names (tree.While condition body) h = h
-stands_on_after base names (tree.For first condition step body) h = h
-stands_on_after base names (tree.Push value) h = h
-stands_on_after base names (tree.Print value) h = h
-stands_on_after base names (tree.Println value) h = h
+pub base_of_after : (base names : Scope) (s : tree.Stmt) → IsBaseOf base names
+    → IsBaseOf base (names_after names s)
+base_of_after base names (tree.Declare kind variables) h =
+    base_of_declared base names (cells_of kind) variables h
+base_of_after base names tree.Empty h = h
+base_of_after base names (tree.Compose statement) h = h
+base_of_after base names (tree.Block body) h = h
+base_of_after base names (tree.Evaluate value) h = h
+base_of_after base names (tree.Assign name operator value) h = h
+base_of_after base names (tree.AssignElement name index operator value) h = h
+base_of_after base names (tree.If condition chosen) h = h
+base_of_after base names (tree.IfElse condition chosen other) h = h
+base_of_after base names (tree.While condition body) h = h
+base_of_after base names (tree.For first condition step body) h = h
+base_of_after base names (tree.Push value) h = h
+base_of_after base names (tree.Print value) h = h
+base_of_after base names (tree.Println value) h = h
 
 -- without the inner ones they are as before
-pub drop_inner : (base names : Scope) → StandsOn base names
+pub drop_inner : (base names : Scope) → IsBaseOf base names
     → drop (length names - length base) names ≡ base
 drop_inner base names h =
     let e : length (h.inner ++ base) - length base ≡ length h.inner =

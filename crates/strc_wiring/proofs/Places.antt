@@ -82,23 +82,23 @@ module _ (nodes : List NodeCode) (source : ℕ → ℕ → Source) where
   moved : (stream : Stream) (number other : ℕ) (before given : Source) → number ≡ other
       → before ≡ given → Placed nodes source number before stream
       → Placed nodes source other given stream
-  moved stream number other before given e same stands =
+  moved stream number other before given e same sits =
       subst (λ n. Placed nodes source n given stream) e
-      (subst (λ s. Placed nodes source number s stream) same stands)
+      (subst (λ s. Placed nodes source number s stream) same sits)
 
   moved_row : (streams : Streams) (number other : ℕ) (before given : Source) → number ≡ other
       → before ≡ given → PlacedRow nodes source number before streams
       → PlacedRow nodes source other given streams
-  moved_row streams number other before given e same stands =
+  moved_row streams number other before given e same sits =
       subst (λ n. PlacedRow nodes source n given streams) e
-      (subst (λ s. PlacedRow nodes source number s streams) same stands)
+      (subst (λ s. PlacedRow nodes source number s streams) same sits)
 
   moved_branches : (streams : Streams) (number other : ℕ) (before given : ℕ → Source)
       → number ≡ other → before ≡ given → PlacedBranches nodes source number before streams
       → PlacedBranches nodes source other given streams
-  moved_branches streams number other before given e same stands =
+  moved_branches streams number other before given e same sits =
       subst (λ n. PlacedBranches nodes source n given streams) e
-      (subst (λ s. PlacedBranches nodes source number s streams) same stands)
+      (subst (λ s. PlacedBranches nodes source number s streams) same sits)
 
   mutual
     unfolding layout pipeline_layout branch_layout node_layout chained_layout source_at_0 prepend

@@ -25,7 +25,7 @@ use Rattle.strc_work.proofs.Variables.{scope_of, at, Holds, Holds-set_above, Hol
 use Rattle.strc_work.proofs.Variables.{scope_of-with_cell}
 use Rattle.strc_work.proofs.Related.{Related, then_related, nodes_done-before, then_last}
 use Rattle.strc_machine.proofs.Spelled.{nodes_room-before}
-use Rattle.strc_work.proofs.Expressions.{Arrives, StandsAt, Ready, machine_at, named_size}
+use Rattle.strc_work.proofs.Expressions.{Arrives, IsInSlot, Ready, machine_at, named_size}
 use Rattle.strc_work.proofs.Expressions.{named_cell, named_value, operand_runs}
 use Rattle.strc_work.proofs.Elements.{place_within, same_place, operand_low, stored_holds}
 use Rattle.strc_work.proofs.ExpressionRuns.{expr_runs, left_stays, binary_step_done, machine_is}
@@ -116,17 +116,17 @@ stored_reaches names name size store m place value named roomy traffic names_are
 set_by_place : (names : Scope) (name : List ℕ) (size slot free : ℕ) (before : List ℤ)
     (given : ℤ × Store) (m : Machine) (o : Option ℕ) → IsNamed names name → total names ≤ size
     → length before ≡ size → ((place : ℕ) → o ≡ Some place → place < size_of names name)
-    → StandsAt names slot free before given m
+    → IsInSlot names slot free before given m
     → Related (Reaches names size) (result_and_then (tested_place o)
     (λ place. Ok (cell_set given.1 name place given.0)))
     (result_and_then (tested_place o) (λ place. Ok
     (slot_written m (slot_of names name + place) (slot_value m slot))))
-set_by_place names name size slot free before given m None named roomy same below stands = refl
-set_by_place names name size slot free before given m (Some place) named roomy same below stands =
+set_by_place names name size slot free before given m None named roomy same below in_slot = refl
+set_by_place names name size slot free before given m (Some place) named roomy same below in_slot =
     subst (λ v. Reaches names size (cell_set given.1 name place given.0)
-    (slot_written m (slot_of names name + place) v)) (sym stands.value)
-    (stored_reaches names name size given.1 m place given.0 named roomy stands.traffic
-    stands.names_are stands.holds (stands.size ∙ same) (below place refl))
+    (slot_written m (slot_of names name + place) v)) (sym in_slot.value)
+    (stored_reaches names name size given.1 m place given.0 named roomy in_slot.traffic
+    in_slot.names_are in_slot.holds (in_slot.size ∙ same) (below place refl))
 
 -- an element that gets a value, from where the index's code has led
 set_goes_on : (port : Port) (name : List ℕ) (index value : tree.Expr) (names : Scope)
@@ -146,7 +146,7 @@ set_goes_on : (port : Port) (name : List ℕ) (index value : tree.Expr) (names :
     name from assign.Set
     value (total names
     + 1)) ≤ length slots
-    → StandsAt names
+    → IsInSlot names
     from (total names)
     slots first m1
     → Related
@@ -160,7 +160,8 @@ set_goes_on : (port : Port) (name : List ℕ) (index value : tree.Expr) (names :
     name from assign.Set
     value (total names
     + 1)) m1)
-set_goes_on port name index value names store slots first m1 named closed closed' ready room stands1
+set_goes_on port name index value names store slots first m1 named closed closed' ready room
+    in_slot1
     =
     let free = total names + 1 in
     let from = operand_slot names (writes_no_variable value) index (total names) in
@@ -169,12 +170,12 @@ set_goes_on port name index value names store slots first m1 named closed closed
     let at_value = operand_slot names true value free in
     let last = act.Store base (size_of names name) from at_value in
     let room_c : nodes_room c ≤ length slots = omega (arith, nodes_room-before c (one last)) in
-    let size1 = stands1.size in
+    let size1 = in_slot1.size in
     let roomy = ready.roomy in
     let ready1 : Ready names free first.1 m1.slots =
     record {
-      names_are = stands1.names_are;
-      holds = stands1.holds;
+      names_are = in_slot1.names_are;
+      holds = in_slot1.holds;
       above =
           omega arith;
       roomy = omega arith;
@@ -188,26 +189,26 @@ set_goes_on port name index value names store slots first m1 named closed closed
     ≡ result_and_then (nodes_done port c (machine_at m1.slots first.1)) (inst_done port last)
     = then_last port c last m1 ∙ ap
     (λ m. result_and_then (nodes_done port c m) (inst_done port last))
-    (machine_is m1 first.1 stands1.traffic) in
+    (machine_is m1 first.1 in_slot1.traffic) in
     subst (goal_is (result_and_then (value_of port value first.1) meant)) (sym steps_are)
-    (then_related (StandsAt names at_value free m1.slots) (Reaches names (length slots))
+    (then_related (IsInSlot names at_value free m1.slots) (Reaches names (length slots))
     (value_of port value first.1) (nodes_done port c (machine_at m1.slots first.1)) meant
     (inst_done port last) (operand_runs port value
     (expr_runs port value) names true free first.1 m1.slots closed' ready1 (omega arith))
-    (λ second m2 is stands2.
+    (λ second m2 is in_slot2.
     let index_is = left_stays port names index value
-    (total names) store slots first second m1 m2 closed ready is stands1 stands2.holds
-    stands2.kept in
+    (total names) store slots first second m1 m2 closed ready is in_slot1 in_slot2.holds
+    in_slot2.kept in
     let o = place_in (length (cells_named second.1.variables name)) first.0 in
-    let place_is = same_place names name second.1 m2.slots first.0 m2 from stands2.names_are
-    stands2.holds named index_is in
+    let place_is = same_place names name second.1 m2.slots first.0 m2 from in_slot2.names_are
+    in_slot2.holds named index_is in
     let stores : Option ℕ → Result Machine Cause =
     λ p. result_and_then (tested_place p)
     (λ place. Ok (slot_written m2 (base + place) (slot_value m2 at_value))) in
     subst (goal_is (meant second)) (sym (ap stores place_is))
     (set_by_place names name (length slots) at_value free m1.slots second m2 o named roomy size1
-    (λ place e. place_within names name second.1 m2.slots first.0 place stands2.names_are
-    stands2.holds named e) stands2)))
+    (λ place e. place_within names name second.1 m2.slots first.0 place in_slot2.names_are
+    in_slot2.holds named e) in_slot2)))
 
 -- the value of a compound assignment, and its store
 joined_by_result : (port : Port) (names : Scope) (name : List ℕ) (size from free place : ℕ)
@@ -248,22 +249,22 @@ joined_by_result port names name size from free place index store m
     (size3 ∙ same) lt))
 
 -- the same value is where it was after a write of another slot above the variables
-stands_beside : (names : Scope) (slot free other : ℕ) (before : List ℤ) (given : ℤ × Store)
+in_slot_beside : (names : Scope) (slot free other : ℕ) (before : List ℤ) (given : ℤ × Store)
     (m : Machine) (value : ℤ) → total names ≤ free → free < other → slot ≤ free
-    → StandsAt names slot free before given m
-    → StandsAt names slot free before given (slot_written m other value)
-stands_beside names slot free other before given m value above more low stands =
-    let top = few names given.1.variables stands.names_are in
+    → IsInSlot names slot free before given m
+    → IsInSlot names slot free before given (slot_written m other value)
+in_slot_beside names slot free other before given m value above more low in_slot =
+    let top = few names given.1.variables in_slot.names_are in
     let apart : slot ≢ other = omega arith in
     record {
-      traffic = stands.traffic;
-      names_are = stands.names_are;
-      holds = Holds-set_above given.1.variables m.slots other value (omega arith) stands.holds;
-      value = get_or-set_other m.slots other slot value (pos 0) apart ∙ stands.value;
+      traffic = in_slot.traffic;
+      names_are = in_slot.names_are;
+      holds = Holds-set_above given.1.variables m.slots other value (omega arith) in_slot.holds;
+      value = get_or-set_other m.slots other slot value (pos 0) apart ∙ in_slot.value;
       kept = λ k bottom high.
           let apart' : k ≢ other = omega arith in
-          get_or-set_other m.slots other k value (pos 0) apart' ∙ stands.kept k bottom high;
-      size = length-set m.slots other value ∙ stands.size;
+          get_or-set_other m.slots other k value (pos 0) apart' ∙ in_slot.kept k bottom high;
+      size = length-set m.slots other value ∙ in_slot.size;
     }
 
 -- a compound assignment, from where the old value is in a free slot
@@ -275,7 +276,7 @@ joined_goes_on : (port : Port) (name : List ℕ) (operator : BinaryOperator) (in
     let size = size_of names name in IsNamed names name → IsClosed names index
     → IsClosed names value → Ready names (total names) store slots → nodes_room c ≤ length slots
     → free < length slots → place < size → place_in size first.0 ≡ Some place
-    → slot_value m1 free ≡ old → StandsAt names from (total names) slots first m1
+    → slot_value m1 free ≡ old → IsInSlot names from (total names) slots first m1
     → Related (Reaches names (length slots))
     (result_and_then (value_of port value first.1)
     (λ given. result_and_then (binary_value operator old given.0)
@@ -283,21 +284,21 @@ joined_goes_on : (port : Port) (name : List ℕ) (operator : BinaryOperator) (in
     (nodes_done port (before c (Act (binary_step operator free free at_value)
     (one (act.Store base size from free)))) m1)
 joined_goes_on port name operator index value names store slots first m1 place old named closed
-    closed' ready room_c within lt place_is old_is stands1 =
+    closed' ready room_c within lt place_is old_is in_slot1 =
     let free = total names + 1 in
     let from = operand_slot names (writes_no_variable value) index (total names) in
     let c = operand_nodes names true value (free + 1) in
     let at_value = operand_slot names true value (free + 1) in
     let store_code = one (act.Store (slot_of names name) (size_of names name) from free) in
     let rest = Act (binary_step operator free free at_value) store_code in
-    let size1 = stands1.size in
+    let size1 = in_slot1.size in
     let roomy = ready.roomy in
     let low = operand_low port index names (writes_no_variable value)
     (total names) store slots closed ready in
     let ready1 : Ready names (free + 1) first.1 m1.slots =
     record {
-      names_are = stands1.names_are;
-      holds = stands1.holds;
+      names_are = in_slot1.names_are;
+      holds = in_slot1.holds;
       above =
           omega arith;
       roomy = omega arith;
@@ -311,16 +312,16 @@ joined_goes_on port name operator index value names store slots first m1 place o
     ≡ result_and_then (nodes_done port c (machine_at m1.slots first.1)) (nodes_done port rest)
     = nodes_done-before port c rest m1
     ∙ ap (λ m. result_and_then (nodes_done port c m) (nodes_done port rest))
-    (machine_is m1 first.1 stands1.traffic) in
+    (machine_is m1 first.1 in_slot1.traffic) in
     subst (goal_is (result_and_then (value_of port value first.1) meant)) (sym steps_are)
-    (then_related (StandsAt names at_value (free + 1) m1.slots) (Reaches names (length slots))
+    (then_related (IsInSlot names at_value (free + 1) m1.slots) (Reaches names (length slots))
     (value_of port value first.1) (nodes_done port c (machine_at m1.slots first.1)) meant
     (nodes_done port rest) (operand_runs port value (expr_runs port value) names true
-    (free + 1) first.1 m1.slots closed' ready1 (omega arith)) (λ second m2 is stands2.
+    (free + 1) first.1 m1.slots closed' ready1 (omega arith)) (λ second m2 is in_slot2.
     let index_is = left_stays port names index value
-    (total names) store slots first second m1 m2 closed ready is stands1 stands2.holds
-    (λ k bottom high. stands2.kept k bottom (omega arith)) in
-    let old2 : slot_value m2 free ≡ old = stands2.kept free (omega arith) (omega arith) ∙ old_is in
+    (total names) store slots first second m1 m2 closed ready is in_slot1 in_slot2.holds
+    (λ k bottom high. in_slot2.kept k bottom (omega arith)) in
+    let old2 : slot_value m2 free ≡ old = in_slot2.kept free (omega arith) (omega arith) ∙ old_is in
     let done_is : inst_done port (binary_step operator free free at_value) m2
     ≡ result_and_then (binary_value operator old second.0) (λ v. Ok (slot_written m2 free v))
     =
@@ -328,12 +329,12 @@ joined_goes_on port name operator index value names store slots first m1 place o
     ∙ ap (λ v. result_and_then (binary_value operator v (slot_value m2 at_value))
     (λ w. Ok (slot_written m2 free w))) old2
     ∙ ap (λ v. result_and_then (binary_value operator old v) (λ w. Ok (slot_written m2 free w)))
-    stands2.value in
+    in_slot2.value in
     subst (goal_is (meant second)) (sym (ap
     (λ r. result_and_then r (nodes_done port store_code)) done_is))
     (joined_by_result port names name (length slots) from free place first.0 second.1 m2
-    (binary_value operator old second.0) named roomy stands2.traffic stands2.names_are
-    stands2.holds (stands2.size ∙ size1) (omega arith)
+    (binary_value operator old second.0) named roomy in_slot2.traffic in_slot2.names_are
+    in_slot2.holds (in_slot2.size ∙ size1) (omega arith)
     (omega arith) within lt index_is place_is)))
 
 -- a compound assignment, from where the index's code has led
@@ -351,7 +352,7 @@ compound_by_place : (port : Port) (name : List ℕ) (operator : BinaryOperator)
     → ((place : ℕ) → o ≡ Some place
     → place < size_of names name)
     → place_in (size_of names name) first.0 ≡ o
-    → StandsAt names from (total names) slots first m1
+    → IsInSlot names from (total names) slots first m1
     → Related (Reaches names (length slots))
     (result_and_then (tested_place o)
     (λ place. let old = cell_in first.1 name place in
@@ -363,7 +364,7 @@ compound_by_place : (port : Port) (name : List ℕ) (operator : BinaryOperator)
     (compound_nodes names name from operator value
     (total names + 1)) m1)
 compound_by_place port name operator index value names store slots first m1 None named closed
-    closed' ready room below place_is stands1 =
+    closed' ready room below place_is in_slot1 =
     let free = total names + 1 in
     let from = operand_slot names (writes_no_variable value) index (total names) in
     let base = slot_of names name in
@@ -376,10 +377,10 @@ compound_by_place port name operator index value names store slots first m1 None
     (λ place. Ok (slot_written m1 free (slot_value m1 (base + place)))))
     (nodes_done port rest) in
     let found : place_in (size_of names name) (slot_value m1 from) ≡ None =
-    ap (place_in (size_of names name)) stands1.value ∙ place_is in
+    ap (place_in (size_of names name)) in_slot1.value ∙ place_is in
     subst (Related (Reaches names (length slots)) (Err Index)) (sym (ap loads found)) refl
 compound_by_place port name operator index value names store slots first m1
-    (Some place) named closed closed' ready room below place_is stands1 =
+    (Some place) named closed closed' ready room below place_is in_slot1 =
     let free = total names + 1 in
     let from = operand_slot names (writes_no_variable value) index (total names) in
     let base = slot_of names name in
@@ -388,13 +389,14 @@ compound_by_place port name operator index value names store slots first m1
     let last = Act (binary_step operator free free at_value)
     (one (act.Store base (size_of names name) from free)) in
     let rest = before c last in
-    let size1 = stands1.size in
+    let size1 = in_slot1.size in
     let room_c : nodes_room c ≤ length slots = omega (arith, nodes_room-before c last) in
     let within : free < length slots = omega arith in
     let within1 : free < length m1.slots = omega arith in
     let lt = below place refl in
     let old = cell_in first.1 name place in
-    let old_is = named_cell names first.1 m1.slots name place stands1.names_are stands1.holds named
+    let old_is =
+    named_cell names first.1 m1.slots name place in_slot1.names_are in_slot1.holds named
     lt in
     let low = operand_low port index names (writes_no_variable value)
     (total names) store slots closed ready in
@@ -403,19 +405,19 @@ compound_by_place port name operator index value names store slots first m1
     (λ place. Ok (slot_written m1 free (slot_value m1 (base + place)))))
     (nodes_done port rest) in
     let found : place_in (size_of names name) (slot_value m1 from) ≡ Some place =
-    ap (place_in (size_of names name)) stands1.value ∙ place_is in
+    ap (place_in (size_of names name)) in_slot1.value ∙ place_is in
     let loaded : loads (Some place) ≡ nodes_done port rest (slot_written m1 free old) =
     ap (λ v. nodes_done port rest (slot_written m1 free v)) old_is in
     let meant : Result Store Cause = result_and_then (value_of port value first.1)
     (λ given. result_and_then (binary_value operator old given.0)
     (λ new. Ok (cell_set given.1 name place new))) in
-    let stands2 : StandsAt names from (total names) slots first (slot_written m1 free old) =
-    stands_beside names from (total names) free slots first m1 old (omega arith)
-    (omega arith) low stands1 in
+    let in_slot2 : IsInSlot names from (total names) slots first (slot_written m1 free old) =
+    in_slot_beside names from (total names) free slots first m1 old (omega arith)
+    (omega arith) low in_slot1 in
     subst (Related (Reaches names (length slots)) meant) (sym (ap loads found ∙ loaded))
     (joined_goes_on port name operator index value names store slots first
     (slot_written m1 free old) place old named closed closed' ready room_c within lt place_is
-    (get_or-set_same m1.slots free old (pos 0) within1) stands2)
+    (get_or-set_same m1.slots free old (pos 0) within1) in_slot2)
 
 compound_goes_on : (port : Port) (name : List ℕ) (operator : BinaryOperator)
     (index value : tree.Expr) (names : Scope) (store : Store) (slots : List ℤ) (first : ℤ × Store)
@@ -423,19 +425,19 @@ compound_goes_on : (port : Port) (name : List ℕ) (operator : BinaryOperator)
     IsNamed names name → IsClosed names index → IsClosed names value
     → Ready names (total names) store slots
     → nodes_room (compound_nodes names name from operator value (total names + 1)) ≤ length slots
-    → StandsAt names from (total names) slots first m1
+    → IsInSlot names from (total names) slots first m1
     → Related (Reaches names (length slots)) (element_joined port name operator value first)
     (nodes_done port (compound_nodes names name from operator value (total names + 1)) m1)
 compound_goes_on port name operator index value names store slots first m1 named closed closed'
-    ready room stands1 =
+    ready room in_slot1 =
     let variables = first.1.variables in
     let o = place_in (length (cells_named variables name)) first.0 in
     let place_is : place_in (size_of names name) first.0 ≡ o =
     ap (λ n. place_in n first.0) (sym
-    (named_size names variables m1.slots name stands1.names_are stands1.holds named)) in
+    (named_size names variables m1.slots name in_slot1.names_are in_slot1.holds named)) in
     compound_by_place port name operator index value names store slots first m1 o named closed
     closed' ready room (λ place e. place_within names name first.1 m1.slots first.0 place
-    stands1.names_are stands1.holds named e) place_is stands1
+    in_slot1.names_are in_slot1.holds named e) place_is in_slot1
 
 element_goes_on : (port : Port) (name : List ℕ) (operator : AssignOperator)
     (index value : tree.Expr) (names : Scope) (store : Store) (slots : List ℤ) (first : ℤ × Store)
@@ -443,33 +445,33 @@ element_goes_on : (port : Port) (name : List ℕ) (operator : AssignOperator)
     IsNamed names name → IsClosed names index → IsClosed names value
     → Ready names (total names) store slots
     → nodes_room (element_nodes names name from operator value (total names + 1)) ≤ length slots
-    → StandsAt names from (total names) slots first m1
+    → IsInSlot names from (total names) slots first m1
     → Related (Reaches names (length slots)) (element_set port name operator value first)
     (nodes_done port (element_nodes names name from operator value (total names + 1)) m1)
 element_goes_on port name assign.Set index value names store slots first m1 named closed closed'
-    ready room stands =
+    ready room in_slot =
     set_goes_on port name index value names store slots first m1 named closed closed' ready room
-    stands
+    in_slot
 element_goes_on port name assign.Add index value names store slots first m1 named closed closed'
-    ready room stands =
+    ready room in_slot =
     compound_goes_on port name binary.Add index value names store slots first m1 named closed
-    closed' ready room stands
+    closed' ready room in_slot
 element_goes_on port name assign.Subtract index value names store slots first m1 named closed
-    closed' ready room stands =
+    closed' ready room in_slot =
     compound_goes_on port name binary.Subtract index value names store slots first m1 named closed
-    closed' ready room stands
+    closed' ready room in_slot
 element_goes_on port name assign.Multiply index value names store slots first m1 named closed
-    closed' ready room stands =
+    closed' ready room in_slot =
     compound_goes_on port name binary.Multiply index value names store slots first m1 named closed
-    closed' ready room stands
+    closed' ready room in_slot
 element_goes_on port name assign.Divide index value names store slots first m1 named closed closed'
-    ready room stands =
+    ready room in_slot =
     compound_goes_on port name binary.Divide index value names store slots first m1 named closed
-    closed' ready room stands
+    closed' ready room in_slot
 element_goes_on port name assign.Remainder index value names store slots first m1 named closed
-    closed' ready room stands =
+    closed' ready room in_slot =
     compound_goes_on port name binary.Remainder index value names store slots first m1 named closed
-    closed' ready room stands
+    closed' ready room in_slot
 
 -- an assignment to an element
 pub element_assigned : (port : Port) (name : List ℕ) (index : tree.Expr) (operator : AssignOperator)
@@ -484,10 +486,10 @@ element_assigned port name index operator value names store slots closed ready r
     subst (Related (Reaches names (length slots))
     (result_and_then (value_of port index store) (element_set port name operator value)))
     (sym (nodes_done-before port a b (machine_at slots store)))
-    (then_related (StandsAt names from (total names) slots) (Reaches names (length slots))
+    (then_related (IsInSlot names from (total names) slots) (Reaches names (length slots))
     (value_of port index store) (nodes_done port a (machine_at slots store))
     (element_set port name operator value) (nodes_done port b)
     (operand_runs port index (expr_runs port index) names may_alias
-    (total names) store slots closed.1 ready room_a) (λ first m1 is stands.
+    (total names) store slots closed.1 ready room_a) (λ first m1 is in_slot.
     element_goes_on port name operator index value names store slots first m1 closed.0 closed.1
-    closed.2 ready room_b stands))
+    closed.2 ready room_b in_slot))

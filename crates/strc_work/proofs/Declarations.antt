@@ -68,7 +68,7 @@ record Declares (names : Scope) (cells size : ℕ) (given : List ℤ × Store) (
     pub names_are : scope_of given.1.variables ≡ names
     pub holds : Holds given.1.variables after.slots
     pub cells_are : length given.0 ≡ cells
-    pub stands : HoldsFrom (total names) given.0 after.slots
+    pub cells_hold : HoldsFrom (total names) given.0 after.slots
     pub same : length after.slots ≡ size
 
 declared_reaches : (names : Scope) (name : List ℕ) (cells size : ℕ) (given : List ℤ × Store)
@@ -85,22 +85,22 @@ declared_reaches names name cells size given after some room declares =
       holds = (
         omega arith,
         subst (λ n. HoldsFrom n given.0 after.slots)
-            (sym (ap total declares.names_are)) declares.stands,
+            (sym (ap total declares.names_are)) declares.cells_hold,
         declares.holds,
       );
       same = declares.same;
       roomy = omega arith;
     }
 
-one_stands : (base : ℕ) (value : ℤ) (slots : List ℤ) → at slots base ≡ value
+one_holds : (base : ℕ) (value : ℤ) (slots : List ℤ) → at slots base ≡ value
     → HoldsFrom base (value ∷ []) slots
-one_stands base value slots e zero lt = let same : base + 0 ≡ base = omega arith in
+one_holds base value slots e zero lt = let same : base + 0 ≡ base = omega arith in
     ap (at slots) same ∙ e
-one_stands base value slots e (suc k) lt = absurd (omega arith)
+one_holds base value slots e (suc k) lt = absurd (omega arith)
 
-zeros_stand : (base n : ℕ) (slots : List ℤ) → ((k : ℕ) → k < n → at slots (base + k) ≡ pos 0)
+zeros_hold : (base n : ℕ) (slots : List ℤ) → ((k : ℕ) → k < n → at slots (base + k) ≡ pos 0)
     → HoldsFrom base (replicate n (pos 0)) slots
-zeros_stand base n slots zeros k lt =
+zeros_hold base n slots zeros k lt =
     let size = length-replicate n (pos 0) in
     let lt' : k < n = omega arith in
     zeros k lt' ∙ sym (get_or-replicate n k (pos 0) (pos 0) lt')
@@ -118,7 +118,7 @@ value_declares names cells value store slots size names_are holds same within on
       names_are = names_are;
       holds = Holds-set_above store.variables slots (total names) value (omega arith) holds;
       cells_are = sym one_cell;
-      stands = one_stands (total names) value (set slots (total names) value)
+      cells_hold = one_holds (total names) value (set slots (total names) value)
           (get_or-set_same slots (total names) value (pos 0) lt);
       same = length-set slots (total names) value ∙ same;
     }
@@ -137,7 +137,7 @@ zeros_declare names cells store slots ready room =
       holds = Holds-same store.variables slots (cleared base cells slots)
           (λ k lt. cleared_below base cells slots k room (omega arith)) ready.holds;
       cells_are = length-replicate cells (pos 0);
-      stands = zeros_stand base cells (cleared base cells slots)
+      cells_hold = zeros_hold base cells (cleared base cells slots)
           (λ k lt. cleared_at base cells slots k room lt);
       same = length-cleared base cells slots room;
     }

@@ -20,13 +20,13 @@ use Rattle.strc_semantics.specs.Firing.{place_in, tested_place, place_of, value_
 use Rattle.strc_semantics.specs.Firing.{value_of}
 use Rattle.strc_machine.specs.Machine.{Machine, Act, before, slot_value, slot_written, inst_done}
 use Rattle.strc_machine.specs.Machine.{nodes_done, nodes_room}
-use Rattle.strc_work.specs.Lowering.{stands_at, one, step_amount, step_result, element_step_nodes}
+use Rattle.strc_work.specs.Lowering.{alias_slot, one, step_amount, step_result, element_step_nodes}
 use Rattle.strc_work.specs.Lowering.{operand_slot, operand_nodes}
 use Rattle.strc_work.proofs.Variables.{scope_of, Holds, Holds-set_above, Holds-with_cell}
 use Rattle.strc_work.proofs.Variables.{scope_of-with_cell}
 use Rattle.strc_work.proofs.Related.{Related, then_related, nodes_done-before, then_last}
 use Rattle.strc_machine.proofs.Spelled.{nodes_room-before}
-use Rattle.strc_work.proofs.Expressions.{Arrives, StandsAt, Ready, machine_at, Runs, named_slots}
+use Rattle.strc_work.proofs.Expressions.{Arrives, IsInSlot, Ready, machine_at, Runs, named_slots}
 use Rattle.strc_work.proofs.Expressions.{named_size, named_cell, variable_runs, aliased_slot}
 use Rattle.strc_work.proofs.Expressions.{operand_runs}
 
@@ -69,7 +69,7 @@ pub operand_low : (port : Port) (e : tree.Expr) (names : Scope) (may_alias : Boo
     (store : Store) (slots : List ℤ) → IsClosed names e → Ready names free store slots
     → operand_slot names may_alias e free ≤ free
 operand_low port e names may_alias free store slots closed ready =
-    by_place (stands_at names may_alias e)
+    by_place (alias_slot names may_alias e)
     (λ slot is. (variable_runs port e names free slot store slots
     (aliased_slot names may_alias e slot is).1 closed ready).1)
   where
@@ -103,25 +103,25 @@ stored_holds names name store slots place value roomy names_are holds named with
 load_arrives : (names : Scope) (name : List ℕ) (into from free : ℕ) (before : List ℤ)
     (given : ℤ × Store) (m : Machine) (o : Option ℕ) → IsNamed names name
     → ((place : ℕ) → o ≡ Some place → place < size_of names name)
-    → StandsAt names from free before given m
+    → IsInSlot names from free before given m
     → Related (Arrives names into free before)
     (result_and_then (tested_place o) (λ place. Ok (cell_in given.1 name place, given.1)))
     (result_and_then (tested_place o) (λ place. Ok
     (slot_written m into (slot_value m (slot_of names name + place)))))
-load_arrives names name into from free before given m None named below stands = refl
-load_arrives names name into from free before given m (Some place) named below stands =
-    let value = named_cell names given.1 m.slots name place stands.names_are stands.holds named
+load_arrives names name into from free before given m None named below in_slot = refl
+load_arrives names name into from free before given m (Some place) named below in_slot =
+    let value = named_cell names given.1 m.slots name place in_slot.names_are in_slot.holds named
     (below place refl) in
     record {
       slots = m.slots;
       written =
           ap (slot_written m into) value
           ∙ ap (λ t. record { slots = set m.slots into (cell_in given.1 name place); traffic = t })
-          stands.traffic;
-      names_are = stands.names_are;
-      holds = stands.holds;
-      kept = stands.kept;
-      size = stands.size;
+          in_slot.traffic;
+      names_are = in_slot.names_are;
+      holds = in_slot.holds;
+      kept = in_slot.kept;
+      size = in_slot.size;
     }
 
 pub element_runs : (port : Port) (name : List ℕ) (index : tree.Expr) → Runs port index
@@ -139,20 +139,20 @@ element_runs port name index run names into free store slots closed ready room =
     Related (Arrives names into free slots) in
     subst (goal_is (result_and_then (value_of port index store) meant_last))
     (sym (then_last port a last (machine_at slots store)))
-    (then_related (StandsAt names from free slots) (Arrives names into free slots)
+    (then_related (IsInSlot names from free slots) (Arrives names into free slots)
     (value_of port index store) (nodes_done port a (machine_at slots store)) meant_last
     (inst_done port last) (operand_runs port index run names true free store slots closed.1 ready
-    room_a) (λ given m is stands.
+    room_a) (λ given m is in_slot.
     let o = place_in (length (cells_named given.1.variables name)) given.0 in
-    let place_is = same_place names name given.1 m.slots given.0 m from stands.names_are
-    stands.holds closed.0 stands.value in
+    let place_is = same_place names name given.1 m.slots given.0 m from in_slot.names_are
+    in_slot.holds closed.0 in_slot.value in
     let loads : Option ℕ → Result Machine Cause =
     λ p. result_and_then (tested_place p)
     (λ place. Ok (slot_written m into (slot_value m (base + place)))) in
     subst (goal_is (meant_last given)) (sym (ap loads place_is))
     (load_arrives names name into from free slots given m o closed.0
-    (λ place e. place_within names name given.1 m.slots given.0 place stands.names_are
-    stands.holds closed.0 e) stands)))
+    (λ place e. place_within names name given.1 m.slots given.0 place in_slot.names_are
+    in_slot.holds closed.0 e) in_slot)))
 
 -- ---- a step of an element
 
@@ -238,7 +238,7 @@ step_element_arrives : (port : Port) (operator : StepOperator) (names : Scope) (
     → IsNamed names name → total names ≤ free → total names ≤ length before → from ≤ free
     → free + 1 + 1 < length before → ((place : ℕ) → o ≡ Some place → place < size_of names name)
     → place_in (size_of names name) (slot_value m from) ≡ o
-    → StandsAt names from free before given m
+    → IsInSlot names from free before given m
     → Related (Arrives names into free before)
     (result_and_then (tested_place o) (λ place. let old = cell_in given.1 name place in let new =
     value_stepped operator old in Ok
@@ -246,7 +246,7 @@ step_element_arrives : (port : Port) (operator : StepOperator) (names : Scope) (
     (nodes_done port (element_step_nodes operator (slot_of names name) (size_of names name)
     from into (free + 1)) m)
 step_element_arrives port operator names name into from free before given m None named above roomy
-    low room below place_is stands =
+    low room below place_is in_slot =
     let rest = Act (act.AddConst (free + 1 + 1) (free + 1) (step_amount operator))
     (Act (act.Store (slot_of names name) (size_of names name) from (free + 1 + 1))
     (one (act.Copy into (step_result operator (free + 1) (free + 1 + 1))))) in
@@ -256,25 +256,26 @@ step_element_arrives port operator names name into from free before given m None
     (nodes_done port rest) in
     subst (Related (Arrives names into free before) (Err Index)) (sym (ap loads place_is)) refl
 step_element_arrives port operator names name into from free before given m
-    (Some place) named above roomy low room below place_is stands =
+    (Some place) named above roomy low room below place_is in_slot =
     let f = free + 1 in
     let base = slot_of names name in
     let slots = m.slots in
     let old = cell_in given.1 name place in
     let new = value_stepped operator old in
     let lt = below place refl in
-    let under = named_slots names given.1.variables slots name stands.names_are stands.holds
+    let under = named_slots names given.1.variables slots name in_slot.names_are in_slot.holds
     named in
-    let old_is = named_cell names given.1 slots name place stands.names_are stands.holds named lt in
-    let size = stands.size in
-    let few = ap total stands.names_are in
+    let old_is =
+    named_cell names given.1 slots name place in_slot.names_are in_slot.holds named lt in
+    let size = in_slot.size in
+    let few = ap total in_slot.names_are in
     let slots1 = set slots f old in
     let slots2 = set slots1 (f + 1) new in
     let size1 = length-set slots f old in
     let size2 = length-set slots1 (f + 1) new in
     let size3 = length-set slots2 (base + place) new in
     let holds1 : Holds given.1.variables slots1 =
-    Holds-set_above given.1.variables slots f old (omega arith) stands.holds in
+    Holds-set_above given.1.variables slots f old (omega arith) in_slot.holds in
     let holds2 : Holds given.1.variables slots2 =
     Holds-set_above given.1.variables slots1 (f + 1) new (omega arith) holds1 in
     let code_is = stepped_code port operator base
@@ -289,17 +290,17 @@ step_element_arrives port operator names name into from free before given m
             set (set slots2 (base + place) new) into (step_value operator old new);
         traffic = t;
       })
-          stands.traffic;
-      names_are = scope_of-with_cell given.1.variables name place new ∙ stands.names_are;
+          in_slot.traffic;
+      names_are = scope_of-with_cell given.1.variables name place new ∙ in_slot.names_are;
       holds = stored_holds names name given.1 slots2 place new
-          (omega arith) stands.names_are holds2 named lt;
+          (omega arith) in_slot.names_are holds2 named lt;
       kept = λ k bottom top.
           let other : k ≢ base + place = omega arith in
           let other' : k ≢ f + 1 = omega arith in
           let other'' : k ≢ f = omega arith in
           get_or-set_other slots2 (base + place) k new (pos 0) other
           ∙ get_or-set_other slots1 (f + 1) k new (pos 0) other'
-          ∙ get_or-set_other slots f k old (pos 0) other'' ∙ stands.kept k bottom top;
+          ∙ get_or-set_other slots f k old (pos 0) other'' ∙ in_slot.kept k bottom top;
       size = size3 ∙ size2 ∙ size1 ∙ size;
     })
 
@@ -321,14 +322,14 @@ step_element_runs port operator name index run names into free store slots close
     let low = operand_low port index names true free store slots closed.1 ready in
     subst (goal_is (result_and_then (value_of port index store) meant_last))
     (sym (nodes_done-before port a last (machine_at slots store)))
-    (then_related (StandsAt names from free slots) (Arrives names into free slots)
+    (then_related (IsInSlot names from free slots) (Arrives names into free slots)
     (value_of port index store) (nodes_done port a (machine_at slots store)) meant_last
     (nodes_done port last) (operand_runs port index run names true free store slots closed.1 ready
-    room_a) (λ given m is stands.
+    room_a) (λ given m is in_slot.
     let o = place_in (length (cells_named given.1.variables name)) given.0 in
-    let place_is = same_place names name given.1 m.slots given.0 m from stands.names_are
-    stands.holds closed.0 stands.value in
+    let place_is = same_place names name given.1 m.slots given.0 m from in_slot.names_are
+    in_slot.holds closed.0 in_slot.value in
     step_element_arrives port operator names name into from free slots given m o closed.0
     ready.above ready.roomy low room_last
-    (λ place e. place_within names name given.1 m.slots given.0 place stands.names_are
-    stands.holds closed.0 e) place_is stands))
+    (λ place e. place_within names name given.1 m.slots given.0 place in_slot.names_are
+    in_slot.holds closed.0 e) place_is in_slot))

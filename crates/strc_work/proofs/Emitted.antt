@@ -17,7 +17,7 @@ use Rattle.strc_work.specs.Lowering.{field_nodes, fields_nodes, initials_nodes, 
 use Rattle.strc_work.specs.Lowering.{stmt_nodes, stmts_nodes, element_nodes, compound_nodes}
 use Rattle.strc_semantics.specs.Scoping.{Scope, names_after, total, slot_of, size_of}
 use Rattle.strc_work.proofs.FilterRuns.{total-reverse}
-use Rattle.strc_semantics.proofs.Growth.{drop_inner, stands_on_after, stands_on_itself}
+use Rattle.strc_semantics.proofs.Growth.{drop_inner, base_of_after, base_of_itself}
 use Rattle.strc_machine.proofs.Nodes.{before_assoc, before_end}
 use Rattle.strc_work.proofs.Prework.{no_prework_block, no_prework_rates}
 
@@ -35,7 +35,7 @@ stmts_nodes_more names names' old new first rest code scope =
 pub left_after : (names : Scope) (s : tree.Stmt)
     → drop (length (names_after names s) - length names) (names_after names s) ≡ names
 left_after names s = drop_inner names (names_after names s)
-    (stands_on_after names names s (stands_on_itself names))
+    (base_of_after names names s (base_of_itself names))
 
 -- one more part after what was written
 more : (old new first rest all : Nodes) → new ≡ before old first → before first rest ≡ all

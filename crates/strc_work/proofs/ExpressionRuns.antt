@@ -22,17 +22,17 @@ use Rattle.strc_semantics.specs.Firing.{popped_from, peeked_from, assigned, with
 use Rattle.strc_machine.specs.Machine.{Machine, Nodes, End, Choice, before, slot_value}
 use Rattle.strc_machine.specs.Machine.{slot_written, inst_done, chosen_by, nodes_done, nodes_room}
 use Rattle.strc_machine.specs.Machine.{unary_done, binary_done}
-use Rattle.strc_work.specs.Lowering.{variable_slot, writes_no_variable, stands_at, one, unary_step}
+use Rattle.strc_work.specs.Lowering.{variable_slot, writes_no_variable, alias_slot, one, unary_step}
 use Rattle.strc_work.specs.Lowering.{binary_step, expr_nodes, operand_slot, operand_nodes}
 use Rattle.strc_work.proofs.Variables.{scope_of, at, Holds, Holds-set_above, Holds-assigned}
 use Rattle.strc_work.proofs.Variables.{scope_of-with_cell, same_slots}
 use Rattle.strc_work.proofs.Related.{Related, then_related, weaker_related, chosen_related}
 use Rattle.strc_work.proofs.Related.{nodes_done-before, then_end, then_last}
 use Rattle.strc_machine.proofs.Spelled.{nodes_room-before}
-use Rattle.strc_work.proofs.Expressions.{Arrives, StandsAt, Ready, machine_at, Runs, Strict}
+use Rattle.strc_work.proofs.Expressions.{Arrives, IsInSlot, Ready, machine_at, Runs, Strict}
 use Rattle.strc_work.proofs.Expressions.{by_operator, named_below, named_value, total-variables}
 use Rattle.strc_work.proofs.Expressions.{variable_runs, Keeps, keeps, aliased_slot, operand_runs}
-use Rattle.strc_work.proofs.Expressions.{arrived_stands, expr_room}
+use Rattle.strc_work.proofs.Expressions.{arrived_in_slot, expr_room}
 use Rattle.strc_work.proofs.Elements.{element_runs, step_element_runs}
 
 -- a value that needs no other step
@@ -94,22 +94,22 @@ binary_step_done port binary.Remainder into left right m = refl
 
 -- the last step of an operator before its operand
 unary_arrives : (names : Scope) (operator : UnaryOperator) (into from free : ℕ) (before : List ℤ)
-    (given : ℤ × Store) (after : Machine) → StandsAt names from free before given after
+    (given : ℤ × Store) (after : Machine) → IsInSlot names from free before given after
     → Arrives names into free before (unary_value operator given.0, given.1)
     (slot_written after into (unary_value operator (slot_value after from)))
-unary_arrives names operator into from free before given after stands = record {
+unary_arrives names operator into from free before given after in_slot = record {
   slots = after.slots;
   written =
-      ap (λ v. slot_written after into (unary_value operator v)) stands.value
+      ap (λ v. slot_written after into (unary_value operator v)) in_slot.value
       ∙ ap (λ t. record {
         slots = set after.slots into (unary_value operator given.0);
         traffic =
             t;
-      }) stands.traffic;
-  names_are = stands.names_are;
-  holds = stands.holds;
-  kept = stands.kept;
-  size = stands.size;
+      }) in_slot.traffic;
+  names_are = in_slot.names_are;
+  holds = in_slot.holds;
+  kept = in_slot.kept;
+  size = in_slot.size;
 }
 
 -- the last step of code whose result may be a fault
@@ -140,15 +140,15 @@ machine_is m store e = ap (λ t. record { slots = m.slots; traffic = t }) e
 pub left_stays : (port : Port) (names : Scope) (left right : tree.Expr) (free : ℕ) (store : Store)
     (slots : List ℤ) (first second : ℤ × Store) (m1 m2 : Machine) → IsClosed names left
     → Ready names free store slots → value_of port right first.1 ≡ Ok second
-    → StandsAt names (operand_slot names (writes_no_variable right) left free) free slots first m1
+    → IsInSlot names (operand_slot names (writes_no_variable right) left free) free slots first m1
     → Holds second.1.variables m2.slots → ((k : ℕ) → total names ≤ k → k < free + 1
     → at m2.slots k ≡ at m1.slots k) → at m2.slots
     (operand_slot names (writes_no_variable right) left free) ≡ first.0
-left_stays port names left right free store slots first second m1 m2 closed ready is stands holds
+left_stays port names left right free store slots first second m1 m2 closed ready is in_slot holds
     kept =
-    by_place (stands_at names (writes_no_variable right) left)
+    by_place (alias_slot names (writes_no_variable right) left)
     (λ slot at_slot. aliased_slot names (writes_no_variable right) left slot at_slot)
-    stands.value
+    in_slot.value
   where
     by_place : (o : Option ℕ) → ((slot : ℕ) → o ≡ Some slot
         → (writes_no_variable right ≡ true) × (variable_slot names left ≡ Some slot))
@@ -161,10 +161,10 @@ left_stays port names left right free store slots first second m1 m2 closed read
         let below = (variable_runs port left names free slot store slots p.1 closed ready).1 in
         let same : second.1.variables ≡ first.1.variables =
         subst (Keeps first.1.variables) is (keeps port right p.0 first.1) in
-        let few : total (scope_of first.1.variables) ≡ total names = ap total stands.names_are in
+        let few : total (scope_of first.1.variables) ≡ total names = ap total in_slot.names_are in
         let lt : slot < total (scope_of first.1.variables) = omega arith in
         same_slots first.1.variables m2.slots m1.slots slot
-        (subst (λ v. Holds v m2.slots) same holds) stands.holds lt ∙ value
+        (subst (λ v. Holds v m2.slots) same holds) in_slot.holds lt ∙ value
 
 -- an operator between operands that are both evaluated
 strict_runs : (port : Port) (operator : BinaryOperator) → Strict operator → (left right : tree.Expr)
@@ -203,17 +203,17 @@ strict_runs port operator strict left right run_left run_right names into free s
     (nodes_done port n (machine_at slots store))) (sym code_is)
     (subst (goal_is (result_and_then (value_of port left store) meant_right))
     (sym (nodes_done-before port a (before b (one last)) (machine_at slots store)))
-    (then_related (StandsAt names at_left free slots) (Arrives names into free slots)
+    (then_related (IsInSlot names at_left free slots) (Arrives names into free slots)
     (value_of port left store) (nodes_done port a (machine_at slots store)) meant_right
     (nodes_done port (before b (one last)))
     (operand_runs port left run_left names may_alias free store slots closed.0 ready room_a)
-    (λ first m1 is_first stands1.
-    let size1 = stands1.size in
+    (λ first m1 is_first in_slot1.
+    let size1 = in_slot1.size in
     let roomy = ready.roomy in
     let ready1 : Ready names (free + 1) first.1 m1.slots =
     record {
-      names_are = stands1.names_are;
-      holds = stands1.holds;
+      names_are = in_slot1.names_are;
+      holds = in_slot1.holds;
       above =
           omega arith;
       roomy = omega arith;
@@ -223,30 +223,30 @@ strict_runs port operator strict left right run_left run_right names into free s
     ≡ result_and_then (nodes_done port b (machine_at m1.slots first.1)) (inst_done port last)
     = then_last port b last m1 ∙ ap
     (λ m. result_and_then (nodes_done port b m) (inst_done port last))
-    (machine_is m1 first.1 stands1.traffic) in
+    (machine_is m1 first.1 in_slot1.traffic) in
     subst (λ r. goal_is r (nodes_done port (before b (one last)) m1))
     (sym (strict.value first (value_of port right)))
     (subst (goal_is (result_and_then (value_of port right first.1) (meant_last first.0)))
     (sym steps_are)
-    (then_related (StandsAt names at_right (free + 1) m1.slots) (Arrives names into free slots)
+    (then_related (IsInSlot names at_right (free + 1) m1.slots) (Arrives names into free slots)
     (value_of port right first.1) (nodes_done port b (machine_at m1.slots first.1))
     (meant_last first.0) (inst_done port last)
     (operand_runs port right run_right names true
-    (free + 1) first.1 m1.slots closed.1 ready1 room_b1) (λ second m2 is_second stands2.
+    (free + 1) first.1 m1.slots closed.1 ready1 room_b1) (λ second m2 is_second in_slot2.
     let value1 = left_stays port names left right free store slots first second m1 m2 closed.0 ready
-    is_second stands1 stands2.holds stands2.kept in
+    is_second in_slot1 in_slot2.holds in_slot2.kept in
     let done_is : inst_done port last m2 ≡ result_and_then (binary_value operator first.0 second.0)
     (λ value. Ok (slot_written m2 into value)) =
     binary_step_done port operator into at_left at_right m2
     ∙ ap (λ v. result_and_then (binary_value operator v (slot_value m2 at_right))
     (λ value. Ok (slot_written m2 into value))) value1
     ∙ ap (λ v. result_and_then (binary_value operator first.0 v)
-    (λ value. Ok (slot_written m2 into value))) stands2.value in
+    (λ value. Ok (slot_written m2 into value))) in_slot2.value in
     subst (goal_is (meant_last first.0 second)) (sym done_is)
     (binary_arrives names into free slots second.1 m2
-    (binary_value operator first.0 second.0) stands2.traffic stands2.names_are stands2.holds
-    (λ k low high. stands2.kept k low (omega arith) ∙ stands1.kept k low high)
-    (stands2.size ∙ stands1.size))))))))
+    (binary_value operator first.0 second.0) in_slot2.traffic in_slot2.names_are in_slot2.holds
+    (λ k low high. in_slot2.kept k low (omega arith) ∙ in_slot1.kept k low high)
+    (in_slot2.size ∙ in_slot1.size))))))))
 
 -- an operator before its operand
 unary_runs : (port : Port) (operator : UnaryOperator) (operand : tree.Expr) → Runs port operand
@@ -262,12 +262,12 @@ unary_runs port operator operand run names into free store slots closed ready ro
     Related (Arrives names into free slots) in
     subst (goal_is (result_and_then (value_of port operand store) meant_last))
     (sym (then_last port a last (machine_at slots store)))
-    (then_related (StandsAt names from free slots) (Arrives names into free slots)
+    (then_related (IsInSlot names from free slots) (Arrives names into free slots)
     (value_of port operand store) (nodes_done port a (machine_at slots store)) meant_last
     (inst_done port last) (operand_runs port operand run names true free store slots closed ready
-    room_a) (λ given m is stands.
+    room_a) (λ given m is in_slot.
     subst (goal_is (meant_last given)) (sym (unary_step_done port operator into from m))
-    (unary_arrives names operator into from free slots given m stands)))
+    (unary_arrives names operator into from free slots given m in_slot)))
 
 -- an item of the window that is looked at
 peek_runs : (port : Port) (index : tree.Expr) → Runs port index → Runs port (tree.Peek index)
@@ -283,20 +283,20 @@ peek_runs port index run names into free store slots closed ready room =
     Related (Arrives names into free slots) in
     subst (goal_is (result_and_then (value_of port index store) meant_last))
     (sym (then_last port a last (machine_at slots store)))
-    (then_related (StandsAt names from free slots) (Arrives names into free slots)
+    (then_related (IsInSlot names from free slots) (Arrives names into free slots)
     (value_of port index store) (nodes_done port a (machine_at slots store)) meant_last
     (inst_done port last) (operand_runs port index run names true free store slots closed ready
-    room_a) (λ given m is stands.
+    room_a) (λ given m is in_slot.
     let done_is : inst_done port last m ≡ result_and_then (peeked_from port given.0 given.1.traffic)
     (λ item. Ok (slot_written m into item)) =
     ap (λ v. result_and_then (peeked_from port v m.traffic) (λ item. Ok (slot_written m into item)))
-    stands.value
+    in_slot.value
     ∙ ap (λ t. result_and_then (peeked_from port given.0 t) (λ item. Ok (slot_written m into item)))
-    stands.traffic in
+    in_slot.traffic in
     subst (goal_is (meant_last given)) (sym done_is)
     (binary_arrives names into free slots given.1 m
-    (peeked_from port given.0 given.1.traffic) stands.traffic stands.names_are stands.holds
-    stands.kept stands.size)))
+    (peeked_from port given.0 given.1.traffic) in_slot.traffic in_slot.names_are in_slot.holds
+    in_slot.kept in_slot.size)))
 
 -- a step of a variable, whose new value is the step's own
 first_runs : (port : Port) (names : Scope) (name : List ℕ) (amount : ℤ) (into free : ℕ)
@@ -404,30 +404,30 @@ step_runs port step.DecrementAfter name names into free store slots closed ready
 
 -- a value that is in a free slot, and is copied from there
 copied_arrives : (names : Scope) (into slot free : ℕ) (before : List ℤ) (given : ℤ × Store)
-    (m : Machine) → StandsAt names slot free before given m
+    (m : Machine) → IsInSlot names slot free before given m
     → Arrives names into free before given (slot_written m into (slot_value m slot))
-copied_arrives names into slot free before given m stands = record {
+copied_arrives names into slot free before given m in_slot = record {
   slots = m.slots;
-  written = ap (slot_written m into) stands.value
-      ∙ ap (λ t. record { slots = set m.slots into given.0; traffic = t }) stands.traffic;
-  names_are = stands.names_are;
-  holds = stands.holds;
-  kept = stands.kept;
-  size = stands.size;
+  written = ap (slot_written m into) in_slot.value
+      ∙ ap (λ t. record { slots = set m.slots into given.0; traffic = t }) in_slot.traffic;
+  names_are = in_slot.names_are;
+  holds = in_slot.holds;
+  kept = in_slot.kept;
+  size = in_slot.size;
 }
 
 -- a value is where another was, if what is kept stays kept
-stands_further : (names : Scope) (slot free : ℕ) (before between : List ℤ) (given : ℤ × Store)
+in_slot_further : (names : Scope) (slot free : ℕ) (before between : List ℤ) (given : ℤ × Store)
     (m : Machine) → ((k : ℕ) → total names ≤ k → k < free → at between k ≡ at before k)
-    → length between ≡ length before → StandsAt names slot free between given m
-    → StandsAt names slot free before given m
-stands_further names slot free before between given m kept size stands = record {
-  traffic = stands.traffic;
-  names_are = stands.names_are;
-  holds = stands.holds;
-  value = stands.value;
-  kept = λ k low high. stands.kept k low high ∙ kept k low high;
-  size = stands.size ∙ size;
+    → length between ≡ length before → IsInSlot names slot free between given m
+    → IsInSlot names slot free before given m
+in_slot_further names slot free before between given m kept size in_slot = record {
+  traffic = in_slot.traffic;
+  names_are = in_slot.names_are;
+  holds = in_slot.holds;
+  value = in_slot.value;
+  kept = λ k low high. in_slot.kept k low high ∙ kept k low high;
+  size = in_slot.size ∙ size;
 }
 
 arrives_further : (names : Scope) (into free : ℕ) (before between : List ℤ) (given : ℤ × Store)
@@ -444,14 +444,14 @@ arrives_further names into free before between given m kept size arrives = recor
 }
 
 -- the slots are ready for more after a value has come to its slot
-stands_ready : (names : Scope) (slot free : ℕ) (before : List ℤ) (given : ℤ × Store) (m : Machine)
-    → total names ≤ free → total names ≤ length before → StandsAt names slot free before given m
+in_slot_ready : (names : Scope) (slot free : ℕ) (before : List ℤ) (given : ℤ × Store) (m : Machine)
+    → total names ≤ free → total names ≤ length before → IsInSlot names slot free before given m
     → Ready names free given.1 m.slots
-stands_ready names slot free before given m above roomy stands =
-    let size = stands.size in
+in_slot_ready names slot free before given m above roomy in_slot =
+    let size = in_slot.size in
     record {
-      names_are = stands.names_are;
-      holds = stands.holds;
+      names_are = in_slot.names_are;
+      holds = in_slot.holds;
       above = above;
       roomy =
           omega arith;
@@ -462,28 +462,28 @@ runs_from : (port : Port) (e : tree.Expr) → Runs port e
     → (names : Scope) (slot into free : ℕ) (before : List ℤ) (given : ℤ × Store) (m : Machine)
     → IsClosed names e → total names ≤ free → total names ≤ length before
     → nodes_room (expr_nodes names e into free) ≤ length before
-    → StandsAt names slot free before given m
+    → IsInSlot names slot free before given m
     → Related (Arrives names into free before) (value_of port e given.1)
     (nodes_done port (expr_nodes names e into free) m)
-runs_from port e run names slot into free before given m closed above roomy room stands =
-    let size = stands.size in
+runs_from port e run names slot into free before given m closed above roomy room in_slot =
+    let size = in_slot.size in
     let fits : nodes_room (expr_nodes names e into free) ≤ length m.slots = omega arith in
     subst (λ n. Related (Arrives names into free before) (value_of port e given.1)
     (nodes_done port (expr_nodes names e into free) n))
-    (sym (machine_is m given.1 stands.traffic))
+    (sym (machine_is m given.1 in_slot.traffic))
     (weaker_related (Arrives names into free m.slots) (Arrives names into free before)
     (value_of port e given.1) (nodes_done port (expr_nodes names e into free)
     (machine_at m.slots given.1))
     (run names into free given.1 m.slots closed
-    (stands_ready names slot free before given m above roomy stands) fits)
+    (in_slot_ready names slot free before given m above roomy in_slot) fits)
     (λ result after arrives. arrives_further names into free before m.slots result after
-    stands.kept stands.size arrives))
+    in_slot.kept in_slot.size arrives))
 
 -- an expression's code puts its value into a free slot
 comes_to_free : (port : Port) (e : tree.Expr) → Runs port e
     → (names : Scope) (free : ℕ) (store : Store) (slots : List ℤ) → IsClosed names e
     → Ready names free store slots → nodes_room (expr_nodes names e free (free + 1)) ≤ length slots
-    → Related (StandsAt names free free slots) (value_of port e store)
+    → Related (IsInSlot names free free slots) (value_of port e store)
     (nodes_done port (expr_nodes names e free (free + 1)) (machine_at slots store))
 comes_to_free port e run names free store slots closed ready room =
     let above = ready.above in
@@ -496,37 +496,37 @@ comes_to_free port e run names free store slots closed ready room =
       roomy =
           ready.roomy;
     } in
-    weaker_related (Arrives names free (free + 1) slots) (StandsAt names free free slots)
+    weaker_related (Arrives names free (free + 1) slots) (IsInSlot names free free slots)
     (value_of port e store) (nodes_done port (expr_nodes names e free (free + 1))
     (machine_at slots store)) (run names free (free + 1) store slots closed ready' room)
-    (λ given after arrives. arrived_stands names free slots given after above within arrives)
+    (λ given after arrives. arrived_in_slot names free slots given after above within arrives)
 
 -- the same, from where the left side's code has led
 right_comes : (port : Port) (e : tree.Expr) → Runs port e
     → (names : Scope) (free : ℕ) (before : List ℤ) (given : ℤ × Store) (m : Machine)
     → IsClosed names e → total names ≤ free → total names ≤ length before
     → nodes_room (expr_nodes names e free (free + 1)) ≤ length before
-    → StandsAt names free free before given m
-    → Related (StandsAt names free free before) (value_of port e given.1)
+    → IsInSlot names free free before given m
+    → Related (IsInSlot names free free before) (value_of port e given.1)
     (nodes_done port (expr_nodes names e free (free + 1)) m)
-right_comes port e run names free before given m closed above roomy room stands =
-    let size = stands.size in
+right_comes port e run names free before given m closed above roomy room in_slot =
+    let size = in_slot.size in
     let fits : nodes_room (expr_nodes names e free (free + 1)) ≤ length m.slots = omega arith in
-    subst (λ n. Related (StandsAt names free free before) (value_of port e given.1)
+    subst (λ n. Related (IsInSlot names free free before) (value_of port e given.1)
     (nodes_done port (expr_nodes names e free (free + 1)) n))
-    (sym (machine_is m given.1 stands.traffic))
-    (weaker_related (StandsAt names free free m.slots) (StandsAt names free free before)
+    (sym (machine_is m given.1 in_slot.traffic))
+    (weaker_related (IsInSlot names free free m.slots) (IsInSlot names free free before)
     (value_of port e given.1) (nodes_done port (expr_nodes names e free (free + 1))
     (machine_at m.slots given.1))
     (comes_to_free port e run names free given.1 m.slots closed
-    (stands_ready names free free before given m above roomy stands) fits)
-    (λ result after there. stands_further names free free before m.slots result after stands.kept
-    stands.size there))
+    (in_slot_ready names free free before given m above roomy in_slot) fits)
+    (λ result after there. in_slot_further names free free before m.slots result after in_slot.kept
+    in_slot.size there))
 
 -- the last step of a logical operator
 logical_last : (port : Port) (names : Scope) (into free : ℕ) (slots : List ℤ)
     (x : Result (ℤ × Store) Cause) (y : Result Machine Cause)
-    → Related (StandsAt names free free slots) x y
+    → Related (IsInSlot names free free slots) x y
     → Related (Arrives names into free slots) x
     (result_and_then y (nodes_done port (one (act.Copy into free))))
 logical_last port names into free slots (Ok given) (Ok m) h =
@@ -542,8 +542,8 @@ logical_runs : (port : Port) (left : tree.Expr) → Runs port left
     → Ready names free store slots → nodes_room
     (before (expr_nodes names left free (free + 1))
     (Choice free chosen other (one (act.Copy into free)))) ≤ length slots
-    → ((first : ℤ × Store) (m : Machine) → StandsAt names free free slots first m
-    → Related (StandsAt names free free slots) (meant first)
+    → ((first : ℤ × Store) (m : Machine) → IsInSlot names free free slots first m
+    → Related (IsInSlot names free free slots) (meant first)
     (chosen_by (is_true (slot_value m free)) (nodes_done port chosen) (nodes_done port other) m))
     → Related (Arrives names into free slots) (result_and_then (value_of port left store) meant)
     (nodes_done port (before (expr_nodes names left free (free + 1))
@@ -556,13 +556,13 @@ logical_runs port left run_left meant chosen other names into free store slots c
     subst (Related (Arrives names into free slots)
     (result_and_then (value_of port left store) meant))
     (sym (nodes_done-before port a b (machine_at slots store)))
-    (then_related (StandsAt names free free slots) (Arrives names into free slots)
+    (then_related (IsInSlot names free free slots) (Arrives names into free slots)
     (value_of port left store) (nodes_done port a (machine_at slots store)) meant
     (nodes_done port b) (comes_to_free port left run_left names free store slots closed ready
-    room_a) (λ first m is stands.
+    room_a) (λ first m is in_slot.
     logical_last port names into free slots (meant first)
     (chosen_by (is_true (slot_value m free)) (nodes_done port chosen) (nodes_done port other) m)
-    (go first m stands)))
+    (go first m in_slot)))
 
 -- an operator between its operands
 binary_runs : (port : Port) (operator : BinaryOperator) (left right : tree.Expr) → Runs port left
@@ -575,24 +575,24 @@ binary_runs port operator left right run_left run_right =
     let room_b : nodes_room b ≤ length slots =
     omega (arith, nodes_room-before a (Choice free End b (one (act.Copy into free)))) in
     logical_runs port left run_left (λ first. joined binary.LogicalOr first (value_of port right))
-    End b names into free store slots closed.0 ready room (λ first m stands.
-    chosen_related (StandsAt names free free slots) (is_true first.0) (is_true (slot_value m free))
+    End b names into free store slots closed.0 ready room (λ first m in_slot.
+    chosen_related (IsInSlot names free free slots) (is_true first.0) (is_true (slot_value m free))
     (Ok first) (value_of port right first.1) (nodes_done port End) (nodes_done port b) m
-    (ap is_true stands.value) stands
+    (ap is_true in_slot.value) in_slot
     (right_comes port right run_right names free slots first m closed.1 ready.above ready.roomy
-    room_b stands)))
+    room_b in_slot)))
     (λ names into free store slots closed ready room.
     let a = expr_nodes names left free (free + 1) in
     let b = expr_nodes names right free (free + 1) in
     let room_b : nodes_room b ≤ length slots =
     omega (arith, nodes_room-before a (Choice free b End (one (act.Copy into free)))) in
     logical_runs port left run_left (λ first. joined binary.LogicalAnd first (value_of port right))
-    b End names into free store slots closed.0 ready room (λ first m stands.
-    chosen_related (StandsAt names free free slots) (is_true first.0) (is_true (slot_value m free))
+    b End names into free store slots closed.0 ready room (λ first m in_slot.
+    chosen_related (IsInSlot names free free slots) (is_true first.0) (is_true (slot_value m free))
     (value_of port right first.1) (Ok first) (nodes_done port b) (nodes_done port End) m
-    (ap is_true stands.value)
+    (ap is_true in_slot.value)
     (right_comes port right run_right names free slots first m closed.1 ready.above ready.roomy
-    room_b stands) stands))
+    room_b in_slot) in_slot))
     (λ o strict. strict_runs port o strict left right run_left run_right)
     operator
 
@@ -615,20 +615,20 @@ conditional_runs port condition chosen other run run_chosen run_other names into
     subst (Related (Arrives names into free slots)
     (result_and_then (value_of port condition store) meant))
     (sym (nodes_done-before port a choice (machine_at slots store)))
-    (then_related (StandsAt names slot free slots) (Arrives names into free slots)
+    (then_related (IsInSlot names slot free slots) (Arrives names into free slots)
     (value_of port condition store) (nodes_done port a (machine_at slots store)) meant
     (nodes_done port choice) (operand_runs port condition run names true free store slots closed.0
-    ready room_a) (λ test m is stands.
+    ready room_a) (λ test m is in_slot.
     subst (Related (Arrives names into free slots) (meant test))
     (sym (then_end port (chosen_by (is_true (slot_value m slot)) (nodes_done port b)
     (nodes_done port c) m)))
     (chosen_related (Arrives names into free slots) (is_true test.0) (is_true (slot_value m slot))
     (value_of port chosen test.1) (value_of port other test.1) (nodes_done port b)
-    (nodes_done port c) m (ap is_true stands.value)
+    (nodes_done port c) m (ap is_true in_slot.value)
     (runs_from port chosen run_chosen names slot into free slots test m closed.1 ready.above
-    ready.roomy room_b stands)
+    ready.roomy room_b in_slot)
     (runs_from port other run_other names slot into free slots test m closed.2 ready.above
-    ready.roomy room_c stands))))
+    ready.roomy room_c in_slot))))
 
 -- every expression's code does what it means
 pub expr_runs : (port : Port) (e : tree.Expr) → Runs port e

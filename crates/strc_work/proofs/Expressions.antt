@@ -23,7 +23,7 @@ use Rattle.strc_semantics.specs.Firing.{value_in, place_in, tested_place, place_
 use Rattle.strc_semantics.specs.Firing.{value_of, popped_from, peeked_from}
 use Rattle.strc_machine.specs.Machine.{Machine, Nodes, End, Choice, before, nodes_done, inst_room}
 use Rattle.strc_machine.specs.Machine.{nodes_room}
-use Rattle.strc_work.specs.Lowering.{variable_slot, writes_no_variable, stands_at, unless_there}
+use Rattle.strc_work.specs.Lowering.{variable_slot, writes_no_variable, alias_slot, unless_there}
 use Rattle.strc_work.specs.Lowering.{one, unary_step, binary_step, step_nodes, element_step_nodes}
 use Rattle.strc_work.specs.Lowering.{binary_nodes, expr_nodes, operand_slot, operand_nodes}
 use Rattle.strc_work.proofs.Variables.{scope_of, at, Holds, Holds-set_above, slot_of-below}
@@ -43,7 +43,7 @@ pub record Arrives (names : Scope) (into free : ℕ) (before : List ℤ) (given 
   pub size : length slots ≡ length before
 
 -- the machine is where the store is, with the value in a slot
-pub record StandsAt (names : Scope) (slot free : ℕ) (before : List ℤ) (given : ℤ × Store)
+pub record IsInSlot (names : Scope) (slot free : ℕ) (before : List ℤ) (given : ℤ × Store)
     (after : Machine) : Type 0 where
   pub traffic : after.traffic ≡ given.1.traffic
   pub names_are : scope_of given.1.variables ≡ names
@@ -501,10 +501,10 @@ expr_room names (tree.StepElement operator name index) into free closed =
 expr_room names (tree.Binary operator left right) into free closed =
     binary_nodes_room operator (expr_nodes names left free (free + 1))
     (expr_nodes names right free (free + 1))
-    (unless_there (stands_at names (writes_no_variable right) left)
+    (unless_there (alias_slot names (writes_no_variable right) left)
     (expr_nodes names left free (free + 1)))
     (unless_there (variable_slot names right) (expr_nodes names right (free + 1) (free + 1 + 1)))
-    into free (unwrap_or (stands_at names (writes_no_variable right) left) free)
+    into free (unwrap_or (alias_slot names (writes_no_variable right) left) free)
     (unwrap_or (variable_slot names right) (free + 1))
 expr_room names (tree.Conditional condition chosen other) into free closed =
     let a = unless_there (variable_slot names condition)
@@ -519,16 +519,16 @@ expr_room names (tree.Conditional condition chosen other) into free closed =
 
 -- an operand in its variable's slot
 pub aliased_slot : (names : Scope) (may_alias : Bool) (e : tree.Expr) (slot : ℕ)
-    → stands_at names may_alias e ≡ Some slot
+    → alias_slot names may_alias e ≡ Some slot
     → (may_alias ≡ true) × (variable_slot names e ≡ Some slot)
 aliased_slot names true e slot is = (refl, is)
 aliased_slot names false e slot is = absurd (cc)
 
 -- a value that was written into a free slot is there
-pub arrived_stands : (names : Scope) (slot : ℕ) (before : List ℤ) (given : ℤ × Store)
+pub arrived_in_slot : (names : Scope) (slot : ℕ) (before : List ℤ) (given : ℤ × Store)
     (after : Machine) → total names ≤ slot → slot < length before
-    → Arrives names slot (slot + 1) before given after → StandsAt names slot slot before given after
-arrived_stands names slot before given after above room arrives =
+    → Arrives names slot (slot + 1) before given after → IsInSlot names slot slot before given after
+arrived_in_slot names slot before given after above room arrives =
     let slots = arrives.slots in
     let value = given.0 in
     let size = arrives.size in
@@ -553,23 +553,23 @@ pub operand_runs : (port : Port) (e : tree.Expr) → Runs port e
     → (names : Scope) (may_alias : Bool) (free : ℕ) (store : Store) (slots : List ℤ)
     → IsClosed names e → Ready names free store slots
     → nodes_room (operand_nodes names may_alias e free) ≤ length slots
-    → Related (StandsAt names (operand_slot names may_alias e free) free slots)
+    → Related (IsInSlot names (operand_slot names may_alias e free) free slots)
     (value_of port e store) (nodes_done port (operand_nodes names may_alias e free)
     (machine_at slots store))
 operand_runs port e run names may_alias free store slots closed ready room =
-    by_place (stands_at names may_alias e)
+    by_place (alias_slot names may_alias e)
     (λ slot is. variable_runs port e names free slot store slots
     (aliased_slot names may_alias e slot is).1 closed ready) room
   where
     by_place : (o : Option ℕ) → ((slot : ℕ) → o ≡ Some slot
         → (value_of port e store ≡ Ok (at slots slot, store)) × (slot < total names))
         → nodes_room (unless_there o (expr_nodes names e free (free + 1))) ≤ length slots
-        → Related (StandsAt names (unwrap_or o free) free slots) (value_of port e store)
+        → Related (IsInSlot names (unwrap_or o free) free slots) (value_of port e store)
         (nodes_done port (unless_there o (expr_nodes names e free (free + 1)))
         (machine_at slots store))
-    by_place (Some slot) stands fits =
-        subst (λ r. Related (StandsAt names slot free slots) r (Ok (machine_at slots store)))
-        (sym (stands slot refl).0)
+    by_place (Some slot) in_slot fits =
+        subst (λ r. Related (IsInSlot names slot free slots) r (Ok (machine_at slots store)))
+        (sym (in_slot slot refl).0)
         (record {
           traffic = refl;
           names_are = ready.names_are;
@@ -579,7 +579,7 @@ operand_runs port e run names may_alias free store slots closed ready room =
           kept = λ k low high. refl;
           size = refl;
         })
-    by_place None stands fits =
+    by_place None in_slot fits =
         let above = ready.above in
         let within : free < length slots =
         omega (arith, expr_room names e free (free + 1) closed) in
@@ -591,8 +591,8 @@ operand_runs port e run names may_alias free store slots closed ready room =
               omega arith;
           roomy = ready.roomy;
         } in
-        weaker_related (Arrives names free (free + 1) slots) (StandsAt names free free slots)
+        weaker_related (Arrives names free (free + 1) slots) (IsInSlot names free free slots)
         (value_of port e store) (nodes_done port (expr_nodes names e free (free + 1))
         (machine_at slots store)) (run names free (free + 1) store slots closed ready' fits)
-        (λ given after arrives. arrived_stands names free slots given after above within
+        (λ given after arrives. arrived_in_slot names free slots given after above within
         arrives)

@@ -192,8 +192,8 @@ Holds-bound_onto : (variables : Variables) (fields : Scope) (values slots : List
     → HasCells fields → total fields ≤ length values → Holds variables slots
     → ((k : ℕ) → k < total fields → at slots (total (scope_of variables) + k) ≡ at values k)
     → Holds (bound_onto variables fields values) slots
-Holds-bound_onto variables [] values slots some fits h stands = h
-Holds-bound_onto variables (field ∷ fields) values slots some fits h stands =
+Holds-bound_onto variables [] values slots some fits h fields_hold = h
+Holds-bound_onto variables (field ∷ fields) values slots some fits h fields_hold =
     let n = field.1 in
     let base = total (scope_of variables) in
     let mine : length (take n values) ≡ n = length-take-le n values (omega arith) in
@@ -202,13 +202,13 @@ Holds-bound_onto variables (field ∷ fields) values slots some fits h stands =
     Holds-bound_onto (record { 0 = field.0; 1 = take n values } ∷ variables) fields
     (drop n values) slots some.1 (omega arith) (
       omega arith,
-      λ k lt. stands k (omega arith)
+      λ k lt. fields_hold k (omega arith)
           ∙ sym (get_or-take n values k (pos 0) (omega arith)),
       h,
     )
     (λ k lt.
     let next : length (take n values) + base + k ≡ base + (n + k) = omega arith in
-    ap (at slots) next ∙ stands (n + k) (omega arith) ∙ sym (get_or-drop n values k (pos 0)))
+    ap (at slots) next ∙ fields_hold (n + k) (omega arith) ∙ sym (get_or-drop n values k (pos 0)))
 
 -- the store of a filter is in slots that begin with its fields' values
 store_ready : (filter : Filter) (values slots : List ℤ) → IsClosedFilter filter
@@ -216,14 +216,15 @@ store_ready : (filter : Filter) (values slots : List ℤ) → IsClosedFilter fil
     → ((k : ℕ) → k < length values → at slots k ≡ at values k)
     → total (sized_fields filter.members) ≤ length slots
     → Ready (field_scope filter) (total (field_scope filter)) (store_at filter values) slots
-store_ready filter values slots closed e stands room =
+store_ready filter values slots closed e fields_hold room =
     let fields = sized_fields filter.members in
     let size = total-reverse fields in
     record {
       names_are = scope_of-bound_onto [] fields values (omega arith) ∙ append-nil (reverse fields);
       holds = Holds-bound_onto [] fields values slots
           (members_cells (field_scope filter) filter.members closed) (omega arith) tt
-          (λ k lt. let z : 0 + k ≡ k = omega arith in ap (at slots) z ∙ stands k (omega arith));
+          (λ k lt. let z : 0 + k ≡ k = omega arith in
+          ap (at slots) z ∙ fields_hold k (omega arith));
       above = omega arith;
       roomy = omega arith;
     }
@@ -342,7 +343,7 @@ pub body_runs : (filter : Filter) (body : Body) (fields slots window : List ℤ)
     → Related (HasFired filter (length slots)) (fired filter body fields window)
     (nodes_done (port_of filter body window) (body_nodes body filter)
     (record { slots = slots; traffic = no_traffic }))
-body_runs filter body fields slots window closed e stands room =
+body_runs filter body fields slots window closed e fields_hold room =
     let names = field_scope filter in
     let store = store_at filter fields in
     let port = port_of filter body window in
@@ -350,7 +351,7 @@ body_runs filter body fields slots window closed e stands room =
     let enough : total (sized_fields filter.members) ≤ length slots = omega arith in
     let fits : nodes_room (body_nodes body filter) ≤ length slots =
     body_fits filter body (length slots) room in
-    let ready = store_ready filter fields slots closed e stands enough in
+    let ready = store_ready filter fields slots closed e fields_hold enough in
     map_related (ReachesOn names (length slots)) (HasFired filter (length slots))
     (λ inner. let left = block_left store inner in
     record {

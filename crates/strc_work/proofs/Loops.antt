@@ -18,9 +18,9 @@ use Rattle.strc_work.proofs.Variables.{scope_of, Holds-set_above}
 use Rattle.strc_work.proofs.Related.{Related, then_related, weaker_related, chosen_related}
 use Rattle.strc_work.proofs.Related.{nodes_done-before, then_end}
 use Rattle.strc_machine.proofs.Spelled.{nodes_room-before}
-use Rattle.strc_work.proofs.Expressions.{StandsAt, Ready, machine_at, operand_runs, total-variables}
+use Rattle.strc_work.proofs.Expressions.{IsInSlot, Ready, machine_at, operand_runs, total-variables}
 use Rattle.strc_work.proofs.ExpressionRuns.{expr_runs}
-use Rattle.strc_work.proofs.Reaching.{Reaches, stands_reach}
+use Rattle.strc_work.proofs.Reaching.{Reaches, in_slot_reaches}
 
 -- ---- choices
 
@@ -51,18 +51,18 @@ choice_runs port condition chosen other does does' names store slots closed read
     subst (Related (Reaches names (length slots))
     (result_and_then (value_of port condition store) meant))
     (sym (nodes_done-before port a choice (machine_at slots store)))
-    (then_related (StandsAt names slot free slots) (Reaches names (length slots))
+    (then_related (IsInSlot names slot free slots) (Reaches names (length slots))
     (value_of port condition store) (nodes_done port a (machine_at slots store)) meant
     (nodes_done port choice) (operand_runs port condition
     (expr_runs port condition) names true free store slots closed ready room_a)
-    (λ test m is stands.
-    let reaches = stands_reach names slot slots test m ready.roomy stands in
+    (λ test m is in_slot.
+    let reaches = in_slot_reaches names slot slots test m ready.roomy in_slot in
     subst (Related (Reaches names (length slots)) (meant test))
     (sym (then_end port (chosen_by (is_true (slot_value m slot)) (nodes_done port chosen)
     (nodes_done port other) m)))
     (chosen_related (Reaches names (length slots)) (is_true test.0) (is_true (slot_value m slot))
     (does test.1) (does' test.1) (nodes_done port chosen) (nodes_done port other) m
-    (ap is_true stands.value) (go test.1 m reaches) (go' test.1 m reaches))))
+    (ap is_true in_slot.value) (go test.1 m reaches) (go' test.1 m reaches))))
 
 -- ---- loops
 
@@ -102,14 +102,14 @@ test_runs port None names store slots closed ready room =
 test_runs port (Some condition) names store slots closed ready room =
     let free = total names in
     let slot = operand_slot names true condition free in
-    weaker_related (StandsAt names slot free slots) (Tested names (length slots) slot)
+    weaker_related (IsInSlot names slot free slots) (Tested names (length slots) slot)
     (value_of port condition store) (nodes_done port (operand_nodes names true condition free)
     (machine_at slots store)) (operand_runs port condition
-    (expr_runs port condition) names true free store slots closed ready room) (λ test m stands.
+    (expr_runs port condition) names true free store slots closed ready room) (λ test m in_slot.
     record {
-      reaches = stands_reach names slot slots test m ready.roomy stands;
+      reaches = in_slot_reaches names slot slots test m ready.roomy in_slot;
       value =
-          stands.value;
+          in_slot.value;
     })
 
 -- the same, from where other code has led

@@ -24,7 +24,7 @@ use Rattle.strc_semantics.specs.Firing.{assigned_value}
 use Rattle.strc_semantics.specs.Scoping.{Scope, cells_of, total, slot_of, size_of, names_after}
 use Rattle.strc_machine.specs.Machine.{Nodes, End, Act, Choice, Loop, before, inst_prints}
 use Rattle.strc_machine.specs.Machine.{nodes_print}
-use Rattle.strc_work.specs.Lowering.{unless_there, variable_slot, stands_at, writes_no_variable}
+use Rattle.strc_work.specs.Lowering.{unless_there, variable_slot, alias_slot, writes_no_variable}
 use Rattle.strc_work.specs.Lowering.{one, unary_step, binary_step, step_nodes, element_step_nodes}
 use Rattle.strc_work.specs.Lowering.{binary_nodes, expr_nodes, operand_slot, operand_nodes}
 use Rattle.strc_work.specs.Lowering.{evaluation_nodes, used_nodes, compound_nodes, element_nodes}
@@ -180,7 +180,7 @@ expr_silent names (tree.StepElement operator name index) into free =
     (size_of names name) (unwrap_or o free) into (free + 1))
     (unless_there_silent o a (expr_silent names index free (free + 1)))
 expr_silent names (tree.Binary operator left right) into free =
-    let o = stands_at names (writes_no_variable right) left in
+    let o = alias_slot names (writes_no_variable right) left in
     let p = variable_slot names right in
     let a = expr_nodes names left free (free + 1) in
     let b = expr_nodes names right (free + 1) (free + 1 + 1) in
@@ -210,7 +210,7 @@ expr_silent names (tree.Conditional condition chosen other) into free =
 operand_silent : (names : Scope) (may_alias : Bool) (e : tree.Expr) (free : ℕ)
     → nodes_print (operand_nodes names may_alias e free) ≡ false
 operand_silent names may_alias e free =
-    unless_there_silent (stands_at names may_alias e) (expr_nodes names e free (free + 1))
+    unless_there_silent (alias_slot names may_alias e) (expr_nodes names e free (free + 1))
     (expr_silent names e free (free + 1))
 
 condition_silent : (names : Scope) (condition : Option tree.Expr)

@@ -10,10 +10,10 @@ use Rattle.strc_semantics.specs.Firing.{Port, Variables, Store, block_left, insi
 use Rattle.strc_semantics.specs.Firing.{stmts_done}
 use Rattle.strc_machine.specs.Machine.{Machine, Nodes, nodes_done, nodes_room}
 use Rattle.strc_work.specs.Lowering.{stmt_nodes, stmts_nodes}
-use Rattle.strc_semantics.proofs.Growth.{StandsOn, stands_on_itself, stands_on_after, drop_inner}
+use Rattle.strc_semantics.proofs.Growth.{IsBaseOf, base_of_itself, base_of_after, drop_inner}
 use Rattle.strc_work.proofs.Variables.{scope_of, Holds, Holds-drop, length-scope_of}
 use Rattle.strc_work.proofs.Related.{Related, weaker_related, map_related}
-use Rattle.strc_work.proofs.Expressions.{StandsAt, Ready, machine_at}
+use Rattle.strc_work.proofs.Expressions.{IsInSlot, Ready, machine_at}
 
 -- the machine is where the store is, among these names
 pub record Reaches (names : Scope) (size : ℕ) (given : Store) (after : Machine) : Type 0 where
@@ -26,7 +26,7 @@ pub record Reaches (names : Scope) (size : ℕ) (given : Store) (after : Machine
 -- the same, among names that stand on these
 pub record ReachesOn (names : Scope) (size : ℕ) (given : Store) (after : Machine) : Type 0 where
   pub traffic : after.traffic ≡ given.traffic
-  pub stands : StandsOn names (scope_of given.variables)
+  pub base : IsBaseOf names (scope_of given.variables)
   pub holds : Holds given.variables after.slots
   pub same : length after.slots ≡ size
 
@@ -59,14 +59,14 @@ empty_reaches names store slots ready = record {
 }
 
 -- a value's slot is no more looked at
-pub stands_reach : (names : Scope) (slot : ℕ) (slots : List ℤ) (given : ℤ × Store) (m : Machine)
-    → total names ≤ length slots → StandsAt names slot (total names) slots given m
+pub in_slot_reaches : (names : Scope) (slot : ℕ) (slots : List ℤ) (given : ℤ × Store) (m : Machine)
+    → total names ≤ length slots → IsInSlot names slot (total names) slots given m
     → Reaches names (length slots) given.1 m
-stands_reach names slot slots given m roomy stands = record {
-  traffic = stands.traffic;
-  names_are = stands.names_are;
-  holds = stands.holds;
-  same = stands.size;
+in_slot_reaches names slot slots given m roomy in_slot = record {
+  traffic = in_slot.traffic;
+  names_are = in_slot.names_are;
+  holds = in_slot.holds;
+  same = in_slot.size;
   roomy = roomy;
 }
 
@@ -85,15 +85,15 @@ left_reaches names slots store inner after ready reaches =
       traffic = reaches.traffic;
       names_are = sym (drop-map (λ (v : List ℕ × List ℤ). record { 0 = v.0; 1 = length v.1 }) n
           inner.variables) ∙ ap (λ k. drop k (scope_of inner.variables)) few_inner
-          ∙ drop_inner names (scope_of inner.variables) reaches.stands;
+          ∙ drop_inner names (scope_of inner.variables) reaches.base;
       holds = Holds-drop inner.variables after.slots n reaches.holds;
       same = reaches.same;
       roomy = ready.roomy;
     }
 
-pub stands_on_more : (base middle names : Scope) → StandsOn base middle → StandsOn middle names
-    → StandsOn base names
-stands_on_more base middle names h h' = record {
+pub base_of_more : (base middle names : Scope) → IsBaseOf base middle → IsBaseOf middle names
+    → IsBaseOf base names
+base_of_more base middle names h h' = record {
   inner = h'.inner ++ h.inner;
   is = h'.is ∙ ap (λ l. h'.inner ++ l) h.is ∙ sym (append_assoc h'.inner h.inner base);
 }
@@ -103,8 +103,8 @@ pub reaches_on : (names : Scope) (size : ℕ) (s : tree.Stmt) (given : Store) (a
     → Reaches (names_after names s) size given after → ReachesOn names size given after
 reaches_on names size s given after reaches = record {
   traffic = reaches.traffic;
-  stands = subst (StandsOn names) (sym reaches.names_are)
-      (stands_on_after names names s (stands_on_itself names));
+  base = subst (IsBaseOf names) (sym reaches.names_are)
+      (base_of_after names names s (base_of_itself names));
   holds = reaches.holds;
   same = reaches.same;
 }
@@ -139,8 +139,8 @@ rest_runs port first rest run names slots given m closed room reaches =
     (machine_at m.slots given)) (run names' given m.slots closed ready room')
     (λ store after r. record {
       traffic = r.traffic;
-      stands = stands_on_more names names' (scope_of store.variables)
-          (stands_on_after names names first (stands_on_itself names)) r.stands;
+      base = base_of_more names names' (scope_of store.variables)
+          (base_of_after names names first (base_of_itself names)) r.base;
       holds = r.holds;
       same = r.same ∙ same;
     }))

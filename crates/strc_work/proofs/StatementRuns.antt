@@ -18,12 +18,12 @@ use Rattle.strc_machine.specs.Machine.{Machine, End, Choice, Loop, before, slot_
 use Rattle.strc_machine.specs.Machine.{nodes_done, nodes_room}
 use Rattle.strc_work.specs.Lowering.{one, expr_nodes, operand_slot, operand_nodes, condition_nodes}
 use Rattle.strc_work.specs.Lowering.{condition_slot, stmt_nodes, stmts_nodes, used_nodes}
-use Rattle.strc_semantics.proofs.Growth.{stands_on_itself}
+use Rattle.strc_semantics.proofs.Growth.{base_of_itself}
 use Rattle.strc_work.proofs.Variables.{scope_of, Holds, Holds-set_above}
 use Rattle.strc_work.proofs.Related.{Related, then_related, map_related, nodes_done-before}
 use Rattle.strc_work.proofs.Related.{then_last}
 use Rattle.strc_machine.proofs.Spelled.{nodes_room-before}
-use Rattle.strc_work.proofs.Expressions.{Arrives, StandsAt, Ready, machine_at, operand_runs}
+use Rattle.strc_work.proofs.Expressions.{Arrives, IsInSlot, Ready, machine_at, operand_runs}
 use Rattle.strc_work.proofs.ExpressionRuns.{expr_runs}
 use Rattle.strc_work.proofs.Reaching.{Reaches, ReachesOn, RunsStmt, RunsStmts, few, empty_reaches}
 use Rattle.strc_work.proofs.Reaching.{left_reaches, reaches_on, rest_runs, inside_goes_on}
@@ -92,20 +92,20 @@ pushed_reaches names slots store after (Err cause) roomy names_are holds same = 
 -- one more word is printed, on both sides
 printed_reaches : (names : Scope) (slots : List ℤ) (ends_line : Bool) (slot : ℕ) (given : ℤ × Store)
     (after : Machine) → total names ≤ length slots
-    → StandsAt names slot (total names) slots given after
+    → IsInSlot names slot (total names) slots given after
     → Reaches names (length slots) (record given.1
     { traffic = printed (record { value = given.0; ends_line = ends_line }) given.1.traffic })
     (record after {
       traffic = printed (record
           { value = slot_value after slot; ends_line = ends_line }) after.traffic;
     })
-printed_reaches names slots ends_line slot given after roomy stands = record {
+printed_reaches names slots ends_line slot given after roomy in_slot = record {
   traffic =
-      ap (λ v. printed (record { value = v; ends_line = ends_line }) after.traffic) stands.value
-      ∙ ap (printed (record { value = given.0; ends_line = ends_line })) stands.traffic;
-  names_are = stands.names_are;
-  holds = stands.holds;
-  same = stands.size;
+      ap (λ v. printed (record { value = v; ends_line = ends_line }) after.traffic) in_slot.value
+      ∙ ap (printed (record { value = given.0; ends_line = ends_line })) in_slot.traffic;
+  names_are = in_slot.names_are;
+  holds = in_slot.holds;
+  same = in_slot.size;
   roomy = roomy;
 }
 
@@ -113,7 +113,7 @@ printed_reaches names slots ends_line slot given after roomy stands = record {
 used_runs : (port : Port) (e : tree.Expr) (last : ℕ → Inst) (meant : ℤ × Store → Result Store Cause)
     (names : Scope) (store : Store) (slots : List ℤ) → IsClosed names e
     → Ready names (total names) store slots → nodes_room (used_nodes names e last) ≤ length slots
-    → ((given : ℤ × Store) (m : Machine) → StandsAt names (operand_slot names true e (total names))
+    → ((given : ℤ × Store) (m : Machine) → IsInSlot names (operand_slot names true e (total names))
     (total names) slots given m → Related (Reaches names (length slots)) (meant given)
     (inst_done port (last (operand_slot names true e (total names))) m))
     → Related (Reaches names (length slots)) (result_and_then (value_of port e store) meant)
@@ -126,11 +126,11 @@ used_runs port e last meant names store slots closed ready room go =
     omega (arith, nodes_room-before a (one (last slot))) in
     subst (Related (Reaches names (length slots)) (result_and_then (value_of port e store) meant))
     (sym (then_last port a (last slot) (machine_at slots store)))
-    (then_related (StandsAt names slot free slots) (Reaches names (length slots))
+    (then_related (IsInSlot names slot free slots) (Reaches names (length slots))
     (value_of port e store) (nodes_done port a (machine_at slots store)) meant
     (inst_done port (last slot)) (operand_runs port e
     (expr_runs port e) names true free store slots closed ready room_a)
-    (λ given m is stands. go given m stands))
+    (λ given m is in_slot. go given m in_slot))
 
 push_runs : (port : Port) (e : tree.Expr) → RunsStmt port (tree.Push e)
 push_runs port e names store slots closed ready room =
@@ -139,17 +139,17 @@ push_runs port e names store slots closed ready room =
     let meant : ℤ × Store → Result Store Cause =
     λ given. result_and_then (pushed_to port given.0 given.1.traffic)
     (λ traffic. Ok (record given.1 { traffic = traffic })) in
-    used_runs port e act.Push meant names store slots closed ready room (λ given m stands.
+    used_runs port e act.Push meant names store slots closed ready room (λ given m in_slot.
     let done_is : inst_done port (act.Push slot) m
     ≡ result_and_then (pushed_to port given.0 given.1.traffic)
     (λ traffic. Ok (record m { traffic = traffic })) =
     ap (λ v. result_and_then (pushed_to port v m.traffic)
-    (λ traffic. Ok (record m { traffic = traffic }))) stands.value
+    (λ traffic. Ok (record m { traffic = traffic }))) in_slot.value
     ∙ ap (λ t. result_and_then (pushed_to port given.0 t)
-    (λ traffic. Ok (record m { traffic = traffic }))) stands.traffic in
+    (λ traffic. Ok (record m { traffic = traffic }))) in_slot.traffic in
     subst (Related (Reaches names (length slots)) (meant given)) (sym done_is)
     (pushed_reaches names slots given.1 m
-    (pushed_to port given.0 given.1.traffic) roomy stands.names_are stands.holds stands.size))
+    (pushed_to port given.0 given.1.traffic) roomy in_slot.names_are in_slot.holds in_slot.size))
 
 -- ---- loops
 
@@ -324,23 +324,23 @@ mutual
         traffic = printed
             (record { value = given.0; ends_line = false }) given.1.traffic;
       })) names store slots
-      closed ready room (λ given m stands. printed_reaches names slots false
-      (operand_slot names true value (total names)) given m ready.roomy stands)
+      closed ready room (λ given m in_slot. printed_reaches names slots false
+      (operand_slot names true value (total names)) given m ready.roomy in_slot)
   stmt_runs port (tree.Println value) names store slots closed ready room =
       used_runs port value act.Println (λ given. Ok
       (record given.1 {
         traffic = printed
             (record { value = given.0; ends_line = true }) given.1.traffic;
       })) names store slots
-      closed ready room (λ given m stands. printed_reaches names slots true
-      (operand_slot names true value (total names)) given m ready.roomy stands)
+      closed ready room (λ given m in_slot. printed_reaches names slots true
+      (operand_slot names true value (total names)) given m ready.roomy in_slot)
 
   -- and the code of statements, one after another
   pub stmts_runs : (port : Port) (b : tree.Stmts) → RunsStmts port b
   stmts_runs port tree.Done names store slots closed ready room =
       record {
         traffic = refl;
-        stands = rw ready.names_are (stands_on_itself names);
+        base = rw ready.names_are (base_of_itself names);
         holds =
             ready.holds;
         same = refl;

@@ -55,7 +55,7 @@ Holds-set_above variables slots slot value above h =
     get_or-set_other slots slot k value (pos 0) other) h
 
 -- where a named variable is: it has a cell, and its slots, below the total, hold its cells
-pub record Stands (variables : Variables) (slots : List ℤ) (name : List ℕ) : Type 0 where
+pub record IsPlaced (variables : Variables) (slots : List ℤ) (name : List ℕ) : Type 0 where
   pub slot : ℕ
   pub size : ℕ
   pub found : slot_named (scope_of variables) name ≡ Some slot
@@ -65,12 +65,12 @@ pub record Stands (variables : Variables) (slots : List ℤ) (name : List ℕ) :
   pub cells : length (cells_named variables name) ≡ size
   pub value : HoldsFrom slot (cells_named variables name) slots
 
-stands_by_test : (first : List ℕ × List ℤ) (rest : Variables) (slots : List ℤ) (name : List ℕ)
+placed_by_test : (first : List ℕ × List ℤ) (rest : Variables) (slots : List ℤ) (name : List ℕ)
     → 1 ≤ length first.1 → HoldsFrom (total (scope_of rest)) first.1 slots
-    → (IsNamed (scope_of rest) name → Stands rest slots name) → (t : Bool)
+    → (IsNamed (scope_of rest) name → IsPlaced rest slots name) → (t : Bool)
     → bytes_eq first.0 name ≡ t → t || is_declared (scope_of rest) name ≡ true
-    → Stands (first ∷ rest) slots name
-stands_by_test first rest slots name some here inside true test e =
+    → IsPlaced (first ∷ rest) slots name
+placed_by_test first rest slots name some here inside true test e =
     let is : cells_named (first ∷ rest) name ≡ first.1 =
     ap (λ t. cond t first.1 (cells_named rest name)) test in
     record {
@@ -84,7 +84,7 @@ stands_by_test first rest slots name some here inside true test e =
       cells = ap length is;
       value = subst (λ c. HoldsFrom (total (scope_of rest)) c slots) (sym is) here;
     }
-stands_by_test first rest slots name some here inside false test e =
+placed_by_test first rest slots name some here inside false test e =
     let p = inside e in
     let le = p.below in
     let is : cells_named (first ∷ rest) name ≡ cells_named rest name =
@@ -102,11 +102,11 @@ stands_by_test first rest slots name some here inside false test e =
       value = subst (λ c. HoldsFrom p.slot c slots) (sym is) p.value;
     }
 
-pub stands : (variables : Variables) (slots : List ℤ) (name : List ℕ) → Holds variables slots
-    → IsNamed (scope_of variables) name → Stands variables slots name
-stands [] slots name h named = absurd (false≢true named)
-stands (first ∷ rest) slots name h named =
-    stands_by_test first rest slots name h.0 h.1 (stands rest slots name h.2)
+pub placed : (variables : Variables) (slots : List ℤ) (name : List ℕ) → Holds variables slots
+    → IsNamed (scope_of variables) name → IsPlaced variables slots name
+placed [] slots name h named = absurd (false≢true named)
+placed (first ∷ rest) slots name h named =
+    placed_by_test first rest slots name h.0 h.1 (placed rest slots name h.2)
     (bytes_eq first.0 name) refl named
 
 -- the slots of a named variable
@@ -114,7 +114,7 @@ pub slot_of-below : (variables : Variables) (slots : List ℤ) (name : List ℕ)
     → IsNamed (scope_of variables) name → slot_of (scope_of variables) name
     + size_of (scope_of variables) name ≤ total (scope_of variables)
 slot_of-below variables slots name h named =
-    let p = stands variables slots name h named in
+    let p = placed variables slots name h named in
     subst (λ o. unwrap_or o 0 + size_of (scope_of variables) name ≤ total (scope_of variables))
     (sym p.found)
     (subst (λ o. p.slot + unwrap_or o 0 ≤ total (scope_of variables)) (sym p.sized) p.below)
@@ -123,7 +123,7 @@ slot_of-below variables slots name h named =
 pub size_of-some : (variables : Variables) (slots : List ℤ) (name : List ℕ) → Holds variables slots
     → IsNamed (scope_of variables) name → 1 ≤ size_of (scope_of variables) name
 size_of-some variables slots name h named =
-    let p = stands variables slots name h named in
+    let p = placed variables slots name h named in
     subst (λ o. 1 ≤ unwrap_or o 0) (sym p.sized) p.some
 
 -- as many as it has cells
@@ -131,7 +131,7 @@ pub size_of-is : (variables : Variables) (slots : List ℤ) (name : List ℕ) �
     → IsNamed (scope_of variables) name → length (cells_named variables name)
     ≡ size_of (scope_of variables) name
 size_of-is variables slots name h named =
-    let p = stands variables slots name h named in p.cells ∙ sym (ap (λ o. unwrap_or o 0) p.sized)
+    let p = placed variables slots name h named in p.cells ∙ sym (ap (λ o. unwrap_or o 0) p.sized)
 
 -- and they hold them
 pub slot_of-value : (variables : Variables) (slots : List ℤ) (name : List ℕ) (place : ℕ)
@@ -139,7 +139,7 @@ pub slot_of-value : (variables : Variables) (slots : List ℤ) (name : List ℕ)
     → place < size_of (scope_of variables) name
     → at slots (slot_of (scope_of variables) name + place) ≡ at (cells_named variables name) place
 slot_of-value variables slots name place h named within =
-    let p = stands variables slots name h named in
+    let p = placed variables slots name h named in
     let size = size_of-is variables slots name h named in
     ap (λ o. at slots (unwrap_or o 0 + place)) p.found ∙ p.value place (omega arith)
 
@@ -254,9 +254,9 @@ Holds-drop [] slots (suc n) h = tt
 Holds-drop (first ∷ rest) slots (suc n) h = Holds-drop rest slots n h.2
 
 -- cells from a slot on are a piece of the slots
-piece_held : (base : ℕ) (cells slots : List ℤ) → base + length cells ≤ length slots
+piece_same : (base : ℕ) (cells slots : List ℤ) → base + length cells ≤ length slots
     → HoldsFrom base cells slots → cells ≡ take (length cells) (drop base slots)
-piece_held base cells slots room h =
+piece_same base cells slots room h =
     let n = length cells in
     let size : length (drop base slots) ≡ length slots - base = length-drop base slots in
     let fits : n ≤ length (drop base slots) = omega arith in
@@ -274,7 +274,7 @@ values-Holds (first ∷ rest) slots room h =
     let n = length first.1 in
     let turned : base + n ≡ n + base = omega arith in
     ap (λ l. l ++ first.1) (values-Holds rest slots (omega arith) h.2)
-    ∙ ap (λ l. take base slots ++ l) (piece_held base first.1 slots (omega arith) h.1)
+    ∙ ap (λ l. take base slots ++ l) (piece_same base first.1 slots (omega arith) h.1)
     ∙ sym (take-add base n slots)
     ∙ ap (λ k. take k slots) turned
 

@@ -16,16 +16,16 @@ returns-in-Ok-try_get_matches_from-clause-refused c = λ is none.
     ∙ ap (λ (app : App). subcommand_of app words) app_is in
     c.line_of.ensures.refused is (subst IsCommand (sym met) (faultless_command words none))
 
-pub returns-in-Ok-try_get_matches_from-clause-told :
-    goal.returns-in-Ok-try_get_matches_from-clause-told
-returns-in-Ok-try_get_matches_from-clause-told c = λ long.
+pub returns-in-Ok-try_get_matches_from-clause-answered :
+    goal.returns-in-Ok-try_get_matches_from-clause-answered
+returns-in-Ok-try_get_matches_from-clause-answered c = λ long.
     let words = texts c.args.words.now in
     let app_is : app_of c.in-Ok.parser ≡ strc_app = c.in-Ok.ensures in
     let met = (c.in-Ok-try_get_matches_from.ensures.matches (ap is_simple app_is)).1
     ∙ ap (λ (app : App). subcommand_of app words) app_is in
     let none = ap (λ (app : App). fault_of app words) (sym app_is)
     ∙ c.in-Ok-try_get_matches_from.ensures.kinds (ap is_simple_and_free app_is) in
-    asks_for words _ c.line_of.result none met c.line_of.ensures.told
+    asks_for words _ c.line_of.result none met c.line_of.ensures.answered
 
 pub returns-in-Err-clause-refused : goal.returns-in-Err-clause-refused
 returns-in-Err-clause-refused c = λ is none.

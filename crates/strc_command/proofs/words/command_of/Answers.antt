@@ -5,8 +5,8 @@ use Rattle.strc_command.specs.Lines.{IsNumberOf}
 use Rattle.strc_command.proofs.LineWords.{no_number, reads, reads_none}
 use Rattle.strc_command.proofs.words.command_of.Goals as goal
 
-pub returns-in-Ok-clause-told : goal.returns-in-Ok-clause-told
-returns-in-Ok-clause-told c =
+pub returns-in-Ok-clause-answered : goal.returns-in-Ok-clause-answered
+returns-in-Ok-clause-answered c =
     let found = found_of c.args.found.now in (
       (
         c.in-run.is,

@@ -13,8 +13,8 @@ returns-in_default-get_str-clause-refused c = λ is command.
     (sym (first_value-rows found (codes "FILE"))
     ∙ (sym c.get_str.ensures ∙ ap (option_map (λ s. s.now)) c.in_default-get_str.is)) command
 
-pub returns-in-Ok-clause-told : goal.returns-in-Ok-clause-told
-returns-in-Ok-clause-told c =
+pub returns-in-Ok-clause-answered : goal.returns-in-Ok-clause-answered
+returns-in-Ok-clause-answered c =
     let found = found_of c.in-Some.found.now in
     let met = subcommand_met c.args.matches.now c.in-Some.name.now (rows_of found)
     (sym c.in-Some.ensures.name) (sym c.in-Some.ensures.rows) in (
@@ -25,8 +25,8 @@ returns-in-Ok-clause-told c =
         given = refl;
         file = ap Some c.in_ok-file.ensures.same
             ∙ (c.in-Some-get_str.ensures ∙ first_value-rows found (codes "FILE"));
-        command = c.in-Ok.ensures.told.0;
-        main = c.in-Ok.ensures.told.1 ∙ (c.in_ok-main.ensures.same
+        command = c.in-Ok.ensures.answered.0;
+        main = c.in-Ok.ensures.answered.1 ∙ (c.in_ok-main.ensures.same
             ∙ (c.get_str-2.ensures ∙ first_value-rows found (codes "main")));
       },
     )

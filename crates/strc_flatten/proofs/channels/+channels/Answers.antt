@@ -22,9 +22,9 @@ pub wire-wire_row-requires : goal.wire-wire_row-requires
 wire-wire_row-requires t c =
     let stream = c.args.stream.now in
     let children = c.in-Pipeline.children in
-    let held = c.deref.result.now in
-    let sized = pipeline_size stream children held c.in-Pipeline.is c.deref.ensures.value in
-    let same = pipeline_view stream children held c.in-Pipeline.is c.deref.ensures.value in
+    let contained = c.deref.result.now in
+    let sized = pipeline_size stream children contained c.in-Pipeline.is c.deref.ensures.value in
+    let same = pipeline_view stream children contained c.in-Pipeline.is c.deref.ensures.value in
     let nodes = subst HasNodes same c.requires.nodes in
     (search (rules, sizes, the_lemmas), (omega (arith, c.requires.few), nodes.1))
 

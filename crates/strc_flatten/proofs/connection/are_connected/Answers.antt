@@ -11,8 +11,8 @@ use Rattle.strc_flatten.proofs.connection.are_connected.Goals as goal
 
 pub loop-channel-init : goal.loop-channel-init
 loop-channel-init c =
-    let made = c.in_ok-parents.ensures in
-    (made.0, joined_none c.in_ok-parents.parents.items made.1)
+    let found = c.in_ok-parents.ensures in
+    (found.0, joined_none c.in_ok-parents.parents.items found.1)
 
 -- the ends of a channel are below the count
 ends_at : (count : ℕ) (channels : List Channel) (place : ℕ) (channel : Channel)

@@ -5,8 +5,9 @@ use Rattle.strc_stream.specs.Connections.{IsConnected}
 use Rattle.strc_stream.specs.Flattening.{nodes_of, codes_of, meaning_of}
 use Rattle.strc_stream.specs.View.{stream_view}
 use Rattle.strc_wiring.proofs.Nodes.{nodes_are_codes}
-use Rattle.strc_flatten.proofs.Assembled.{refused_before, made_verdict, made_flat, made_program}
-use Rattle.strc_flatten.proofs.Assembled.{made_names}
+use Rattle.strc_flatten.proofs.Assembled.{refused_before, assembled_verdict, assembled_flat}
+use Rattle.strc_flatten.proofs.Assembled.{assembled_program}
+use Rattle.strc_flatten.proofs.Assembled.{assembled_names}
 use Rattle.strc_flatten.proofs.NodeCounts.{typed_has_nodes}
 use Rattle.strc_flatten.proofs.flatten.flatten.Goals as goal
 
@@ -22,12 +23,13 @@ returns-in-Ok-2-clause-verdict c =
     let same : map node_view c.deref.result.now ≡ nodes_of stream =
     ap (map node_view) c.deref.ensures.value ∙ c.in_ok-collect.ensures
     ∙ ap (λ (l : List Node). map node_view l ++ nodes_of stream) c.new-nodes.ensures.items in
-    made_verdict stream (map node_view c.deref.result.now) c.graph_of.result same c.in-Ok-2.ensures
+    assembled_verdict stream (map node_view c.deref.result.now) c.graph_of.result same
+    c.in-Ok-2.ensures
     c.graph_of.ensures
 
 pub returns-in-Ok-2-clause-graph : goal.returns-in-Ok-2-clause-graph
 returns-in-Ok-2-clause-graph c =
-    made_flat (stream_view c.args.stream.now) c.graph_of.result c.graph_of.ensures
+    assembled_flat (stream_view c.args.stream.now) c.graph_of.result c.graph_of.ensures
 
 pub returns-in-Ok-2-clause-program : goal.returns-in-Ok-2-clause-program
 returns-in-Ok-2-clause-program c =
@@ -35,12 +37,13 @@ returns-in-Ok-2-clause-program c =
     let same : map node_view c.deref.result.now ≡ nodes_of stream =
     ap (map node_view) c.deref.ensures.value ∙ c.in_ok-collect.ensures
     ∙ ap (λ (l : List Node). map node_view l ++ nodes_of stream) c.new-nodes.ensures.items in
-    made_program stream (map node_view c.deref.result.now) c.graph_of.result same c.in-Ok-2.ensures
+    assembled_program stream (map node_view c.deref.result.now) c.graph_of.result same
+    c.in-Ok-2.ensures
     c.graph_of.ensures
 
 pub returns-in-Ok-2-clause-names : goal.returns-in-Ok-2-clause-names
 returns-in-Ok-2-clause-names c =
-    made_names (stream_view c.args.stream.now) c.graph_of.result c.graph_of.ensures
+    assembled_names (stream_view c.args.stream.now) c.graph_of.result c.graph_of.ensures
 
 pub returns-in-Err-clause-verdict : goal.returns-in-Err-clause-verdict
 returns-in-Err-clause-verdict c = λ typed.

@@ -43,7 +43,7 @@ returns c =
     let i = c.loop-channel.channel-index in
     let all : length channels ≤ i = omega arith in
     let yes : IsTrue true = search rules in (
-      λ held. subst (All (JoinsPorts (map node_view c.args.nodes.now)))
+      λ contained. subst (All (JoinsPorts (map node_view c.args.nodes.now)))
           (ap (map channel_view) (take_all i channels all)) c.loop-channel.invariant,
       λ joined. yes,
     )

@@ -1,7 +1,7 @@
 use Rattle.std.proofs.Common.{◌≡◌, length, arith, subst}
 use Rattle.strc_lex.specs.Text.{LexesBetween, StopsAt}
 use Rattle.strc_lex.proofs.TriviaRuns.{trivia_run_ordered}
-use Rattle.strc_lex.proofs.Lexing.{lexes_only, stuck_lexes, lexes_push, stands_at}
+use Rattle.strc_lex.proofs.Lexing.{lexes_only, stuck_lexes, lexes_push, is_at_start}
 use Rattle.strc_lex.proofs.lexer.lex.Goals as goal
 
 pub returns-in_default-clause-only : goal.returns-in_default-clause-only
@@ -35,12 +35,12 @@ loop-at-smaller c =
 pub loop-at-preserved : goal.loop-at-preserved
 loop-at-preserved c =
     let found = rw c.in-Some.is at c.in_ok-kind.ensures.found in
-    let stands = stands_at c.args.text.now c.loop-at.at c.in-Some.len c.in-Some.kind found.0
+    let is_at = is_at_start c.args.text.now c.loop-at.at c.in-Some.len c.in-Some.kind found.0
     found.1 in
     record {
       front = rw c.in_ok-push.ensures.items
           (lexes_push c.args.text.now 0 c.loop-at.tokens.items _ c.trivia_end-at-in-loop-at.result
-          c.loop-at.invariant.front stands c.trivia_end-at-in-loop-at.ensures.trivia_run);
+          c.loop-at.invariant.front is_at c.trivia_end-at-in-loop-at.ensures.trivia_run);
       bare = c.trivia_end-at-in-loop-at.ensures.bare;
       within = c.trivia_end-at-in-loop-at.ensures.trivia_run.within;
     }

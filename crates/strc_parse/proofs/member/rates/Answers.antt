@@ -32,19 +32,19 @@ returns c =
 pub returns-in_err-rate : goal.returns-in_err-rate
 returns-in_err-rate c =
     let p = err_from_is_err_and c.from_residual.result c.from_residual.ensures.1 in
-    let stands : rate_kind (kinds c.loop-kind.rest.now) ≡ Some c.in-Some.kind =
+    let kind_is : rate_kind (kinds c.loop-kind.rest.now) ≡ Some c.in-Some.kind =
     sym c.rate_kind.ensures ∙ c.in-Some.is in
     rw (p.1, p.2) (goes_wrong no_rate (rate_turn c.args.limit) _
     (map rate_view c.loop-kind.found.items, c.loop-kind.highest) (kinds c.loop-kind.rest.now)
-    c.loop-kind.invariant c.in_err-rate.field-0.0 (no_rate_stays _ _ stands)
+    c.loop-kind.invariant c.in_err-rate.field-0.0 (no_rate_stays _ _ kind_is)
     (rate_turn_fails c.args.limit c.in_err-rate.field-0.0
-    (map rate_view c.loop-kind.found.items) c.loop-kind.highest _ c.in-Some.kind stands
+    (map rate_view c.loop-kind.found.items) c.loop-kind.highest _ c.in-Some.kind kind_is
     (rw c.deref.ensures.value at c.in_err-rate.ensures)))
 
 pub loop-kind-preserved : goal.loop-kind-preserved
 loop-kind-preserved c =
     let front = map rate_view c.loop-kind.found.items in
-    let stands : rate_kind (kinds c.loop-kind.rest.now) ≡ Some c.in-Some.kind =
+    let kind_is : rate_kind (kinds c.loop-kind.rest.now) ≡ Some c.in-Some.kind =
     sym c.rate_kind.ensures ∙ c.in-Some.is in
     let read = rw c.deref.ensures.value at c.in_ok-rate.ensures in
     let made : RateTree = record { kind = c.in-Some.kind; rate = c.in_ok-rate.rate.value } in
@@ -61,19 +61,19 @@ loop-kind-preserved c =
       kinds c.in_ok-rate.rate.rest.now,
     ) =
     rate_turn_at c.args.limit front c.loop-kind.highest _ c.in-Some.kind
-    (expr_view c.in_ok-rate.rate.value) _ _ stands read in
+    (expr_view c.in_ok-rate.rate.value) _ _ kind_is read in
     let less : length (kinds c.in_ok-rate.rate.rest.now) < length (kinds c.loop-kind.rest.now) =
-    rate_shorter _ _ _ _ _ _ _ stands read in
+    rate_shorter _ _ _ _ _ _ _ kind_is read in
     let high : c.max-highest.result ≡ max c.loop-kind.highest c.in_ok-rate.rate.height =
     search rules in
     rw (e, high) (goes_on no_rate (rate_turn c.args.limit) _ (front, c.loop-kind.highest)
     (kinds c.loop-kind.rest.now) c.loop-kind.invariant
     (front ++ next ∷ [], max c.loop-kind.highest c.in_ok-rate.rate.height)
-    (kinds c.in_ok-rate.rate.rest.now) less (no_rate_stays _ _ stands) one)
+    (kinds c.in_ok-rate.rate.rest.now) less (no_rate_stays _ _ kind_is) one)
 
 pub loop-kind-smaller : goal.loop-kind-smaller
 loop-kind-smaller c =
-    let stands : rate_kind (kinds c.loop-kind.rest.now) ≡ Some c.in-Some.kind =
+    let kind_is : rate_kind (kinds c.loop-kind.rest.now) ≡ Some c.in-Some.kind =
     sym c.rate_kind.ensures ∙ c.in-Some.is in
     let read = rw c.deref.ensures.value at c.in_ok-rate.ensures in
-    rate_shorter _ _ _ _ _ _ _ stands read
+    rate_shorter _ _ _ _ _ _ _ kind_is read

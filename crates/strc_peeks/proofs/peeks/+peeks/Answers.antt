@@ -13,7 +13,7 @@ use Rattle.strc_peeks.specs.Peeks.{stmt_sites, stmts_sites}
 use Rattle.strc_peeks.proofs.Counting.{first_stmts, first_runnable, runnable_step, stmts_step}
 use Rattle.strc_peeks.proofs.Counting.{for_counts}
 use Rattle.strc_peeks.proofs.Sighting.{stmts_seen}
-use Rattle.strc_interval.proofs.IntervalGrowth.{stands_on_itself, stands_on_after}
+use Rattle.strc_interval.proofs.IntervalGrowth.{base_of_itself, base_of_after}
 use Rattle.strc_peeks.proofs.peeks.+peeks.Goals as goal
 use Rattle.strc_peeks.proofs.peeks.+peeks.Goals.{}
 use Rattle.strc_peeks.proofs.peeks.+peeks.Goals.{
@@ -29,7 +29,7 @@ check_peeks_in_block-loop-statement-init t c = record {
       (block_view c.args.block.now) c.no_items.ensures;
   runnable = first_runnable c.no_items.result c.no_items.ensures;
   reported = refl;
-  names = stands_on_itself c.args.names.now;
+  names = base_of_itself c.args.names.now;
 }
 
 pub check_peeks_in_block-loop-statement-preserved :
@@ -56,7 +56,7 @@ check_peeks_in_block-loop-statement-preserved t c =
           c.check_peeks_in_statement.new.names c.loop-statement.here c.advance-here.result here x
           rest (block_view (drop i all)) c.in_ok-passed.ensures.counts names c.advance-here.ensures
           c.in_ok-passed.ensures.sites next invariant.reported;
-      names = rw names (stands_on_after c.args.names.now c.loop-statement.names x invariant.names);
+      names = rw names (base_of_after c.args.names.now c.loop-statement.names x invariant.names);
     }
 
 pub check_peeks_in_statement-returns-in-Block-clause-counts :

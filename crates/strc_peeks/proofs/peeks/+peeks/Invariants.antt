@@ -3,7 +3,7 @@ use Rattle.strc_syntax.specs.View.{block_view}
 use Rattle.strc_peeks.specs.Counts.{no_items, sequence, stmts_counts}
 use Rattle.strc_interval.specs.Intervals.{names_of}
 use Rattle.strc_peeks.specs.Peeks.{stmts_sites}
-use Rattle.strc_interval.proofs.IntervalGrowth.{StandsOn}
+use Rattle.strc_interval.proofs.IntervalGrowth.{IsBaseOf}
 use Rattle.strc_peeks.proofs.peeks.+peeks.Given as goal
 
 abbrev pub invariant-check_peeks_in_block-loop-statement :
@@ -16,5 +16,5 @@ invariant-check_peeks_in_block-loop-statement l = record {
   reported : l.sites.items ++ stmts_sites l.names l.here
       (block_view (drop l.statement-index l.block)) ≡ l.initial.sites.items
       ++ stmts_sites l.initial.names l.fn.popped (block_view l.block);
-  names : StandsOn l.initial.names l.names;
+  names : IsBaseOf l.initial.names l.names;
 }

@@ -16,11 +16,12 @@ returns-in-Some c =
     let counts = c.in-Some.counts in
     let limits : (not (are_within_limit rates) || c.args.lacks) ≡ false = search rules in
     let counted : stmts_counts [] block ≡ Some counts = search rules in
-    let told : body_sights (window_size rates) block ≡ c.deref.result.now = search rules in
+    let known : body_sights (window_size rates) block ≡ c.deref.result.now = search rules in
     let pushes : same_rate (item_count (push_rate rates)) counts.pushes ≡ Ok tt = search rules in
     let pops : same_rate (item_count (pop_rate rates)) counts.pops ≡ Ok tt = search rules in
     record {
       verdict = subst (λ r. IsVerdict body_view r c.with_closed_peeks.result)
-          (sym (body_accepted c.args.lacks rates block counts c.deref.result.now limits counted told
+          (sym
+          (body_accepted c.args.lacks rates block counts c.deref.result.now limits counted known
           pushes pops)) c.with_closed_peeks.ensures.verdict;
     }

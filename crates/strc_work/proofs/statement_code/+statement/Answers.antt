@@ -5,7 +5,7 @@ use Rattle.strc_machine.specs.Machine.{before}
 use Rattle.strc_work.specs.Lowering.{stmt_nodes, stmts_nodes}
 use Rattle.strc_machine.specs.Written.{written}
 use Rattle.strc_syntax.proofs.Blocks.{stmt_view-Block, block_view-drop}
-use Rattle.strc_semantics.proofs.Growth.{stands_on_after}
+use Rattle.strc_semantics.proofs.Growth.{base_of_after}
 use Rattle.strc_machine.proofs.Nodes.{before_end}
 use Rattle.strc_work.proofs.Emitted.{stmts_nodes_more}
 use Rattle.strc_work.proofs.statement_code.+statement.Goals as goal
@@ -23,7 +23,7 @@ emit_stmt-loop-inner-preserved t c =
     record {
       code = more ∙ ap (λ b. before (written c.loop-inner.code) (stmts_nodes c.loop-inner.names b))
           (sym (block_view-drop items i x lt c.inner-item.is)) ∙ c.loop-inner.invariant.code;
-      names = rw names (stands_on_after c.args.names.now c.loop-inner.names
+      names = rw names (base_of_after c.args.names.now c.loop-inner.names
           (stmt_view x) c.loop-inner.invariant.names);
     }
 

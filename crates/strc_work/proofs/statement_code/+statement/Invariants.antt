@@ -3,7 +3,7 @@ use Rattle.strc_syntax.specs.View.{block_view}
 use Rattle.strc_machine.specs.Machine.{before}
 use Rattle.strc_work.specs.Lowering.{stmts_nodes}
 use Rattle.strc_machine.specs.Written.{written}
-use Rattle.strc_semantics.proofs.Growth.{StandsOn}
+use Rattle.strc_semantics.proofs.Growth.{IsBaseOf}
 use Rattle.strc_work.proofs.statement_code.+statement.Given as goal
 
 abbrev pub invariant-emit_stmt-loop-inner : goal.invariant-emit_stmt-loop-inner
@@ -11,5 +11,5 @@ invariant-emit_stmt-loop-inner l = record {
   code : before (written l.code) (stmts_nodes l.names
       (block_view (drop l.inner-index l.inner-items)))
       ≡ before (written l.initial.code) (stmts_nodes l.initial.names (block_view l.inner-items));
-  names : StandsOn l.initial.names l.names;
+  names : IsBaseOf l.initial.names l.names;
 }

@@ -5,7 +5,7 @@ use Rattle.strc_machine.specs.Machine.{before}
 use Rattle.strc_work.specs.Lowering.{stmts_nodes}
 use Rattle.strc_machine.specs.Written.{written}
 use Rattle.strc_syntax.proofs.Blocks.{block_view-drop}
-use Rattle.strc_semantics.proofs.Growth.{stands_on_after}
+use Rattle.strc_semantics.proofs.Growth.{base_of_after}
 use Rattle.strc_machine.proofs.Nodes.{before_end}
 use Rattle.strc_work.proofs.Emitted.{stmts_nodes_more}
 use Rattle.strc_work.proofs.statement_code.emit_block.Goals as goal
@@ -25,7 +25,7 @@ loop-statement-preserved c =
           (stmts_nodes c.loop-statement.names b))
           (sym (block_view-drop items i x lt c.statement-item.is))
           ∙ c.loop-statement.invariant.code;
-      names = rw names (stands_on_after c.args.names.now c.loop-statement.names
+      names = rw names (base_of_after c.args.names.now c.loop-statement.names
           (stmt_view x) c.loop-statement.invariant.names);
     }
 

@@ -3,12 +3,12 @@ use Rattle.strc_syntax.specs.View.{block_view}
 use Rattle.strc_machine.specs.Machine.{before}
 use Rattle.strc_work.specs.Lowering.{stmts_nodes}
 use Rattle.strc_machine.specs.Written.{written}
-use Rattle.strc_semantics.proofs.Growth.{StandsOn}
+use Rattle.strc_semantics.proofs.Growth.{IsBaseOf}
 use Rattle.strc_work.proofs.statement_code.emit_block.Given as goal
 
 abbrev pub invariant-loop-statement : goal.invariant-loop-statement
 invariant-loop-statement l = record {
   code : before (written l.code) (stmts_nodes l.names (block_view (drop l.statement-index l.block)))
       ≡ before (written l.initial.code) (stmts_nodes l.initial.names (block_view l.block));
-  names : StandsOn l.initial.names l.names;
+  names : IsBaseOf l.initial.names l.names;
 }

@@ -38,14 +38,14 @@ returns-clause-fired g c =
     let io = fresh_io c.frame.inside.io.room words in
     let ran : Tells (node_done (port_within limits window) c.routine-routine.result.now.flat
     (machine_of old io)) c.run-result.result after = search rules in
-    let told = subst (λ r. Tells r c.run-result.result after)
+    let reported = subst (λ r. Tells r c.run-result.result after)
     (c.routine-routine.ensures.flat.does (port_within limits window) (machine_of old io))
     ran in
     let answer = fire_answer tree c.args.body c.args.state.now.fields old inside.fields
     c.frame.inside.io.room limits window words
     (code_of c.routine-routine.result.now.code) c.run-result.result after closed
     c.routine-routine.ensures.code fields_are c.requires.state.one_for_each within enough
-    c.routine-routine.ensures.limits (search rules) told in
+    c.routine-routine.ensures.limits (search rules) reported in
     let given = subst (λ l. Fires (fired (filter_of tree) c.args.body c.args.state.now.fields
     window) c.run-result.result (take inside.fields l) c.run-result.new.io.traffic.pushes
     words c.run-result.new.io.traffic.words) (sym back) answer.fires in
@@ -70,7 +70,7 @@ returns-clause-silent g c =
     let io = fresh_io c.frame.inside.io.room words in
     let ran : Tells (node_done (port_within limits window) c.routine-routine.result.now.flat
     (machine_of old io)) c.run-result.result after = search rules in
-    let told = subst (λ r. Tells r c.run-result.result after)
+    let reported = subst (λ r. Tells r c.run-result.result after)
     (c.routine-routine.ensures.flat.does (port_within limits window) (machine_of old io))
     ran in
     let answer = fire_answer tree c.args.body c.args.state.now.fields old inside.fields
@@ -78,7 +78,7 @@ returns-clause-silent g c =
     (code_of c.routine-routine.result.now.code) c.run-result.result after
     c.routine-routine.ensures.closed c.routine-routine.ensures.code fields_are
     c.requires.state.one_for_each within enough c.routine-routine.ensures.limits (search rules)
-    told in
+    reported in
     let wants = answer.wants in
     search rules
 

@@ -31,14 +31,14 @@ returns-in-Ok-run-clause-values c =
     let ran : Tells (node_done (port_within limits []) c.self.inside.start.flat
     (machine_of old none)) (Ok c.in-Ok-run.field-0) (machine_of new c.run.new.io) =
     search rules in
-    let told = start_answer tree old c.self.inside.slots c.self.inside.fields
+    let reported = start_answer tree old c.self.inside.slots c.self.inside.fields
     (length c.new.result.items) limits [] (code_of c.self.inside.start.code)
     (Ok c.in-Ok-run.field-0) (machine_of new c.run.new.io) c.self.invariant.closed
     c.self.invariant.start_is (old_is ∙ zeros) c.self.invariant.fields_are room refl
     (subst (λ r. Tells r (Ok c.in-Ok-run.field-0) (machine_of new c.run.new.io))
     (c.self.invariant.start_flat.does (port_within limits []) (machine_of old none)) ran) in
     ap (λ t. started (filter_of t)) (sym view)
-    ∙ told
+    ∙ reported
     ∙ ap (λ l. Ok (take c.self.inside.fields l)) (sym back)
 
 pub returns-in-Err-clause-values : goal.returns-in-Err-clause-values
@@ -56,7 +56,7 @@ returns-in-Err-clause-values c =
     let limits : FiringLimits = record { pops = 0; peek = 0; pushes = 0 } in
     let ran : Tells (node_done (port_within limits []) c.self.inside.start.flat
     (machine_of old none)) (Err c.in-Err.halt) (machine_of new c.run.new.io) = search rules in
-    let told = start_answer tree old c.self.inside.slots c.self.inside.fields
+    let reported = start_answer tree old c.self.inside.slots c.self.inside.fields
     (length c.new.result.items) limits [] (code_of c.self.inside.start.code)
     (Err c.in-Err.halt) (machine_of new c.run.new.io) c.self.invariant.closed
     c.self.invariant.start_is (old_is ∙ zeros) c.self.invariant.fields_are room refl
@@ -64,4 +64,4 @@ returns-in-Err-clause-values c =
     (c.self.invariant.start_flat.does (port_within limits []) (machine_of old none)) ran) in
     subst (λ t. Starts (started (filter_of t)) (Err c.start_error.result)) view
     (subst (λ e. Starts (started (filter_of tree)) (Err e)) (sym c.start_error.ensures)
-    (start_halts (started (filter_of tree)) c.in-Err.halt (take c.self.inside.fields new) told))
+    (start_halts (started (filter_of tree)) c.in-Err.halt (take c.self.inside.fields new) reported))

@@ -4,7 +4,7 @@
 
 ghost use Rattle.strc_grammar.specs.Grammar.{kinds};
 ghost use Rattle.strc_grammar.specs.Reading as spec;
-ghost use Rattle.strc_rules.specs.Held.{Raises, Goes, Holds};
+ghost use Rattle.strc_rules.specs.Part.{Raises, Goes, Holds};
 
 use crate::lookahead::{expect, raised};
 use strc_grammar::ReadError;

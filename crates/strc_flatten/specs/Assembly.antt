@@ -7,12 +7,12 @@ use Rattle.strc_graph.specs.Graphs.{Graph, IsGraph}
 use Rattle.strc_graph.specs.NodeView.{GraphParts, graph_view}
 
 -- why no graph is made
-abbrev pub IsUnmade : Graph → ElabError → Type 0
-IsUnmade graph refusal.Disconnected = IsGraph graph → ¬ IsConnected graph
-IsUnmade graph refusal.NoMemory = Unit {0}
-IsUnmade graph _ = ⊥
+abbrev pub HasNoGraph : Graph → ElabError → Type 0
+HasNoGraph graph refusal.Disconnected = IsGraph graph → ¬ IsConnected graph
+HasNoGraph graph refusal.NoMemory = Unit {0}
+HasNoGraph graph _ = ⊥
 
 -- the graph is made, or there is a reason why not
-abbrev pub IsMade : Graph → Result GraphParts ElabError → Type 0
-IsMade graph (Ok made) = (graph_view made ≡ graph) × IsConnected graph
-IsMade graph (Err refused) = IsUnmade graph refused
+abbrev pub IsAssembled : Graph → Result GraphParts ElabError → Type 0
+IsAssembled graph (Ok assembled) = (graph_view assembled ≡ graph) × IsConnected graph
+IsAssembled graph (Err refused) = HasNoGraph graph refused

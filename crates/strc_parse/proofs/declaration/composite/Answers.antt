@@ -1,0 +1,8 @@
+use Rattle.std.proofs.Common.{arith}
+use Rattle.strc_syntax.proofs.Views.{row_of_views}
+use Rattle.strc_grammar.specs.Streams.{composite}
+use Rattle.strc_parse.proofs.declaration.composite.Goals as goal
+
+pub returns : goal.returns
+unfolding composite
+returns c = grind (arith, row_of_views)
