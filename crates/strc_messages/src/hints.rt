@@ -1,24 +1,32 @@
 // Hints on how a refusal can be mended.
 
+use crate::parts::{is_statement, part_hint};
 use std::alloc::Global;
 use strc_base::memory::NoMemory;
 use strc_run::refusal::Refusal;
+use strc_source::declarations::body_of;
 use strc_source::message::Message;
 use strc_source::nearest::nearest_name;
 use strc_source::source::Source;
+use strc_trial::statement::Part;
 
-/// A hint, where there is one that helps. `in_statement`: the message is about a statement.
+/// A hint, where there is one that helps. The message is about a part of the text, if it is known.
 pub(crate) fn push_hint(
     alloc: Global,
     message: &mut Message,
     source: Source<'_>,
     refusal: &Refusal,
-    in_statement: bool,
+    part: Option<Part>,
 ) -> Result<(), NoMemory> {
     if let Refusal::UnknownName { name } = refusal {
         return push_nearest(alloc, message, source, name.as_bytes());
     }
-    let hint = hint_of(refusal, in_statement);
+    let own = part_hint(part);
+    let hint = if own.is_empty() {
+        hint_of(source, refusal, is_statement(part))
+    } else {
+        own
+    };
     if hint.is_empty() {
         return Ok(());
     }
@@ -45,22 +53,33 @@ fn push_nearest(
 }
 
 /// How a refusal can be mended; nothing where the sentence says enough.
-fn hint_of(refusal: &Refusal, in_statement: bool) -> &'static [u8] {
+fn hint_of(source: Source<'_>, refusal: &Refusal, in_statement: bool) -> &'static [u8] {
     match refusal {
         Refusal::NoMain => b"the main stream is one like `void->void pipeline Main { .. }`",
         Refusal::ManyMains => b"name the one that is to run with --main NAME",
         Refusal::BadWeights { .. } => {
             b"one weight for each child, from 0 to 65,536, and not all of them 0"
         }
-        Refusal::TypeMismatch { .. } => {
-            b"see what each child takes and gives, and that conditions are truth values"
-        }
+        Refusal::TypeMismatch { stream } => mismatch_hint(source, *stream, in_statement),
         Refusal::DepthLimit => b"a stream that adds itself needs a condition that ends it",
         Refusal::TwoOutputs => b"one FileWriter, or one filter with print or println, is allowed",
         Refusal::ConstFault { .. } if !in_statement => {
             b"look at rates, lengths, initialisers, init, and the loops of composite streams"
         }
         _ => rate_hint(refusal),
+    }
+}
+
+/// How a type, a kind or a part can be mended, in a filter and in another stream.
+fn mismatch_hint(source: Source<'_>, stream: usize, in_statement: bool) -> &'static [u8] {
+    match body_of(source.tokens, stream) {
+        Some(body) if body.is_filter && in_statement => {
+            b"numbers and truth values differ; push, pop and peek need work and a side with items"
+        }
+        Some(body) if body.is_filter => {
+            b"a filter has one work, at most one prework and one init, and no name twice"
+        }
+        _ => b"see what each child takes and gives, and that conditions are truth values",
     }
 }
 

@@ -1,14 +1,16 @@
 // Takes a program's text, and why it is refused, how its run faulted or why it isn't run.
 // Gives what a person reads of it: the place in the file, one sentence, the source line with a
 // mark, and where it helps a hint.
-// Stands on strc_source, which finds places and builds messages, on strc_elab, strc_flatten and
-// strc_graph, whose nodes it names, and on strc_run, whose refusals it explains.
+// Stands on strc_source, which finds places and builds messages, on strc_trial, which finds the
+// statement that a refusal is about, on strc_elab, strc_flatten and strc_graph, whose nodes it
+// names, and on strc_run, whose refusals it explains.
 #![tactic(auto)]
 
 pub mod fault;
 mod hints;
 mod nodes;
 mod origin;
+mod parts;
 mod places;
 mod program;
 pub mod refusal;

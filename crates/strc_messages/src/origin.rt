@@ -14,7 +14,7 @@ use strc_trial::trial::{LONGEST, with_part};
 /// How many statements are tried.
 const MOST: usize = 100;
 
-/// The statement that a node of this name comes from, where it can be told.
+/// The statement that a node of this name comes from, where it can be known.
 pub(crate) fn origin_of(
     alloc: Global,
     source: Source<'_>,

@@ -2,6 +2,7 @@
 
 use crate::hints::push_hint;
 use crate::nodes::{push_channel, push_node};
+use crate::parts::{is_statement, push_part, refused_part};
 use crate::places::place_of_refusal;
 use crate::program::graph_of;
 use crate::sentences::plain_sentence;
@@ -15,9 +16,6 @@ use strc_run::refusal::Refusal;
 use strc_source::expected::{Expected, expected_after};
 use strc_source::message::{Extent, Message};
 use strc_source::source::Source;
-use strc_trial::faulting::faulting_statement;
-use strc_trial::statement::{refused_statement, refused_use};
-use strc_trial::weights::refused_weights;
 
 /// What a person reads of a text's refusal: the place in the file, one sentence, the source line
 /// with a mark under the place, and where it helps a hint; a line feed ends the message.
@@ -75,31 +73,23 @@ fn write_message(
 ) -> Result<Vec<u8>, NoMemory> {
     let part = refused_part(alloc, source, refusal)?;
     let place = match part {
-        Some(part) => Some(part),
+        Some(part) => Some(part.place),
         None => place_of_refusal(alloc, source, graph, refusal)?,
     };
     let mut message = source.begin(alloc, place)?;
-    push_sentence(alloc, &mut message, source, graph, refusal, part.is_some())?;
-    source.excerpt(&mut message, place)?;
-    push_hint(alloc, &mut message, source, refusal, part.is_some())?;
-    Ok(message.end()?)
-}
-
-/// The statement, or the use of a name, that a refusal is about, where it can be told.
-fn refused_part(
-    alloc: Global,
-    source: Source<'_>,
-    refusal: &Refusal,
-) -> Result<Option<Extent>, NoMemory> {
-    match refusal {
-        Refusal::UnknownName { name } => refused_use(alloc, source, name.as_bytes()),
-        Refusal::TypeMismatch { stream } | Refusal::BadArguments { stream } => {
-            refused_statement(alloc, source, *stream)
-        }
-        Refusal::BadWeights { stream } => refused_weights(alloc, source, *stream),
-        Refusal::ConstFault { cause } => faulting_statement(alloc, source, *cause),
-        _ => Ok(None),
+    if !push_part(&mut message, part)? {
+        push_sentence(
+            alloc,
+            &mut message,
+            source,
+            graph,
+            refusal,
+            is_statement(part),
+        )?;
     }
+    source.excerpt(&mut message, place)?;
+    push_hint(alloc, &mut message, source, refusal, part)?;
+    Ok(message.end()?)
 }
 
 /// The sentence; whether it is about a statement.
@@ -140,7 +130,7 @@ fn push_sentence(
     }
 }
 
-/// What stands where it can't, and what could.
+/// What is where it can't be, and what could be there.
 fn push_syntax(
     alloc: Global,
     message: &mut Message,
@@ -164,7 +154,7 @@ fn push_syntax(
     }
 }
 
-/// What could stand there: kinds of things first, then tokens.
+/// What could be there: kinds of things first, then tokens.
 fn push_expected(message: &mut Message, expected: &Expected) -> Result<(), NoMemory> {
     let mut said = false;
     for (is, words) in [
@@ -187,7 +177,7 @@ fn push_expected(message: &mut Message, expected: &Expected) -> Result<(), NoMem
     Ok(())
 }
 
-/// What stands before one of several things.
+/// What is written before one of several things.
 fn separator(said: bool) -> &'static [u8] {
     if said { b", " } else { b"; expected " }
 }

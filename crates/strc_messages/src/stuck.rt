@@ -22,7 +22,7 @@ struct Trial<'a> {
     /// How often each node has fired.
     firings: Vec<u64>,
     /// How many items each channel holds.
-    held: Vec<u128>,
+    items: Vec<u128>,
 }
 
 /// Names the nodes of a loop whose joiner waits for items of the loop itself, where there is one.
@@ -56,7 +56,7 @@ fn stuck_joiner(alloc: Global, graph: &Graph) -> Result<Option<usize>, AllocErro
 
 /// No node has fired.
 fn begun(alloc: Global, graph: &Graph) -> Result<Trial<'_>, AllocError> {
-    let held: Vec<u128> = graph
+    let items: Vec<u128> = graph
         .channels()
         .iter()
         .map(|channel| channel.enqueued.len() as u128)
@@ -64,12 +64,12 @@ fn begun(alloc: Global, graph: &Graph) -> Result<Trial<'_>, AllocError> {
     Ok(Trial {
         graph,
         firings: Vec::from_elem(alloc, 0, graph.nodes().len())?,
-        held,
+        items,
     })
 }
 
 impl Trial<'_> {
-    /// Fires each node once that finds its items, and tells whether one did.
+    /// Fires each node once that finds its items. Whether one did.
     fn fire_each(&mut self) -> bool {
         let mut fired = false;
         for node in 0..self.graph.nodes().len() {
@@ -87,8 +87,8 @@ impl Trial<'_> {
     }
 
     /// How many items a channel holds.
-    fn items(&self, channel: usize) -> u128 {
-        self.held.get(channel).copied().unwrap_or(0)
+    fn item_count(&self, channel: usize) -> u128 {
+        self.items.get(channel).copied().unwrap_or(0)
     }
 
     /// Whether a channel has what its target looks at in its next firing.
@@ -100,7 +100,7 @@ impl Trial<'_> {
         match self.graph.nodes().get(node) {
             Some(target) => {
                 let port = found.target.port as usize;
-                window_at(target, self.firing(node), port) <= self.items(channel)
+                window_at(target, self.firing(node), port) <= self.item_count(channel)
             }
             None => true,
         }
@@ -123,18 +123,22 @@ impl Trial<'_> {
             return;
         };
         for (number, channel) in self.graph.channels().iter().enumerate() {
-            let Some(held) = self.held.get_mut(number) else {
+            let Some(count) = self.items.get_mut(number) else {
                 return;
             };
             if channel.target.node as usize == node {
-                *held = held.saturating_sub(pops_at(fired, firing, channel.target.port as usize));
+                *count = count.saturating_sub(pops_at(fired, firing, channel.target.port as usize));
             }
             if channel.source.node as usize == node {
-                *held = held.saturating_add(pushes_at(fired, firing, channel.source.port as usize));
+                *count = count.saturating_add(pushes_at(
+                    fired,
+                    firing,
+                    channel.source.port as usize,
+                ));
             }
         }
-        if let Some(count) = self.firings.get_mut(node) {
-            *count = firing.saturating_add(1);
+        if let Some(firings) = self.firings.get_mut(node) {
+            *firings = firing.saturating_add(1);
         }
     }
 
@@ -168,7 +172,7 @@ fn comes_back(channel: &Channel, node: usize) -> bool {
     channel.target.node as usize == node && channel.source.node as usize > node
 }
 
-/// The nodes that stand in a loop, or in one with it, the joiner first.
+/// The nodes of a loop, or of one round it, the joiner first.
 fn push_loop(message: &mut Message, graph: &Graph, joiner: usize) -> Result<(), AllocError> {
     if joiner >= graph.nodes().len() {
         return Ok(());

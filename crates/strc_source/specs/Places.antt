@@ -7,12 +7,12 @@ use Rattle.strc_source.specs.declared.place.Place.{Place}
 abbrev pub line_feed : ℕ
 line_feed = 10
 
--- how many bytes stand after a text's last line feed, and one
+-- how many bytes are after a text's last line feed, and one
 abbrev pub next_column : List ℕ → (last : Option ℕ) → ℕ
 next_column text None = suc (length text)
 next_column text (Some place) = length text - place
 
--- what follows this text stands on this line, in this column, both counted from 1
+-- what follows this text is on this line, in this column, both counted from 1
 pub record IsPlace (before : List ℕ) (place : Place) : Type 0 where
   pub line : place.line ≡ suc (length (places (is_byte line_feed) before))
   pub last : Option ℕ

@@ -1,4 +1,4 @@
-// Where the declarations of a text stand, by its tokens.
+// Where the declarations of a text are, by its tokens.
 
 use crate::message::Extent;
 use strc_lex::token::{Keyword, Punctuation, Span, Token, TokenKind};
@@ -18,16 +18,16 @@ pub fn declaration_numbered(tokens: &[Token], number: usize) -> Option<Extent> {
 }
 
 /// Which token the name of a declaration is, by the declaration's number.
-fn place_numbered(tokens: &[Token], number: usize) -> Option<usize> {
-    let mut seen: usize = 0;
+pub fn place_numbered(tokens: &[Token], number: usize) -> Option<usize> {
+    let mut earlier: usize = 0;
     let mut depth: usize = 0;
     for place in 0..tokens.len() {
         depth = depth_after(&tokens[place].kind, depth);
         if depth == 0 && is_declared(tokens, place) {
-            if seen == number {
+            if earlier == number {
                 return Some(place);
             }
-            seen = seen.saturating_add(1);
+            earlier = earlier.saturating_add(1);
         }
     }
     None
@@ -79,11 +79,17 @@ pub fn is_keyword(token: &Token, keyword: Keyword) -> bool {
 
 /// The name of a declaration, where it is declared.
 pub fn declaration_named(tokens: &[Token], name: &[u8]) -> Option<Extent> {
+    let place = place_named(tokens, name)?;
+    Some(extent_of(tokens.get(place)?.span))
+}
+
+/// Which token this name is, where it is declared.
+pub fn place_named(tokens: &[Token], name: &[u8]) -> Option<usize> {
     let mut depth: usize = 0;
     for place in 0..tokens.len() {
         depth = depth_after(&tokens[place].kind, depth);
         if depth == 0 && is_declared(tokens, place) && is_name(&tokens[place], name) {
-            return Some(extent_of(tokens[place].span));
+            return Some(place);
         }
     }
     None
@@ -111,7 +117,7 @@ pub fn first_keyword(tokens: &[Token], keyword: Keyword) -> Option<Extent> {
     None
 }
 
-/// In how many braces what follows a token stands.
+/// In how many braces what follows a token is.
 fn depth_after(kind: &TokenKind, depth: usize) -> usize {
     match kind {
         TokenKind::Punctuation(Punctuation::OpenBrace) => depth.saturating_add(1),
@@ -120,7 +126,7 @@ fn depth_after(kind: &TokenKind, depth: usize) -> usize {
     }
 }
 
-/// Whether a token is the name that a kind of stream stands before.
+/// Whether a token is a name right after a kind of stream.
 fn is_declared(tokens: &[Token], place: usize) -> bool {
     if place == 0 || place >= tokens.len() {
         return false;
@@ -131,7 +137,8 @@ fn is_declared(tokens: &[Token], place: usize) -> bool {
     }
 }
 
-fn is_stream_kind(keyword: Keyword) -> bool {
+/// Whether a keyword is a kind of stream.
+pub fn is_stream_kind(keyword: Keyword) -> bool {
     match keyword {
         Keyword::Filter | Keyword::Pipeline | Keyword::Splitjoin | Keyword::Feedbackloop => true,
         _ => false,

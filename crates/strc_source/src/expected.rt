@@ -1,4 +1,4 @@
-// What could stand where a token can't.
+// What could be where a token can't.
 
 use std::alloc::Global;
 use strc_base::memory::NoMemory;
@@ -56,7 +56,7 @@ const MARKS: [Punctuation; 39] = [
     Punctuation::OrOr,
 ];
 
-/// What could stand at a place.
+/// What could be at a place.
 #[derive(Drop)]
 pub struct Expected {
     /// Any statement.
@@ -69,7 +69,7 @@ pub struct Expected {
     pub tokens: Vec<&'static [u8]>,
 }
 
-/// What could stand after a text's beginning, which has so many tokens.
+/// What could be after a text's beginning, which has so many tokens.
 pub fn expected_after(
     alloc: Global,
     beginning: &[u8],
@@ -79,10 +79,10 @@ pub fn expected_after(
         return Ok(None);
     }
     let trial = Trial { beginning, count };
-    let statement = trial.can_stand(alloc, Keyword::While.text())?;
-    let expression = trial.can_stand(alloc, b"1")?;
-    let name = trial.can_stand(alloc, b"x")?;
-    let operator = trial.can_stand(alloc, Punctuation::Star.text())?;
+    let statement = trial.can_follow(alloc, Keyword::While.text())?;
+    let expression = trial.can_follow(alloc, b"1")?;
+    let name = trial.can_follow(alloc, b"x")?;
+    let operator = trial.can_follow(alloc, Punctuation::Star.text())?;
     let mut expected = Expected {
         statement,
         expression,
@@ -103,9 +103,9 @@ struct Trial<'a> {
 }
 
 impl<'a> Trial<'a> {
-    /// Whether a token can stand there: a text that goes on with it is refused at a later token, if
+    /// Whether a token can be there: a text that goes on with it is refused at a later token, if
     /// at all.
-    fn can_stand(self, alloc: Global, token: &[u8]) -> Result<bool, NoMemory> {
+    fn can_follow(self, alloc: Global, token: &[u8]) -> Result<bool, NoMemory> {
         let mut text = Vec::new(alloc);
         text.extend_from_slice(self.beginning)?;
         text.extend_from_slice(b" ")?;
@@ -121,12 +121,12 @@ impl<'a> Trial<'a> {
         }
     }
 
-    /// The keywords that can stand there.
+    /// The keywords that can be there.
     fn add_keywords(self, alloc: Global, expected: &mut Expected) -> Result<(), NoMemory> {
         for keyword in Keyword::ALL {
             if expected.tokens.len() < NAMED
                 && !expected.has_keyword(keyword)
-                && self.can_stand(alloc, keyword.text())?
+                && self.can_follow(alloc, keyword.text())?
             {
                 expected.tokens.push(keyword.text())?;
             }
@@ -139,7 +139,7 @@ impl<'a> Trial<'a> {
         for mark in MARKS {
             if expected.tokens.len() < NAMED
                 && !expected.has_mark(mark)
-                && self.can_stand(alloc, mark.text())?
+                && self.can_follow(alloc, mark.text())?
             {
                 expected.tokens.push(mark.text())?;
             }
@@ -196,7 +196,7 @@ fn begins_expression(keyword: Keyword) -> bool {
     }
 }
 
-/// Whether a mark stands before an operand.
+/// Whether a mark is written before an operand.
 fn is_prefix(mark: Punctuation) -> bool {
     match mark {
         Punctuation::OpenParen
@@ -209,7 +209,7 @@ fn is_prefix(mark: Punctuation) -> bool {
     }
 }
 
-/// Whether a mark stands between operands, or changes what stands before it.
+/// Whether a mark is written between operands, or changes what is before it.
 fn is_operator(mark: Punctuation) -> bool {
     match mark {
         Punctuation::Semicolon

@@ -63,7 +63,7 @@ pub(crate) fn between(tokens: &[Token], first: usize, last: usize) -> Extent {
 }
 
 /// Whether a token is this mark.
-pub(crate) fn is_mark(token: &Token, mark: Punctuation) -> bool {
+pub fn is_mark(token: &Token, mark: Punctuation) -> bool {
     match token.kind {
         TokenKind::Punctuation(found) => found == mark,
         _ => false,
@@ -87,7 +87,7 @@ fn opening_of(tokens: &[Token], closing: usize) -> Option<usize> {
 }
 
 /// The brace that closes an opening one.
-pub(crate) fn closing_of(tokens: &[Token], opening: usize) -> Option<usize> {
+pub fn closing_of(tokens: &[Token], opening: usize) -> Option<usize> {
     let mut depth: usize = 0;
     for token in opening..tokens.len() {
         if is_mark(&tokens[token], Punctuation::OpenBrace) {
@@ -102,8 +102,8 @@ pub(crate) fn closing_of(tokens: &[Token], opening: usize) -> Option<usize> {
     None
 }
 
-/// The loop whose header stands before a brace, in the same statement.
-fn loop_before(tokens: &[Token], brace: usize) -> Option<usize> {
+/// The loop whose header is before a brace, in the same statement.
+pub fn loop_before(tokens: &[Token], brace: usize) -> Option<usize> {
     if can_begin(tokens, brace) {
         return None;
     }

@@ -57,6 +57,14 @@ impl<'a> Source<'a> {
         &rest[..extent.length.min(rest.len())]
     }
 
+    /// The bytes from a place up to another.
+    pub fn between(self, start: usize, end: usize) -> &'a [u8] {
+        self.bytes(Extent {
+            at: start,
+            length: end.saturating_sub(start),
+        })
+    }
+
     /// The place where a name is used first.
     pub fn use_of(self, name: &[u8]) -> Option<Extent> {
         first_use(self.tokens, name)

@@ -1,5 +1,5 @@
-// Statements that make nodes without a name of their own: a filter without a name, one that is built
-// in, a splitter or a joiner.
+// Statements that make nodes without a name of their own: a filter without a name, one that is
+// built in, a splitter or a joiner.
 
 use crate::declarations::is_keyword;
 use crate::message::Extent;
@@ -18,7 +18,7 @@ pub const SOUGHT_WEIGHT: u32 = 65_521;
 pub struct Unnamed {
     /// The part of the text that is changed.
     pub part: Extent,
-    /// What stands there instead: the sought filter, or the sought weight.
+    /// What is written there instead: the sought filter, or the sought weight.
     pub instead: &'static [u8],
     /// What is declared at the end of the text.
     pub declared: &'static [u8],

@@ -1,117 +1,80 @@
-// Which statement, field or header faults before a program runs. It is found by asking: each
-// statement that is reached before the fault is, and of these the one that is reached last.
+// Which statement, field or header a program comes to last before it is refused: for a fault, for
+// too many filters, or for too many levels.
 
-use crate::search::Search;
+use crate::follow::{Follower, Found, main_area};
 use crate::trial::LONGEST;
 use std::alloc::Global;
 use strc_base::memory::NoMemory;
-use strc_lex::token::Keyword;
+use strc_lex::lexer::lex;
 use strc_semantics::fault::Cause;
-use strc_source::declarations::{Body, body_of, is_keyword};
 use strc_source::message::Extent;
-use strc_source::rows::{can_begin, statement_at};
+use strc_source::rows::statement_at;
 use strc_source::source::Source;
+use strc_steps::braces::{Braced, with_braces};
 
-/// How many texts are tried.
+/// How many texts are tried for a fault.
 const MOST: usize = 600;
 
-/// For how many one counts that isn't answered for its probe, where a loop turns too often: it makes
-/// all its turns.
-const SLOW: usize = 50;
+/// How many for a limit of the whole program, which large programs pass.
+const MOST_OF_LARGE: usize = 120;
 
-/// The most declarations of a text that are looked at.
-const MOST_DECLARATIONS: usize = 100;
-
-/// The statement, the field or the header of a body at which a program faults before it runs, where
-/// one can be told. Where a loop's later turn faults it is the loop's header.
+/// The statement, the field or the header at which a program faults before it runs, where it can
+/// be known. Where the step or the condition of a loop faults it is the loop's header.
 pub fn faulting_statement(
     alloc: Global,
     source: Source<'_>,
     cause: Cause,
 ) -> Result<Option<Extent>, NoMemory> {
+    last_statement(alloc, source, Some(cause), MOST)
+}
+
+/// The statement at which a program has too many filters or too many levels, where it can be known;
+/// of streams that add themselves it is the first statement that adds one again.
+pub fn limit_statement(alloc: Global, source: Source<'_>) -> Result<Option<Extent>, NoMemory> {
+    last_statement(alloc, source, None, MOST_OF_LARGE)
+}
+
+fn last_statement(
+    alloc: Global,
+    source: Source<'_>,
+    cause: Option<Cause>,
+    left: usize,
+) -> Result<Option<Extent>, NoMemory> {
     if source.text.len() > LONGEST {
         return Ok(None);
     }
-    let mut search = Search::of_statements(alloc, source, MOST).with_slow_misses(miss(cause));
-    let Some(named) = last_named(&mut search)? else {
+    let braced = with_braces(alloc, source)?;
+    let Ok(tokens) = lex(alloc, &braced.text) else {
         return Ok(None);
     };
-    let Some(body) = body_around(source, named) else {
-        return Ok(None);
+    let mut follower = Follower {
+        alloc,
+        source: Source {
+            file: source.file,
+            text: &braced.text,
+            tokens: &tokens,
+            main: source.main,
+        },
+        wanted: None,
+        recurs: cause.is_some(),
+        cause,
+        left,
     };
-    let last = if has_filter(source, body) {
-        let mut runs = search.of_runs(cause);
-        last_run(&mut runs, body, named)?
-    } else {
-        search.told(named)
-    };
-    match last {
-        Some(last) => Ok(statement_at(source.tokens, last, body.end)),
+    let source = follower.source;
+    match follower.follow()? {
+        Some(found) => Ok(statement_of(&braced, source, &found)),
         None => Ok(None),
     }
 }
 
-/// The token before which a name is looked at last, or a later one before which something runs: a
-/// filter's fields and its `init` run when all of its text has been looked at.
-fn last_run(runs: &mut Search<'_>, body: Body, named: usize) -> Result<Option<usize>, NoMemory> {
-    let last = match runs.last_of(body, None)? {
-        Some(run) => runs.later_run(named, run)?,
-        None => named,
-    };
-    Ok(runs.told(last))
+/// The main stream's declaration, where it has one.
+pub fn main_stream(source: Source<'_>) -> Option<Extent> {
+    Some(main_area(source)?.head_place(source))
 }
 
-/// Whether a body is a filter's, or has a filter without a name.
-fn has_filter(source: Source<'_>, body: Body) -> bool {
-    if body.is_filter {
-        return true;
-    }
-    for token in body.start..body.end.min(source.tokens.len()) {
-        if is_keyword(&source.tokens[token], Keyword::Filter) {
-            return true;
-        }
-    }
-    false
-}
-
-fn miss(cause: Cause) -> usize {
-    match cause {
-        Cause::Turns => SLOW,
-        Cause::DivZero | Cause::Index | Cause::PeekRange => 0,
-    }
-}
-
-/// The token before which a name is looked at last.
-fn last_named(search: &mut Search<'_>) -> Result<Option<usize>, NoMemory> {
-    let mut last = None;
-    for number in 0..MOST_DECLARATIONS {
-        let Some(body) = body_of(search.source.tokens, number) else {
-            break;
-        };
-        if is_entered(search, body)? {
-            last = search.last_of(body, last)?;
-        }
-    }
-    Ok(last)
-}
-
-/// Whether a body's first statement or field is reached.
-fn is_entered(search: &mut Search<'_>, body: Body) -> Result<bool, NoMemory> {
-    for token in body.start..body.end {
-        if can_begin(search.source.tokens, token) {
-            return search.is_reached(token);
-        }
-    }
-    Ok(false)
-}
-
-/// The body of the declaration that a token stands in.
-fn body_around(source: Source<'_>, token: usize) -> Option<Body> {
-    for number in 0..MOST_DECLARATIONS {
-        let body = body_of(source.tokens, number)?;
-        if body.start <= token && token < body.end {
-            return Some(body);
-        }
-    }
-    None
+/// The statement at a place that was found, in the text that was given.
+pub(crate) fn statement_of(braced: &Braced, source: Source<'_>, found: &Found) -> Option<Extent> {
+    let end = found.level.area.close.saturating_add(1);
+    let row = statement_at(source.tokens, found.token, end)?;
+    Some(braced.original(row))
 }

@@ -1,13 +1,17 @@
 // Takes a program's text, and why it is refused.
-// Gives the part of it that the refusal is about: a statement, a use of a name, weights. It is found
-// by asking: the text with a probe in it is answered for the probe where the probe is reached, and
-// else as before.
-// Stands on strc_source, which knows where parts of a text are, on strc_lex, strc_parse and
-// strc_elab, which answer a text, and on strc_semantics, whose faults it seeks.
+// Gives the part of it that the refusal is about: a statement, a use of a name, weights. It is
+// found by asking: the text with a probe in it is answered for the probe where the probe is
+// reached, and else as before.
+// Stands on strc_steps, which counts a program's steps, on strc_source, which knows where parts of
+// a text are, on strc_lex, strc_parse and strc_elab, which answer a text, and on strc_semantics,
+// whose faults it seeks.
 #![tactic(auto)]
 
+mod ends;
 pub mod faulting;
+mod follow;
 mod search;
 pub mod statement;
 pub mod trial;
+pub mod turns;
 pub mod weights;

@@ -4,16 +4,13 @@
 use crate::trial::{Answer, OTHER, SOUGHT, answer_to, with_part};
 use std::alloc::Global;
 use strc_base::memory::NoMemory;
-use strc_semantics::fault::Cause;
-use strc_source::declarations::Body;
 use strc_source::message::Extent;
-use strc_source::rows::can_begin;
 use strc_source::source::Source;
 
 /// What is put into a text, and how a program is answered that reaches it.
 #[derive(Clone, Copy)]
 pub(crate) struct Probe {
-    text: &'static [u8],
+    pub(crate) text: &'static [u8],
     answer: Answer,
 }
 
@@ -38,32 +35,17 @@ const OTHER_NAME: Probe = Probe {
     answer: Answer::Other,
 };
 
-/// A field or a statement that faults when it runs.
-const DIVISION: Probe = Probe {
-    text: b" int strc_sought_quotient = 1 / 0; ",
-    answer: Answer::Fault(Cause::DivZero),
-};
-
-const INDEX: Probe = Probe {
-    text: b" int[1] strc_sought_items; int strc_sought_item = strc_sought_items[1]; ",
-    answer: Answer::Fault(Cause::Index),
-};
-
-/// A search with two probes that are told apart.
+/// A search with two probes that are answered differently.
 #[derive(Drop)]
 pub(crate) struct Search<'a> {
     alloc: Global,
     pub(crate) source: Source<'a>,
     first: Probe,
     second: Probe,
-    /// Whether a probe stands in place of a token, and else before it.
+    /// Whether a probe is put in place of a token, and else before it.
     replaces: bool,
-    /// Whether a probe is reached where it runs, and else where it is looked at.
-    runs: bool,
     /// How many texts may still be tried.
     left: usize,
-    /// For how many more one counts at which the probe isn't reached.
-    miss: usize,
 }
 
 impl<'a> Search<'a> {
@@ -75,23 +57,7 @@ impl<'a> Search<'a> {
             first: SOUGHT_FIELD,
             second: OTHER_FIELD,
             replaces: false,
-            runs: false,
             left,
-            miss: 0,
-        }
-    }
-
-    /// The same search, in which a text without an answer counts for several: it takes a while.
-    pub(crate) fn with_slow_misses(self, miss: usize) -> Search<'a> {
-        Search {
-            alloc: self.alloc,
-            source: self.source,
-            first: self.first,
-            second: self.second,
-            replaces: self.replaces,
-            runs: self.runs,
-            left: self.left,
-            miss,
         }
     }
 
@@ -103,27 +69,7 @@ impl<'a> Search<'a> {
             first: SOUGHT_NAME,
             second: OTHER_NAME,
             replaces: true,
-            runs: false,
             left,
-            miss: 0,
-        }
-    }
-
-    /// A search among what runs before a program is refused for a fault of this cause.
-    pub(crate) fn of_runs(self, cause: Cause) -> Search<'a> {
-        let (first, second) = match cause {
-            Cause::DivZero => (INDEX, DIVISION),
-            Cause::Index | Cause::PeekRange | Cause::Turns => (DIVISION, INDEX),
-        };
-        Search {
-            alloc: self.alloc,
-            source: self.source,
-            first,
-            second,
-            replaces: self.replaces,
-            runs: true,
-            left: self.left,
-            miss: self.miss,
         }
     }
 
@@ -136,8 +82,8 @@ impl<'a> Search<'a> {
         }
     }
 
-    /// What was found; nothing where so many texts were tried that it can't be told.
-    pub(crate) fn told(&self, found: usize) -> Option<usize> {
+    /// What was found; nothing where so many texts were tried that it isn't known.
+    pub(crate) fn known(&self, found: usize) -> Option<usize> {
         if self.is_over() { None } else { Some(found) }
     }
 
@@ -153,11 +99,7 @@ impl<'a> Search<'a> {
         self.left = self.left.saturating_sub(1);
         let probe = self.first;
         let text = with_part(self.alloc, self.source.text, self.part(token), probe.text)?;
-        if answer_to(self.alloc, self.source, &text)? == probe.answer {
-            return Ok(true);
-        }
-        self.left = self.left.saturating_sub(self.miss);
-        Ok(false)
+        Ok(answer_to(self.alloc, self.source, &text)? == probe.answer)
     }
 
     /// Whether, of two tokens at which these probes are reached, the early one is reached before
@@ -189,35 +131,5 @@ impl<'a> Search<'a> {
             Some(other) if !self.is_before((other, self.first), (token, self.second))? => Ok(found),
             _ => Ok(Some(token)),
         }
-    }
-
-    /// The token that is reached last: one at which a name is, or one at which this search's probe
-    /// is.
-    pub(crate) fn later_run(&mut self, named: usize, run: usize) -> Result<usize, NoMemory> {
-        if self.is_before((named, SOUGHT_FIELD), (run, self.first))? {
-            Ok(run)
-        } else {
-            Ok(named)
-        }
-    }
-
-    /// The token of a body, before which a statement or a field could begin, that is reached last:
-    /// one of these, or the one that was found before.
-    pub(crate) fn last_of(
-        &mut self,
-        body: Body,
-        found: Option<usize>,
-    ) -> Result<Option<usize>, NoMemory> {
-        let mut last = found;
-        for token in (body.start..body.end).rev() {
-            if can_begin(self.source.tokens, token) && self.is_reached(token)? {
-                last = self.later(last, token)?;
-                if body.is_filter && !self.runs {
-                    // A filter's text is looked at in its order.
-                    return Ok(last);
-                }
-            }
-        }
-        Ok(last)
     }
 }

@@ -1,38 +1,123 @@
-// Which statement, and which use of a name, a refusal is about. It is found by asking where the
-// program gets before it is refused.
+// Which statement, and which
 
+use crate::ends::end_part;
+use crate::faulting::statement_of;
+use crate::follow::Follower;
 use crate::search::Search;
 use crate::trial::LONGEST;
 use std::alloc::Global;
 use strc_base::memory::NoMemory;
+use strc_lex::lexer::lex;
+use strc_lex::token::Keyword;
 use strc_source::declarations::{Body, body_of, is_name};
 use strc_source::message::Extent;
 use strc_source::rows::{can_begin, statement_at};
 use strc_source::source::Source;
+use strc_steps::braces::with_braces;
 
-/// At how many places it is tried.
+/// At how many places of a filter it is tried.
 const MOST: usize = 200;
 
-/// The statement of a declaration at which a program is refused, where one can be told: the last
-/// one that is reached, and after which nothing is.
+/// How many texts are tried for a composite stream.
+const MOST_OF_COMPOSITE: usize = 400;
+
+/// A part of a text, and what it has to do with a refusal.
+#[derive(Clone, Copy)]
+pub struct Part {
+    pub place: Extent,
+    pub about: About,
+}
+
+#[derive(Clone, Copy)]
+pub enum About {
+    /// The statement breaks the rule.
+    Statement,
+    /// It adds the first child of a pipeline, which takes what the pipeline doesn't.
+    First,
+    /// It adds the last child of a pipeline, which gives what the pipeline doesn't.
+    Last,
+    /// A stream of the first kind has no statement with the second keyword.
+    Missing(Keyword, Keyword),
+    /// The main stream is marked, since no statement is known.
+    Program,
+}
+
+/// The statement of a declaration at which a program is refused, where it can be known.
 pub fn refused_statement(
     alloc: Global,
     source: Source<'_>,
     declaration: usize,
-) -> Result<Option<Extent>, NoMemory> {
+) -> Result<Option<Part>, NoMemory> {
     if source.text.len() > LONGEST {
         return Ok(None);
     }
     let Some(body) = body_of(source.tokens, declaration) else {
         return Ok(None);
     };
-    match last_reached(alloc, source, body)? {
-        Some(place) => Ok(statement_at(source.tokens, place, body.end)),
+    if !body.is_filter {
+        return refused_in_composite(alloc, source, declaration);
+    }
+    let Some(place) = last_reached(alloc, source, body)? else {
+        return Ok(None);
+    };
+    match statement_at(source.tokens, place, body.end) {
+        Some(place) => Ok(Some(Part {
+            place,
+            about: About::Statement,
+        })),
         None => Ok(None),
     }
 }
 
-/// The last token of a body before which a statement would be reached.
+/// The same of a composite stream, which is followed from the main stream on.
+fn refused_in_composite(
+    alloc: Global,
+    source: Source<'_>,
+    declaration: usize,
+) -> Result<Option<Part>, NoMemory> {
+    let braced = with_braces(alloc, source)?;
+    let Ok(tokens) = lex(alloc, &braced.text) else {
+        return Ok(None);
+    };
+    let source = Source {
+        file: source.file,
+        text: &braced.text,
+        tokens: &tokens,
+        main: source.main,
+    };
+    let wanted = body_of(&tokens, declaration);
+    let mut follower = Follower {
+        alloc,
+        source,
+        wanted,
+        recurs: true,
+        cause: None,
+        left: MOST_OF_COMPOSITE,
+    };
+    let found = match follower.follow()? {
+        Some(found) if is_within(wanted, found.token) => found,
+        _ => return Ok(None),
+    };
+    if found.token == found.level.area.close {
+        return end_part(&mut follower, &braced, found);
+    }
+    match statement_of(&braced, source, &found) {
+        Some(place) => Ok(Some(Part {
+            place,
+            about: About::Statement,
+        })),
+        None => Ok(None),
+    }
+}
+
+fn is_within(body: Option<Body>, token: usize) -> bool {
+    match body {
+        Some(body) => body.start <= token && token < body.end,
+        None => false,
+    }
+}
+
+/// The last token of a filter before which a statement would be reached.
 fn last_reached(alloc: Global, source: Source<'_>, body: Body) -> Result<Option<usize>, NoMemory> {
     let mut search = Search::of_statements(alloc, source, MOST);
     for place in (body.start..body.end).rev() {
@@ -43,7 +128,7 @@ fn last_reached(alloc: Global, source: Source<'_>, body: Body) -> Result<Option<
     Ok(None)
 }
 
-/// The use of a name for which a program is refused, where it can be told: with the sought name
+/// The use of a name for which a program is refused, where it can be known: with the sought name
 /// there, the program is refused for that. So it is at uses before it that are declared, and of all
 /// these it is reached last.
 pub fn refused_use(
@@ -62,7 +147,7 @@ pub fn refused_use(
         }
     }
     match found {
-        Some(place) if search.told(place).is_some() => Ok(Some(source.token_place(place))),
+        Some(place) if search.known(place).is_some() => Ok(Some(source.token_place(place))),
         _ => Ok(None),
     }
 }

@@ -5,6 +5,7 @@ use strc_base::memory::NoMemory;
 use strc_elab::elaborate::elaborate;
 use strc_elab::error::ElabError;
 use strc_lex::lexer::lex;
+use strc_lex::token::Name;
 use strc_parse::parse;
 use strc_semantics::fault::Cause;
 use strc_source::message::Extent;
@@ -29,6 +30,8 @@ pub(crate) enum Answer {
     Fault(Cause),
     /// Weights of this declaration aren't allowed.
     BadWeights(usize),
+    /// A type, a kind or a part isn't the one that must be there.
+    Mismatch,
     /// Any other way.
     Else,
 }
@@ -49,6 +52,7 @@ pub(crate) fn answer_to(
         Err(ElabError::UnknownName { name }) => Ok(answer_of_name(name.as_bytes())),
         Err(ElabError::ConstFault { cause }) => Ok(Answer::Fault(cause)),
         Err(ElabError::BadWeights { stream }) => Ok(Answer::BadWeights(stream)),
+        Err(ElabError::TypeMismatch { .. }) => Ok(Answer::Mismatch),
         Err(ElabError::NoMemory) => Err(NoMemory),
         _ => Ok(Answer::Else),
     }
@@ -62,6 +66,25 @@ fn answer_of_name(name: &[u8]) -> Answer {
         Answer::Other
     } else {
         Answer::Else
+    }
+}
+
+/// The name for which a text is refused, as one that isn't declared.
+pub(crate) fn unknown_name(
+    alloc: Global,
+    source: Source<'_>,
+    text: &[u8],
+) -> Result<Option<Name>, NoMemory> {
+    let Ok(tokens) = lex(alloc, text) else {
+        return Ok(None);
+    };
+    let Ok(program) = parse(alloc, &tokens) else {
+        return Ok(None);
+    };
+    match elaborate(alloc, &program, source.main) {
+        Err(ElabError::UnknownName { name }) => Ok(Some(name)),
+        Err(ElabError::NoMemory) => Err(NoMemory),
+        _ => Ok(None),
     }
 }
 

@@ -12,7 +12,7 @@ use strc_source::source::Source;
 /// How many statements of a declaration are tried.
 const MOST: usize = 50;
 
-/// The `split` or the `join` of a declaration whose weights aren't allowed, where it can be told.
+/// The `split` or the `join` of a declaration whose weights aren't allowed, where it can be known.
 pub fn refused_weights(
     alloc: Global,
     source: Source<'_>,
@@ -46,7 +46,7 @@ fn with_allowed_but(
 ) -> Result<Vec<u8>, NoMemory> {
     let mut text = Vec::new(alloc);
     text.extend_from_slice(source.text)?;
-    // From the end on, so that what stands before keeps its place.
+    // From the end on, so that what is before keeps its place.
     for token in (body.start..body.end).rev() {
         if token != kept {
             if let Some(allowed) = allowed_at(source.tokens, token) {
