@@ -4,8 +4,8 @@ use Rattle.std.specs.Prelude.{Err, String, string_bytes, IfSome}
 use Rattle.std.specs.declared.alloc.Global.{Global}
 use Rattle.std.specs.Option.{option_map}
 use Rattle.strc_input.specs.Numbers.{ints}
-use Rattle.strc_sched.specs.declared.outcome.Outcome.{Outcome}
-use Rattle.strc_sched.specs.declared.refusal.RunRefusal.{RunRefusal}
+use Rattle.strc_outcome.specs.declared.outcome.Outcome.{Outcome}
+use Rattle.strc_outcome.specs.declared.refusal.RunRefusal.{RunRefusal}
 use Rattle.strc_stream.specs.Instances.{Stream}
 use Rattle.strc_picture.specs.Pictures.{picture_text}
 use Rattle.strc_stage.specs.Plans.{Planning, PlanParts, planning_of}

@@ -10,11 +10,11 @@ use Rattle.strc_cli.specs.declared.answer.Answer.TheVariants as answer
 use Rattle.strc_cli.specs.declared.answer.Stop.{Stop}
 use Rattle.strc_cli.specs.declared.answer.Stop.TheVariants as stop
 use Rattle.strc_command.specs.declared.line.Command.{Command}
-use Rattle.strc_sched.specs.declared.outcome.Outcome.TheVariants as outcome
-use Rattle.strc_sched.specs.declared.refusal.RunRefusal.{RunRefusal}
-use Rattle.strc_sched.specs.declared.refusal.RunRefusal.TheVariants as unrun
-use Rattle.strc_run.specs.declared.refusal.Refusal.{Refusal}
-use Rattle.strc_run.specs.declared.refusal.Refusal.TheVariants as refusal
+use Rattle.strc_outcome.specs.declared.outcome.Outcome.TheVariants as outcome
+use Rattle.strc_outcome.specs.declared.refusal.RunRefusal.{RunRefusal}
+use Rattle.strc_outcome.specs.declared.refusal.RunRefusal.TheVariants as unrun
+use Rattle.strc_refusal.specs.declared.refusal.Refusal.{Refusal}
+use Rattle.strc_refusal.specs.declared.refusal.Refusal.TheVariants as refusal
 use Rattle.strc_cli.specs.Answering.{IsAnswered}
 use Rattle.strc_cli.specs.Output.{check_line, outcome_text, plan_text, stop_line}
 

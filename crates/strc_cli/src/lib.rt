@@ -6,8 +6,9 @@
 // of its rounds that is the answer of its stream's equations, the size of its graph, its plan, or a
 // refusal that holds.
 // Stands on strc_command, whose commands it carries out, on strc_run, which compiles and runs a
-// text, on strc_stage, whose plan it writes, on strc_input, which reads its input's numbers, and on
-// strc_sched, strc_graph and strc_semantics, of whose outcomes, nodes, words and faults it writes.
+// text, on strc_stage, whose plan it writes, on strc_input, which reads its input's numbers, on
+// strc_messages and strc_picture, and on strc_refusal, strc_outcome, strc_graph and strc_semantics,
+// of whose refusals, outcomes, nodes, words and faults it writes.
 #![tactic(auto)]
 
 mod answer;

@@ -3,7 +3,7 @@
 use crate::parts::{is_statement, part_hint};
 use std::alloc::Global;
 use strc_base::memory::NoMemory;
-use strc_run::refusal::Refusal;
+use strc_refusal::refusal::Refusal;
 use strc_source::declarations::body_of;
 use strc_source::message::Message;
 use strc_source::nearest::nearest_name;

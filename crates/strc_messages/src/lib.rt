@@ -3,7 +3,7 @@
 // mark, and where it helps a hint.
 // Stands on strc_source, which finds places and builds messages, on strc_trial, which finds the
 // statement that a refusal is about, on strc_elab, strc_flatten and strc_graph, whose nodes it
-// names, and on strc_run, whose refusals it explains.
+// names, and on strc_refusal and strc_outcome, whose refusals and rounds it tells of.
 #![tactic(auto)]
 
 pub mod fault;

@@ -4,7 +4,7 @@
 use std::alloc::{AllocError, Global};
 use strc_base::memory::NoMemory;
 use strc_lex::token::Keyword;
-use strc_run::refusal::Refusal;
+use strc_refusal::refusal::Refusal;
 use strc_semantics::fault::Cause;
 use strc_source::message::{Extent, Message};
 use strc_source::source::Source;

@@ -5,7 +5,7 @@ use std::alloc::Global;
 use strc_base::memory::NoMemory;
 use strc_graph::graph::Graph;
 use strc_lex::token::Keyword;
-use strc_run::refusal::Refusal;
+use strc_refusal::refusal::Refusal;
 use strc_source::declarations::{declaration_named, declaration_numbered, first_keyword};
 use strc_source::message::Extent;
 use strc_source::source::Source;

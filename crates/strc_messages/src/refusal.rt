@@ -12,7 +12,7 @@ use strc_base::memory::NoMemory;
 use strc_graph::graph::Graph;
 use strc_lex::lexer::lex;
 use strc_lex::token::Token;
-use strc_run::refusal::Refusal;
+use strc_refusal::refusal::Refusal;
 use strc_source::expected::{Expected, expected_after};
 use strc_source::message::{Extent, Message};
 use strc_source::source::Source;

@@ -1,6 +1,6 @@
 // The sentences that need nothing but the refusal.
 
-use strc_run::refusal::Refusal;
+use strc_refusal::refusal::Refusal;
 use strc_semantics::fault::Cause;
 use strc_source::source::Source;
 

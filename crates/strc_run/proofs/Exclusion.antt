@@ -19,8 +19,8 @@ use Rattle.strc_order.specs.Schedules.{ScheduleParts, IsSchedule}
 use Rattle.strc_scope.specs.declared.error.ElabError.{ElabError}
 use Rattle.strc_stage.specs.Laws.{OneStartup, ScheduledOrRefused}
 use Rattle.strc_stage.specs.Plans.{HasSchedule, HasStartup, Planning}
-use Rattle.strc_run.specs.declared.refusal.Refusal.{Refusal}
-use Rattle.strc_run.specs.declared.refusal.Refusal.TheVariants as refusal
+use Rattle.strc_refusal.specs.declared.refusal.Refusal.{Refusal}
+use Rattle.strc_refusal.specs.declared.refusal.Refusal.TheVariants as refusal
 use Rattle.strc_run.specs.Accepts.{Accepts, CanRun, round_counts}
 use Rattle.strc_run.specs.Laws.{AcceptedOrRefused, OneStream}
 use Rattle.strc_run.specs.Rates.{rates_checked}

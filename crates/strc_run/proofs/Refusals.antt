@@ -28,15 +28,15 @@ use Rattle.strc_scope.specs.declared.error.ElabError.{ElabError}
 use Rattle.strc_scope.specs.declared.error.ElabError.TheVariants as error
 use Rattle.strc_stage.specs.Plans.{HasStartup, IsDeadlocked, IsUnbounded, Overflows, PlanParts}
 use Rattle.strc_stage.specs.Plans.{planning_of}
-use Rattle.strc_run.specs.declared.refusal.Refusal.{Refusal}
-use Rattle.strc_run.specs.declared.refusal.Refusal.TheVariants as refusal
+use Rattle.strc_refusal.specs.declared.refusal.Refusal.{Refusal}
+use Rattle.strc_refusal.specs.declared.refusal.Refusal.TheVariants as refusal
 use Rattle.strc_run.specs.Accepts.{CanRun, round_counts}
 use Rattle.strc_run.specs.Plans.{HasPlan, IsPlanOf}
 use Rattle.strc_run.specs.Refuses.{Breaks, HasNoBalance, IsTrueOf, IsReadRefusal}
 use Rattle.strc_run.specs.Rates.{rates_checked, node_checked, filter_checked, then_check}
 use Rattle.strc_run.specs.Rates.{told_of_node}
-use Rattle.strc_run.specs.Reports.{refusal_of, balance_refusal_of, startup_refusal_of}
-use Rattle.strc_run.specs.Reports.{schedule_refusal_of}
+use Rattle.strc_refusal.specs.Reports.{refusal_of, balance_refusal_of, startup_refusal_of}
+use Rattle.strc_refusal.specs.Reports.{schedule_refusal_of}
 use Rattle.strc_run.specs.Verdicts.{IsRefusal}
 
 -- a test of rates doesn't speak of the balance

@@ -6,9 +6,9 @@ use Rattle.std.specs.List.{list_any}
 use Rattle.strc_graph.specs.Graphs.{reads_input}
 use Rattle.strc_sched.specs.Plain.{AnswersGraph, IsPlainRefusal}
 use Rattle.strc_sched.specs.Serving.{IsServed}
-use Rattle.strc_sched.specs.declared.outcome.Outcome.{Outcome}
-use Rattle.strc_sched.specs.declared.refusal.RunRefusal.{RunRefusal}
-use Rattle.strc_sched.specs.declared.refusal.RunRefusal.TheVariants as refused
+use Rattle.strc_outcome.specs.declared.outcome.Outcome.{Outcome}
+use Rattle.strc_outcome.specs.declared.refusal.RunRefusal.{RunRefusal}
+use Rattle.strc_outcome.specs.declared.refusal.RunRefusal.TheVariants as refused
 use Rattle.strc_stage.specs.Plans.{Planning}
 use Rattle.strc_run.specs.Rounds.{IsRunOf, IsUnrun, is_bounded, need_of}
 

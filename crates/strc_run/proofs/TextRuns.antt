@@ -4,9 +4,9 @@ use Rattle.std.proofs.Common.{Ok, Err}
 use Rattle.std.specs.Prelude.{unwrap_or}
 use Rattle.strc_stream.specs.Flattening.{tree_of, nodes_of}
 use Rattle.strc_sched.specs.Plain.{IsAnswer}
-use Rattle.strc_sched.specs.declared.outcome.Outcome.{Outcome}
-use Rattle.strc_sched.specs.declared.refusal.RunRefusal.{RunRefusal}
-use Rattle.strc_sched.specs.declared.refusal.RunRefusal.TheVariants as refused
+use Rattle.strc_outcome.specs.declared.outcome.Outcome.{Outcome}
+use Rattle.strc_outcome.specs.declared.refusal.RunRefusal.{RunRefusal}
+use Rattle.strc_outcome.specs.declared.refusal.RunRefusal.TheVariants as refused
 use Rattle.strc_stage.specs.Plans.{Planning}
 use Rattle.strc_run.specs.Laws.{PlansAnswerTexts}
 use Rattle.strc_run.specs.Plans.{IsPlanOf}

@@ -1,9 +1,9 @@
 -- What holds of all texts.
 use Rattle.std.specs.Prelude.{◌≡◌, ℕ, ℤ, List, Option, Result}
-use Rattle.strc_sched.specs.declared.outcome.Outcome.{Outcome}
-use Rattle.strc_sched.specs.declared.refusal.RunRefusal.{RunRefusal}
+use Rattle.strc_outcome.specs.declared.outcome.Outcome.{Outcome}
+use Rattle.strc_outcome.specs.declared.refusal.RunRefusal.{RunRefusal}
 use Rattle.strc_stage.specs.Plans.{Planning}
-use Rattle.strc_run.specs.declared.refusal.Refusal.{Refusal}
+use Rattle.strc_refusal.specs.declared.refusal.Refusal.{Refusal}
 use Rattle.strc_run.specs.Accepts.{Accepts}
 use Rattle.strc_run.specs.Plans.{IsPlanOf}
 use Rattle.strc_run.specs.Refuses.{Refuses}

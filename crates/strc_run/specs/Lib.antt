@@ -3,7 +3,6 @@ pub mod Laws
 pub mod Plans
 pub mod Rates
 pub mod Refuses
-pub mod Reports
 pub mod Rounds
 pub mod Streams
 pub mod TextRuns

@@ -5,7 +5,7 @@ use Rattle.strc_graph.specs.FlatGraphs.{IsProgram}
 use Rattle.strc_stream.specs.Flattening.{tree_of, nodes_of, outer_loops}
 use Rattle.strc_stage.specs.Plans.{PlanParts, Planning, planning_of}
 use Rattle.strc_run.specs.declared.options.Options.{Options}
-use Rattle.strc_run.specs.declared.refusal.Refusal.{Refusal}
+use Rattle.strc_refusal.specs.declared.refusal.Refusal.{Refusal}
 use Rattle.strc_run.specs.Accepts.{Accepts}
 use Rattle.strc_run.specs.Refuses.{IsTrueOf}
 

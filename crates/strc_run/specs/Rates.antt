@@ -4,8 +4,8 @@ use Rattle.strc_graph.specs.Graphs.{NodeCode, Filter}
 use Rattle.strc_rate.specs.Rates.{FilterRates, checked}
 use Rattle.strc_rate.specs.declared.rates.RateError.{RateError}
 use Rattle.strc_rate.specs.declared.rates.RateError.TheVariants as rate
-use Rattle.strc_run.specs.declared.refusal.Refusal.{Refusal}
-use Rattle.strc_run.specs.declared.refusal.Refusal.TheVariants as refusal
+use Rattle.strc_refusal.specs.declared.refusal.Refusal.{Refusal}
+use Rattle.strc_refusal.specs.declared.refusal.Refusal.TheVariants as refusal
 
 -- a refusal of a filter's rates, with its node
 abbrev pub told_of_node : ℕ → RateError → Refusal

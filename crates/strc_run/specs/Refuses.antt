@@ -17,11 +17,11 @@ use Rattle.strc_balance.specs.Balance.{Balances}
 use Rattle.strc_balance.specs.Rates.{equations_of, size_of}
 use Rattle.strc_balance.specs.declared.error.BalanceError.TheVariants as unbalanced
 use Rattle.strc_stage.specs.Plans.{HasStartup, IsDeadlocked, IsUnbounded, Overflows}
-use Rattle.strc_run.specs.declared.refusal.Refusal.{Refusal}
-use Rattle.strc_run.specs.declared.refusal.Refusal.TheVariants as refusal
+use Rattle.strc_refusal.specs.declared.refusal.Refusal.{Refusal}
+use Rattle.strc_refusal.specs.declared.refusal.Refusal.TheVariants as refusal
 use Rattle.strc_run.specs.Accepts.{CanRun, round_counts}
 use Rattle.strc_run.specs.Rates.{rates_checked}
-use Rattle.strc_run.specs.Reports.{refusal_of}
+use Rattle.strc_refusal.specs.Reports.{refusal_of}
 
 -- the text spells no program, for this reason
 abbrev pub IsUnreadable : List ℕ → Refusal → Type 0

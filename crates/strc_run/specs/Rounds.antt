@@ -6,9 +6,9 @@ use Rattle.strc_graph.specs.Graphs.{NodeCode, reads_input}
 use Rattle.strc_sched.specs.Plain.{AnswersGraph}
 use Rattle.strc_sched.specs.Plain as plain
 use Rattle.strc_sched.specs.Serving.{Serves}
-use Rattle.strc_sched.specs.declared.outcome.Outcome.{Outcome}
-use Rattle.strc_sched.specs.declared.refusal.RunRefusal.{RunRefusal}
-use Rattle.strc_sched.specs.declared.refusal.RunRefusal.TheVariants as refused
+use Rattle.strc_outcome.specs.declared.outcome.Outcome.{Outcome}
+use Rattle.strc_outcome.specs.declared.refusal.RunRefusal.{RunRefusal}
+use Rattle.strc_outcome.specs.declared.refusal.RunRefusal.TheVariants as refused
 use Rattle.strc_stage.specs.Plans.{Planning}
 
 -- whether a node of a plan's graph reads the program's input

@@ -6,7 +6,7 @@ use Rattle.strc_elab.specs.Elaboration.{elaborated}
 use Rattle.strc_stream.specs.Instances as instances
 use Rattle.strc_stream.specs.View.{stream_view}
 use Rattle.strc_stream.specs.declared.stream.Stream.{Stream}
-use Rattle.strc_run.specs.declared.refusal.Refusal.{Refusal}
+use Rattle.strc_refusal.specs.declared.refusal.Refusal.{Refusal}
 use Rattle.strc_run.specs.Refuses.{IsTrueOf}
 
 -- the text spells a program, and its main stream is this one

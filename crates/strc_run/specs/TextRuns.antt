@@ -6,9 +6,9 @@ use Rattle.strc_graph.specs.Graphs.{reads_input}
 use Rattle.strc_stream.specs.Flattening.{tree_of, nodes_of}
 use Rattle.strc_stream.specs.Instances.{Stream}
 use Rattle.strc_sched.specs.Plain.{IsAnswer}
-use Rattle.strc_sched.specs.declared.outcome.Outcome.{Outcome}
-use Rattle.strc_sched.specs.declared.refusal.RunRefusal.{RunRefusal}
-use Rattle.strc_sched.specs.declared.refusal.RunRefusal.TheVariants as refused
+use Rattle.strc_outcome.specs.declared.outcome.Outcome.{Outcome}
+use Rattle.strc_outcome.specs.declared.refusal.RunRefusal.{RunRefusal}
+use Rattle.strc_outcome.specs.declared.refusal.RunRefusal.TheVariants as refused
 use Rattle.strc_stage.specs.Plans.{Planning}
 use Rattle.strc_run.specs.Accepts.{Accepts}
 use Rattle.strc_run.specs.Rounds.{IsCount, is_bounded, need_of}

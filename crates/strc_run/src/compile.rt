@@ -7,7 +7,7 @@ ghost use Rattle.strc_parse.specs.Texts.{Spells};
 ghost use Rattle.strc_run.specs.Plans.{HasPlan, main_of};
 ghost use Rattle.strc_run.specs.Streams.{HasStream};
 ghost use Rattle.strc_run.specs.Refuses.{HasNoBalance, IsReadRefusal};
-ghost use Rattle.strc_run.specs.declared.refusal.Refusal.TheVariants as refused;
+ghost use Rattle.strc_refusal.specs.declared.refusal.Refusal.TheVariants as refused;
 
 use crate::options::Options;
 use crate::rates::check_rates;

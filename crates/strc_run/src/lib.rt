@@ -4,14 +4,15 @@
 // The theorem to rely on: `compile` refuses exactly where a layer does, and the outcome of a plan's
 // rounds is the answer of its stream's equations (`laws::plans_answer_texts`).
 // Stands on strc_lex, strc_parse, strc_elab, strc_flatten, strc_rate, strc_balance, strc_startup
-// and strc_order, whose rules a text keeps, on strc_stage, whose plans it gives, and on strc_sched,
-// which runs schedules.
+// and strc_order, whose rules a text keeps, on strc_refusal, whose refusals it gives and passes on,
+// on strc_stage, whose plans it gives, and on strc_sched, which runs schedules, with outcomes of
+// strc_outcome.
 #![tactic(auto)]
 
 pub mod compile;
 pub mod laws;
 pub mod options;
 mod rates;
-pub mod refusal;
 pub mod run;
-mod sentence;
+
+pub use strc_refusal::refusal;

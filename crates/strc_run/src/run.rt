@@ -5,9 +5,9 @@ ghost use Rattle.strc_stage.specs.Plans.{planning_of};
 ghost use Rattle.strc_run.specs.Rounds.{IsRunOf, plan_reads};
 
 use std::alloc::Global;
-pub use strc_sched::outcome::{Outcome, Round};
+pub use strc_outcome::outcome::{Outcome, Round};
+pub use strc_outcome::refusal::RunRefusal;
 use strc_sched::plain::run_plain;
-pub use strc_sched::refusal::RunRefusal;
 use strc_sched::serving;
 use strc_sched::serving::rounds_served;
 use strc_stage::plan::Plan;

@@ -19,9 +19,9 @@ use Rattle.strc_sched.specs.Plain.{IsEnding, IsStopped}
 use Rattle.strc_sched.specs.Running.{HasGone}
 use Rattle.strc_sched.specs.declared.machine.Stop.{Stop}
 use Rattle.strc_sched.specs.declared.machine.Stop.TheVariants as stop
-use Rattle.strc_sched.specs.declared.outcome.Outcome.{Outcome}
-use Rattle.strc_sched.specs.declared.outcome.Round.TheVariants as round
-use Rattle.strc_sched.specs.declared.refusal.RunRefusal.{RunRefusal}
+use Rattle.strc_outcome.specs.declared.outcome.Outcome.{Outcome}
+use Rattle.strc_outcome.specs.declared.outcome.Round.TheVariants as round
+use Rattle.strc_outcome.specs.declared.refusal.RunRefusal.{RunRefusal}
 
 module _ (circuit : CircuitView) (order : List ℕ) (rounds now_round : ℕ) (left : now_round < rounds)
     (now : MachineView) where

@@ -5,6 +5,5 @@ pub mod Running
 pub mod Reading
 pub mod Plain
 pub mod Serving
-pub mod Sentences
 pub mod Blocks
 pub mod Batches

@@ -11,14 +11,14 @@ use Rattle.strc_admissible.specs.Laws.{counts_at}
 use Rattle.strc_admissible.specs.Machine.{Ending, Ended, FaultedAtFirst, FaultedIn}
 use Rattle.strc_admissible.specs.Planned.{items_read}
 use Rattle.strc_admissible.specs.Told.{IsAnswered}
-use Rattle.strc_sched.specs.declared.outcome.Outcome.{Outcome}
-use Rattle.strc_sched.specs.declared.outcome.Outcome.TheVariants as outcome
-use Rattle.strc_sched.specs.declared.outcome.Round.{Round}
-use Rattle.strc_sched.specs.declared.outcome.Round.TheVariants as round
+use Rattle.strc_outcome.specs.declared.outcome.Outcome.{Outcome}
+use Rattle.strc_outcome.specs.declared.outcome.Outcome.TheVariants as outcome
+use Rattle.strc_outcome.specs.declared.outcome.Round.{Round}
+use Rattle.strc_outcome.specs.declared.outcome.Round.TheVariants as round
 use Rattle.strc_sched.specs.declared.machine.Stop.{Stop}
 use Rattle.strc_sched.specs.declared.machine.Stop.TheVariants as stop
-use Rattle.strc_sched.specs.declared.refusal.RunRefusal.{RunRefusal}
-use Rattle.strc_sched.specs.declared.refusal.RunRefusal.TheVariants as refused
+use Rattle.strc_outcome.specs.declared.refusal.RunRefusal.{RunRefusal}
+use Rattle.strc_outcome.specs.declared.refusal.RunRefusal.TheVariants as refused
 
 -- an outcome is how a run ends; a fault in start-up leaves no words
 abbrev pub IsEnding : Outcome → Ending → Type 0

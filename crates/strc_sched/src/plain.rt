@@ -10,7 +10,7 @@ ghost use Rattle.strc_sched.specs.Plain.{AnswersGraph, IsEnding, IsPlainRefusal,
 ghost use Rattle.strc_sched.specs.Plain.{need_of};
 ghost use Rattle.strc_sched.specs.Running.{IsMachine, machine_view};
 ghost use Rattle.strc_sched.specs.Batches.{AreBatches};
-ghost use Rattle.strc_sched.specs.declared.refusal.RunRefusal.TheVariants as refused;
+ghost use Rattle.strc_outcome.specs.declared.refusal.RunRefusal.TheVariants as refused;
 
 use crate::batches::Order;
 use crate::circuit::Circuit;

@@ -3,7 +3,7 @@
 // heights, firings over given windows, closed peeks, copies of large codes, graphs of streams,
 // devices that fail, and forms of the command line.
 // There is no theorem here; the values are those of the language's rules.
-// Stands on strc_lex, strc_parse, strc_work, strc_rate, strc_elab and strc_cli.
+// Stands on strc_lex, strc_parse, strc_work, strc_rate, strc_flatten and strc_cli.
 #![tactic(auto)]
 
 #[cfg(test)]

@@ -4,8 +4,8 @@ use Rattle.strc_graph.specs.Graphs.{NodeCode}
 use Rattle.strc_stream.specs.View.{stream_view}
 use Rattle.strc_graph.specs.NodeView.{node_view, graph_view}
 use Rattle.strc_run.specs.Rates.{rates_checked}
-use Rattle.strc_run.specs.Reports.{refusal_of, balance_refusal_of, startup_refusal_of}
-use Rattle.strc_run.specs.Reports.{schedule_refusal_of}
+use Rattle.strc_refusal.specs.Reports.{refusal_of, balance_refusal_of, startup_refusal_of}
+use Rattle.strc_refusal.specs.Reports.{schedule_refusal_of}
 use Rattle.strc_run.specs.Verdicts.{IsRefusal}
 use Rattle.strc_run.proofs.Refusals.{elaboration_refused, graph_refused, rates_refused}
 use Rattle.strc_run.proofs.Refusals.{balance_refused, startup_refused, schedule_refused}

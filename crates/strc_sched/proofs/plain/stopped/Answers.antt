@@ -1,6 +1,6 @@
 use Rattle.std.proofs.Common.{refl, sym, subst, take}
 use Rattle.strc_sched.specs.Plain.{IsStopped}
-use Rattle.strc_sched.specs.declared.outcome.Outcome.TheVariants as outcome
+use Rattle.strc_outcome.specs.declared.outcome.Outcome.TheVariants as outcome
 use Rattle.strc_sched.proofs.plain.stopped.Goals as goal
 
 pub returns-in-Fault-clause-outcome : goal.returns-in-Fault-clause-outcome

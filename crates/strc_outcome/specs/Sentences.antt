@@ -1,9 +1,9 @@
 -- What a person reads where there is no run.
 use Rattle.std.specs.Prelude.{ℕ, List, codes, decimal, ◌++◌}
-use Rattle.strc_sched.specs.declared.refusal.RunRefusal.{RunRefusal}
-use Rattle.strc_sched.specs.declared.refusal.RunRefusal.TheVariants.{InputShort, BadWorkers}
-use Rattle.strc_sched.specs.declared.refusal.RunRefusal.TheVariants.{NoMemory, NoWorker}
-use Rattle.strc_sched.specs.declared.refusal.RunRefusal.TheVariants.{RoundsNeeded}
+use Rattle.strc_outcome.specs.declared.refusal.RunRefusal.{RunRefusal}
+use Rattle.strc_outcome.specs.declared.refusal.RunRefusal.TheVariants.{InputShort, BadWorkers}
+use Rattle.strc_outcome.specs.declared.refusal.RunRefusal.TheVariants.{NoMemory, NoWorker}
+use Rattle.strc_outcome.specs.declared.refusal.RunRefusal.TheVariants.{RoundsNeeded}
 
 abbrev pub refusal_sentence : RunRefusal → List ℕ
 refusal_sentence (InputShort need got) =

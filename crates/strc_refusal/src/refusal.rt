@@ -1,18 +1,18 @@
 // Why a text is refused.
 
 ghost use Rattle.std.specs.Prelude.{◌≡◌};
-ghost use Rattle.strc_run.specs.Reports.{refusal_of, balance_refusal_of, startup_refusal_of};
-ghost use Rattle.strc_run.specs.Reports.{schedule_refusal_of};
-ghost use Rattle.strc_run.specs.declared.refusal.Refusal.TheVariants.{NoMemory};
+ghost use Rattle.strc_refusal.specs.Reports.{refusal_of, balance_refusal_of, startup_refusal_of};
+ghost use Rattle.strc_refusal.specs.Reports.{schedule_refusal_of};
+ghost use Rattle.strc_refusal.specs.declared.refusal.Refusal.TheVariants.{NoMemory};
 
 use crate::sentence::when;
 use std::alloc::{AllocError, AllocFailed};
 use strc_balance::error::BalanceError;
 use strc_base::memory;
 use strc_check::spelled::spelled;
-use strc_elab::error::ElabError;
 use strc_lex::token::Name;
 use strc_order::error::ScheduleError;
+use strc_scope::error::ElabError;
 use strc_semantics::fault::Cause;
 use strc_startup::error::StartupError;
 use thiserror::Error;

@@ -1,7 +1,7 @@
 // Why there is no run.
 
 ghost use Rattle.std.specs.Prelude.{◌≡◌};
-ghost use Rattle.strc_sched.specs.declared.refusal.RunRefusal.TheVariants as refused;
+ghost use Rattle.strc_outcome.specs.declared.refusal.RunRefusal.TheVariants as refused;
 
 use std::alloc::{AllocError, AllocFailed};
 use std::error::Error;
@@ -24,7 +24,7 @@ pub enum RunRefusal {
 
 impl fmt::Display for RunRefusal {
     ghost use Rattle.std.specs.Prelude.{Some};
-    ghost use Rattle.strc_sched.specs.Sentences.{refusal_sentence};
+    ghost use Rattle.strc_outcome.specs.Sentences.{refusal_sentence};
 
     ghost output = { λ refusal. Some (refusal_sentence refusal) };
 

@@ -7,8 +7,8 @@ use Rattle.strc_startup.specs.declared.error.StartupError.{StartupError}
 use Rattle.strc_startup.specs.declared.error.StartupError.TheVariants as unprimed
 use Rattle.strc_order.specs.declared.error.ScheduleError.{ScheduleError}
 use Rattle.strc_order.specs.declared.error.ScheduleError.TheVariants as unscheduled
-use Rattle.strc_run.specs.declared.refusal.Refusal.{Refusal}
-use Rattle.strc_run.specs.declared.refusal.Refusal.TheVariants as refusal
+use Rattle.strc_refusal.specs.declared.refusal.Refusal.{Refusal}
+use Rattle.strc_refusal.specs.declared.refusal.Refusal.TheVariants as refusal
 
 -- of elaboration and of flat graphs
 abbrev pub refusal_of : ElabError → Refusal
