@@ -1,2 +1,3 @@
 pub mod MainStreams
 pub mod Names
+pub mod Written

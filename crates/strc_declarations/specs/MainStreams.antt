@@ -10,7 +10,7 @@ use Rattle.strc_syntax.specs.declared.tree.StreamType.{StreamType}
 use Rattle.strc_scope.specs.Texts.{parameters_of, declared_from}
 use Rattle.strc_scope.specs.declared.error.ElabError.{ElabError}
 use Rattle.strc_scope.specs.declared.error.ElabError.TheVariants as refused
-use Rattle.strc_weights.specs.Sides.{is_as_written}
+use Rattle.strc_declarations.specs.Written.{is_as_written}
 
 -- the number of the first declaration whose name an earlier one has
 abbrev pub doubled_from : (earlier : List (List ℕ)) → ℕ → List Declaration → Option ℕ

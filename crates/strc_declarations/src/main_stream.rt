@@ -11,10 +11,10 @@ ghost use Rattle.strc_declarations.specs.Names.{place_from};
 ghost use Rattle.strc_scope.specs.Texts as texts;
 
 use crate::declared::declared;
+use crate::written::is_as_written;
 use indexmap::IndexMap;
 use strc_scope::error::ElabError;
 use strc_syntax::tree::{Decl, ItemType, StreamTree, StreamType};
-use strc_weights::types::is_as_written;
 
 /// The main stream with its number: the one that is named, or else the only declaration that can be
 /// it.

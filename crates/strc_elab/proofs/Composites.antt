@@ -17,7 +17,7 @@ use Rattle.strc_elab.specs.Answering.{join_view, part_view}
 use Rattle.strc_weights.specs.Splits.{split_view}
 use Rattle.strc_elab.specs.Elaboration as spec
 use Rattle.strc_elab.specs.Elaboration.{where_kept, loop_made, splitjoin_made}
-use Rattle.strc_weights.specs.Sides.{is_as_written}
+use Rattle.strc_declarations.specs.Written.{is_as_written}
 use Rattle.strc_weights.specs.Sides.{any_side, inputs_in, outputs_in}
 use Rattle.strc_elab.specs.Making.{made_as}
 use Rattle.strc_weights.specs.Weights as weights

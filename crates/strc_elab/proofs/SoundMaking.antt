@@ -14,7 +14,7 @@ use Rattle.strc_stream.specs.Types.{IsWellTyped, HasFirst, PassesItems, IsSplit,
 use Rattle.strc_stream.specs.Types.{output_of}
 use Rattle.strc_scope.specs.declared.error.ElabError.TheVariants as refused
 use Rattle.strc_elab.specs.Elaboration.{Progress, Elaborated, as_written}
-use Rattle.strc_weights.specs.Sides.{is_as_written}
+use Rattle.strc_declarations.specs.Written.{is_as_written}
 use Rattle.strc_elab.specs.Elaboration.{pipeline_made, splitjoin_made, loop_made, composite_made}
 use Rattle.strc_weights.specs.Sides.{last_given, inputs_in, outputs_in, any_side}
 use Rattle.strc_elab.specs.Sound.{IsInstance}

@@ -27,9 +27,9 @@ use Rattle.strc_stream.specs.Instances as instance
 use Rattle.strc_stream.specs.Types.{IsWellTyped}
 use Rattle.strc_elab.specs.Elaboration.{filter_limit, Tally, Elaborated, Setting, Progress}
 use Rattle.strc_elab.specs.Elaboration.{stmts_run, started_as, instance_of}
-use Rattle.strc_weights.specs.Sides.{same_item}
+use Rattle.strc_declarations.specs.Written.{same_item}
 use Rattle.strc_elab.specs.Elaboration.{initial_progress, as_written, pipeline_made}
-use Rattle.strc_weights.specs.Sides.{is_as_written}
+use Rattle.strc_declarations.specs.Written.{is_as_written}
 use Rattle.strc_elab.specs.Elaboration.{splitjoin_made, loop_made, composite_made}
 use Rattle.strc_weights.specs.Sides.{inputs_in}
 use Rattle.strc_elab.specs.Elaboration.{composite_elaborated, given_elaborated}

@@ -31,7 +31,8 @@ use Rattle.strc_check.specs.declared.types.ValueType.TheVariants as kind
 use Rattle.strc_weights.specs.Weights.{Split, ToEach, InTurn, weighted, split_dealt, join_dealt}
 use Rattle.strc_weights.specs.Weights.{input_written, output_written, loop_weights, loop_splitter}
 use Rattle.strc_declarations.specs.MainStreams.{doubled_from, not_doubled, main_of}
-use Rattle.strc_weights.specs.Sides.{same_item, passes_items, is_as_written, last_given, inputs_in}
+use Rattle.strc_declarations.specs.Written.{same_item, is_as_written}
+use Rattle.strc_weights.specs.Sides.{passes_items, last_given, inputs_in}
 use Rattle.strc_weights.specs.Sides.{outputs_in, any_side}
 use Rattle.strc_stream.specs.Instances.{Stream, in_a_row}
 use Rattle.strc_stream.specs.Instances as instance

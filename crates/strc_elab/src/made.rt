@@ -17,11 +17,12 @@ ghost use Rattle.strc_elab.specs.Tasks.{elaborated_view};
 use crate::progress::Progress;
 use crate::task::{Elaborated, Task};
 use std::alloc::Global;
+use strc_declarations::written::is_as_written;
 use strc_graph::graph::Splitter;
 use strc_scope::error::ElabError;
 use strc_stream::stream::Stream;
 use strc_syntax::tree::{CompositeKind, StreamType};
-use strc_weights::types::{any_side, inputs_in, is_as_written, outputs_in, side, types_in_a_row};
+use strc_weights::types::{any_side, inputs_in, outputs_in, side, types_in_a_row};
 use strc_weights::weights::{
     input_written, join_dealt, loop_splitter, loop_weights, output_written, split_dealt,
 };

@@ -5,10 +5,10 @@ ghost use Rattle.strc_elab.specs.Elaboration as spec;
 ghost use Rattle.strc_elab.specs.Answering.{progress_of};
 
 use crate::task::Tally;
+use strc_declarations::written::same_item;
 use strc_scope::store::Store;
 use strc_stream::stream::Stream;
 use strc_syntax::tree::{CompositeKind, Role, StreamType};
-use strc_weights::types::same_item;
 use strc_weights::weights::Split;
 
 /// What its stream statements have said so far: the children of `add` with their types, the weights

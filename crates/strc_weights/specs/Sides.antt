@@ -1,27 +1,13 @@
--- What streams take and give: items or nothing, one by one, side by side, and in a row.
-use Rattle.std.specs.Prelude.{Bool, true, false, ◌&&◌, List, [], ◌∷◌, map, Option, Some, None}
+-- What streams take and give: items or nothing, side by side, and in a row.
+use Rattle.std.specs.Prelude.{Bool, ◌&&◌, List, [], ◌∷◌, map, Option, Some, None}
 use Rattle.std.specs.List.{list_any}
 use Rattle.strc_syntax.specs.declared.tree.ItemType.{ItemType}
-use Rattle.strc_syntax.specs.declared.tree.ItemType.TheVariants as item
 use Rattle.strc_syntax.specs.declared.tree.StreamType.{StreamType}
 use Rattle.strc_stream.specs.Types.{side, is_int}
-
--- one type is the other
-abbrev pub same_item : ItemType → ItemType → Bool
-same_item item.Int item.Int = true
-same_item item.Void item.Void = true
-same_item item.Int item.Void = false
-same_item item.Void item.Int = false
 
 -- items come in and go out
 abbrev pub passes_items : StreamType → Bool
 passes_items types = is_int types.input && is_int types.output
-
--- one type is the other, where one is written
-abbrev pub is_as_written : Option StreamType → StreamType → Bool
-is_as_written None found = true
-is_as_written (Some written) found = same_item written.input found.input
-    && same_item written.output found.output
 
 -- what streams side by side take, and what they give: items where one of them does
 abbrev pub inputs_in : List StreamType → List ItemType

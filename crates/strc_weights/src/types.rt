@@ -62,28 +62,6 @@ pub fn outputs_in(alloc: Global, types: &[StreamType]) -> Result<Vec<ItemType>, 
     types.iter().map(|found| found.output).collect(alloc)
 }
 
-/// One type is the other.
-pub fn same_item(side: ItemType, other: ItemType) -> bool
-    ensures { result ≡ spec.same_item side other }
-{
-    match (side, other) {
-        (ItemType::Int, ItemType::Int) | (ItemType::Void, ItemType::Void) => true,
-        (ItemType::Int, ItemType::Void) | (ItemType::Void, ItemType::Int) => false,
-    }
-}
-
-/// Whether a stream's type is the written one, where one is written.
-pub fn is_as_written(written: Option<StreamType>, found: StreamType) -> bool
-    ensures { result ≡ spec.is_as_written written found }
-{
-    match written {
-        None => true,
-        Some(written) => {
-            same_item(written.input, found.input) && same_item(written.output, found.output)
-        }
-    }
-}
-
 /// Items come in and go out.
 pub fn passes_items(found: StreamType) -> bool
     ensures { result ≡ spec.passes_items found }
