@@ -21,18 +21,18 @@ use strc_graph::graph::{Node, Splitter};
 #[inline]
 pub(crate) fn pass_at_once(
     circuit: &Circuit,
-    batch: Batch,
+    batch: &Batch,
     rings: &mut [Ring],
     items: &mut Vec<i32>,
 ) -> Result<bool, AllocError>
-    requires batch { IsBatch (circuit_view circuit.now) batch }
+    requires batch { IsBatch (circuit_view circuit.now) batch.now }
     requires inputs { HoldRings (length rings.old) circuit.now.inputs }
     requires outputs { HoldRings (length rings.old) circuit.now.outputs }
     requires input_nodes { length circuit.now.inputs ≡ length circuit.now.nodes.now }
     requires output_nodes { length circuit.now.outputs ≡ length circuit.now.nodes.now }
     ensures rings { length rings.new ≡ length rings.old }
-    ensures passed { HasPassed (circuit_view circuit.now) batch.node batch.turns result rings.old
-        rings.new }
+    ensures passed { HasPassed (circuit_view circuit.now) batch.now.node batch.now.turns result
+        rings.old rings.new }
 {
     match batch.kind {
         Kind::Identity { from, to } => Ok(pass_between(rings, from, to, batch.turns as usize)),
@@ -61,20 +61,20 @@ fn pass_between(rings: &mut [Ring], from: usize, to: usize, count: usize) -> boo
 /// The same for a splitter or a joiner.
 fn deal_at_once(
     circuit: &Circuit,
-    batch: Batch,
+    batch: &Batch,
     rings: &mut [Ring],
     items: &mut Vec<i32>,
 ) -> Result<bool, AllocError>
-    requires batch { IsBatch (circuit_view circuit.now) batch }
-    requires apart { AreApart (ports_at circuit.now.inputs batch.node)
-        (ports_at circuit.now.outputs batch.node) }
+    requires batch { IsBatch (circuit_view circuit.now) batch.now }
+    requires apart { AreApart (ports_at circuit.now.inputs batch.now.node)
+        (ports_at circuit.now.outputs batch.now.node) }
     requires inputs { HoldRings (length rings.old) circuit.now.inputs }
     requires outputs { HoldRings (length rings.old) circuit.now.outputs }
     requires input_nodes { length circuit.now.inputs ≡ length circuit.now.nodes.now }
     requires output_nodes { length circuit.now.outputs ≡ length circuit.now.nodes.now }
     ensures rings { length rings.new ≡ length rings.old }
-    ensures passed { HasPassed (circuit_view circuit.now) batch.node batch.turns result rings.old
-        rings.new }
+    ensures passed { HasPassed (circuit_view circuit.now) batch.now.node batch.now.turns result
+        rings.old rings.new }
 {
     let node = batch.node as usize;
     let inputs = circuit.inputs.at(node);

@@ -89,7 +89,7 @@ impl Machine {
             (machine_view self.old).words (machine_view self.new) }
     {
         for place in 0..order.units.len() {
-            match self.fire_unit(circuit, &order.units[place], order.batches[place]) {
+            match self.fire_unit(circuit, &order.units[place], &order.batches[place]) {
                 Ok(()) => {}
                 Err(stop) => return Err(stop),
             }
@@ -104,10 +104,10 @@ impl Machine {
         &mut self,
         circuit: &Circuit,
         unit: &Unit,
-        batch: Option<Batch>,
+        batch: &Option<Batch>,
     ) -> Result<(), Stop>
         requires machine { IsMachine (circuit_view circuit.now) self.old }
-        requires batch { FitsUnit (circuit_view circuit.now) unit.now batch }
+        requires batch { FitsUnit (circuit_view circuit.now) unit.now batch.now }
         ensures machine { IsMachine (circuit_view circuit.now) self.new }
         ensures gone { HasGone (spec.order_run (circuit_view circuit.now)
             (repeated unit.now.turns unit.now.nodes.items) (machine_view self.old)) result
@@ -121,12 +121,12 @@ impl Machine {
 
     /// Fires a batch's node so often; at once where it passes items on and finds them all.
     #[inline]
-    fn fire_batch(&mut self, circuit: &Circuit, batch: Batch) -> Result<(), Stop>
+    fn fire_batch(&mut self, circuit: &Circuit, batch: &Batch) -> Result<(), Stop>
         requires machine { IsMachine (circuit_view circuit.now) self.old }
-        requires batch { IsBatch (circuit_view circuit.now) batch }
+        requires batch { IsBatch (circuit_view circuit.now) batch.now }
         ensures machine { IsMachine (circuit_view circuit.now) self.new }
         ensures gone { HasGone (spec.order_run (circuit_view circuit.now)
-            (repeated batch.turns (batch.node ∷ [])) (machine_view self.old)) result
+            (repeated batch.now.turns (batch.now.node ∷ [])) (machine_view self.old)) result
             (machine_view self.old).words (machine_view self.new) }
     {
         match pass_at_once(circuit, batch, &mut self.rings, &mut self.items) {
@@ -142,12 +142,12 @@ impl Machine {
 
     /// Fires a batch's node so often, one firing after another.
     #[inline]
-    fn fire_alone(&mut self, circuit: &Circuit, batch: Batch) -> Result<(), Stop>
+    fn fire_alone(&mut self, circuit: &Circuit, batch: &Batch) -> Result<(), Stop>
         requires machine { IsMachine (circuit_view circuit.now) self.old }
-        requires batch { IsBatch (circuit_view circuit.now) batch }
+        requires batch { IsBatch (circuit_view circuit.now) batch.now }
         ensures machine { IsMachine (circuit_view circuit.now) self.new }
         ensures gone { HasGone (spec.order_run (circuit_view circuit.now)
-            (repeated batch.turns (batch.node ∷ [])) (machine_view self.old)) result
+            (repeated batch.now.turns (batch.now.node ∷ [])) (machine_view self.old)) result
             (machine_view self.old).words (machine_view self.new) }
     {
         for _turn in 0..batch.turns {
@@ -204,18 +204,18 @@ impl Machine {
         if place >= circuit.nodes.len() {
             return Ok(());
         }
-        self.fire_once(circuit, batch_at(circuit, node))
+        self.fire_once(circuit, &batch_at(circuit, node))
     }
 
     /// Fires a batch's node once, where it finds its windows.
     #[inline]
-    fn fire_once(&mut self, circuit: &Circuit, batch: Batch) -> Result<(), Stop>
+    fn fire_once(&mut self, circuit: &Circuit, batch: &Batch) -> Result<(), Stop>
         requires machine { IsMachine (circuit_view circuit.now) self.old }
-        requires batch { IsBatch (circuit_view circuit.now) batch }
+        requires batch { IsBatch (circuit_view circuit.now) batch.now }
         ensures machine { IsMachine (circuit_view circuit.now) self.new }
-        ensures gone { HasGone (spec.after_step (machine_view self.old) batch.node
-            (spec.next_step (circuit_view circuit.now) (machine_view self.old) batch.node)) result
-            (machine_view self.old).words (machine_view self.new) }
+        ensures gone { HasGone (spec.after_step (machine_view self.old) batch.now.node
+            (spec.next_step (circuit_view circuit.now) (machine_view self.old) batch.now.node))
+            result (machine_view self.old).words (machine_view self.new) }
     {
         let place = batch.node as usize;
         let firing = self.fired[place];
@@ -237,13 +237,14 @@ impl Machine {
     /// One firing of a batch's node, by its number. Whether it found its windows; if not, it leaves
     /// all as it was.
     #[inline]
-    fn step(&mut self, circuit: &Circuit, batch: Batch, firing: u64) -> Result<bool, Halt>
+    fn step(&mut self, circuit: &Circuit, batch: &Batch, firing: u64) -> Result<bool, Halt>
         requires machine { IsMachine (circuit_view circuit.now) self.old }
-        requires batch { IsBatch (circuit_view circuit.now) batch }
+        requires batch { IsBatch (circuit_view circuit.now) batch.now }
         ensures machine { IsMachine (circuit_view circuit.now) self.new }
         ensures fired { self.new.fired ≡ self.old.fired }
         ensures step { HasDone (spec.step_at (circuit_view circuit.now) (machine_view self.old)
-            batch.node firing) batch.node result (machine_view self.old) (machine_view self.new) }
+            batch.now.node firing) batch.now.node result (machine_view self.old)
+            (machine_view self.new) }
     {
         let node = batch.node as usize;
         match &circuit.nodes[node] {

@@ -19,8 +19,8 @@ pub returns-in-Roundrobin-clause-passed : goal.returns-in-Roundrobin-clause-pass
 returns-in-Roundrobin-clause-passed c =
     let circuit = circuit_view c.args.circuit.now in
     let nodes = c.args.circuit.now.nodes.now in
-    let number = c.args.batch.node in
-    let turns = c.args.batch.turns in
+    let number = c.args.batch.now.node in
+    let turns = c.args.batch.now.turns in
     let rings = c.args.rings.now in
     let inputs = ports_at circuit.inputs number in
     let outputs = ports_at circuit.outputs number in
@@ -53,8 +53,8 @@ pub returns-in-Joiner-clause-passed : goal.returns-in-Joiner-clause-passed
 returns-in-Joiner-clause-passed c =
     let circuit = circuit_view c.args.circuit.now in
     let nodes = c.args.circuit.now.nodes.now in
-    let number = c.args.batch.node in
-    let turns = c.args.batch.turns in
+    let number = c.args.batch.now.node in
+    let turns = c.args.batch.now.turns in
     let rings = c.args.rings.now in
     let inputs = ports_at circuit.inputs number in
     let outputs = ports_at circuit.outputs number in

@@ -8,8 +8,8 @@ use Rattle.strc_sched.proofs.machine.Machine.fire_alone.Goals as goal
 pub returns-in-Err-clause-gone : goal.returns-in-Err-clause-gone
 returns-in-Err-clause-gone c =
     let circuit = circuit_view c.args.circuit.now in
-    let turns = c.args.batch.turns in
-    let node = c.args.batch.node in
+    let turns = c.args.batch.now.turns in
+    let node = c.args.batch.now.node in
     let turn = c.loop-turn._turn in
     let left = repeated (turns - (turn + 1)) (node ∷ []) in
     let now = machine_view c.loop-turn.self in
@@ -24,8 +24,8 @@ returns-in-Err-clause-gone c =
 pub loop-turn-preserved : goal.loop-turn-preserved
 loop-turn-preserved c =
     let circuit = circuit_view c.args.circuit.now in
-    let turns = c.args.batch.turns in
-    let node = c.args.batch.node in
+    let turns = c.args.batch.now.turns in
+    let node = c.args.batch.now.node in
     let turn = c.loop-turn._turn in
     let left = repeated (turns - (turn + 1)) (node ∷ []) in
     let now = machine_view c.loop-turn.self in

@@ -16,8 +16,8 @@ pub returns-in-Ok-true-clause-gone : goal.returns-in-Ok-true-clause-gone
 returns-in-Ok-true-clause-gone c =
     let circuit = circuit_view c.args.circuit.now in
     let before = machine_view c.args.self.now in
-    let node = c.args.batch.node in
-    let turns = c.args.batch.turns in
+    let node = c.args.batch.now.node in
+    let turns = c.args.batch.now.turns in
     let code = get_or circuit.codes node graphs.Identity in
     let here = slice_get-get_or circuit.codes node graphs.Identity c.requires.batch.node in
     let there : node < length before.fired =

@@ -19,37 +19,37 @@ use Rattle.strc_sched.proofs.machine.Machine.step.Goals as goal
 
 pub fire_filter-requires-clause-actor : goal.fire_filter-requires-clause-actor
 fire_filter-requires-clause-actor c =
-    let there : c.args.batch.node < length c.args.circuit.now.nodes.now =
+    let there : c.args.batch.now.node < length c.args.circuit.now.nodes.now =
     let e = c.requires.batch.node in
     let l = length-map c.args.circuit.now.nodes.now node_view in omega arith in
     let filter : Node = node.Filter c.in-Filter.instance in
     subst (IsActorOf (node_view filter)) c.in-Filter-index_mut.is
     (actor_at c.args.circuit.now.nodes.now c.args.self.now.actors.items c.requires.machine.actors
-    c.args.batch.node c.index-circuit-node.result filter c.index_mut.result.now there
+    c.args.batch.now.node c.index-circuit-node.result filter c.index_mut.result.now there
     c.in-Filter.is c.index_mut.ensures.value)
 
 pub unreachable-requires : goal.unreachable-requires
 unreachable-requires c =
-    let there : c.args.batch.node < length c.args.circuit.now.nodes.now =
+    let there : c.args.batch.now.node < length c.args.circuit.now.nodes.now =
     let e = c.requires.batch.node in
     let l = length-map c.args.circuit.now.nodes.now node_view in omega arith in
     let filter : Node = node.Filter c.in-Filter.instance in
     subst (IsActorOf (node_view filter)) c.in-Passive.is
     (actor_at c.args.circuit.now.nodes.now c.args.self.now.actors.items c.requires.machine.actors
-    c.args.batch.node c.index-circuit-node.result filter c.index_mut.result.now there
+    c.args.batch.now.node c.index-circuit-node.result filter c.index_mut.result.now there
     c.in-Filter.is c.index_mut.ensures.value)
 
 pub returns-in-Filter-index_mut-clause-machine : goal.returns-in-Filter-index_mut-clause-machine
 returns-in-Filter-index_mut-clause-machine c =
-    let there : c.args.batch.node < length c.args.circuit.now.nodes.now =
+    let there : c.args.batch.now.node < length c.args.circuit.now.nodes.now =
     let e = c.requires.batch.node in
     let l = length-map c.args.circuit.now.nodes.now node_view in omega arith in
     let filter : Node = node.Filter c.in-Filter.instance in
     let rings = c.args.self.now.rings in
     machine_after (circuit_view c.args.circuit.now) c.args.self.now _ c.requires.machine
-    (actor_set _ c.args.self.now.actors.items c.args.batch.node (node_view filter)
+    (actor_set _ c.args.self.now.actors.items c.args.batch.now.node (node_view filter)
     (actor.Filter c.fire_filter.new.actor) c.requires.machine.actors
-    (code_at c.args.circuit.now.nodes.now c.args.batch.node c.index-circuit-node.result filter
+    (code_at c.args.circuit.now.nodes.now c.args.batch.now.node c.index-circuit-node.result filter
     there c.in-Filter.is) c.fire_filter.ensures.actor)
     refl
     (ap length (with_items_is rings c.fire_filter.new.rings
@@ -58,12 +58,12 @@ returns-in-Filter-index_mut-clause-machine c =
 
 pub returns-in-Filter-index_mut-clause-step : goal.returns-in-Filter-index_mut-clause-step
 returns-in-Filter-index_mut-clause-step c =
-    let there : c.args.batch.node < length c.args.circuit.now.nodes.now =
+    let there : c.args.batch.now.node < length c.args.circuit.now.nodes.now =
     let e = c.requires.batch.node in
     let l = length-map c.args.circuit.now.nodes.now node_view in omega arith in
     let filter : Node = node.Filter c.in-Filter.instance in
     let actors = c.args.self.now.actors.items in
-    let number = c.args.batch.node in
+    let number = c.args.batch.now.node in
     let rings = c.args.self.now.rings in
     let kept = c.in-Filter-index_mut.actor in
     let circuit = circuit_view c.args.circuit.now in
@@ -88,8 +88,8 @@ returns-in-Filter-index_mut-clause-step c =
     (c.fire_filter.ensures.rings ∙ ap length c.deref_mut.ensures.value ∙ sym rings.ok.0)))
     (filter_of c.in-Filter.instance.code) c.args.firing (get_or before.fields number [])
     kept.state.fields c.fire_filter.new.actor.state.fields
-    (at_port (ports_at circuit.inputs number) 0) c.args.batch.input
-    (at_port (ports_at circuit.outputs number) 0) c.args.batch.output
+    (at_port (ports_at circuit.inputs number) 0) c.args.batch.now.input
+    (at_port (ports_at circuit.outputs number) 0) c.args.batch.now.output
     (sym (fields_at actors number c.index_mut.result.now less c.index_mut.ensures.value
     ∙ ap fields_of c.in-Filter-index_mut.is))
     c.requires.batch.input c.requires.batch.output c.fire_filter.ensures.step))
@@ -97,13 +97,13 @@ returns-in-Filter-index_mut-clause-step c =
 
 pub returns-in_default : goal.returns-in_default
 returns-in_default c =
-    let there : c.args.batch.node < length c.args.circuit.now.nodes.now =
+    let there : c.args.batch.now.node < length c.args.circuit.now.nodes.now =
     let e = c.requires.batch.node in
     let l = length-map c.args.circuit.now.nodes.now node_view in omega arith in
-    let passive = get_or c.args.circuit.now.nodes.now c.args.batch.node
+    let passive = get_or c.args.circuit.now.nodes.now c.args.batch.now.node
     c.index-circuit-node.result in
     let actors = c.args.self.now.actors.items in
-    let number = c.args.batch.node in
+    let number = c.args.batch.now.node in
     let rings = c.args.self.now.rings in
     let circuit = circuit_view c.args.circuit.now in
     let before = machine_view c.args.self.now in
