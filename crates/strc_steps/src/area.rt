@@ -4,6 +4,7 @@ use crate::statements::{opening_parenthesis, plain_end};
 use std::alloc::Global;
 use strc_base::memory::NoMemory;
 use strc_lex::token::{Keyword, Punctuation, Token, TokenKind};
+use strc_source::added::adds;
 use strc_source::declarations::{is_keyword, is_stream_kind, place_named};
 use strc_source::message::Extent;
 use strc_source::rows::{can_begin, closing_of, is_mark};
@@ -233,11 +234,4 @@ pub fn kind_of_brace(tokens: &[Token], brace: usize) -> Option<Keyword> {
         TokenKind::Keyword(kind) if is_stream_kind(kind) => Some(kind),
         _ => None,
     }
-}
-
-/// Whether a token begins a statement with a child.
-fn adds(token: &Token) -> bool {
-    is_keyword(token, Keyword::Add)
-        || is_keyword(token, Keyword::Body)
-        || is_keyword(token, Keyword::Loop)
 }

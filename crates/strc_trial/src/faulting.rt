@@ -1,7 +1,7 @@
 // Which statement, field or header a program comes to last before it is refused: for a fault, for
 // too many filters, or for too many levels.
 
-use crate::follow::{Follower, Found, main_area};
+use crate::follow::{Follower, Found, closed_declaration, main_area};
 use crate::trial::LONGEST;
 use std::alloc::Global;
 use strc_base::memory::NoMemory;
@@ -70,6 +70,11 @@ fn last_statement(
 /// The main stream's declaration, where it has one.
 pub fn main_stream(source: Source<'_>) -> Option<Extent> {
     Some(main_area(source)?.head_place(source))
+}
+
+/// The name of a declaration that could be the main stream; they are numbered from 0.
+pub fn main_candidate(source: Source<'_>, number: usize) -> Option<Extent> {
+    Some(source.token_place(closed_declaration(source, number)?))
 }
 
 /// The statement at a place that was found, in the text that was given.

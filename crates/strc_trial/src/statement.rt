@@ -1,14 +1,14 @@
 // Which statement, and which
 
-use crate::ends::end_part;
+use crate::ends::{end_part, is_foreign};
 use crate::faulting::statement_of;
-use crate::follow::Follower;
+use crate::follow::{Follower, Found};
 use crate::search::Search;
 use crate::trial::LONGEST;
 use std::alloc::Global;
 use strc_base::memory::NoMemory;
 use strc_lex::lexer::lex;
-use strc_lex::token::Keyword;
+use strc_lex::token::{Keyword, Token, TokenKind};
 use strc_source::declarations::{Body, body_of, is_name};
 use strc_source::message::Extent;
 use strc_source::rows::{can_begin, statement_at};
@@ -38,6 +38,8 @@ pub enum About {
     Last,
     /// A stream of the first kind has no statement with the second keyword.
     Missing(Keyword, Keyword),
+    /// A stream of the first kind has no statements with the second keyword at all.
+    Foreign(Keyword, Keyword),
     /// The main stream is marked, since no statement is known.
     Program,
 }
@@ -104,10 +106,23 @@ fn refused_in_composite(
     match statement_of(&braced, source, &found) {
         Some(place) => Ok(Some(Part {
             place,
-            about: About::Statement,
+            about: about_statement(&tokens, &found),
         })),
         None => Ok(None),
     }
+}
+
+/// Whether a statement is one that its stream's kind doesn't have, or it breaks another rule.
+fn about_statement(tokens: &[Token], found: &Found) -> About {
+    let kind = found.level.area.kind(tokens);
+    if let Some(token) = tokens.get(found.token) {
+        if let TokenKind::Keyword(keyword) = token.kind {
+            if is_foreign(kind, keyword) {
+                return About::Foreign(kind, keyword);
+            }
+        }
+    }
+    About::Statement
 }
 
 fn is_within(body: Option<Body>, token: usize) -> bool {
