@@ -12,6 +12,9 @@ use strc_source::rows::is_mark;
 use strc_source::source::Source;
 use strc_trial::statement::Part;
 
+/// Types that other languages have.
+const TYPES: [&[u8]; 5] = [b"float", b"double", b"char", b"bool", b"bit"];
+
 /// A hint, where there is one that helps. The message is about a part of the text, if it is known.
 pub(crate) fn push_hint(
     alloc: Global,
@@ -70,13 +73,15 @@ fn follows_assign(source: Source<'_>, token: usize) -> bool {
 
 /// Words of other languages.
 fn word_hint(name: &[u8]) -> &'static [u8] {
-    if name == b"return" {
-        b"a filter gives an item by `push`"
-    } else if name == b"float" || name == b"double" || name == b"char" || name == b"bool" {
-        b"items are `int`, and variables `int` or `boolean`"
-    } else {
-        b""
+    if name == b"return".as_slice() {
+        return b"a filter gives an item by `push`";
     }
+    for foreign in TYPES {
+        if name == foreign {
+            return b"items are `int`, and variables `int` or `boolean`";
+        }
+    }
+    b""
 }
 
 /// The declared name that is most like one that isn't.

@@ -1,5 +1,8 @@
 // Which statement, and which
 
+ghost use Rattle.std.specs.Prelude.{IfOk, IfSome};
+ghost use Rattle.strc_source.specs.Messages.{IsWithin};
+
 use crate::ends::{end_part, is_foreign};
 use crate::faulting::statement_of;
 use crate::follow::{Follower, Found};
@@ -46,6 +49,24 @@ pub enum About {
 
 /// The statement of a declaration at which a program is refused, where it can be known.
 pub fn refused_statement(
+    alloc: Global,
+    source: Source<'_>,
+    declaration: usize,
+) -> Result<Option<Part>, NoMemory>
+    ensures { IfOk result (λ found. IfSome found (λ part.
+        IsWithin source.entry.text.now part.place)) }
+{
+    match refused_part(alloc, source, declaration)? {
+        Some(part) => Ok(Some(Part {
+            place: source.within(part.place),
+            about: part.about,
+        })),
+        None => Ok(None),
+    }
+}
+
+/// The same, by places as they are found.
+fn refused_part(
     alloc: Global,
     source: Source<'_>,
     declaration: usize,
@@ -150,7 +171,10 @@ pub fn refused_use(
     alloc: Global,
     source: Source<'_>,
     name: &[u8],
-) -> Result<Option<Extent>, NoMemory> {
+) -> Result<Option<Extent>, NoMemory>
+    ensures { IfOk result (λ found. IfSome found (λ place.
+        IsWithin source.entry.text.now place)) }
+{
     if source.text.len() > LONGEST {
         return Ok(None);
     }
@@ -162,7 +186,9 @@ pub fn refused_use(
         }
     }
     match found {
-        Some(place) if search.known(place).is_some() => Ok(Some(source.token_place(place))),
+        Some(place) if search.known(place).is_some() => {
+            Ok(Some(source.within(source.token_place(place))))
+        }
         _ => Ok(None),
     }
 }
