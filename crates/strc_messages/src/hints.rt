@@ -3,7 +3,7 @@
 use crate::parts::{is_statement, part_hint};
 use std::alloc::Global;
 use strc_base::memory::NoMemory;
-use strc_lex::token::{Punctuation, TokenKind};
+use strc_lex::token::{Keyword, Punctuation, TokenKind};
 use strc_run::refusal::Refusal;
 use strc_source::declarations::{body_of, place_named};
 use strc_source::message::Message;
@@ -11,9 +11,6 @@ use strc_source::nearest::nearest_name;
 use strc_source::rows::is_mark;
 use strc_source::source::Source;
 use strc_trial::statement::Part;
-
-/// Types that other languages have.
-const TYPES: [&[u8]; 5] = [b"float", b"double", b"char", b"bool", b"bit"];
 
 /// A hint, where there is one that helps. The message is about a part of the text, if it is known.
 pub(crate) fn push_hint(
@@ -58,7 +55,9 @@ fn syntax_hint(source: Source<'_>, token: usize) -> &'static [u8] {
         TokenKind::Punctuation(Punctuation::OpenBrace) if follows_assign(source, token) => {
             b"the elements of an array are 0 at first, and init can set them"
         }
-        TokenKind::Name(name) => word_hint(name.as_bytes()),
+        TokenKind::Keyword(Keyword::Return) => b"a filter gives an item by `push`",
+        TokenKind::Keyword(Keyword::Float | Keyword::Bit) =>
+            b"items are `int`; a variable may also be `boolean`",
         _ => b"",
     }
 }
@@ -69,19 +68,6 @@ fn follows_assign(source: Source<'_>, token: usize) -> bool {
         Some(before) => is_mark(before, Punctuation::Assign),
         None => false,
     }
-}
-
-/// Words of other languages.
-fn word_hint(name: &[u8]) -> &'static [u8] {
-    if name == b"return".as_slice() {
-        return b"a filter gives an item by `push`";
-    }
-    for foreign in TYPES {
-        if name == foreign {
-            return b"items are `int`, and variables `int` or `boolean`";
-        }
-    }
-    b""
 }
 
 /// The declared name that is most like one that isn't.

@@ -78,10 +78,9 @@ impl Area {
     {
         let head = source.token_place(self.head);
         let last = source.token_place(self.head.saturating_add(usize::from(self.is_declared)));
-        source.within(Extent {
-            at: head.at,
-            length: last.at.saturating_add(last.length).saturating_sub(head.at),
-        })
+        let at = head.at;
+        let length = last.at.saturating_add(last.length).saturating_sub(at);
+        source.within(Extent { at, length })
     }
 
     /// The steps of a body, in the order of the text; those of streams without a name in it are
