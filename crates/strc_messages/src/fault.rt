@@ -1,5 +1,8 @@
 // What a person reads of a run that ends early, or that isn't run.
 
+ghost use Rattle.std.specs.Prelude.{[], codes, IfOk};
+ghost use Rattle.strc_source.specs.Messages.{IsMessage};
+
 use crate::nodes::push_node;
 use crate::places::place_of_node;
 use crate::program::graph_of;
@@ -32,7 +35,9 @@ pub fn fault_message(
     text: &[u8],
     main: Option<&str>,
     site: FaultSite,
-) -> Result<Vec<u8>, NoMemory> {
+) -> Result<Vec<u8>, NoMemory>
+    ensures { IfOk result (λ message. IsMessage file.now text.now message.items) }
+{
     let tokens = match lex(alloc, text) {
         Ok(tokens) => tokens,
         Err(_) => Vec::new(alloc),
@@ -52,16 +57,19 @@ fn write_fault(
     source: Source<'_>,
     graph: Option<&Graph>,
     site: FaultSite,
-) -> Result<Vec<u8>, NoMemory> {
+) -> Result<Vec<u8>, NoMemory>
+    ensures { IfOk result (λ message.
+        IsMessage source.entry.file.now source.entry.text.now message.items) }
+{
     let place = place_of_node(alloc, source, graph, site.node as usize)?;
-    let mut message = source.begin(alloc, place)?;
+    let mut message = Message::new(alloc);
     push_node(&mut message, graph, site.node as usize)?;
     message.add(cause_words(site.cause))?;
     message.add(b" in its firing ")?;
     message.number(site.firing)?;
     push_round(&mut message, site.round)?;
     source.excerpt(&mut message, place)?;
-    Ok(message.end()?)
+    source.message(alloc, place, message)
 }
 
 /// What a firing did.
@@ -87,12 +95,10 @@ fn push_round(message: &mut Message, round: Round) -> Result<(), NoMemory> {
 }
 
 /// What a person reads where an accepted text isn't run.
-pub fn not_run_message(
-    alloc: Global,
-    file: &str,
-    refusal: RunRefusal,
-) -> Result<Vec<u8>, NoMemory> {
-    let mut message = Message::begin(alloc, file, b"", None)?;
+pub fn not_run_message(alloc: Global, file: &str, refusal: RunRefusal) -> Result<Vec<u8>, NoMemory>
+    ensures { IfOk result (λ message. IsMessage file.now [] message.items) }
+{
+    let mut message = Message::new(alloc);
     match refusal {
         RunRefusal::InputShort { need, got } => {
             message.add(b"these rounds read ")?;
@@ -107,14 +113,16 @@ pub fn not_run_message(
         RunRefusal::NoMemory => message.add(b"out of memory")?,
         RunRefusal::NoWorker => message.add(b"no thread could be started")?,
     }
-    Ok(message.end()?)
+    Ok(message.end(alloc, file, b"", None)?)
 }
 
 /// What a person reads of a word of the input that isn't a number; words count from 0.
-pub fn bad_input_message(alloc: Global, word: u64) -> Result<Vec<u8>, NoMemory> {
-    let mut message = Message::begin(alloc, "standard input", b"", None)?;
+pub fn bad_input_message(alloc: Global, word: u64) -> Result<Vec<u8>, NoMemory>
+    ensures { IfOk result (λ message. IsMessage (codes "standard input") [] message.items) }
+{
+    let mut message = Message::new(alloc);
     message.add(b"word ")?;
     message.number(word)?;
     message.add(b" (the first one is word 0) is no number from -2147483648 to 2147483647")?;
-    Ok(message.end()?)
+    Ok(message.end(alloc, "standard input", b"", None)?)
 }

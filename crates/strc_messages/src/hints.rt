@@ -3,10 +3,12 @@
 use crate::parts::{is_statement, part_hint};
 use std::alloc::Global;
 use strc_base::memory::NoMemory;
+use strc_lex::token::{Keyword, Punctuation, TokenKind};
 use strc_refusal::refusal::Refusal;
-use strc_source::declarations::body_of;
+use strc_source::declarations::{body_of, place_named};
 use strc_source::message::Message;
 use strc_source::nearest::nearest_name;
+use strc_source::rows::is_mark;
 use strc_source::source::Source;
 use strc_trial::statement::Part;
 
@@ -21,17 +23,51 @@ pub(crate) fn push_hint(
     if let Refusal::UnknownName { name } = refusal {
         return push_nearest(alloc, message, source, name.as_bytes());
     }
+    if let Refusal::Parse { token } = refusal {
+        return push_words(message, syntax_hint(source, *token));
+    }
     let own = part_hint(part);
     let hint = if own.is_empty() {
         hint_of(source, refusal, is_statement(part))
     } else {
         own
     };
+    push_words(message, hint)
+}
+
+/// A hint in these words, if there are any.
+fn push_words(message: &mut Message, hint: &[u8]) -> Result<(), NoMemory> {
     if hint.is_empty() {
         return Ok(());
     }
     message.hint()?;
     Ok(message.add(hint)?)
+}
+
+/// How a token can be mended that can't stand where it is.
+fn syntax_hint(source: Source<'_>, token: usize) -> &'static [u8] {
+    let Some(found) = source.tokens.get(token) else {
+        return b"";
+    };
+    match &found.kind {
+        TokenKind::Punctuation(Punctuation::Assign) => b"two values are compared by `==`",
+        TokenKind::Punctuation(Punctuation::Arrow) => b"a stream before this one may lack a `}`",
+        TokenKind::Punctuation(Punctuation::OpenBrace) if follows_assign(source, token) => {
+            b"the elements of an array are 0 at first, and init can set them"
+        }
+        TokenKind::Keyword(Keyword::Return) => b"a filter gives an item by `push`",
+        TokenKind::Keyword(Keyword::Float | Keyword::Bit) =>
+            b"items are `int`; a variable may also be `boolean`",
+        _ => b"",
+    }
+}
+
+/// Whether the token before one is `=`.
+fn follows_assign(source: Source<'_>, token: usize) -> bool {
+    match source.tokens.get(token.saturating_sub(1)) {
+        Some(before) => is_mark(before, Punctuation::Assign),
+        None => false,
+    }
 }
 
 /// The declared name that is most like one that isn't.
@@ -48,6 +84,12 @@ fn push_nearest(
             message.quoted(nearest)?;
             Ok(message.add(b"?")?)
         }
+        None if place_named(source.tokens, name).is_some() => {
+            push_words(
+                message,
+                b"a stream is added by `add`, as a statement of another stream",
+            )
+        }
         None => Ok(()),
     }
 }
@@ -56,13 +98,12 @@ fn push_nearest(
 fn hint_of(source: Source<'_>, refusal: &Refusal, in_statement: bool) -> &'static [u8] {
     match refusal {
         Refusal::NoMain => b"the main stream is one like `void->void pipeline Main { .. }`",
-        Refusal::ManyMains => b"name the one that is to run with --main NAME",
         Refusal::BadWeights { .. } => {
             b"one weight for each child, from 0 to 65,536, and not all of them 0"
         }
         Refusal::TypeMismatch { stream } => mismatch_hint(source, *stream, in_statement),
         Refusal::DepthLimit => b"a stream that adds itself needs a condition that ends it",
-        Refusal::TwoOutputs => b"one FileWriter, or one filter with print or println, is allowed",
+        Refusal::Nesting => b"a variable can hold a part of a long expression",
         Refusal::ConstFault { .. } if !in_statement => {
             b"look at rates, lengths, initialisers, init, and the loops of composite streams"
         }

@@ -89,6 +89,12 @@ pub(crate) fn push_part(message: &mut Message, part: Option<Part>) -> Result<boo
             message.add(b" has no ")?;
             message.quoted(keyword.text())?;
         }
+        About::Foreign(kind, keyword) => {
+            message.add(b"a ")?;
+            message.add(kind.text())?;
+            message.add(b" has no statements with ")?;
+            message.quoted(keyword.text())?;
+        }
         About::Statement | About::Program => return Ok(false),
     }
     Ok(true)
@@ -103,13 +109,16 @@ pub(crate) fn part_hint(part: Option<Part>) -> &'static [u8] {
         About::First | About::Last => {
             b"a pipeline takes what its first child takes, and gives what its last child gives"
         }
-        About::Missing(Keyword::Splitjoin, _) => {
+        About::Foreign(Keyword::Pipeline, Keyword::Split | Keyword::Join) => {
+            b"streams side by side are in a splitjoin: add splitjoin { split ..; add ..; join ..; }"
+        }
+        About::Missing(Keyword::Splitjoin, _) | About::Foreign(Keyword::Splitjoin, _) => {
             b"a splitjoin has one split, then one add or more, and one join"
         }
-        About::Missing(Keyword::Feedbackloop, _) => {
+        About::Missing(Keyword::Feedbackloop, _) | About::Foreign(Keyword::Feedbackloop, _) => {
             b"a feedbackloop has one join, one body, one loop and one split"
         }
-        About::Missing(_, _) => b"a pipeline has one add or more",
+        About::Missing(_, _) | About::Foreign(_, _) => b"a pipeline has one add or more",
         About::Statement | About::Program => b"",
     }
 }

@@ -1,12 +1,17 @@
 // Which part of a text a refusal is about.
 
+use crate::counts::{large_channel, rates_of};
+use crate::depth::deepest_token;
+use crate::moved::{moved_of, place_of_rate};
 use crate::origin::origin_of;
 use std::alloc::Global;
 use strc_base::memory::NoMemory;
 use strc_graph::graph::Graph;
 use strc_lex::token::Keyword;
 use strc_refusal::refusal::Refusal;
-use strc_source::declarations::{declaration_named, declaration_numbered, first_keyword};
+use strc_source::declarations::{
+    declaration_named, declaration_numbered, first_keyword, unused_declaration,
+};
 use strc_source::message::Extent;
 use strc_source::source::Source;
 
@@ -19,14 +24,45 @@ pub(crate) fn place_of_refusal(
     refusal: &Refusal,
 ) -> Result<Option<Extent>, NoMemory> {
     match refusal {
-        Refusal::RateUnknown { node }
-        | Refusal::RateMismatch { node, .. }
-        | Refusal::PeekOutside { node }
-        | Refusal::RateLimit { node } => place_of_node(alloc, source, graph, *node),
+        Refusal::RateMismatch { node, .. } | Refusal::RateLimit { node } => {
+            rate_of_node(alloc, source, graph, *node, refusal)
+        }
+        Refusal::RateUnknown { node } | Refusal::PeekOutside { node } => {
+            place_of_node(alloc, source, graph, *node)
+        }
         Refusal::Inconsistent { channel } | Refusal::BufferLimit { channel } => {
             place_of_channel(alloc, source, graph, *channel)
         }
+        Refusal::CountsTooLarge => place_of_large(alloc, source, graph),
+        Refusal::Nesting => deepest_token(alloc, source),
         _ => Ok(place_in_text(source, refusal)),
+    }
+}
+
+/// The end of the channel whose rates make the counts of a round too large: the one that moves more
+/// items a firing, where it has a place.
+fn place_of_large(
+    alloc: Global,
+    source: Source<'_>,
+    graph: Option<&Graph>,
+) -> Result<Option<Extent>, NoMemory> {
+    let Some(found) = graph else {
+        return Ok(None);
+    };
+    let Some(number) = large_channel(alloc, found)? else {
+        return Ok(None);
+    };
+    let (Some((from, to)), Some(channel)) = (ends_of(graph, number), found.channels().get(number))
+    else {
+        return Ok(None);
+    };
+    let node = match rates_of(found, channel) {
+        Some((push, pop)) if pop > push => to,
+        _ => from,
+    };
+    match place_of_node(alloc, source, graph, node)? {
+        Some(place) => Ok(Some(place)),
+        None => place_of_channel(alloc, source, graph, number),
     }
 }
 
@@ -39,7 +75,10 @@ fn place_in_text(source: Source<'_>, refusal: &Refusal) -> Option<Extent> {
         Refusal::TypeMismatch { stream }
         | Refusal::BadArguments { stream }
         | Refusal::BadWeights { stream } => declaration_numbered(source.tokens, *stream),
-        Refusal::TwoInputs => first_keyword(source.tokens, Keyword::FileReader),
+        Refusal::NoMain => match source.main {
+            Some(main) => declaration_named(source.tokens, main.as_bytes()),
+            None => unused_declaration(source.tokens),
+        },
         Refusal::StartupUnbounded | Refusal::Deadlock { .. } => {
             first_keyword(source.tokens, Keyword::Feedbackloop)
         }
@@ -58,6 +97,27 @@ pub(crate) fn place_of_node(
         Some(place) => Ok(Some(place)),
         None => statement_of(alloc, source, graph, node),
     }
+}
+
+/// Where a node's filter declares the rate that a refusal is about, or else the node's place.
+fn rate_of_node(
+    alloc: Global,
+    source: Source<'_>,
+    graph: Option<&Graph>,
+    node: usize,
+    refusal: &Refusal,
+) -> Result<Option<Extent>, NoMemory> {
+    if let Some(found) = graph {
+        if node < found.nodes().len() {
+            if let Some(moved) = moved_of(alloc, found, refusal)? {
+                let place = place_of_rate(source.tokens, found.name(node), moved);
+                if place.is_some() {
+                    return Ok(place);
+                }
+            }
+        }
+    }
+    place_of_node(alloc, source, graph, node)
 }
 
 /// The declaration of a node's filter.

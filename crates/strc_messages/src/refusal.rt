@@ -1,7 +1,13 @@
 // What a person reads of a refusal.
 
+ghost use Rattle.std.specs.Prelude.{IfOk};
+ghost use Rattle.strc_source.specs.Messages.{IsMessage};
+
+use crate::counts::large_channel;
 use crate::hints::push_hint;
+use crate::moved::{Moved, moved_of};
 use crate::nodes::{push_channel, push_node};
+use crate::pairs::pair_message;
 use crate::parts::{is_statement, push_part, refused_part};
 use crate::places::place_of_refusal;
 use crate::program::graph_of;
@@ -27,7 +33,9 @@ pub fn refusal_message(
     text: &[u8],
     main: Option<&str>,
     refusal: &Refusal,
-) -> Result<Vec<u8>, NoMemory> {
+) -> Result<Vec<u8>, NoMemory>
+    ensures { IfOk result (λ message. IsMessage file.now text.now message.items) }
+{
     let tokens = tokens_of(alloc, text);
     let source = Source {
         file,
@@ -60,6 +68,7 @@ fn names_nodes(refusal: &Refusal) -> bool {
         | Refusal::RateLimit { .. }
         | Refusal::Inconsistent { .. }
         | Refusal::BufferLimit { .. }
+        | Refusal::CountsTooLarge
         | Refusal::Deadlock { .. } => true,
         _ => false,
     }
@@ -70,13 +79,19 @@ fn write_message(
     source: Source<'_>,
     graph: Option<&Graph>,
     refusal: &Refusal,
-) -> Result<Vec<u8>, NoMemory> {
+) -> Result<Vec<u8>, NoMemory>
+    ensures { IfOk result (λ message.
+        IsMessage source.entry.file.now source.entry.text.now message.items) }
+{
+    if let Some(message) = pair_message(alloc, source, refusal)? {
+        return Ok(message);
+    }
     let part = refused_part(alloc, source, refusal)?;
     let place = match part {
         Some(part) => Some(part.place),
         None => place_of_refusal(alloc, source, graph, refusal)?,
     };
-    let mut message = source.begin(alloc, place)?;
+    let mut message = Message::new(alloc);
     if !push_part(&mut message, part)? {
         push_sentence(
             alloc,
@@ -89,7 +104,7 @@ fn write_message(
     }
     source.excerpt(&mut message, place)?;
     push_hint(alloc, &mut message, source, refusal, part)?;
-    Ok(message.end()?)
+    source.message(alloc, place, message)
 }
 
 /// The sentence; whether it is about a statement.
@@ -107,14 +122,15 @@ fn push_sentence(
             message.quoted(name.as_bytes())?;
             Ok(message.add(b" isn't declared here")?)
         }
-        Refusal::RateMismatch {
-            node,
-            declared,
-            counted,
-        } => push_mismatch(message, graph, *node, *declared, *counted),
-        Refusal::RateUnknown { node }
-        | Refusal::PeekOutside { node }
-        | Refusal::RateLimit { node } => {
+        Refusal::RateMismatch { node, .. } => {
+            push_node(message, graph, *node)?;
+            push_mismatch(alloc, message, graph, refusal)
+        }
+        Refusal::RateLimit { node } => {
+            push_node(message, graph, *node)?;
+            push_limit(alloc, message, graph, refusal)
+        }
+        Refusal::RateUnknown { node } | Refusal::PeekOutside { node } => {
             push_node(message, graph, *node)?;
             Ok(message.add(plain_sentence(source, refusal, in_statement))?)
         }
@@ -122,12 +138,29 @@ fn push_sentence(
             push_channel(message, graph, *channel)?;
             Ok(message.add(plain_sentence(source, refusal, in_statement))?)
         }
+        Refusal::CountsTooLarge => push_large(alloc, message, source, graph),
         Refusal::Deadlock { .. } => {
             message.add(plain_sentence(source, refusal, in_statement))?;
             Ok(push_stuck_loop(alloc, message, graph)?)
         }
         _ => Ok(message.add(plain_sentence(source, refusal, in_statement))?),
     }
+}
+
+/// The channel whose rates make the counts of a round too large, where it is known.
+fn push_large(
+    alloc: Global,
+    message: &mut Message,
+    source: Source<'_>,
+    graph: Option<&Graph>,
+) -> Result<(), NoMemory> {
+    if let Some(graph) = graph {
+        if let Some(channel) = large_channel(alloc, graph)? {
+            push_channel(message, Some(graph), channel)?;
+            return Ok(message.add(b" makes a node fire more than 1,000,000 times in a round")?);
+        }
+    }
+    Ok(message.add(plain_sentence(source, &Refusal::CountsTooLarge, false))?)
 }
 
 /// What is where it can't be, and what could be there.
@@ -184,15 +217,56 @@ fn separator(said: bool) -> &'static [u8] {
 
 /// A filter whose text doesn't push or pop what it declares.
 fn push_mismatch(
+    alloc: Global,
     message: &mut Message,
     graph: Option<&Graph>,
-    node: usize,
-    declared: u32,
-    counted: u32,
+    refusal: &Refusal,
 ) -> Result<(), NoMemory> {
-    push_node(message, graph, node)?;
-    message.add(b" declares a rate of ")?;
-    message.number(u64::from(declared))?;
+    let Refusal::RateMismatch {
+        declared,
+        counted,
+        ..
+    } = refusal
+    else {
+        return Ok(());
+    };
+    message.add(b" declares a ")?;
+    if let Some(graph) = graph {
+        if let Some(moved) = moved_of(alloc, graph, refusal)? {
+            message.quoted(moved.side.text())?;
+            message.add(b" ")?;
+        }
+    }
+    message.add(b"rate of ")?;
+    message.number(u64::from(*declared))?;
     message.add(b", and its statements come to ")?;
-    Ok(message.number(u64::from(counted))?)
+    Ok(message.number(u64::from(*counted))?)
+}
+
+/// A filter with a rate that isn't allowed.
+fn push_limit(
+    alloc: Global,
+    message: &mut Message,
+    graph: Option<&Graph>,
+    refusal: &Refusal,
+) -> Result<(), NoMemory> {
+    if let Some(graph) = graph {
+        if let Some(moved) = moved_of(alloc, graph, refusal)? {
+            message.add(b" has a ")?;
+            message.quoted(moved.side.text())?;
+            return Ok(message.add(limit_words(moved))?);
+        }
+    }
+    Ok(message.add(b" has a rate that isn't allowed")?)
+}
+
+/// What is wrong with a rate.
+fn limit_words(moved: Moved) -> &'static [u8] {
+    if moved.declared < 0 {
+        b" rate below 0"
+    } else if moved.declared == 0 {
+        b" rate of 0 or none, and moves items on this side"
+    } else {
+        b" rate above 65,536"
+    }
 }

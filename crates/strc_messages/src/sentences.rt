@@ -28,7 +28,6 @@ pub(crate) fn plain_sentence(
             { declaration_sentence(refusal) }
         Refusal::RateUnknown { .. } => b" pushes or pops a number of items that can't be counted",
         Refusal::PeekOutside { .. } => b" looks at an item that is never in its window",
-        Refusal::RateLimit { .. } => b" has a rate that isn't allowed",
         Refusal::Inconsistent { .. } => b" can't be balanced",
         Refusal::BufferLimit { .. } => b" would hold more than 16,777,216 items",
         _ => program_sentence(refusal),
@@ -40,6 +39,7 @@ fn lexical_sentence(text: &[u8], at: usize) -> &'static [u8] {
     match text.get(at) {
         Some(b'"') => b"this string isn't closed on its line, or has a backslash in it",
         Some(b'/') => b"this comment is never closed",
+        Some(b'.') => b"numbers have no decimal point: items are integers",
         Some(b'0'..=b'9') => b"this isn't a number from 0 to 2147483648 without needless zeros",
         _ => b"no token begins like this",
     }

@@ -3,6 +3,9 @@
 use crate::message::Extent;
 use strc_lex::token::{Keyword, Punctuation, Span, Token, TokenKind};
 
+/// In a text of more tokens no unused declaration is looked for.
+const MOST_TOKENS: usize = 10_000;
+
 /// The bytes of a token.
 pub fn extent_of(span: Span) -> Extent {
     Extent {
@@ -117,12 +120,62 @@ pub fn first_keyword(tokens: &[Token], keyword: Keyword) -> Option<Extent> {
     None
 }
 
+/// The first statement of a declared stream that prints.
+pub fn print_of(tokens: &[Token], name: &[u8]) -> Option<Span> {
+    let start = place_named(tokens, name)?;
+    let mut depth: usize = 0;
+    for place in start..tokens.len() {
+        let outer = depth;
+        depth = depth_after(&tokens[place].kind, depth);
+        if outer == 1 && depth == 0 {
+            return None;
+        }
+        if is_keyword(&tokens[place], Keyword::Print)
+            || is_keyword(&tokens[place], Keyword::Println)
+        {
+            return Some(tokens[place].span);
+        }
+    }
+    None
+}
+
 /// In how many braces what follows a token is.
 fn depth_after(kind: &TokenKind, depth: usize) -> usize {
     match kind {
         TokenKind::Punctuation(Punctuation::OpenBrace) => depth.saturating_add(1),
         TokenKind::Punctuation(Punctuation::CloseBrace) => depth.saturating_sub(1),
         _ => depth,
+    }
+}
+
+/// The first declared stream whose name is nowhere else.
+pub fn unused_declaration(tokens: &[Token]) -> Option<Extent> {
+    if tokens.len() > MOST_TOKENS {
+        return None;
+    }
+    let mut depth: usize = 0;
+    for place in 0..tokens.len() {
+        depth = depth_after(&tokens[place].kind, depth);
+        if depth == 0 && is_declared(tokens, place) && is_single(tokens, &tokens[place]) {
+            return Some(extent_of(tokens[place].span));
+        }
+    }
+    None
+}
+
+/// Whether no other token is the same name.
+fn is_single(tokens: &[Token], token: &Token) -> bool {
+    match &token.kind {
+        TokenKind::Name(name) => {
+            let mut count: usize = 0;
+            for other in tokens {
+                if is_name(other, name.as_bytes()) {
+                    count = count.saturating_add(1);
+                }
+            }
+            count == 1
+        }
+        _ => false,
     }
 }
 

@@ -6,6 +6,7 @@
 // memchr, strsim and itoa.
 #![tactic(auto)]
 
+pub mod added;
 pub mod declarations;
 pub mod expected;
 pub mod message;
@@ -13,4 +14,3 @@ pub mod nearest;
 pub mod place;
 pub mod rows;
 pub mod source;
-pub mod unnamed;

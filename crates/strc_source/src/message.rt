@@ -1,9 +1,14 @@
 // A message as it is built: the place in the file, one sentence, the source line with a mark, and
 // where it helps a hint.
 
+ghost use Rattle.std.specs.Prelude.{◌≡◌, ◌++◌, [], codes, decimal, IfOk, OnOk};
+ghost use Rattle.std.specs.Option.{option_map};
+ghost use Rattle.strc_source.specs.Messages.{IsHead, IsMessage};
+
 use crate::place::{line_before, line_from, place_of};
 use itoa::Buffer;
 use std::alloc::{AllocError, Global};
+use std::marker::Model;
 
 /// How many bytes of a source line are shown before its mark, and how many from it on.
 const SHOWN: usize = 100;
@@ -15,23 +20,41 @@ pub struct Extent {
     pub length: usize,
 }
 
-/// A message as it is built.
+/// What a message says, as it is built.
 #[derive(Drop)]
 pub struct Message {
     bytes: Vec<u8>,
 }
 
+impl Model for Message {
+    ghost use Rattle.std.specs.Prelude.{List, ℕ};
+
+    ghost Value = { List ℕ };
+
+    ghost view = { λ m. m.bytes.items };
+}
+
 impl Message {
-    /// A message of a file, at a place of its text where there is one.
-    pub fn begin(
+    /// A message that says nothing yet.
+    pub fn new(alloc: Global) -> Message
+        ensures { result ≡ [] }
+    {
+        Message {
+            bytes: Vec::new(alloc),
+        }
+    }
+
+    /// How a message of a file begins, at a place of its text where there is one.
+    fn head(
         alloc: Global,
         file: &str,
         text: &[u8],
         place: Option<Extent>,
-    ) -> Result<Message, AllocError> {
-        let mut message = Message {
-            bytes: Vec::new(alloc),
-        };
+    ) -> Result<Message, AllocError>
+        ensures { IfOk result (λ head.
+            IsHead file.now text.now (option_map (λ part. part.at) place) head) }
+    {
+        let mut message = Message::new(alloc);
         message.add(file.as_bytes())?;
         if let Some(extent) = place {
             let place = place_of(text, extent.at);
@@ -44,20 +67,44 @@ impl Message {
         Ok(message)
     }
 
+    /// The whole message of a file, at a place of its text where there is one, with the end of its
+    /// last line.
+    pub fn end(
+        self,
+        alloc: Global,
+        file: &str,
+        text: &[u8],
+        place: Option<Extent>,
+    ) -> Result<Vec<u8>, AllocError>
+        ensures { IfOk result (λ message. IsMessage file.now text.now message.items) }
+    {
+        let mut message = Message::head(alloc, file, text, place)?;
+        message.add(&self.bytes)?;
+        message.add(b"\n")?;
+        let Message { bytes } = message;
+        Ok(bytes)
+    }
+
     /// More of the sentence.
-    pub fn add(&mut self, bytes: &[u8]) -> Result<(), AllocError> {
+    pub fn add(&mut self, bytes: &[u8]) -> Result<(), AllocError>
+        ensures { OnOk result (self.new ≡ self.old ++ bytes.now) }
+    {
         self.bytes.extend_from_slice(bytes)?;
         Ok(())
     }
 
     /// A number in decimal.
-    pub fn number(&mut self, number: u64) -> Result<(), AllocError> {
+    pub fn number(&mut self, number: u64) -> Result<(), AllocError>
+        ensures { OnOk result (self.new ≡ self.old ++ decimal number) }
+    {
         let mut buffer = Buffer::new();
         self.add(buffer.format(number).as_bytes())
     }
 
     /// A name or a token as it is written, in quotes.
-    pub fn quoted(&mut self, name: &[u8]) -> Result<(), AllocError> {
+    pub fn quoted(&mut self, name: &[u8]) -> Result<(), AllocError>
+        ensures { OnOk result (self.new ≡ self.old ++ codes "`" ++ name.now ++ codes "`") }
+    {
         self.add(b"`")?;
         self.add(name)?;
         self.add(b"`")
@@ -99,14 +146,9 @@ impl Message {
     }
 
     /// A hint begins, on a line of its own.
-    pub fn hint(&mut self) -> Result<(), AllocError> {
+    pub fn hint(&mut self) -> Result<(), AllocError>
+        ensures { OnOk result (self.new ≡ self.old ++ codes "\nhint: ") }
+    {
         self.add(b"\nhint: ")
-    }
-
-    /// The whole message, with the end of its last line.
-    pub fn end(self) -> Result<Vec<u8>, AllocError> {
-        let Message { mut bytes } = self;
-        bytes.push(b'\n')?;
-        Ok(bytes)
     }
 }

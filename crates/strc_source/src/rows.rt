@@ -1,5 +1,7 @@
 // Statements, fields and headers as rows of tokens.
 
+ghost use Rattle.std.specs.Prelude.{◌<◌, ◌≤◌, length, IfSome};
+
 use crate::declarations::is_keyword;
 use crate::message::Extent;
 use strc_lex::token::{Keyword, Punctuation, Token, TokenKind};
@@ -87,7 +89,10 @@ fn opening_of(tokens: &[Token], closing: usize) -> Option<usize> {
 }
 
 /// The brace that closes an opening one.
-pub fn closing_of(tokens: &[Token], opening: usize) -> Option<usize> {
+pub fn closing_of(tokens: &[Token], opening: usize) -> Option<usize>
+    ensures later { IfSome result (λ closing. opening ≤ closing) }
+    ensures there { IfSome result (λ closing. closing < length tokens.now) }
+{
     let mut depth: usize = 0;
     for token in opening..tokens.len() {
         if is_mark(&tokens[token], Punctuation::OpenBrace) {
@@ -103,7 +108,9 @@ pub fn closing_of(tokens: &[Token], opening: usize) -> Option<usize> {
 }
 
 /// The loop whose header is before a brace, in the same statement.
-pub fn loop_before(tokens: &[Token], brace: usize) -> Option<usize> {
+pub fn loop_before(tokens: &[Token], brace: usize) -> Option<usize>
+    ensures { IfSome result (λ header. header < brace) }
+{
     if can_begin(tokens, brace) {
         return None;
     }

@@ -1,5 +1,8 @@
 // A program's text with its file's name and its tokens.
 
+ghost use Rattle.std.specs.Prelude.{◌≡◌, ◌-◌, take, drop, IfOk};
+ghost use Rattle.strc_source.specs.Messages.{IsMessage, IsWithin};
+
 use crate::declarations::{extent_of, first_use};
 use crate::message::{Extent, Message};
 use std::alloc::Global;
@@ -18,9 +21,29 @@ pub struct Source<'a> {
 }
 
 impl<'a> Source<'a> {
-    /// A message, at a place where there is one.
-    pub fn begin(self, alloc: Global, place: Option<Extent>) -> Result<Message, NoMemory> {
-        Ok(Message::begin(alloc, self.file, self.text, place)?)
+    /// The whole message that says this, at a place where there is one.
+    pub fn message(
+        self,
+        alloc: Global,
+        place: Option<Extent>,
+        message: Message,
+    ) -> Result<Vec<u8>, NoMemory>
+        ensures { IfOk result (λ message.
+            IsMessage self.entry.file.now self.entry.text.now message.items) }
+    {
+        Ok(message.end(alloc, self.file, self.text, place)?)
+    }
+
+    /// A part of the text, as far as it is there.
+    pub fn within(self, part: Extent) -> Extent
+        ensures within { IsWithin self.entry.text.now result }
+        ensures same { IsWithin self.entry.text.now part → result ≡ part }
+    {
+        let at = part.at.min(self.text.len());
+        Extent {
+            at,
+            length: part.length.min(self.text.len() - at),
+        }
     }
 
     /// The source line of a place, where there is one.
@@ -51,14 +74,18 @@ impl<'a> Source<'a> {
     }
 
     /// The bytes of a place.
-    pub fn bytes(self, extent: Extent) -> &'a [u8] {
+    pub fn bytes(self, extent: Extent) -> &'a [u8]
+        ensures { result.now ≡ take extent.length (drop extent.at self.entry.text.now) }
+    {
         let start = extent.at.min(self.text.len());
         let rest = &self.text[start..];
         &rest[..extent.length.min(rest.len())]
     }
 
     /// The bytes from a place up to another.
-    pub fn between(self, start: usize, end: usize) -> &'a [u8] {
+    pub fn between(self, start: usize, end: usize) -> &'a [u8]
+        ensures { result.now ≡ take (end - start) (drop start self.entry.text.now) }
+    {
         self.bytes(Extent {
             at: start,
             length: end.saturating_sub(start),

@@ -1,9 +1,14 @@
 // The bodies of streams in a text, and the places in them that a program comes to in turn.
 
+ghost use Rattle.std.specs.Prelude.{◌≡◌, ◌<◌, ◌≤◌, ◌↔◌, length, slice_get, IfOk, IfSome, IsTrue};
+ghost use Rattle.strc_steps.specs.Areas.{IsArea, AreInside, IsStreamKind, kind_of};
+ghost use Rattle.strc_source.specs.Messages.{IsWithin};
+
 use crate::statements::{opening_parenthesis, plain_end};
 use std::alloc::Global;
 use strc_base::memory::NoMemory;
 use strc_lex::token::{Keyword, Punctuation, Token, TokenKind};
+use strc_source::added::adds;
 use strc_source::declarations::{is_keyword, is_stream_kind, place_named};
 use strc_source::message::Extent;
 use strc_source::rows::{can_begin, closing_of, is_mark};
@@ -47,12 +52,17 @@ struct Nesting {
 }
 
 impl Area {
-    pub fn is_filter(self, tokens: &[Token]) -> bool {
+    /// Whether the stream is a filter.
+    pub fn is_filter(self, tokens: &[Token]) -> bool
+        ensures { IsTrue result ↔ (kind_of (slice_get tokens.now self.head) ≡ Keyword.Filter) }
+    {
         self.kind(tokens) == Keyword::Filter
     }
 
     /// The kind of the stream.
-    pub fn kind(self, tokens: &[Token]) -> Keyword {
+    pub fn kind(self, tokens: &[Token]) -> Keyword
+        ensures { result ≡ kind_of (slice_get tokens.now self.head) }
+    {
         match tokens.get(self.head) {
             Some(token) => match token.kind {
                 TokenKind::Keyword(kind) => kind,
@@ -63,23 +73,21 @@ impl Area {
     }
 
     /// The kind of the stream, with its name if it has one.
-    pub fn head_place(self, source: Source<'_>) -> Extent {
+    pub fn head_place(self, source: Source<'_>) -> Extent
+        ensures { IsWithin source.entry.text.now result }
+    {
         let head = source.token_place(self.head);
         let last = source.token_place(self.head.saturating_add(usize::from(self.is_declared)));
-        Extent {
-            at: head.at,
-            length: last.at.saturating_add(last.length).saturating_sub(head.at),
-        }
+        let at = head.at;
+        let length = last.at.saturating_add(last.length).saturating_sub(at);
+        source.within(Extent { at, length })
     }
 
     /// The steps of a body, in the order of the text; those of streams without a name in it are
     /// their own.
-    pub fn steps(
-        self,
-        alloc: Global,
-        tokens: &[Token],
-        which: Which,
-    ) -> Result<Vec<Step>, NoMemory> {
+    pub fn steps(self, alloc: Global, tokens: &[Token], which: Which) -> Result<Vec<Step>, NoMemory>
+        ensures { IfOk result (λ steps. AreInside self steps.items) }
+    {
         let mut steps = Vec::new(alloc);
         let mut nesting = Nesting {
             braces: 0,
@@ -175,12 +183,16 @@ fn is_closed(token: &Token) -> bool {
 }
 
 /// The body of the declaration whose name is a token.
-pub fn area_of_name(tokens: &[Token], name: usize) -> Option<Area> {
+pub fn area_of_name(tokens: &[Token], name: usize) -> Option<Area>
+    ensures { IfSome result (λ area. IsArea tokens.now area) }
+{
     area_from(tokens, name.checked_sub(1)?, name, true)
 }
 
 /// The body of the stream that a statement adds, if it is declared in the text or has no name.
-pub fn area_of_child(tokens: &[Token], statement: usize) -> Option<Area> {
+pub fn area_of_child(tokens: &[Token], statement: usize) -> Option<Area>
+    ensures { IfSome result (λ area. IsArea tokens.now area) }
+{
     let child = statement.checked_add(1)?;
     if !adds(tokens.get(statement)?) {
         return None;
@@ -193,7 +205,9 @@ pub fn area_of_child(tokens: &[Token], statement: usize) -> Option<Area> {
 }
 
 /// The body of a stream without a name.
-fn area_of_unnamed(tokens: &[Token], child: usize) -> Option<Area> {
+fn area_of_unnamed(tokens: &[Token], child: usize) -> Option<Area>
+    ensures { IfSome result (λ area. IsArea tokens.now area) }
+{
     for place in child..tokens.len() {
         if is_mark(&tokens[place], Punctuation::OpenBrace) {
             return area_from(tokens, place.checked_sub(1)?, place, false);
@@ -203,7 +217,9 @@ fn area_of_unnamed(tokens: &[Token], child: usize) -> Option<Area> {
 }
 
 /// The body whose opening brace is the first one from a token on.
-fn area_from(tokens: &[Token], head: usize, start: usize, is_declared: bool) -> Option<Area> {
+fn area_from(tokens: &[Token], head: usize, start: usize, is_declared: bool) -> Option<Area>
+    ensures { IfSome result (λ area. IsArea tokens.now area) }
+{
     for place in start..tokens.len() {
         if is_mark(&tokens[place], Punctuation::OpenBrace) {
             return Some(Area {
@@ -218,7 +234,9 @@ fn area_from(tokens: &[Token], head: usize, start: usize, is_declared: bool) -> 
 }
 
 /// The kind of the stream whose body a brace opens.
-pub fn kind_of_brace(tokens: &[Token], brace: usize) -> Option<Keyword> {
+pub fn kind_of_brace(tokens: &[Token], brace: usize) -> Option<Keyword>
+    ensures { IfSome result IsStreamKind }
+{
     if !is_mark(tokens.get(brace)?, Punctuation::OpenBrace) {
         return None;
     }
@@ -230,14 +248,20 @@ pub fn kind_of_brace(tokens: &[Token], brace: usize) -> Option<Keyword> {
         head = head.checked_sub(1)?;
     }
     match tokens.get(head)?.kind {
-        TokenKind::Keyword(kind) if is_stream_kind(kind) => Some(kind),
+        TokenKind::Keyword(kind) => stream_kind(kind),
         _ => None,
     }
 }
 
-/// Whether a token begins a statement with a child.
-fn adds(token: &Token) -> bool {
-    is_keyword(token, Keyword::Add)
-        || is_keyword(token, Keyword::Body)
-        || is_keyword(token, Keyword::Loop)
+/// A keyword, if it is a kind of stream.
+fn stream_kind(keyword: Keyword) -> Option<Keyword>
+    ensures { IfSome result IsStreamKind }
+{
+    match keyword {
+        Keyword::Filter => Some(Keyword::Filter),
+        Keyword::Pipeline => Some(Keyword::Pipeline),
+        Keyword::Splitjoin => Some(Keyword::Splitjoin),
+        Keyword::Feedbackloop => Some(Keyword::Feedbackloop),
+        _ => None,
+    }
 }

@@ -1,6 +1,8 @@
 // A text in which each part of a loop or an `if` is a block, so that a statement can be put before
 // each of its statements.
 
+ghost use Rattle.std.specs.Prelude.{◌≤◌};
+
 use crate::statements::{is_bare_part, statement_end};
 use std::alloc::Global;
 use strc_base::memory::NoMemory;
@@ -55,7 +57,9 @@ fn part_ends(alloc: Global, tokens: &[Token]) -> Result<Vec<usize>, NoMemory> {
 
 impl Braced {
     /// The part of the other text that a part of this one is.
-    pub fn original(&self, extent: Extent) -> Extent {
+    pub fn original(&self, extent: Extent) -> Extent
+        ensures { result.at ≤ extent.at }
+    {
         let start = self.original_at(extent.at);
         let end = self.original_at(extent.at.saturating_add(extent.length));
         Extent {
@@ -64,7 +68,9 @@ impl Braced {
         }
     }
 
-    fn original_at(&self, at: usize) -> usize {
+    fn original_at(&self, at: usize) -> usize
+        ensures { result ≤ at }
+    {
         let before = self.braces.iter().filter(|brace| **brace < at).count();
         at.saturating_sub(before.saturating_mul(BRACE))
     }

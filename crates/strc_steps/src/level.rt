@@ -1,6 +1,9 @@
 // A program's text that counts its steps in one body, and refuses the step of a given number in a
 // way of its own.
 
+ghost use Rattle.std.specs.Prelude.{◌≡◌, ◌++◌, decimal, IfOk, OnOk};
+ghost use Rattle.strc_steps.specs.Texts.{IsBetween};
+
 use crate::area::{Area, Step, Which};
 use crate::statements::statement_end;
 use itoa::Buffer;
@@ -46,7 +49,9 @@ const COUNTER: &[u8] = b"{ int strc_step; int[1] strc_items; ";
 
 impl Level {
     /// The main stream's body.
-    pub fn main(alloc: Global, source: Source<'_>, area: Area) -> Result<Level, NoMemory> {
+    pub fn main(alloc: Global, source: Source<'_>, area: Area) -> Result<Level, NoMemory>
+        ensures { IfOk result (λ level. level.area ≡ area) }
+    {
         let open = source.token_place(area.open).at;
         let end = end_of(source.tokens, area.close);
         let mut before = Vec::new(alloc);
@@ -62,7 +67,9 @@ impl Level {
         area: Area,
         before: Vec<u8>,
         after: Vec<u8>,
-    ) -> Result<Level, NoMemory> {
+    ) -> Result<Level, NoMemory>
+        ensures { IfOk result (λ level. level.area ≡ area) }
+    {
         Ok(Level {
             area,
             steps: area.steps(alloc, source.tokens, Which::Run)?,
@@ -72,7 +79,11 @@ impl Level {
     }
 
     /// The same body, with its statements that add a child as the only steps.
-    pub fn with_children(self, alloc: Global, tokens: &[Token]) -> Result<Level, NoMemory> {
+    pub fn with_children(self, alloc: Global, tokens: &[Token]) -> Result<Level, NoMemory>
+        ensures area { IfOk result (λ level. level.area ≡ self.area) }
+        ensures before { IfOk result (λ level. level.before.items ≡ self.before.items) }
+        ensures after { IfOk result (λ level. level.after.items ≡ self.after.items) }
+    {
         let Level {
             area,
             steps,
@@ -101,15 +112,16 @@ impl Level {
         alloc: Global,
         source: Source<'_>,
         probe: Probe,
-    ) -> Result<Vec<u8>, NoMemory> {
-        let mut text = Vec::new(alloc);
-        text.extend_from_slice(&self.before)?;
-        text.extend_from_slice(COUNTER)?;
+    ) -> Result<Vec<u8>, NoMemory>
+        ensures { IfOk result (λ text.
+            IsBetween self.now.before.items self.now.after.items text.items) }
+    {
         let start = end_of(source.tokens, self.area.open);
         let end = end_of(source.tokens, self.area.close);
-        write_steps(&mut text, source, &self.steps, start, end, Some(probe))?;
-        text.extend_from_slice(&self.after)?;
-        Ok(text)
+        let mut body = Vec::new(alloc);
+        body.extend_from_slice(COUNTER)?;
+        write_steps(&mut body, source, &self.steps, start, end, Some(probe))?;
+        self.text_of(alloc, &body)
     }
 
     /// The text with more in the body, before a token.
@@ -119,13 +131,26 @@ impl Level {
         source: Source<'_>,
         token: usize,
         part: &[u8],
-    ) -> Result<Vec<u8>, NoMemory> {
+    ) -> Result<Vec<u8>, NoMemory>
+        ensures { IfOk result (λ text.
+            IsBetween self.now.before.items self.now.after.items text.items) }
+    {
+        let at = source.token_place(token).at;
+        let mut body = Vec::new(alloc);
+        body.extend_from_slice(source.between(source.token_place(self.area.open).at, at))?;
+        body.extend_from_slice(part)?;
+        body.extend_from_slice(source.between(at, end_of(source.tokens, self.area.close)))?;
+        self.text_of(alloc, &body)
+    }
+
+    /// The text with another body.
+    fn text_of(&self, alloc: Global, body: &[u8]) -> Result<Vec<u8>, NoMemory>
+        ensures { IfOk result (λ text.
+            IsBetween self.now.before.items self.now.after.items text.items) }
+    {
         let mut text = Vec::new(alloc);
         text.extend_from_slice(&self.before)?;
-        let at = source.token_place(token).at;
-        text.extend_from_slice(source.between(source.token_place(self.area.open).at, at))?;
-        text.extend_from_slice(part)?;
-        text.extend_from_slice(source.between(at, end_of(source.tokens, self.area.close)))?;
+        text.extend_from_slice(body)?;
         text.extend_from_slice(&self.after)?;
         Ok(text)
     }
@@ -137,7 +162,9 @@ impl Level {
         source: Source<'_>,
         area: Area,
         reached: Reached,
-    ) -> Result<Level, NoMemory> {
+    ) -> Result<Level, NoMemory>
+        ensures { IfOk result (λ level. level.area ≡ area) }
+    {
         let statement = source.token_place(reached.step.token).at;
         let mut before = self.text_before(alloc, source, reached.place, statement)?;
         before.extend_from_slice(b"if (++strc_step == ")?;
@@ -276,7 +303,9 @@ fn push_probe(text: &mut Vec<u8>, step: Step, probe: Probe) -> Result<(), NoMemo
 }
 
 /// A number in decimal.
-pub fn push_number(text: &mut Vec<u8>, number: usize) -> Result<(), NoMemory> {
+pub fn push_number(text: &mut Vec<u8>, number: usize) -> Result<(), NoMemory>
+    ensures { OnOk result (text.new.items ≡ text.old.items ++ decimal number) }
+{
     let mut buffer = Buffer::new();
     text.extend_from_slice(buffer.format(number as u64).as_bytes())?;
     Ok(())

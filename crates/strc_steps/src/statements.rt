@@ -1,11 +1,13 @@
 // Where statements end, and which of them are a part of a loop or an `if`.
 
+ghost use Rattle.std.specs.Prelude.{◌<◌, ◌≤◌, length};
+
 use strc_lex::token::{Keyword, Punctuation, Token};
 use strc_source::declarations::is_keyword;
 use strc_source::rows::{closing_of, is_mark};
 
 /// The token after the statement that begins with a token.
-pub fn statement_end(tokens: &[Token], start: usize) -> usize {
+pub(crate) fn statement_end(tokens: &[Token], start: usize) -> usize {
     let mut place = start;
     // How many `if`s may have an `else` yet.
     let mut choices: usize = 0;
@@ -29,7 +31,10 @@ pub fn statement_end(tokens: &[Token], start: usize) -> usize {
 }
 
 /// The token after a block, after the first semicolon, or after the first braces.
-pub fn plain_end(tokens: &[Token], start: usize) -> usize {
+pub fn plain_end(tokens: &[Token], start: usize) -> usize
+    ensures later { start < length tokens.now → start < result }
+    ensures there { result ≤ length tokens.now }
+{
     for place in start..tokens.len() {
         if is_mark(&tokens[place], Punctuation::Semicolon) {
             return place + 1;
@@ -45,7 +50,7 @@ pub fn plain_end(tokens: &[Token], start: usize) -> usize {
 }
 
 /// Whether a token begins a statement that is no block and is a part of a loop or an `if`.
-pub fn is_bare_part(tokens: &[Token], place: usize) -> bool {
+pub(crate) fn is_bare_part(tokens: &[Token], place: usize) -> bool {
     if place == 0 || place >= tokens.len() || is_mark(&tokens[place], Punctuation::OpenBrace) {
         return false;
     }
@@ -68,7 +73,7 @@ fn ends_header(tokens: &[Token], closing: usize) -> bool {
 }
 
 /// The parenthesis that a closing one closes.
-pub fn opening_parenthesis(tokens: &[Token], closing: usize) -> Option<usize> {
+pub(crate) fn opening_parenthesis(tokens: &[Token], closing: usize) -> Option<usize> {
     let mut depth: usize = 0;
     for place in (0..closing.min(tokens.len())).rev() {
         if is_mark(&tokens[place], Punctuation::CloseParen) {

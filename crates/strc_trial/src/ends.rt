@@ -71,6 +71,16 @@ fn parts_of(kind: Keyword) -> &'static [Keyword] {
     }
 }
 
+/// Whether no stream of a kind has statements with a keyword, though others do.
+pub(crate) fn is_foreign(kind: Keyword, keyword: Keyword) -> bool {
+    match keyword {
+        Keyword::Add => kind == Keyword::Feedbackloop,
+        Keyword::Split | Keyword::Join => kind == Keyword::Pipeline,
+        Keyword::Body | Keyword::Loop | Keyword::Enqueue => kind != Keyword::Feedbackloop,
+        _ => false,
+    }
+}
+
 /// Whether a body has a statement with a keyword.
 fn has_part(tokens: &[Token], found: &Found, keyword: Keyword) -> bool {
     for step in &found.level.steps {

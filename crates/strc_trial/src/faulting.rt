@@ -1,7 +1,10 @@
 // Which statement, field or header a program comes to last before it is refused: for a fault, for
 // too many filters, or for too many levels.
 
-use crate::follow::{Follower, Found, main_area};
+ghost use Rattle.std.specs.Prelude.{IfOk, IfSome};
+ghost use Rattle.strc_source.specs.Messages.{IsWithin};
+
+use crate::follow::{Follower, Found, closed_declaration, main_area};
 use crate::trial::LONGEST;
 use std::alloc::Global;
 use strc_base::memory::NoMemory;
@@ -24,13 +27,19 @@ pub fn faulting_statement(
     alloc: Global,
     source: Source<'_>,
     cause: Cause,
-) -> Result<Option<Extent>, NoMemory> {
+) -> Result<Option<Extent>, NoMemory>
+    ensures { IfOk result (λ found. IfSome found (λ place.
+        IsWithin source.entry.text.now place)) }
+{
     last_statement(alloc, source, Some(cause), MOST)
 }
 
 /// The statement at which a program has too many filters or too many levels, where it can be known;
 /// of streams that add themselves it is the first statement that adds one again.
-pub fn limit_statement(alloc: Global, source: Source<'_>) -> Result<Option<Extent>, NoMemory> {
+pub fn limit_statement(alloc: Global, source: Source<'_>) -> Result<Option<Extent>, NoMemory>
+    ensures { IfOk result (λ found. IfSome found (λ place.
+        IsWithin source.entry.text.now place)) }
+{
     last_statement(alloc, source, None, MOST_OF_LARGE)
 }
 
@@ -39,7 +48,10 @@ fn last_statement(
     source: Source<'_>,
     cause: Option<Cause>,
     left: usize,
-) -> Result<Option<Extent>, NoMemory> {
+) -> Result<Option<Extent>, NoMemory>
+    ensures { IfOk result (λ found. IfSome found (λ place.
+        IsWithin source.entry.text.now place)) }
+{
     if source.text.len() > LONGEST {
         return Ok(None);
     }
@@ -60,16 +72,33 @@ fn last_statement(
         cause,
         left,
     };
-    let source = follower.source;
+    let changed = follower.source;
     match follower.follow()? {
-        Some(found) => Ok(statement_of(&braced, source, &found)),
+        Some(found) => Ok(within(source, statement_of(&braced, changed, &found))),
         None => Ok(None),
     }
 }
 
 /// The main stream's declaration, where it has one.
-pub fn main_stream(source: Source<'_>) -> Option<Extent> {
+pub fn main_stream(source: Source<'_>) -> Option<Extent>
+    ensures { IfSome result (λ place. IsWithin source.entry.text.now place) }
+{
     Some(main_area(source)?.head_place(source))
+}
+
+/// The name of a declaration that could be the main stream; they are numbered from 0.
+pub fn main_candidate(source: Source<'_>, number: usize) -> Option<Extent>
+    ensures { IfSome result (λ place. IsWithin source.entry.text.now place) }
+{
+    let name = closed_declaration(source, number)?;
+    Some(source.within(source.token_place(name)))
+}
+
+/// A place, as far as it is in the text.
+pub(crate) fn within(source: Source<'_>, place: Option<Extent>) -> Option<Extent>
+    ensures { IfSome result (λ place. IsWithin source.entry.text.now place) }
+{
+    Some(source.within(place?))
 }
 
 /// The statement at a place that was found, in the text that was given.

@@ -295,6 +295,22 @@ pub(crate) fn main_area(source: Source<'_>) -> Option<Area> {
     None
 }
 
+/// The name of a declaration that takes and gives nothing, and has no parameters; these are
+/// numbered from 0.
+pub(crate) fn closed_declaration(source: Source<'_>, number: usize) -> Option<usize> {
+    let mut earlier: usize = 0;
+    for declaration in 0..MOST_DECLARATIONS {
+        let name = place_numbered(source.tokens, declaration)?;
+        if is_closed(source, name) {
+            if earlier == number {
+                return Some(name);
+            }
+            earlier = earlier.saturating_add(1);
+        }
+    }
+    None
+}
+
 /// Whether the declaration with its name at a token is the main stream.
 fn is_main(source: Source<'_>, name: usize) -> bool {
     match source.main {

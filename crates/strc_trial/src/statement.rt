@@ -1,14 +1,17 @@
 // Which statement, and which
 
-use crate::ends::end_part;
+ghost use Rattle.std.specs.Prelude.{IfOk, IfSome};
+ghost use Rattle.strc_source.specs.Messages.{IsWithin};
+
+use crate::ends::{end_part, is_foreign};
 use crate::faulting::statement_of;
-use crate::follow::Follower;
+use crate::follow::{Follower, Found};
 use crate::search::Search;
 use crate::trial::LONGEST;
 use std::alloc::Global;
 use strc_base::memory::NoMemory;
 use strc_lex::lexer::lex;
-use strc_lex::token::Keyword;
+use strc_lex::token::{Keyword, Token, TokenKind};
 use strc_source::declarations::{Body, body_of, is_name};
 use strc_source::message::Extent;
 use strc_source::rows::{can_begin, statement_at};
@@ -38,12 +41,32 @@ pub enum About {
     Last,
     /// A stream of the first kind has no statement with the second keyword.
     Missing(Keyword, Keyword),
+    /// A stream of the first kind has no statements with the second keyword at all.
+    Foreign(Keyword, Keyword),
     /// The main stream is marked, since no statement is known.
     Program,
 }
 
 /// The statement of a declaration at which a program is refused, where it can be known.
 pub fn refused_statement(
+    alloc: Global,
+    source: Source<'_>,
+    declaration: usize,
+) -> Result<Option<Part>, NoMemory>
+    ensures { IfOk result (λ found. IfSome found (λ part.
+        IsWithin source.entry.text.now part.place)) }
+{
+    match refused_part(alloc, source, declaration)? {
+        Some(part) => Ok(Some(Part {
+            place: source.within(part.place),
+            about: part.about,
+        })),
+        None => Ok(None),
+    }
+}
+
+/// The same, by places as they are found.
+fn refused_part(
     alloc: Global,
     source: Source<'_>,
     declaration: usize,
@@ -104,10 +127,23 @@ fn refused_in_composite(
     match statement_of(&braced, source, &found) {
         Some(place) => Ok(Some(Part {
             place,
-            about: About::Statement,
+            about: about_statement(&tokens, &found),
         })),
         None => Ok(None),
     }
+}
+
+/// Whether a statement is one that its stream's kind doesn't have, or it breaks another rule.
+fn about_statement(tokens: &[Token], found: &Found) -> About {
+    let kind = found.level.area.kind(tokens);
+    if let Some(token) = tokens.get(found.token) {
+        if let TokenKind::Keyword(keyword) = token.kind {
+            if is_foreign(kind, keyword) {
+                return About::Foreign(kind, keyword);
+            }
+        }
+    }
+    About::Statement
 }
 
 fn is_within(body: Option<Body>, token: usize) -> bool {
@@ -135,7 +171,10 @@ pub fn refused_use(
     alloc: Global,
     source: Source<'_>,
     name: &[u8],
-) -> Result<Option<Extent>, NoMemory> {
+) -> Result<Option<Extent>, NoMemory>
+    ensures { IfOk result (λ found. IfSome found (λ place.
+        IsWithin source.entry.text.now place)) }
+{
     if source.text.len() > LONGEST {
         return Ok(None);
     }
@@ -147,7 +186,9 @@ pub fn refused_use(
         }
     }
     match found {
-        Some(place) if search.known(place).is_some() => Ok(Some(source.token_place(place))),
+        Some(place) if search.known(place).is_some() => {
+            Ok(Some(source.within(source.token_place(place))))
+        }
         _ => Ok(None),
     }
 }

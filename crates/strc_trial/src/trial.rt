@@ -1,5 +1,7 @@
 // How a program's text is answered that differs from the source in some parts.
 
+ghost use Rattle.std.specs.Prelude.{◌≡◌, ◌++◌, take, drop, IfOk};
+
 use std::alloc::Global;
 use strc_base::memory::NoMemory;
 use strc_elab::elaborate::elaborate;
@@ -94,7 +96,10 @@ pub fn with_part(
     text: &[u8],
     part: Extent,
     instead: &[u8],
-) -> Result<Vec<u8>, NoMemory> {
+) -> Result<Vec<u8>, NoMemory>
+    ensures { IfOk result (λ other. other.items
+        ≡ take part.at text.now ++ instead.now ++ drop part.length (drop part.at text.now)) }
+{
     let start = part.at.min(text.len());
     let rest = &text[start..];
     let mut other = Vec::new(alloc);

@@ -1,6 +1,9 @@
 // Which loop turns too often before a program runs. Each text that is tried makes a million turns,
 // so few are.
 
+ghost use Rattle.std.specs.Prelude.{IfOk, IfSome};
+ghost use Rattle.strc_source.specs.Messages.{IsWithin};
+
 use crate::trial::{Answer, LONGEST, answer_to, unknown_name};
 use std::alloc::Global;
 use strc_base::memory::NoMemory;
@@ -36,7 +39,10 @@ struct Loop {
 }
 
 /// The header of the loop that turns too often, where it can be known.
-pub fn endless_loop(alloc: Global, source: Source<'_>) -> Result<Option<Extent>, NoMemory> {
+pub fn endless_loop(alloc: Global, source: Source<'_>) -> Result<Option<Extent>, NoMemory>
+    ensures { IfOk result (λ found. IfSome found (λ place.
+        IsWithin source.entry.text.now place)) }
+{
     if source.text.len() > LONGEST {
         return Ok(None);
     }
@@ -44,15 +50,18 @@ pub fn endless_loop(alloc: Global, source: Source<'_>) -> Result<Option<Extent>,
     let Ok(tokens) = lex(alloc, &braced.text) else {
         return Ok(None);
     };
-    let source = Source {
+    let changed = Source {
         file: source.file,
         text: &braced.text,
         tokens: &tokens,
         main: source.main,
     };
     let loops = loops_of(alloc, &tokens)?;
-    match endless_header(alloc, source, &loops)? {
-        Some(header) => Ok(Some(braced.original(row_of(&tokens, header, tokens.len())))),
+    match endless_header(alloc, changed, &loops)? {
+        Some(header) => {
+            let row = row_of(&tokens, header, tokens.len());
+            Ok(Some(source.within(braced.original(row))))
+        }
         None => Ok(None),
     }
 }

@@ -1,5 +1,8 @@
 // Which statement's weights aren't allowed. It is found by asking: all others get weights that are.
 
+ghost use Rattle.std.specs.Prelude.{IfOk, IfSome};
+ghost use Rattle.strc_source.specs.Messages.{IsWithin};
+
 use crate::trial::{Answer, LONGEST, answer_to, with_part};
 use std::alloc::Global;
 use strc_base::memory::NoMemory;
@@ -17,7 +20,10 @@ pub fn refused_weights(
     alloc: Global,
     source: Source<'_>,
     declaration: usize,
-) -> Result<Option<Extent>, NoMemory> {
+) -> Result<Option<Extent>, NoMemory>
+    ensures { IfOk result (λ found. IfSome found (λ place.
+        IsWithin source.entry.text.now place)) }
+{
     if source.text.len() > LONGEST {
         return Ok(None);
     }
@@ -30,7 +36,8 @@ pub fn refused_weights(
             tried += 1;
             let text = with_allowed_but(alloc, source, body, token)?;
             if answer_to(alloc, source, &text)? == Answer::BadWeights(declaration) {
-                return Ok(Some(row_of(source.tokens, token, body.end)));
+                let row = row_of(source.tokens, token, body.end);
+                return Ok(Some(source.within(row)));
             }
         }
     }

@@ -1,0 +1,32 @@
+-- What a person reads of a refusal or a fault: where it is, and then more.
+use Rattle.std.specs.Prelude.{◌≡◌, ℕ, ◌+◌, ◌≤◌, List, ◌++◌, codes, decimal, length, take, Option, Some, None}
+use Rattle.strc_source.specs.Places.{IsPlace}
+use Rattle.strc_source.specs.declared.message.Extent.{Extent}
+use Rattle.strc_source.specs.declared.place.Place.{Place}
+
+-- a place as it is written: its line and its column
+abbrev pub place_text : Place → List ℕ
+place_text place = codes ":" ++ decimal place.line ++ codes ":" ++ decimal place.column
+
+-- how a message begins that is about a byte of a text: the file, the line and the column
+pub record IsHeadAt (file text : List ℕ) (at : ℕ) (head : List ℕ) : Type 0 where
+  pub place : Place
+  pub is_place : IsPlace (take at text) place
+  pub written : head ≡ file ++ place_text place ++ codes ": "
+
+-- how a message begins: with a place, where it is about one
+abbrev pub IsHead : (file text : List ℕ) → Option ℕ → (head : List ℕ) → Type 0
+IsHead file text None head = head ≡ file ++ codes ": "
+IsHead file text (Some at) head = IsHeadAt file text at head
+
+-- a whole message: after its beginning what it says, and the end of its last line
+pub record IsMessage (file text message : List ℕ) : Type 0 where
+  pub at : Option ℕ
+  pub head : List ℕ
+  pub is_head : IsHead file text at head
+  pub rest : List ℕ
+  pub written : message ≡ head ++ rest ++ codes "\n"
+
+-- a part of a text, which isn't past its end
+abbrev pub IsWithin : (text : List ℕ) → Extent → Type 0
+IsWithin text part = part.at + part.length ≤ length text
