@@ -19,7 +19,7 @@ enum { SHOWN = 1 << 16 };
 
 static long seen, runs, failed, all, step;
 static int is_copy, is_judging;
-static char told[SHOWN], own[SHOWN];
+static char reported[SHOWN], own[SHOWN];
 
 static const char *setting(const char *name) {
     const char *value = getenv(name);
@@ -45,18 +45,18 @@ static void goes_to(const char *path, int number) {
 }
 
 static int is_right_run(int status) {
-    long length = front_of(setting("REFUSE_OUT"), told);
+    long length = front_of(setting("REFUSE_OUT"), reported);
     if (!WIFEXITED(status)) return 0;
     if (WEXITSTATUS(status) == 4)
-        return length == 0 || !strcmp(told, "refused E25 NoMemory\n") || !strcmp(told, "refused S3 NoMemory\n");
+        return length == 0 || !strcmp(reported, "refused E25 NoMemory\n") || !strcmp(reported, "refused S3 NoMemory\n");
     return WEXITSTATUS(status) == atoi(setting("REFUSE_STATUS"))
-        && length == front_of(setting("REFUSE_OWN"), own) && !memcmp(told, own, length);
+        && length == front_of(setting("REFUSE_OWN"), own) && !memcmp(reported, own, length);
 }
 
 static int is_right_test(int status) {
-    front_of(setting("REFUSE_OUT"), told);
+    front_of(setting("REFUSE_OUT"), reported);
     if (WIFEXITED(status) && WEXITSTATUS(status) == 0) return 1;
-    return strstr(told, "NoMemory") || strstr(told, "AllocError") || strstr(told, "AllocFailed") || strstr(told, "Memory");
+    return strstr(reported, "NoMemory") || strstr(reported, "AllocError") || strstr(reported, "AllocFailed") || strstr(reported, "Memory");
 }
 
 static void judge(int status) {
@@ -64,7 +64,7 @@ static void judge(int status) {
     runs++;
     if (is_right) return;
     failed++;
-    dprintf(2, "with allocation %ld refused: status %x, told '%.300s'\n", seen, status, told);
+    dprintf(2, "with allocation %ld refused: status %x, reported '%.300s'\n", seen, status, reported);
 }
 
 /* Whether this allocation is refused. */

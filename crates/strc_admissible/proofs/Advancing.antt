@@ -24,10 +24,10 @@ use Rattle.strc_admissible.specs.Circuits.{IsCircuit}
 use Rattle.strc_admissible.specs.Fits.{Queues, FitNow}
 use Rattle.strc_admissible.specs.Machine.{CircuitView, MachineView, one_more}
 use Rattle.strc_admissible.specs.Rings.{Ring}
-use Rattle.strc_admissible.specs.Told.{words_below}
+use Rattle.strc_admissible.specs.RingAnswer.{words_below}
 use Rattle.strc_admissible.specs.Wiring.{ports_at}
 use Rattle.strc_admissible.proofs.Changes.{Moves}
-use Rattle.strc_admissible.proofs.Standing.{Stands, ring_holds}
+use Rattle.strc_admissible.proofs.Simulation.{Simulates, ring_holds}
 use Rattle.strc_admissible.proofs.WordsBelow.{words_same, words_one, one_passes_test}
 
 -- what has been put is there, and what was elsewhere still is
@@ -66,7 +66,8 @@ next_machine machine node fields rings words = record {
 module _ (tree : Stream NodeCode) (graph : Graph) (program : IsProgram tree graph)
     (circuit : CircuitView) (is : IsCircuit graph circuit) (sizes : List ℕ) (input : List ℤ)
     (now : Queues) (machine : MachineView)
-    (stands : Stands graph sizes input now machine) (node : ℕ) (within : node < length graph.nodes)
+    (simulates : Simulates graph sizes input now machine) (node : ℕ)
+    (within : node < length graph.nodes)
     (there : slice_get graph.nodes node ≡ Some ((flat tree).code node)) where
   abbrev code : NodeCode
   code = (flat tree).code node
@@ -111,11 +112,11 @@ module _ (tree : Stream NodeCode) (graph : Graph) (program : IsProgram tree grap
       | inl same ↦
           ap (λ (place : ℕ). slice_index_or later.fields place []) same
           ∙ get_or-set_same machine.fields node fields []
-          (omega (arith, within, stands.each_fields))
+          (omega (arith, within, simulates.each_fields))
           ∙ sym (ap (λ (own : Run (List ℤ) Cause Word). own.state) (run_here other same))
       | inr differs ↦
           get_or-set_other machine.fields node other fields [] differs
-          ∙ stands.fields other less
+          ∙ simulates.fields other less
           ∙ sym (ap (λ (own : Run (List ℤ) Cause Word). own.state) (run_other other differs))
     ]
 
@@ -125,7 +126,7 @@ module _ (tree : Stream NodeCode) (graph : Graph) (program : IsProgram tree grap
     unfolding after_firing
     counts_one few =
         let counted = ap (λ (own : Run (List ℤ) Cause Word). own.fired) (run_here node refl) in
-        ap one_more (stands.fired node within)
+        ap one_more (simulates.fired node within)
         ∙ ap (λ (test : Bool). if test then suc firing else firing)
         (lt-ltb firing (2 ^ 64 - 1) (omega (arith, few, counted)))
 
@@ -136,13 +137,13 @@ module _ (tree : Stream NodeCode) (graph : Graph) (program : IsProgram tree grap
       | inl same ↦
           ap (slice_index later.fired) same
           ∙ get_or-set_same machine.fired node (one_more (slice_index machine.fired node)) 0
-          (omega (arith, within, stands.each_fired))
+          (omega (arith, within, simulates.each_fired))
           ∙ counts_one few
           ∙ sym (ap (λ (own : Run (List ℤ) Cause Word). own.fired) (run_here other same))
       | inr differs ↦
           get_or-set_other machine.fired node other
           (one_more (slice_index machine.fired node)) 0 differs
-          ∙ stands.fired other less
+          ∙ simulates.fired other less
           ∙ sym (ap (λ (own : Run (List ℤ) Cause Word). own.fired) (run_other other differs))
     ]
 
@@ -164,12 +165,12 @@ module _ (tree : Stream NodeCode) (graph : Graph) (program : IsProgram tree grap
           ap (λ (n : ℕ). (now.runs n).fired) here,
         ) in
         ap (λ (own : NodeCode). drop (pops_at own firing 0) (now.queues other 0)) is_reader
-        ∙ ap (drop 1) (stands.reads other text reader)
+        ∙ ap (drop 1) (simulates.reads other text reader)
         ∙ drop-drop 1 (now.runs other).fired input
         ∙ ap (λ (n : ℕ). drop n input) one
         ∙ sym (ap (λ (own : Run (List ℤ) Cause Word). drop own.fired input) (run_here other here))
     rest_read other text reader false e =
-        stands.reads other text reader
+        simulates.reads other text reader
         ∙ sym (ap (λ (own : Run (List ℤ) Cause Word). drop own.fired input)
         (run_other other (eqb-false other node e)))
 
@@ -207,9 +208,9 @@ module _ (tree : Stream NodeCode) (graph : Graph) (program : IsProgram tree grap
           (sym there ∙ ap (slice_get graph.nodes) (sym same) ∙ listed) in
           ap new_words same ∙ words_here
           ∙ ap (λ (l : List Word). l ++ words) (ap old_words (sym same)
-          ∙ stands.silent other own listed silent)
+          ∙ simulates.silent other own listed silent)
           ∙ quiet (ap gives_words mine ∙ silent)
-      | inr differs ↦ words_other other differs ∙ stands.silent other own listed silent
+      | inr differs ↦ words_other other differs ∙ simulates.silent other own listed silent
     ]
 
     others_silent : gives_words code ≡ true → (other : ℕ) → other < count
@@ -224,12 +225,12 @@ module _ (tree : Stream NodeCode) (graph : Graph) (program : IsProgram tree grap
         by_code own listed true e =
             absurd (differs (one_passes_test gives_words graph.nodes program.one_output other node
             own code listed there e prints))
-        by_code own listed false e = stands.silent other own listed e
+        by_code own listed false e = simulates.silent other own listed e
 
     next_words : (prints : Bool) → gives_words code ≡ prints
         → machine.words ++ words ≡ words_below count new_words
     next_words true e =
-        ap (λ (l : List Word). l ++ words) (stands.words
+        ap (λ (l : List Word). l ++ words) (simulates.words
         ∙ words_one count node old_words within (others_silent e))
         ∙ sym words_here
         ∙ sym (words_one count node new_words within
@@ -237,7 +238,7 @@ module _ (tree : Stream NodeCode) (graph : Graph) (program : IsProgram tree grap
     next_words false e =
         ap (λ (l : List Word). machine.words ++ l) (quiet e)
         ∙ append-nil machine.words
-        ∙ stands.words
+        ∙ simulates.words
         ∙ words_same count old_words new_words (λ other less. same other)
       where
         same : (other : ℕ) → old_words other ≡ new_words other
@@ -251,18 +252,18 @@ module _ (tree : Stream NodeCode) (graph : Graph) (program : IsProgram tree grap
 
     -- ---- both machines
 
-    pub next_stands : FitNow graph.channels sizes next → Stands graph sizes input next later
-    next_stands fit = record {
-      each_fields = length-set machine.fields node fields ∙ stands.each_fields;
+    pub next_simulates : FitNow graph.channels sizes next → Simulates graph sizes input next later
+    next_simulates fit = record {
+      each_fields = length-set machine.fields node fields ∙ simulates.each_fields;
       each_fired = length-set machine.fired node (one_more (slice_index machine.fired node))
-          ∙ stands.each_fired;
-      each_ring = moves.each ∙ stands.each_ring;
+          ∙ simulates.each_fired;
+      each_ring = moves.each ∙ simulates.each_ring;
       fields = next_fields;
       fired = next_fired (fit.firings node);
       rings = λ number channel listed.
           ring_holds tree graph program circuit is node (pops_at code firing) pushes machine.rings
           after moves number channel listed now firing (slice_index sizes number) refl
-          (stands.rings number channel listed) (fit.items number channel listed);
+          (simulates.rings number channel listed) (fit.items number channel listed);
       reads = next_reads;
       words = next_words (gives_words code) refl;
       silent = next_silent;

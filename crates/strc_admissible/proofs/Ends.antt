@@ -113,12 +113,12 @@ module _ (tree : Stream NodeCode) (graph : Graph) (program : IsProgram tree grap
       mapped_from end (slice_get graph.channels number) (port_of node port)
       (sym (slice_get-map end graph.channels number) ∙ wired.sound node port number e)
 
-  stands : (end : Channel → End) (rings : PortRings) → IsWired (map end graph.channels) rings
+  ring_at_end : (end : Channel → End) (rings : PortRings) → IsWired (map end graph.channels) rings
       → ((first second : ℕ) (a b : Channel) → IsAt first a → IsAt second b → end a ≡ end b
       → first ≡ second)
       → (number : ℕ) (channel : Channel) → IsAt number channel
       → at_port (ports_at rings (end channel).node) (end channel).port ≡ Some number
-  stands end rings wired one number channel there =
+  ring_at_end end rings wired one number channel there =
       let (other, found) = wired.complete number (end channel)
       (slice_get-map end graph.channels number ∙ ap (option_map end) there) in
       let (own, listed, same) = ended end rings wired (end channel).node (end channel).port other
@@ -137,11 +137,11 @@ module _ (tree : Stream NodeCode) (graph : Graph) (program : IsProgram tree grap
 
   pub target_ring : (number : ℕ) (channel : Channel) → IsAt number channel
       → at_port (ports_at circuit.inputs channel.target.node) channel.target.port ≡ Some number
-  target_ring = stands (λ channel. channel.target) circuit.inputs is.inputs one_target
+  target_ring = ring_at_end (λ channel. channel.target) circuit.inputs is.inputs one_target
 
   pub source_ring : (number : ℕ) (channel : Channel) → IsAt number channel
       → at_port (ports_at circuit.outputs channel.source.node) channel.source.port ≡ Some number
-  source_ring = stands (λ channel. channel.source) circuit.outputs is.outputs one_source
+  source_ring = ring_at_end (λ channel. channel.source) circuit.outputs is.outputs one_source
 
   -- ---- the ports of a node
 

@@ -16,9 +16,9 @@ use Rattle.strc_graph.proofs.Carriers.{carrier_is_input}
 use Rattle.strc_balance.specs.Balance.{count_limit}
 use Rattle.strc_startup.specs.Rates.{rates_of_channel, first_count}
 use Rattle.strc_order.specs.Firings.{Firings, none_fired, fill}
-use Rattle.strc_order.specs.Order.{tally, after}
+use Rattle.strc_order.specs.Order.{firing_count, after}
 use Rattle.strc_order.specs.Schedules.{ScheduleParts}
-use Rattle.strc_order.proofs.Tallies.{tally_append}
+use Rattle.strc_order.proofs.FiringCounts.{firing_count_append}
 use Rattle.strc_admissible.specs.Planned.{IsPlanned, AreKnown, items_read}
 use Rattle.strc_admissible.specs.Laws.{counts_at}
 use Rattle.strc_admissible.specs.Fits.{Queues, FitNow, Fit}
@@ -27,7 +27,8 @@ use Rattle.strc_admissible.proofs.Fired.{fired_after}
 use Rattle.strc_admissible.proofs.Keeping.{nodes_keep_rates, nodes_take_within}
 use Rattle.strc_admissible.proofs.Orders.{counted_is, AreNodes, IsSupplied, generic_order}
 use Rattle.strc_admissible.proofs.Orders.{order_front}
-use Rattle.strc_admissible.proofs.Peaks.{front_fill, run_order, tally_run, run_finds, run_peak}
+use Rattle.strc_admissible.proofs.Peaks.{front_fill, run_order, firing_count_run, run_finds}
+use Rattle.strc_admissible.proofs.Peaks.{run_peak}
 use Rattle.strc_admissible.proofs.Rounds.{at_startup, in_round, all_supplied}
 use Rattle.strc_admissible.proofs.Splitting.{fits_from}
 use Rattle.strc_admissible.proofs.Supplies.{target_node, fill_is}
@@ -61,7 +62,8 @@ module _ (graph : Graph) (schedule : ScheduleParts) (planned : IsPlanned graph s
             let each = get_or_past planned.round node 0
             (omega (arith, past, planned.least_round.balances.each)) in
             let none = ap (λ (n : ℕ). rounds * n) each in
-            absurd (omega (arith, some, tally_run graph schedule planned rounds node, first, none))
+            absurd (omega
+            (arith, some, firing_count_run graph schedule planned rounds node, first, none))
       ]
 
   module _ (tree : Stream NodeCode) (input : List ℤ) (rounds : ℕ) (program : IsProgram tree graph)
@@ -73,7 +75,7 @@ module _ (graph : Graph) (schedule : ScheduleParts) (planned : IsPlanned graph s
         omega (
           arith,
           all_supplied graph schedule planned tree input rounds program supplied node text reads,
-          tally_run graph schedule planned rounds node,
+          firing_count_run graph schedule planned rounds node,
         )
 
     generic_run : orders.IsOrder node_meaning (flat tree) input (λ node. 0)
@@ -110,7 +112,7 @@ module _ (graph : Graph) (schedule : ScheduleParts) (planned : IsPlanned graph s
           ≤ slice_index schedule.sizes number
       channel_fits number channel there =
           let rates = rates_of_channel graph.nodes channel in
-          let stands = fills_after node_meaning (flat tree) input
+          let filled = fills_after node_meaning (flat tree) input
           (nodes_keep_rates tree graph schedule program.flat planned known)
           (nodes_take_within tree graph schedule program.flat planned) front generic_front now went
           channel.target.node channel.target.port (target_port number channel there)
@@ -121,15 +123,15 @@ module _ (graph : Graph) (schedule : ScheduleParts) (planned : IsPlanned graph s
           (run_order graph schedule planned rounds) is in
           let most = run_peak graph schedule planned number rates
           (rates_there graph number channel there) rounds in
-          omega (arith, stands, least, most)
+          omega (arith, filled, least, most)
 
-      front_within : (node : ℕ) → tally front node
-          ≤ tally (run_order graph schedule planned rounds) node
+      front_within : (node : ℕ) → firing_count front node
+          ≤ firing_count (run_order graph schedule planned rounds) node
       front_within node =
           omega (
             arith,
-            tally_append front back node,
-            ap (λ (l : List ℕ). tally l node) is,
+            firing_count_append front back node,
+            ap (λ (l : List ℕ). firing_count l node) is,
           )
 
       number_fits : (node : ℕ) → (now.runs node).fired < 2 ^ 64
@@ -145,7 +147,7 @@ module _ (graph : Graph) (schedule : ScheduleParts) (planned : IsPlanned graph s
             arith,
             firings,
             front_within node,
-            tally_run graph schedule planned rounds node,
+            firing_count_run graph schedule planned rounds node,
             bound,
           )
 

@@ -1,7 +1,7 @@
 -- After an order that finds its windows, each node has fired as often as the order says.
 use Rattle.std.proofs.Common.{◌≡◌, refl, sym, ap, ◌∙◌, ℕ, List, ℤ, arith}
 use Rattle.strc_dataflow.specs.Node.{Meaning}
-use Rattle.strc_dataflow.specs.Histories.{Run, begun, runs, KeepsRates}
+use Rattle.strc_dataflow.specs.Histories.{Run, initial_run, runs, KeepsRates}
 use Rattle.strc_dataflow.specs.Flat.{Graph}
 use Rattle.strc_dataflow.specs.Order.{counted, IsOrder}
 use Rattle.strc_dataflow.specs.Machine.{Progress, Progress.Went, Progress.Stopped, at_first, go}
@@ -15,7 +15,7 @@ module _ {Code State Cause Word : Type 0} (meaning : Meaning Code State Cause Wo
     (graph : Graph Code) (input : List ℤ)
     (keeps : (node : ℕ) → KeepsRates meaning (graph.code node)) where
   own_at_first : IsOwn meaning graph input keeps (λ node. 0) (at_first meaning graph)
-  unfolding at_first runs begun
+  unfolding at_first runs initial_run
   own_at_first = record { own = λ node. refl; fired = λ node. refl; faultless = λ node. refl }
 
   fifo_same : (a b : Fifo State Cause Word)

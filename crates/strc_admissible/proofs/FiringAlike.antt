@@ -29,15 +29,15 @@ use Rattle.strc_admissible.proofs.Changes.{ArePlaced}
 use Rattle.strc_admissible.proofs.Ends.{are_placed, idle_empty, carrier_fed}
 use Rattle.strc_admissible.proofs.NodeSteps.{node_matches}
 use Rattle.strc_admissible.proofs.Orders.{is_reader}
-use Rattle.strc_admissible.proofs.Standing.{Stands}
+use Rattle.strc_admissible.proofs.Simulation.{Simulates}
 use Rattle.strc_admissible.proofs.Stepping.{finds_in, sees_of, Matches, Shows}
-use Rattle.strc_admissible.proofs.Advancing.{next_queues, next_machine, next_stands}
+use Rattle.strc_admissible.proofs.Advancing.{next_queues, next_machine, next_simulates}
 
 -- both went on alike, or both stopped at the same fault
 abbrev pub IsAlike : Graph → (sizes : List ℕ) → (input : List ℤ)
     → FifoProgress (List ℤ) Cause Word → machines.Progress → Type 0
 IsAlike graph sizes input (FifoWent now) (machines.Went machine) =
-    Stands graph sizes input now machine
+    Simulates graph sizes input now machine
 IsAlike graph sizes input (FifoStopped stop) (machines.Stopped node firing cause) =
     stop ≡ record { node = node; firing = firing; cause = cause }
 IsAlike _ _ _ _ _ = ⊥
@@ -45,7 +45,8 @@ IsAlike _ _ _ _ _ = ⊥
 module _ (tree : Stream NodeCode) (graph : Graph) (program : IsProgram tree graph)
     (circuit : CircuitView) (is : IsCircuit graph circuit) (sizes : List ℕ) (input : List ℤ)
     (reads_it : circuit.input ≡ input) (now : Queues) (machine : MachineView)
-    (stands : Stands graph sizes input now machine) (node : ℕ) (within : node < length graph.nodes)
+    (simulates : Simulates graph sizes input now machine) (node : ℕ)
+    (within : node < length graph.nodes)
     (there : slice_get graph.nodes node ≡ Some ((flat tree).code node)) where
   abbrev code : NodeCode
   code = (flat tree).code node
@@ -70,9 +71,9 @@ module _ (tree : Stream NodeCode) (graph : Graph) (program : IsProgram tree grap
   step_is : next_step circuit machine node
       ≡ node_step code firing state inputs outputs input machine.rings
   step_is =
-      ap (λ (own : ℕ). step_at circuit machine node own) (stands.fired node within)
+      ap (λ (own : ℕ). step_at circuit machine node own) (simulates.fired node within)
       ∙ ap (λ (own : List ℤ). maybe_step (slice_get circuit.codes node) firing own inputs outputs
-      circuit.input machine.rings) (stands.fields node within)
+      circuit.input machine.rings) (simulates.fields node within)
       ∙ ap (λ (found : Option NodeCode). maybe_step found firing state inputs outputs
       circuit.input machine.rings)
       (ap (λ (codes : List NodeCode). slice_get codes node) is.codes ∙ there)
@@ -80,7 +81,7 @@ module _ (tree : Stream NodeCode) (graph : Graph) (program : IsProgram tree grap
       reads_it
 
   placed : ArePlaced inputs outputs (length machine.rings)
-  placed = subst (λ (own : ℕ). ArePlaced inputs outputs own) (sym stands.each_ring)
+  placed = subst (λ (own : ℕ). ArePlaced inputs outputs own) (sym simulates.each_ring)
       (are_placed tree graph program circuit is node)
 
   shows : Shows inputs outputs machine.rings placed (now.queues node) code
@@ -89,7 +90,7 @@ module _ (tree : Stream NodeCode) (graph : Graph) (program : IsProgram tree grap
         let (number, channel, listed, ends, ring) =
         carrier_fed tree graph program circuit is node code there port carries in
         ap (items_at machine.rings) ring
-        ∙ ap (λ (own : Ring). own.items) (stands.rings number channel listed)
+        ∙ ap (λ (own : Ring). own.items) (simulates.rings number channel listed)
         ∙ ap (λ end. now.queues end.node end.port) ends;
     empty = idle_empty tree graph program circuit is node code there;
   }
@@ -106,7 +107,7 @@ module _ (tree : Stream NodeCode) (graph : Graph) (program : IsProgram tree grap
       (node_matches inputs outputs machine.rings placed (now.queues node) code alone firing state
       input shows
       (λ reader. let reads = is_reader code reader in
-      stands.reads node reads.0 (there ∙ ap Some reads.1)))
+      simulates.reads node reads.0 (there ∙ ap Some reads.1)))
 
   -- a firing that finds its windows or doesn't
   abbrev found_progress : Bool → generic.Fired (List ℤ) Cause Word
@@ -137,19 +138,20 @@ module _ (tree : Stream NodeCode) (graph : Graph) (program : IsProgram tree grap
       → FitThen (FitNow graph.channels sizes) (found_progress found fired)
       → IsAlike graph sizes input (found_progress found fired) (after_step machine node step)
   unfolding fifo_after
-  found_alike false fired steps.Stays matches quiet fit = stands
+  found_alike false fired steps.Stays matches quiet fit = simulates
   found_alike true (Fires fields pushes words) (steps.Goes own after printed) matches quiet fit =
       let silent = quiet fields pushes words refl in
-      subst (λ (l : List ℤ). Stands graph sizes input
+      subst (λ (l : List ℤ). Simulates graph sizes input
       (next_queues tree now node fields pushes words)
       (next_machine machine node l after printed)) (sym matches.0)
-      (subst (λ (l : List Word). Stands graph sizes input
+      (subst (λ (l : List Word). Simulates graph sizes input
       (next_queues tree now node fields pushes words)
       (next_machine machine node fields after l)) (sym matches.1)
-      (next_stands tree graph program circuit is sizes input now machine stands node within there
+      (next_simulates tree graph program circuit is sizes input now machine simulates node within
+      there
       fields pushes words after matches.2 silent fit))
   found_alike true (Faults cause) (steps.Faults own) matches quiet fit =
-      ap (λ (n : ℕ). stop_of n cause) (sym (stands.fired node within))
+      ap (λ (n : ℕ). stop_of n cause) (sym (simulates.fired node within))
       ∙ ap (stop_of (slice_index machine.fired node)) (sym matches)
   found_alike found fired step matches quiet fit = absurd matches
 

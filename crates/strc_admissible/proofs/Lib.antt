@@ -19,7 +19,7 @@ pub mod Outside
 pub mod Apart
 pub mod Ends
 pub mod WordsBelow
-pub mod Standing
+pub mod Simulation
 pub mod Advancing
 pub mod FiringAlike
 pub mod RunAlike

@@ -8,15 +8,15 @@ use Rattle.std.proofs.lemmas.Bool.{true≢false}
 use Rattle.std.proofs.lemmas.Option.{slice_get-get_or}
 use Rattle.strc_dataflow.specs.Order as orders
 use Rattle.strc_dataflow.specs.Streams.{Stream, flat}
-use Rattle.strc_dataflow.proofs.WholeRun.{counted-tally}
+use Rattle.strc_dataflow.proofs.WholeRun.{counted-firing_count}
 use Rattle.strc_graph.specs.Graphs.{NodeCode, Identity, FileReader, Graph, reads_input}
 use Rattle.strc_graph.specs.FlatGraphs.{IsProgram}
 use Rattle.strc_graph.specs.Meaning.{node_meaning}
 use Rattle.strc_graph.specs.Rates.{fires_by_rounds}
 use Rattle.strc_startup.specs.Rates.{rates_of}
 use Rattle.strc_order.specs.Firings.{Firings, fired}
-use Rattle.strc_order.specs.Order.{tally, after, IsOrder}
-use Rattle.strc_order.proofs.Tallies.{turns_same}
+use Rattle.strc_order.specs.Order.{firing_count, after, IsOrder}
+use Rattle.strc_order.proofs.FiringCounts.{turns_same}
 use Rattle.strc_admissible.proofs.Windows.{is_ready}
 
 -- counts in both layers
@@ -29,11 +29,13 @@ raised_is counts node = fun_ext (λ other. by_test (counts other) (eqb other nod
     by_test count true = omega arith
     by_test count false = omega arith
 
-pub tally_is : (order : List ℕ) (node : ℕ) → orders.tally order node ≡ tally order node
-unfolding orders.tally orders.raised
-tally_is [] node = refl
-tally_is (first ∷ order) node =
-    by_test (orders.tally order node) (tally order node) (eqb node first) (tally_is order node)
+pub firing_count_is : (order : List ℕ) (node : ℕ) → orders.firing_count order node
+    ≡ firing_count order node
+unfolding orders.firing_count orders.raised
+firing_count_is [] node = refl
+firing_count_is (first ∷ order) node =
+    by_test (orders.firing_count order node) (firing_count order node) (eqb node first)
+    (firing_count_is order node)
   where
     by_test : (mine its : ℕ) (same : Bool) → mine ≡ its
         → cond same (suc mine) mine ≡ cond same 1 0 + its
@@ -42,8 +44,8 @@ tally_is (first ∷ order) node =
 
 pub counted_is : (counts : Firings) (order : List ℕ)
     → orders.counted counts order ≡ after counts order
-counted_is counts order = fun_ext (λ node. counted-tally order counts node
-    ∙ ap (λ (n : ℕ). counts node + n) (tally_is order node))
+counted_is counts order = fun_ext (λ node. counted-firing_count order counts node
+    ∙ ap (λ (n : ℕ). counts node + n) (firing_count_is order node))
 
 pub is_reader : (code : NodeCode) → reads_input code ≡ true
     → (text : List ℕ) × (code ≡ FileReader text)
@@ -52,7 +54,7 @@ is_reader code reads = absurd (true≢false (sym reads))
 
 -- the nodes of an order are those of a graph
 abbrev pub AreNodes : Graph → (order : List ℕ) → Type 0
-AreNodes graph order = (node : ℕ) → 0 < tally order node → node < length graph.nodes
+AreNodes graph order = (node : ℕ) → 0 < firing_count order node → node < length graph.nodes
 
 -- no reader fires more often than its input has items
 abbrev pub IsSupplied : Graph → (input : List ℤ) → (counts : Firings) → Type 0

@@ -7,16 +7,16 @@ use Rattle.strc_startup.specs.Rates.{rates_of}
 use Rattle.strc_startup.specs.declared.channel_rates.ChannelRates.{ChannelRates}
 use Rattle.strc_order.specs.Buffers.{peak_fill, buffer_size}
 use Rattle.strc_order.specs.Firings.{Firings, none_fired, fired, fill}
-use Rattle.strc_order.specs.Order.{tally, after, repeated, IsOrder}
+use Rattle.strc_order.specs.Order.{firing_count, after, repeated, IsOrder}
 use Rattle.strc_order.specs.Rounds.{rounds_on}
 use Rattle.strc_order.specs.Schedules.{ScheduleParts}
 use Rattle.strc_order.proofs.Buffering.{at_channel}
 use Rattle.strc_order.proofs.Fills.{peak_first, peak_last, peak_append}
 use Rattle.strc_order.proofs.Repeating.{no_overflow}
-use Rattle.strc_order.proofs.Tallies.{after_none, after_cons, tally_append}
+use Rattle.strc_order.proofs.FiringCounts.{after_none, after_cons, firing_count_append}
 use Rattle.strc_admissible.specs.Planned.{IsPlanned}
 use Rattle.strc_admissible.specs.Laws.{startup_order, round_order}
-use Rattle.strc_admissible.proofs.Rounds.{at_startup, in_round, settled, balances}
+use Rattle.strc_admissible.proofs.Rounds.{at_startup, in_round, past_prework, balances}
 use Rattle.strc_admissible.proofs.Rounds.{startup_finds, round_finds}
 
 -- an order, and after it another one
@@ -46,24 +46,26 @@ module _ (graph : Graph) (schedule : ScheduleParts) (planned : IsPlanned graph s
   after_rounds rounds =
       rounds_on (at_startup graph schedule planned) rounds (in_round graph schedule planned)
 
-  tally_rounds : (rounds node : ℕ) → tally (repeated rounds (round_order schedule)) node
+  firing_count_rounds : (rounds node : ℕ)
+      → firing_count (repeated rounds (round_order schedule)) node
       ≡ rounds * in_round graph schedule planned node
-  tally_rounds zero node = omega arith
-  tally_rounds (suc rounds) node =
+  firing_count_rounds zero node = omega arith
+  firing_count_rounds (suc rounds) node =
       omega (
         arith,
-        tally_append (round_order schedule) (repeated rounds (round_order schedule)) node,
-        tally_rounds rounds node,
+        firing_count_append (round_order schedule) (repeated rounds (round_order schedule)) node,
+        firing_count_rounds rounds node,
         planned.schedule.round_order.all node,
       )
 
   -- how often each node fires in all
-  pub tally_run : (rounds node : ℕ) → tally (run_order rounds) node ≡ after_rounds rounds node
-  tally_run rounds node =
+  pub firing_count_run : (rounds node : ℕ) → firing_count (run_order rounds) node
+      ≡ after_rounds rounds node
+  firing_count_run rounds node =
       omega (
         arith,
-        tally_append (startup_order schedule) (repeated rounds (round_order schedule)) node,
-        tally_rounds rounds node,
+        firing_count_append (startup_order schedule) (repeated rounds (round_order schedule)) node,
+        firing_count_rounds rounds node,
         planned.schedule.startup_order.all node,
       )
 
@@ -98,7 +100,7 @@ module _ (graph : Graph) (schedule : ScheduleParts) (planned : IsPlanned graph s
     round_peak q =
         no_overflow (rates_of graph) (at_startup graph schedule planned)
         (in_round graph schedule planned) schedule planned.schedule
-        (settled graph schedule planned) (balances graph schedule planned) q number rates there
+        (past_prework graph schedule planned) (balances graph schedule planned) q number rates there
 
     rounds_peak : (left q : ℕ)
         → peak_fill rates (after_rounds q) (repeated left (round_order schedule))

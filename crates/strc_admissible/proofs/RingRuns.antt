@@ -3,21 +3,22 @@ use Rattle.strc_dataflow.proofs.Theorem.{stream_queue_run}
 use Rattle.strc_dataflow.specs.Queues.{fifo_run}
 use Rattle.strc_dataflow.specs.Streams.{flat}
 use Rattle.strc_graph.specs.Meaning.{node_meaning}
-use Rattle.strc_order.specs.Order.{tally}
+use Rattle.strc_order.specs.Order.{firing_count}
 use Rattle.strc_admissible.specs.Laws.{startup_order, round_order}
 use Rattle.strc_admissible.proofs.Filling.{run_fits}
 use Rattle.strc_admissible.proofs.Keeping.{nodes_keep_rates, nodes_take_within}
 use Rattle.strc_admissible.proofs.Rounds.{orders_find, startup_nodes, round_nodes}
 use Rattle.strc_admissible.proofs.RunAlike.{run_alike}
-use Rattle.strc_admissible.specs.Told.{RingRunsAnswer}
+use Rattle.strc_admissible.specs.RingAnswer.{RingRunsAnswer}
 
 pub ring_runs : RingRunsAnswer
 ring_runs tree graph schedule input rounds circuit machine program planned known few supplied is
     reads first = (
       fifo_run node_meaning (flat tree) input (round_order schedule) (startup_order schedule)
           rounds,
-      (stream_queue_run node_meaning tree input (tally (startup_order schedule))
-          (tally (round_order schedule)) (startup_order schedule) (round_order schedule) rounds
+      (stream_queue_run node_meaning tree input (firing_count (startup_order schedule))
+          (firing_count (round_order schedule)) (startup_order schedule) (round_order schedule)
+          rounds
           (nodes_take_within tree graph schedule program.flat planned)).1
           (nodes_keep_rates tree graph schedule program.flat planned known)
           (orders_find graph schedule planned tree input rounds program supplied),

@@ -16,16 +16,16 @@ use Rattle.strc_balance.specs.Balance.{count_at, IsBalanced}
 use Rattle.strc_balance.specs.Rates.{pops_by_work, pushes_by_work, equation_of}
 use Rattle.strc_startup.specs.Rates.{rates_of, rates_of_channel, first_count}
 use Rattle.strc_order.specs.Firings.{Firings, none_fired}
-use Rattle.strc_order.specs.Order.{tally, IsOrder}
-use Rattle.strc_order.specs.Rounds.{rounds_on, RoundBalances, IsSettled}
+use Rattle.strc_order.specs.Order.{firing_count, IsOrder}
+use Rattle.strc_order.specs.Rounds.{rounds_on, RoundBalances, IsPastPrework}
 use Rattle.strc_order.specs.Schedules.{ScheduleParts}
 use Rattle.strc_order.proofs.Deciding.{is_an_order}
 use Rattle.strc_order.proofs.Repeating.{order_repeats}
-use Rattle.strc_order.proofs.Settling.{all_settle}
+use Rattle.strc_order.proofs.PastPrework.{all_past_prework}
 use Rattle.strc_admissible.specs.Planned.{IsPlanned, items_read}
 use Rattle.strc_admissible.specs.Laws.{startup_order, round_order, counts_at}
 use Rattle.strc_admissible.proofs.Inputs.{reader_reads}
-use Rattle.strc_admissible.proofs.Orders.{tally_is, AreNodes, IsSupplied, generic_order}
+use Rattle.strc_admissible.proofs.Orders.{firing_count_is, AreNodes, IsSupplied, generic_order}
 
 -- what holds of each element made one way holds of each made another way
 mapped_all : {A B C : Type 0} (f : A → B) (g : A → C) (P : B → Type 0) (Q : C → Type 0)
@@ -69,8 +69,8 @@ module _ (graph : Graph) (schedule : ScheduleParts) (planned : IsPlanned graph s
   abbrev pub in_round : Firings
   in_round = count_at planned.round
 
-  pub settled : All (IsSettled at_startup) (rates_of graph)
-  settled = all_settle graph planned.startup planned.rated planned.least_startup.primed
+  pub past_prework : All (IsPastPrework at_startup) (rates_of graph)
+  past_prework = all_past_prework graph planned.startup planned.rated planned.least_startup.primed
 
   pub balances : All (RoundBalances in_round) (rates_of graph)
   balances =
@@ -94,7 +94,8 @@ module _ (graph : Graph) (schedule : ScheduleParts) (planned : IsPlanned graph s
   pub round_finds : (q : ℕ) → IsOrder (rates_of graph) (rounds_on at_startup q in_round)
       (round_order schedule)
   round_finds q =
-      order_repeats (rates_of graph) at_startup in_round q (round_order schedule) settled balances
+      order_repeats (rates_of graph) at_startup in_round q (round_order schedule) past_prework
+      balances
       (is_an_order (rates_of graph) at_startup in_round schedule.round planned.schedule.round_order)
 
   pub startup_nodes : AreNodes graph (startup_order schedule)
@@ -118,7 +119,7 @@ module _ (graph : Graph) (schedule : ScheduleParts) (planned : IsPlanned graph s
   pub counts_are : (q : ℕ) → counts_at schedule q ≡ rounds_on at_startup q in_round
   unfolding orders.counts_after
   counts_are q = fun_ext (λ node.
-      ap (λ (n : ℕ). n + q * tally (round_order schedule) node)
+      ap (λ (n : ℕ). n + q * firing_count (round_order schedule) node)
       (planned.schedule.startup_order.all node)
       ∙ ap (λ (n : ℕ). at_startup node + q * n) (planned.schedule.round_order.all node))
 
@@ -156,11 +157,12 @@ module _ (graph : Graph) (schedule : ScheduleParts) (planned : IsPlanned graph s
         omega (arith, all_supplied node text reads, planned.schedule.round_order.all node, more))
 
     pub orders_find : orders.IsSchedule node_meaning (flat tree) input
-        (tally (startup_order schedule)) (tally (round_order schedule)) (startup_order schedule)
+        (firing_count (startup_order schedule)) (firing_count (round_order schedule))
+        (startup_order schedule)
         (round_order schedule) rounds
     orders_find = record {
-      startup_counts = tally_is (startup_order schedule);
-      round_counts = tally_is (round_order schedule);
+      startup_counts = firing_count_is (startup_order schedule);
+      round_counts = firing_count_is (round_order schedule);
       startup_finds = generic_startup;
       round_finds = λ q less. subst (λ (counts : Firings). IsGenericOrder counts
           (round_order schedule)) (sym (counts_are q)) (generic_round q less);

@@ -10,7 +10,7 @@ use Rattle.strc_semantics.specs.declared.fault.Cause.{Cause}
 use Rattle.strc_semantics.specs.declared.word.Word.{Word}
 use Rattle.strc_dataflow.specs.Answer.{Outcome, words_of}
 use Rattle.strc_dataflow.specs.Flat.{Source, items_of, arrived}
-use Rattle.strc_dataflow.specs.Histories.{begun}
+use Rattle.strc_dataflow.specs.Histories.{initial_run}
 use Rattle.strc_dataflow.specs.Queues.{FifoProgress, FifoProgress.FifoWent}
 use Rattle.strc_dataflow.specs.Queues.{FifoProgress.FifoStopped, fifo_fire, fifo_then, fifo_go}
 use Rattle.strc_dataflow.specs.Queues.{fifo_at_first, fifo_round_outcome, fifo_rounds}
@@ -21,21 +21,21 @@ use Rattle.strc_graph.specs.FlatGraphs.{IsProgram}
 use Rattle.strc_graph.specs.Meaning.{node_meaning, node_fields}
 use Rattle.strc_graph.specs.Rates.{fires_by_rounds}
 use Rattle.strc_order.specs.Order.{repeated}
-use Rattle.strc_order.proofs.Tallies.{turns_same}
+use Rattle.strc_order.proofs.FiringCounts.{turns_same}
 use Rattle.strc_admissible.specs.Circuits.{IsCircuit, IsFirst}
 use Rattle.strc_admissible.specs.Fits.{Queues, FitNow, FitThen, Fit}
 use Rattle.strc_admissible.specs.Machine as machines
 use Rattle.strc_admissible.specs.Machine.{CircuitView, MachineView, Ending, next_step, after_step}
 use Rattle.strc_admissible.specs.Machine.{then_go, order_run, after_round, rounds_run}
 use Rattle.strc_admissible.specs.Machine.{after_startup, whole_run}
-use Rattle.strc_admissible.specs.Told.{words_below, Tells}
+use Rattle.strc_admissible.specs.RingAnswer.{words_below, Tells}
 use Rattle.strc_admissible.proofs.Changes.{extended_all}
 use Rattle.strc_admissible.proofs.Codes.{code_is}
 use Rattle.strc_admissible.proofs.Ends.{source_is}
 use Rattle.strc_admissible.proofs.FiringAlike.{IsAlike, fire_alike}
 use Rattle.strc_admissible.proofs.Orders.{AreNodes}
 use Rattle.strc_admissible.proofs.Splitting.{fit_now, fit_split}
-use Rattle.strc_admissible.proofs.Standing.{Stands}
+use Rattle.strc_admissible.proofs.Simulation.{Simulates}
 use Rattle.strc_admissible.proofs.WordsBelow.{words_none}
 
 module _ (tree : Stream NodeCode) (graph : Graph) (program : IsProgram tree graph)
@@ -73,7 +73,7 @@ module _ (tree : Stream NodeCode) (graph : Graph) (program : IsProgram tree grap
   then_alike : (order : List ℕ) (progress : FifoProgress (List ℤ) Cause Word)
       (own : machines.Progress) → Alike progress own → FitThen (FitsFor order) progress
       → ((now : Queues) (machine : MachineView) → FitsFor order now
-      → Stands graph sizes input now machine
+      → Simulates graph sizes input now machine
       → Alike (go order now) (order_run circuit order machine))
       → Alike (fifo_then (go order) progress) (then_go (order_run circuit order) own)
   unfolding fifo_then
@@ -85,16 +85,17 @@ module _ (tree : Stream NodeCode) (graph : Graph) (program : IsProgram tree grap
   then_alike order (FifoStopped stop) (machines.Went machine) alike fit later = absurd alike
 
   pub order_alike : (order : List ℕ) → AreNodes graph order → (now : Queues)
-      (machine : MachineView) → FitsFor order now → Stands graph sizes input now machine
+      (machine : MachineView) → FitsFor order now → Simulates graph sizes input now machine
       → Alike (go order now) (order_run circuit order machine)
   unfolding fifo_go
-  order_alike [] nodes now machine fit stands = stands
-  order_alike (node ∷ order) nodes now machine (fit, then_fit) stands =
+  order_alike [] nodes now machine fit simulates = simulates
+  order_alike (node ∷ order) nodes now machine (fit, then_fit) simulates =
       let within = nodes node (omega (arith, turns_same 1 node node refl)) in
       let there = node_there node within in
       then_alike order (fifo_fire node_meaning (flat tree) now node)
       (after_step machine node (next_step circuit machine node))
-      (fire_alike tree graph program circuit is sizes input reads_it now machine stands node within
+      (fire_alike tree graph program circuit is sizes input reads_it now machine simulates node
+      within
       there (each node ((flat tree).code node) there)
       (then_fits order (fifo_fire node_meaning (flat tree) now node) then_fit))
       then_fit
@@ -106,12 +107,12 @@ module _ (tree : Stream NodeCode) (graph : Graph) (program : IsProgram tree grap
     abbrev rounds_left : ℕ → ℕ → Queues → Outcome Cause Word
     rounds_left = fifo_rounds node_meaning (flat tree) input round
 
-    told_round : (left q : ℕ) (progress : FifoProgress (List ℤ) Cause Word)
+    round_tells : (left q : ℕ) (progress : FifoProgress (List ℤ) Cause Word)
         (own : machines.Progress) (words : ℕ → List Word) (printed : List Word)
         → printed ≡ words_below count words
         → Alike progress own → FitThen (FitsFor (repeated left round)) progress
         → ((now : Queues) (machine : MachineView) → FitsFor (repeated left round) now
-        → Stands graph sizes input now machine
+        → Simulates graph sizes input now machine
         → Tells count (rounds_left left (suc q) now)
         (rounds_run circuit round left (suc q) machine))
         → Tells count
@@ -119,47 +120,47 @@ module _ (tree : Stream NodeCode) (graph : Graph) (program : IsProgram tree grap
         (rounds_left left (suc q)))
         (after_round q printed (rounds_run circuit round left (suc q)) own)
     unfolding fifo_round_outcome
-    told_round left q (FifoWent next) (machines.Went machine) words printed same alike fit later =
+    round_tells left q (FifoWent next) (machines.Went machine) words printed same alike fit later =
         later next machine fit alike
-    told_round left q (FifoStopped stop) (machines.Stopped node firing cause) words printed same
+    round_tells left q (FifoStopped stop) (machines.Stopped node firing cause) words printed same
         alike fit later = (refl, alike, same)
-    told_round left q (FifoWent next) (machines.Stopped node firing cause) words printed same
+    round_tells left q (FifoWent next) (machines.Stopped node firing cause) words printed same
         alike fit later = absurd alike
-    told_round left q (FifoStopped stop) (machines.Went machine) words printed same alike fit later
+    round_tells left q (FifoStopped stop) (machines.Went machine) words printed same alike fit later
         = absurd alike
 
     rounds_alike : (left q : ℕ) (now : Queues) (machine : MachineView)
-        → FitsFor (repeated left round) now → Stands graph sizes input now machine
+        → FitsFor (repeated left round) now → Simulates graph sizes input now machine
         → Tells count (rounds_left left q now) (rounds_run circuit round left q machine)
     unfolding fifo_rounds words_of
-    rounds_alike zero q now machine fit stands = stands.words
-    rounds_alike (suc left) q now machine fit stands =
+    rounds_alike zero q now machine fit simulates = simulates.words
+    rounds_alike (suc left) q now machine fit simulates =
         let parts = fit_split (flat tree) graph.channels sizes round (repeated left round) now fit
         in
-        told_round left q (go round now) (order_run circuit round machine) (words_of now.runs)
-        machine.words stands.words (order_alike round round_nodes now machine parts.0 stands)
+        round_tells left q (go round now) (order_run circuit round machine) (words_of now.runs)
+        machine.words simulates.words (order_alike round round_nodes now machine parts.0 simulates)
         parts.1 (rounds_alike left (suc q))
 
     -- ---- the whole run
 
-    told_startup : (rounds : ℕ) (progress : FifoProgress (List ℤ) Cause Word)
+    startup_tells : (rounds : ℕ) (progress : FifoProgress (List ℤ) Cause Word)
         (own : machines.Progress) → Alike progress own
         → FitThen (FitsFor (repeated rounds round)) progress
         → Tells count (fifo_startup_outcome node_meaning (flat tree) input round rounds progress)
         (after_startup (rounds_run circuit round rounds 0) own)
     unfolding fifo_startup_outcome
-    told_startup rounds (FifoWent next) (machines.Went machine) alike fit =
+    startup_tells rounds (FifoWent next) (machines.Went machine) alike fit =
         rounds_alike rounds 0 next machine fit alike
-    told_startup rounds (FifoStopped stop) (machines.Stopped node firing cause) alike fit = alike
-    told_startup rounds (FifoWent next) (machines.Stopped node firing cause) alike fit =
+    startup_tells rounds (FifoStopped stop) (machines.Stopped node firing cause) alike fit = alike
+    startup_tells rounds (FifoWent next) (machines.Stopped node firing cause) alike fit =
         absurd alike
-    told_startup rounds (FifoStopped stop) (machines.Went machine) alike fit = absurd alike
+    startup_tells rounds (FifoStopped stop) (machines.Went machine) alike fit = absurd alike
 
-    first_stands : (machine : MachineView) → IsFirst graph sizes machine
+    first_simulates : (machine : MachineView) → IsFirst graph sizes machine
         → FitNow graph.channels sizes (fifo_at_first node_meaning (flat tree) input)
-        → Stands graph sizes input (fifo_at_first node_meaning (flat tree) input) machine
-    unfolding fifo_at_first begun arrived items_of
-    first_stands machine first fit = record {
+        → Simulates graph sizes input (fifo_at_first node_meaning (flat tree) input) machine
+    unfolding fifo_at_first initial_run arrived items_of
+    first_simulates machine first fit = record {
       each_fields = ap (λ (l : List (List ℤ)). length l) first.fields
           ∙ length-map graph.nodes node_fields;
       each_fired = ap (λ (l : List ℕ). length l) first.fired ∙ length-replicate count 0;
@@ -175,7 +176,7 @@ module _ (tree : Stream NodeCode) (graph : Graph) (program : IsProgram tree grap
           ∙ get_or-replicate count node 0 0 less;
       rings = λ number channel listed.
           let size = slice_index sizes number in
-          let comes = ap (λ (source : Source). arrived input (λ v. begun node_meaning
+          let comes = ap (λ (source : Source). arrived input (λ v. initial_run node_meaning
           ((flat tree).code v)) source)
           (source_is tree graph program circuit is number channel listed)
           ∙ append-nil channel.enqueued in
@@ -184,7 +185,8 @@ module _ (tree : Stream NodeCode) (graph : Graph) (program : IsProgram tree grap
           (subst (λ (l : List ℤ). length l ≤ size) comes (fit.items number channel listed))
           ∙ ap (λ (l : List ℤ). buffer l size) (sym comes);
       reads = λ node text reader.
-          ap (λ (source : Source). arrived input (λ v. begun node_meaning ((flat tree).code v))
+          ap (λ (source : Source). arrived input
+          (λ v. initial_run node_meaning ((flat tree).code v))
           source) (program.inputs node text reader);
       words = first.words ∙ sym (words_none count (λ node. []) (λ node less. refl));
       silent = λ node code listed silent. refl;
@@ -202,7 +204,7 @@ module _ (tree : Stream NodeCode) (graph : Graph) (program : IsProgram tree grap
         let at_first = fifo_at_first node_meaning (flat tree) input in
         let parts = fit_split (flat tree) graph.channels sizes startup (repeated rounds round)
         at_first fit in
-        told_startup rounds (go startup at_first) (order_run circuit startup machine)
+        startup_tells rounds (go startup at_first) (order_run circuit startup machine)
         (order_alike startup startup_nodes at_first machine parts.0
-        (first_stands machine first
+        (first_simulates machine first
         (fit_now (flat tree) graph.channels sizes startup at_first parts.0))) parts.1

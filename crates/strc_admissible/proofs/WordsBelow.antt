@@ -7,7 +7,7 @@ use Rattle.std.proofs.lemmas.List.{append-nil}
 use Rattle.std.proofs.lemmas.List.Sums.{sum_by-cons}
 use Rattle.std.proofs.lemmas.Option.{same_Some}
 use Rattle.strc_semantics.specs.declared.word.Word.{Word}
-use Rattle.strc_admissible.specs.Told.{words_below}
+use Rattle.strc_admissible.specs.RingAnswer.{words_below}
 
 abbrev ByNode : Type 0
 ByNode = ℕ → List Word

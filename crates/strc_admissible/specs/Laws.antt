@@ -8,7 +8,7 @@ use Rattle.strc_graph.specs.Graphs.{NodeCode, Graph}
 use Rattle.strc_graph.specs.FlatGraphs.{IsProgram}
 use Rattle.strc_graph.specs.Meaning.{node_meaning}
 use Rattle.strc_order.specs.Greedy.{firings_of}
-use Rattle.strc_order.specs.Order.{tally, repeated}
+use Rattle.strc_order.specs.Order.{firing_count, repeated}
 use Rattle.strc_order.specs.Schedules.{ScheduleParts}
 use Rattle.strc_admissible.specs.Planned.{IsPlanned, AreKnown, items_read}
 use Rattle.strc_admissible.specs.Fits.{Fit}
@@ -22,19 +22,20 @@ module _ (schedule : ScheduleParts) where
   round_order = firings_of schedule.round
 
   abbrev pub counts_at : (rounds : ℕ) → (node : ℕ) → ℕ
-  counts_at rounds = counts_after (tally startup_order) (tally round_order) rounds
+  counts_at rounds = counts_after (firing_count startup_order) (firing_count round_order) rounds
 
 -- start-up and so many rounds of a schedule over a tree's graph: each firing finds what it looks
 -- at, no buffer holds more than its size, and the run over queues is the answer of the equations
 pub record IsAdmissible (tree : trees.Stream NodeCode) (graph : Graph) (schedule : ScheduleParts)
     (input : List ℤ) (rounds : ℕ) : Type 0 where
-  pub finds : IsSchedule node_meaning (trees.flat tree) input (tally (startup_order schedule))
-      (tally (round_order schedule)) (startup_order schedule) (round_order schedule) rounds
+  pub finds : IsSchedule node_meaning (trees.flat tree) input
+      (firing_count (startup_order schedule))
+      (firing_count (round_order schedule)) (startup_order schedule) (round_order schedule) rounds
   pub fits : Fit (trees.flat tree) graph.channels schedule.sizes
       (startup_order schedule ++ repeated rounds (round_order schedule))
       (fifo_at_first node_meaning (trees.flat tree) input)
-  pub answers : IsAnswer node_meaning tree input (tally (startup_order schedule))
-      (tally (round_order schedule)) (startup_order schedule) (round_order schedule) rounds
+  pub answers : IsAnswer node_meaning tree input (firing_count (startup_order schedule))
+      (firing_count (round_order schedule)) (startup_order schedule) (round_order schedule) rounds
       (fifo_run node_meaning (trees.flat tree) input (round_order schedule)
       (startup_order schedule) rounds)
 

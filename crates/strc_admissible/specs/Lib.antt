@@ -6,4 +6,4 @@ pub mod Wiring
 pub mod Steps
 pub mod Machine
 pub mod Circuits
-pub mod Told
+pub mod RingAnswer

@@ -9,7 +9,7 @@
 #![tactic(auto)]
 
 ghost use Rattle.strc_admissible.specs.Laws.{SchedulesAreAdmissible};
-ghost use Rattle.strc_admissible.specs.Told.{RingRunsAnswer};
+ghost use Rattle.strc_admissible.specs.RingAnswer.{RingRunsAnswer};
 
 /// The schedule of a program's graph is admissible (Lee and Messerschmitt 1987: a periodic
 /// admissible sequential schedule), and what its run gives is the answer of the stream equations.

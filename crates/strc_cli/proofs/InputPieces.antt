@@ -97,10 +97,10 @@ pub word_stops : ReadsInPieces → FailsForGood → (first middle last : Option 
     → Consumes middle last piece → IsRead (bytes_read reading piece) (Err e) after
     → why ≡ stop_of e → ReadsNumbers first (Err why)
 word_stops pieces fails first middle last reading after piece (error.BadInput word) why has consumed
-    is told =
-    subst (λ (w : ReadStop). ReadsNumbers first (Err w)) (sym told)
+    is reported =
+    subst (λ (w : ReadStop). ReadsNumbers first (Err w)) (sym reported)
     (word_found fails first last word
     (read_more pieces first middle last reading (Fails word) piece has consumed is))
 word_stops pieces fails first middle last reading after piece error.NoMemory why has consumed is
-    told =
-    subst (λ (w : ReadStop). ReadsNumbers first (Err w)) (sym told) tt
+    reported =
+    subst (λ (w : ReadStop). ReadsNumbers first (Err w)) (sym reported) tt

@@ -93,10 +93,11 @@ TellsAnswer answer (Err error.Read) before after = ⊥
 TellsAnswer answer (Err error.Memory) before after = WroteNothing before after
 
 -- an answer is reported, or nothing is written where there is none
-abbrev pub IsTold : Result (Result Answer Stop) CliError → Result Status CliError → Device → Device
+abbrev pub IsReported : Result (Result Answer Stop) CliError → Result Status CliError → Device
+    → Device
     → Type 0
-IsTold (Ok answer) result before after = TellsAnswer answer result before after
-IsTold (Err failure) result before after = (result ≡ Err failure) × WroteNothing before after
+IsReported (Ok answer) result before after = TellsAnswer answer result before after
+IsReported (Err failure) result before after = (result ≡ Err failure) × WroteNothing before after
 
 -- what is reported is the answer for this text, command and input, of which the bytes are given
 -- where they are known
@@ -104,4 +105,4 @@ abbrev pub Executes : List ℕ → Command → (bytes : Option (List ℕ)) → R
     → Device → Device → Type 0
 Executes text command bytes result before after =
     (answer : Result (Result Answer Stop) CliError) × IsAnswered text command bytes answer
-    × IsTold answer result before after
+    × IsReported answer result before after

@@ -65,7 +65,7 @@ pub fn execute<I: Source, O: Sink>(
     input: &mut I,
     output: &mut O,
 ) -> Result<Status, CliError>
-    ensures told { Executes text.now command.now (I.remaining input.old) result
+    ensures reported { Executes text.now command.now (I.remaining input.old) result
         (device_of (O.contents output.old) (O.has_failed output.old))
         (device_of (O.contents output.new) (O.has_failed output.new)) }
     // Reading fails only where the input did so in this call.

@@ -31,7 +31,7 @@ pub fn execute_explained<I: Source, O: Sink>(
     input: &mut I,
     output: &mut O,
 ) -> Explained
-    ensures told { Executes text.now command.now (I.remaining input.old) result.result
+    ensures reported { Executes text.now command.now (I.remaining input.old) result.result
         (device_of (O.contents output.old) (O.has_failed output.old))
         (device_of (O.contents output.new) (O.has_failed output.new)) }
     ensures failed { result.result ≡ Err CliError.Read → I.has_failed input.new ≡ true }

@@ -6,11 +6,12 @@ use Rattle.std.proofs.Common.{mul-le-mul_right}
 use mathlib.Core.Path.{fun_ext}
 use Rattle.strc_dataflow.specs.Node.{Meaning, total}
 use Rattle.strc_dataflow.specs.Flat.{Origin, Origin.Nowhere, Origin.Input, Origin.Port, Graph}
-use Rattle.strc_dataflow.specs.Order.{raised, counted, tally, counts_after, supply_of, supply}
+use Rattle.strc_dataflow.specs.Order.{raised, counted, firing_count, counts_after, supply_of}
+use Rattle.strc_dataflow.specs.Order.{supply}
 use Rattle.strc_dataflow.specs.Order.{IsOrder}
 use Rattle.strc_dataflow.specs.Rounds.{RepeatsRates, gives_in_round, IsBalanced, IsSupplied}
 use Rattle.strc_dataflow.proofs.Invariant.{counted_grows, raised_here}
-use Rattle.strc_dataflow.proofs.WholeRun.{counted-tally}
+use Rattle.strc_dataflow.proofs.WholeRun.{counted-firing_count}
 
 -- The total of a rate that repeats.
 total_repeats : (rate : ℕ → ℕ → ℕ) (port from : ℕ)
@@ -143,7 +144,7 @@ module _ {Code State Cause Word : Type 0} (meaning : Meaning Code State Cause Wo
 
 module _ {Code State Cause Word : Type 0} (meaning : Meaning Code State Cause Word)
     (graph : Graph Code) (input : List ℤ) (startup round : ℕ → ℕ) (round_order : List ℕ) (k : ℕ)
-    (tallies : (node : ℕ) → tally round_order node ≡ round node)
+    (firing_counts : (node : ℕ) → firing_count round_order node ≡ round node)
     (repeats : RepeatsRates meaning graph startup)
     (balanced : IsBalanced meaning graph startup round)
     (supplied : IsSupplied meaning graph input (counts_after startup round k))
@@ -161,8 +162,8 @@ module _ {Code State Cause Word : Type 0} (meaning : Meaning Code State Cause Wo
       (λ v. omega arith)
       (λ v. omega (
         arith,
-        counted-tally round_order (later (counts_after startup round q) round) v,
-        tallies v,
+        counted-firing_count round_order (later (counts_after startup round q) round) v,
+        firing_counts v,
         mul-le-mul_right (round v) less,
       ))
       (each_round q (omega arith)))

@@ -8,7 +8,8 @@ use Rattle.strc_dataflow.specs.Node.{Meaning, total}
 use Rattle.strc_dataflow.specs.Flat.{Origin.Port, Source, Graph}
 use Rattle.strc_dataflow.specs.Streams.{nothing, node_layout, chained_layout, layout}
 use Rattle.strc_dataflow.specs.Streams.{pipeline_layout, any_code, any_code_of, flat}
-use Rattle.strc_dataflow.specs.Order.{raised, tally, counts_after, supply_of, supply, IsReady}
+use Rattle.strc_dataflow.specs.Order.{raised, firing_count, counts_after, supply_of, supply}
+use Rattle.strc_dataflow.specs.Order.{IsReady}
 use Rattle.strc_dataflow.specs.Order.{IsOrder, IsSchedule}
 use Rattle.strc_dataflow.proofs.Invariant.{raised_here}
 use Rattle.strc_dataflow.specs.Pipelines.{filters, pipeline_of, nodes_from, once_each, IsChain}
@@ -73,40 +74,43 @@ unfolding raised
 raised_other counts node other ne = ap (λ (t : Bool). cond t (suc (counts other)) (counts other))
     (ne_eqb other node ne)
 
-tally_before : (more node u : ℕ) → u < node → tally (nodes_from node more) u ≡ 0
-unfolding tally nodes_from
-tally_before zero node u less = refl
-tally_before (suc more) node u less = raised_other (tally (nodes_from (suc node) more)) node u
-    (λ e. omega arith) ∙ tally_before more (suc node) u (omega arith)
+firing_count_before : (more node u : ℕ) → u < node → firing_count (nodes_from node more) u ≡ 0
+unfolding firing_count nodes_from
+firing_count_before zero node u less = refl
+firing_count_before (suc more) node u less =
+    raised_other (firing_count (nodes_from (suc node) more)) node u
+    (λ e. omega arith) ∙ firing_count_before more (suc node) u (omega arith)
 
-tally_past : (more node u : ℕ) → node + more ≤ u → tally (nodes_from node more) u ≡ 0
-unfolding tally nodes_from
-tally_past zero node u less = refl
-tally_past (suc more) node u less = raised_other (tally (nodes_from (suc node) more)) node u
-    (λ e. omega arith) ∙ tally_past more (suc node) u (omega arith)
+firing_count_past : (more node u : ℕ) → node + more ≤ u → firing_count (nodes_from node more) u ≡ 0
+unfolding firing_count nodes_from
+firing_count_past zero node u less = refl
+firing_count_past (suc more) node u less =
+    raised_other (firing_count (nodes_from (suc node) more)) node u
+    (λ e. omega arith) ∙ firing_count_past more (suc node) u (omega arith)
 
-tally_in : (more node u : ℕ) → node ≤ u → u < node + more → tally (nodes_from node more) u ≡ 1
-unfolding tally nodes_from
-tally_in zero node u more less = absurd (omega arith)
-tally_in (suc left) node u more less =
+firing_count_in : (more node u : ℕ) → node ≤ u → u < node + more
+    → firing_count (nodes_from node more) u ≡ 1
+unfolding firing_count nodes_from
+firing_count_in zero node u more less = absurd (omega arith)
+firing_count_in (suc left) node u more less =
     elim (cases_eq u node) [
-      | inl e ↦ rw e (raised_here (tally (nodes_from (suc node) left)) node
-          ∙ ap suc (tally_before left (suc node) node (omega arith)))
-      | inr ne ↦ raised_other (tally (nodes_from (suc node) left)) node u ne
-          ∙ tally_in left (suc node) u (above ne) (omega arith)
+      | inl e ↦ rw e (raised_here (firing_count (nodes_from (suc node) left)) node
+          ∙ ap suc (firing_count_before left (suc node) node (omega arith)))
+      | inr ne ↦ raised_other (firing_count (nodes_from (suc node) left)) node u ne
+          ∙ firing_count_in left (suc node) u (above ne) (omega arith)
     ]
   where
     above : (u ≡ node → ⊥) → suc node ≤ u
     above ne = omega arith
 
 -- Firing so many nodes in order fires each of them once.
-pub tally-nodes_from : (n u : ℕ) → tally (nodes_from 0 n) u ≡ once_each n u
+pub firing_count-nodes_from : (n u : ℕ) → firing_count (nodes_from 0 n) u ≡ once_each n u
 unfolding once_each
-tally-nodes_from n u =
+firing_count-nodes_from n u =
     elim (cases_lt u n) [
-      | inl less ↦ tally_in n 0 u (omega arith) (omega arith)
+      | inl less ↦ firing_count_in n 0 u (omega arith) (omega arith)
           ∙ ap (λ (t : Bool). cond t 1 0) (sym (lt-ltb u n less))
-      | inr more ↦ tally_past n 0 u (omega arith)
+      | inr more ↦ firing_count_past n 0 u (omega arith)
           ∙ ap (λ (t : Bool). cond t 1 0) (sym (le-ltb u n more))
     ]
 
@@ -181,10 +185,10 @@ module _ {Code State Cause Word : Type 0} (meaning : Meaning Code State Cause Wo
   -- The order that fires each node once is a schedule without start-up.
   pub chain_schedule : (k : ℕ) → IsSchedule meaning graph input (λ node. 0)
       (once_each (suc (length others))) [] (nodes_from 0 (suc (length others))) k
-  unfolding tally counts_after once_each
+  unfolding firing_count counts_after once_each
   chain_schedule k = record {
     startup_counts = λ node. refl;
-    round_counts = tally-nodes_from (suc (length others));
+    round_counts = firing_count-nodes_from (suc (length others));
     startup_finds = tt;
     round_finds = λ q less. order_from q (suc (length others)) 0
         (counts_after (λ node. 0) (once_each (suc (length others))) q) (omega arith)

@@ -3,7 +3,7 @@ use Rattle.std.proofs.Common.{◌≡◌, refl, ap, ◌∙◌, ℕ, true, [], ◌
 use Rattle.std.proofs.Common.{get_or}
 use Rattle.strc_dataflow.specs.Rounds.{gives_in_round, IsBalanced, IsSupplied}
 use Rattle.strc_dataflow.specs.Node.{total, at_port_0}
-use Rattle.strc_dataflow.specs.Histories.{all_below, windows, finds, begun, after_firing}
+use Rattle.strc_dataflow.specs.Histories.{all_below, windows, finds, initial_run, after_firing}
 use Rattle.strc_dataflow.specs.Histories.{advance_if, advance, runs}
 use Rattle.strc_dataflow.specs.Flat.{items_of, arrived, runs_at, Origin.Input}
 use Rattle.strc_dataflow.specs.Streams.{source_at_0, delayed, prepend, node_layout, maybe_layout}
@@ -11,7 +11,7 @@ use Rattle.strc_dataflow.specs.Streams.{chained_layout, beside_layout, fed_back_
 use Rattle.strc_dataflow.specs.Streams.{any_code, flat, chained, beside, iterate, around, back_of}
 use Rattle.strc_dataflow.specs.Streams.{turn, loop_solution, fed_back, no_part, node_part}
 use Rattle.strc_dataflow.specs.Streams.{reader_part, maybe_part, part, solution}
-use Rattle.strc_dataflow.specs.Order.{raised, tally, counts_after, supply_of, supply}
+use Rattle.strc_dataflow.specs.Order.{raised, firing_count, counts_after, supply_of, supply}
 use Rattle.strc_dataflow.specs.Machine.{put, at_first, fired_once, unless_faulted, go, stop_at}
 use Rattle.strc_dataflow.specs.Machine.{or_else, first_fault}
 use Rattle.strc_dataflow.specs.Answer.{words_of, stream_runs, round_outcome, rounds}
@@ -27,8 +27,8 @@ use Rattle.strc_dataflow.specs.Rows.{DownstreamFaultRow, two_branches, TwoFaults
 use Rattle.strc_dataflow.specs.Rows.{FaultInLoopRow, ExampleSplitters, PlacesRow, startup_fault}
 use Rattle.strc_dataflow.specs.Rows.{StartupFaultRow, MatchedRow, BalanceRow}
 use Rattle.strc_dataflow.proofs.Blocks.{block_keeps, splitter_block, duplicate_block, joiner_block}
-use Rattle.strc_dataflow.proofs.Tests.{ready_test, order_test, within_test, tally_test}
-use Rattle.strc_dataflow.proofs.Tests.{schedule_test, schedule_from_test, tally_from_test}
+use Rattle.strc_dataflow.proofs.Tests.{ready_test, order_test, within_test, firing_count_test}
+use Rattle.strc_dataflow.proofs.Tests.{schedule_test, schedule_from_test, firing_count_from_test}
 use Rattle.strc_dataflow.proofs.Tests.{order_from_test}
 use Rattle.strc_dataflow.proofs.Again.{each_round}
 use Rattle.strc_dataflow.proofs.Theorem.{stream_run_gives, stream_answer_is_run}
@@ -61,14 +61,15 @@ row_from p expected valid equations run =
 -- What rows compute with: a proof that names it on its unfolding line computes with all definitions
 -- of the crate.
 unfoldable pub all_definitions : ℕ
-unfolding total at_port_0 all_below windows finds begun after_firing advance_if advance runs
+unfolding total at_port_0 all_below windows finds initial_run after_firing advance_if advance runs
     items_of arrived runs_at source_at_0 delayed prepend node_layout maybe_layout chained_layout
     beside_layout fed_back_layout layout any_code flat chained beside iterate around back_of turn
-    loop_solution fed_back no_part node_part reader_part maybe_part part solution raised tally
+    loop_solution fed_back no_part node_part reader_part maybe_part part solution raised
+    firing_count
     counts_after supply_of supply put at_first fired_once unless_faulted go stop_at or_else
     first_fault words_of stream_runs round_outcome rounds startup_outcome whole_run span_start
     inputs takes looks_at gives quotient one_cycle fires example shown ready_test order_test
-    within_test tally_test schedule_test
+    within_test firing_count_test schedule_test
 all_definitions = 0
 
 pub minimal_row : MinimalRow
@@ -181,7 +182,7 @@ balance_row = (
   fibonacci_balanced,
   λ k. each_round example (flat fibonacci.stream) [] (by_node fibonacci.startup)
       (by_node fibonacci.round) fibonacci.round_order k
-      (tally_from_test fibonacci.round_order fibonacci.round refl)
+      (firing_count_from_test fibonacci.round_order fibonacci.round refl)
       (record {
         windows_repeat = λ node firing port h. refl;
         pops_repeat =

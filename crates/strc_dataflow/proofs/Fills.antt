@@ -6,7 +6,8 @@ use Rattle.std.proofs.Common.{Some, None, ℤ, arith, append_assoc, length-appen
 use Rattle.std.proofs.Common.{eqb-true}
 use mathlib.Core.Path.{fun_ext}
 use Rattle.strc_dataflow.specs.Node.{ByPort, Meaning, total}
-use Rattle.strc_dataflow.specs.Histories.{Run, windows, finds, begun, advance_if, advance, runs}
+use Rattle.strc_dataflow.specs.Histories.{Run, windows, finds, initial_run, advance_if, advance}
+use Rattle.strc_dataflow.specs.Histories.{runs}
 use Rattle.strc_dataflow.specs.Histories.{KeepsRates}
 use Rattle.strc_dataflow.specs.Flat.{Origin, Origin.Nowhere, Origin.Input, Origin.Port, Source}
 use Rattle.strc_dataflow.specs.Flat.{Graph, items_of, arrived, runs_at, Solves}
@@ -183,7 +184,7 @@ module _ {Code State Cause Word : Type 0} (meaning : Meaning Code State Cause Wo
       fault_at u false = own.faultless u
 
   own_at_first : IsOwn (λ node. 0) (at_first meaning graph)
-  unfolding at_first runs begun
+  unfolding at_first runs initial_run
   own_at_first = record { own = λ node. refl; fired = λ node. refl; faultless = λ node. refl }
 
   went_by :

@@ -5,7 +5,7 @@ use Rattle.std.proofs.Common.{false, List, [], ◌∷◌, ◌++◌, length, Opti
 use Rattle.std.proofs.Common.{append_assoc, append-nil, length-append}
 use mathlib.Core.Logic.{inl, inr, ◌⊎◌}
 use Rattle.strc_dataflow.specs.Node.{ByPort, Meaning, total, at_port_0}
-use Rattle.strc_dataflow.specs.Histories.{Run, finds, begun, advance, runs, KeepsRates}
+use Rattle.strc_dataflow.specs.Histories.{Run, finds, initial_run, advance, runs, KeepsRates}
 use Rattle.strc_dataflow.specs.Streams.{prepend, Part, chained, beside, iterate, around, back_of}
 use Rattle.strc_dataflow.specs.Streams.{turn, loop_solution, fed_back, no_part, node_part}
 use Rattle.strc_dataflow.specs.Streams.{reader_part}
@@ -83,7 +83,7 @@ module _ {Code State Cause Word : Type 0} (meaning : Meaning Code State Cause Wo
           ≡ runs meaning code n inputs)
 
     runs_done : (inputs : ByPort) (n : ℕ) → IsDone inputs n
-    unfolding runs begun
+    unfolding runs initial_run
     runs_done inputs zero = record {
       firings = 0;
       fewer = omega arith;

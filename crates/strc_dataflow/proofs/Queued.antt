@@ -8,7 +8,7 @@ use mathlib.Core.Path.{fun_ext}
 use Rattle.std.proofs.lemmas.List.{drop-append-le}
 use Rattle.std.proofs.lemmas.Bool.{lt-leb}
 use Rattle.strc_dataflow.specs.Node.{ByPort, Fired, Fired.Fires, Fired.Faults, Meaning, total}
-use Rattle.strc_dataflow.specs.Histories.{Run, all_below, windows, finds, begun, after_firing}
+use Rattle.strc_dataflow.specs.Histories.{Run, all_below, windows, finds, initial_run, after_firing}
 use Rattle.strc_dataflow.specs.Histories.{advance_if, advance}
 use Rattle.strc_dataflow.specs.Flat.{Origin, Origin.Nowhere, Origin.Input, Origin.Port, Source}
 use Rattle.strc_dataflow.specs.Flat.{Graph, items_of, arrived}
@@ -268,7 +268,7 @@ module _ {Code State Cause Word : Type 0} (meaning : Meaning Code State Cause Wo
 
   -- At first each queue holds what is enqueued there.
   pub queued_at_first : IsQueued meaning graph input (fifo_at_first meaning graph input)
-  unfolding fifo_at_first begun total
+  unfolding fifo_at_first initial_run total
   queued_at_first = record {
     faultless = λ node. refl;
     came = λ node port less. omega arith;

@@ -3,7 +3,8 @@ use Rattle.std.proofs.Common.{◌≡◌, refl, ap, ◌∙◌, ℕ, zero, suc, �
 use Rattle.std.proofs.Common.{cond, List, [], ◌++◌, length, take, drop, Option, Some, None, arith}
 use Rattle.std.proofs.Common.{length-append, length-take, length-drop, lt-ltb}
 use Rattle.strc_dataflow.specs.Node.{ByPort, Fired, Fired.Fires, Fired.Faults, Meaning, total}
-use Rattle.strc_dataflow.specs.Histories.{Run, windows, finds, begun, after_firing, advance_if}
+use Rattle.strc_dataflow.specs.Histories.{Run, windows, finds, initial_run, after_firing}
+use Rattle.strc_dataflow.specs.Histories.{advance_if}
 use Rattle.strc_dataflow.specs.Histories.{advance, runs, KeepsRates}
 use Rattle.strc_dataflow.proofs.Runs.{found_at}
 
@@ -56,7 +57,7 @@ module _ {Code State Cause Word : Type 0} (meaning : Meaning Code State Cause Wo
     fired_if inputs run None false = omega arith
 
     pub fired_at_most : (n : ℕ) (inputs : ByPort) → (runs meaning code n inputs).fired ≤ n
-    unfolding runs begun advance
+    unfolding runs initial_run advance
     fired_at_most zero inputs = omega arith
     fired_at_most (suc n) inputs =
         omega (
@@ -122,7 +123,7 @@ module _ {Code State Cause Word : Type 0} (meaning : Meaning Code State Cause Wo
 
       rates_at : (n : ℕ) (inputs : ByPort) → (runs meaning code n inputs).fired ≡ n
           → (runs meaning code n inputs).fault ≡ None → IsKept n (runs meaning code n inputs)
-      unfolding runs begun advance total
+      unfolding runs initial_run advance total
       rates_at zero inputs counted faultless = (keeps.fine_at_start, λ port. refl)
       rates_at (suc n) inputs counted faultless =
           kept_if n inputs (runs meaning code n inputs) (fired_at_most n inputs) (rates_at n inputs)

@@ -13,7 +13,8 @@ use Rattle.std.proofs.lemmas.Nat.{div-mul-add, mod-mul-add}
 use Rattle.std.proofs.lemmas.Bool.{cases_lt}
 use Rattle.std.proofs.lemmas.List.Sums.{sum_by-cons, sum_by_more_le, sum_by-take-le}
 use Rattle.strc_dataflow.specs.Node.{ByPort, Fired.Fires, Meaning, total}
-use Rattle.strc_dataflow.specs.Histories.{Run, windows, finds, begun, after_firing, advance_if}
+use Rattle.strc_dataflow.specs.Histories.{Run, windows, finds, initial_run, after_firing}
+use Rattle.strc_dataflow.specs.Histories.{advance_if}
 use Rattle.strc_dataflow.specs.Histories.{advance, runs}
 use Rattle.strc_dataflow.specs.RoundRobin.{span_start, places, dealt, duplicated, one_cycle}
 use Rattle.strc_dataflow.specs.RoundRobin.{port_at, cycles, woven, IsRoundRobinSplitter}
@@ -135,7 +136,7 @@ module _ {Code State Cause Word : Type 0} (meaning : Meaning Code State Cause Wo
 
   blocks_so_far : (c : ℕ) → ((i : ℕ) → i < c → finds meaning code i inputs ≡ true)
       → IsBlocks c (runs meaning code c inputs)
-  unfolding runs begun advance blocks
+  unfolding runs initial_run advance blocks
   blocks_so_far zero found = record { fired = refl; faultless = refl; pushes = refl }
   blocks_so_far (suc c) found =
       let before = blocks_so_far c (λ i less. found i (omega arith)) in

@@ -9,7 +9,7 @@ use mathlib.Core.Logic.{inl, inr, ◌⊎◌}
 use Rattle.std.proofs.lemmas.List.{take-append-le, drop-append-le}
 use Rattle.std.proofs.lemmas.Bool.{and_parts, and_from, cases_order}
 use Rattle.strc_dataflow.specs.Node.{ByPort, Fired, Fired.Fires, Fired.Faults, Meaning, total}
-use Rattle.strc_dataflow.specs.Histories.{Run, all_below, windows, finds, begun, after_firing}
+use Rattle.strc_dataflow.specs.Histories.{Run, all_below, windows, finds, initial_run, after_firing}
 use Rattle.strc_dataflow.specs.Histories.{advance_if, advance, runs}
 
 -- The second list begins with the first.
@@ -158,7 +158,7 @@ module _ {Code State Cause Word : Type 0} (meaning : Meaning Code State Cause Wo
         → Keeps (runs meaning code n inputs) (runs meaning code later inputs)
     unfolding runs
     later_runs Keeps itself inputs step n zero h = let e : n ≡ 0 = omega arith in
-        rw e (itself (begun meaning code))
+        rw e (itself (initial_run meaning code))
     later_runs Keeps itself inputs step n (suc later) h =
         elim (at_or_below n later h) [
           | inl e ↦ rw e (itself (advance meaning code inputs (runs meaning code later inputs)))

@@ -34,20 +34,21 @@ nowhere = λ port. nothing
 module _ {Code State Cause Word : Type 0} (meaning : Meaning Code State Cause Word) (counts : ℕ → ℕ)
     (input : List ℤ) (graph : Graph Code) (inputs : ℕ → ByPort) where
   -- From a place on, the graph has these codes and its nodes take these lists.
-  pub record Stands (first : ℕ) (codes : List Code) (taken : List ByPort) : Type 0 where
+  pub record IsEmbedded (first : ℕ) (codes : List Code) (taken : List ByPort) : Type 0 where
     pub code_at : (i : ℕ) (d : Code) → i < length codes → graph.code (first + i) ≡ get_or codes i d
     pub taken_at : (i : ℕ) → i < length taken → inputs (first + i) ≡ get_or taken i none
 
-  stands_first : (first : ℕ) (a b : List Code) (x y : List ByPort) → Stands first (a ++ b) (x ++ y)
-      → Stands first a x
-  stands_first first a b x y s = record {
+  embedded_first : (first : ℕ) (a b : List Code) (x y : List ByPort)
+      → IsEmbedded first (a ++ b) (x ++ y)
+      → IsEmbedded first a x
+  embedded_first first a b x y s = record {
     code_at = λ i d h. s.code_at i d (omega (arith, length-append a b)) ∙ get_or-append a b d i h;
     taken_at = λ i h. s.taken_at i (omega (arith, length-append x y)) ∙ get_or-append x y none i h;
   }
 
-  stands_second : (first : ℕ) (a b : List Code) (x y : List ByPort) → length x ≡ length a
-      → Stands first (a ++ b) (x ++ y) → Stands (first + length a) b y
-  stands_second first a b x y e s = record {
+  embedded_second : (first : ℕ) (a b : List Code) (x y : List ByPort) → length x ≡ length a
+      → IsEmbedded first (a ++ b) (x ++ y) → IsEmbedded (first + length a) b y
+  embedded_second first a b x y e s = record {
     code_at = λ i d h. ap graph.code (add_assoc first (length a) i)
         ∙ s.code_at (length a + i) d (omega (arith, length-append a b)) ∙ get_or-append-add a b i d;
     taken_at = λ i h. ap (λ (n : ℕ). inputs n) (add_assoc first (length a) i)
@@ -82,15 +83,16 @@ module _ {Code State Cause Word : Type 0} (meaning : Meaning Code State Cause Wo
         → length (p.solve first lists).taken ≡ length l.codes
     pub sources_size : (first : ℕ) (before : ℕ → Source)
         → length (l.sources first before) ≡ length l.codes
-    pub outlet : (first : ℕ) (lists : ByPort) → Stands first l.codes (p.solve first lists).taken
+    pub outlet : (first : ℕ) (lists : ByPort) → IsEmbedded first l.codes (p.solve first lists).taken
         → (port : ℕ) → (p.solve first lists).given port ≡ arrived input now (l.outlet first port)
     pub fed :
         (first : ℕ) (lists : ByPort) (before : ℕ → Source)
-        → Stands first l.codes (p.solve first lists).taken
+        → IsEmbedded first l.codes (p.solve first lists).taken
         → ((port : ℕ) → lists port ≡ arrived input now (before port))
         → Fed (p.solve first lists).taken (l.sources first before)
 
-  node_outlet : (code : Code) (first : ℕ) (lists : ByPort) → Stands first (code ∷ []) (lists ∷ [])
+  node_outlet : (code : Code) (first : ℕ) (lists : ByPort)
+      → IsEmbedded first (code ∷ []) (lists ∷ [])
       → (port : ℕ) → (runs meaning code (counts first) lists).pushes port
       ≡ arrived input now (record { enqueued = []; origin = Port first port })
   unfolding arrived items_of runs_at
@@ -183,22 +185,22 @@ module _ {Code State Cause Word : Type 0} (meaning : Meaning Code State Cause Wo
       sizes e f = omega (arith, e, f, length-append l.codes m.codes)
 
       the_first : (first : ℕ) (lists : ByPort)
-          → Stands first (l.codes ++ m.codes)
+          → IsEmbedded first (l.codes ++ m.codes)
           ((a.solve first lists).taken ++ (b.solve (first + a.size)
-          (a.solve first lists).given).taken) → Stands first l.codes (a.solve first lists).taken
-      the_first first lists h = stands_first first l.codes m.codes (a.solve first lists).taken
+          (a.solve first lists).given).taken) → IsEmbedded first l.codes (a.solve first lists).taken
+      the_first first lists h = embedded_first first l.codes m.codes (a.solve first lists).taken
           (b.solve (first + a.size) (a.solve first lists).given).taken h
 
       second : (first : ℕ) (lists : ByPort)
-          → Stands first (l.codes ++ m.codes)
+          → IsEmbedded first (l.codes ++ m.codes)
           ((a.solve first lists).taken ++ (b.solve (first + a.size)
           (a.solve first lists).given).taken)
-          → Stands (first + a.size) m.codes
+          → IsEmbedded (first + a.size) m.codes
           (b.solve (first + a.size) (a.solve first lists).given).taken
       second first lists h =
-          subst (λ (n : ℕ). Stands (first + n) m.codes
+          subst (λ (n : ℕ). IsEmbedded (first + n) m.codes
           (b.solve (first + a.size) (a.solve first lists).given).taken) (sym s.size)
-          (stands_second first l.codes m.codes (a.solve first lists).taken
+          (embedded_second first l.codes m.codes (a.solve first lists).taken
           (b.solve (first + a.size) (a.solve first lists).given).taken
           (s.taken_size first lists) h)
 
@@ -266,24 +268,24 @@ module _ {Code State Cause Word : Type 0} (meaning : Meaning Code State Cause Wo
       sizes e f = omega (arith, e, f, length-append l.codes m.codes)
 
       the_first : (first : ℕ) (lists : ByPort)
-          → Stands first (l.codes ++ m.codes)
+          → IsEmbedded first (l.codes ++ m.codes)
           ((a.solve first (at_port_0 (lists 0))).taken
           ++ (b.solve (first + a.size) (λ port. lists (suc port))).taken)
-          → Stands first l.codes (a.solve first (at_port_0 (lists 0))).taken
-      the_first first lists h = stands_first first l.codes m.codes
+          → IsEmbedded first l.codes (a.solve first (at_port_0 (lists 0))).taken
+      the_first first lists h = embedded_first first l.codes m.codes
           (a.solve first (at_port_0 (lists 0))).taken
           (b.solve (first + a.size) (λ port. lists (suc port))).taken h
 
       second : (first : ℕ) (lists : ByPort)
-          → Stands first (l.codes ++ m.codes)
+          → IsEmbedded first (l.codes ++ m.codes)
           ((a.solve first (at_port_0 (lists 0))).taken
           ++ (b.solve (first + a.size) (λ port. lists (suc port))).taken)
-          → Stands (first + a.size) m.codes
+          → IsEmbedded (first + a.size) m.codes
           (b.solve (first + a.size) (λ port. lists (suc port))).taken
       second first lists h =
-          subst (λ (n : ℕ). Stands (first + n) m.codes
+          subst (λ (n : ℕ). IsEmbedded (first + n) m.codes
           (b.solve (first + a.size) (λ port. lists (suc port))).taken) (sym s.size)
-          (stands_second first l.codes m.codes (a.solve first (at_port_0 (lists 0))).taken
+          (embedded_second first l.codes m.codes (a.solve first (at_port_0 (lists 0))).taken
           (b.solve (first + a.size) (λ port. lists (suc port))).taken
           (s.taken_size first (at_port_0 (lists 0))) h)
 
@@ -344,45 +346,45 @@ module _ {Code State Cause Word : Type 0} (meaning : Meaning Code State Cause Wo
       y_size : (first : ℕ) (lists : ByPort) → length (y first lists).taken ≡ length m.codes
       y_size first lists = t.taken_size (first + a.size) (y_in first lists)
 
-      x_stands : (first : ℕ) (lists : ByPort)
-          → Stands first (l.codes ++ m.codes) ((x first lists).taken ++ (y first lists).taken)
-          → Stands first l.codes (x first lists).taken
-      x_stands first lists h = stands_first first l.codes m.codes (x first lists).taken
+      x_embedded : (first : ℕ) (lists : ByPort)
+          → IsEmbedded first (l.codes ++ m.codes) ((x first lists).taken ++ (y first lists).taken)
+          → IsEmbedded first l.codes (x first lists).taken
+      x_embedded first lists h = embedded_first first l.codes m.codes (x first lists).taken
           (y first lists).taken h
 
-      y_stands : (first : ℕ) (lists : ByPort)
-          → Stands first (l.codes ++ m.codes) ((x first lists).taken ++ (y first lists).taken)
-          → Stands (first + a.size) m.codes (y first lists).taken
-      y_stands first lists h =
-          subst (λ (n : ℕ). Stands (first + n) m.codes (y first lists).taken) (sym s.size)
-          (stands_second first l.codes m.codes (x first lists).taken (y first lists).taken
+      y_embedded : (first : ℕ) (lists : ByPort)
+          → IsEmbedded first (l.codes ++ m.codes) ((x first lists).taken ++ (y first lists).taken)
+          → IsEmbedded (first + a.size) m.codes (y first lists).taken
+      y_embedded first lists h =
+          subst (λ (n : ℕ). IsEmbedded (first + n) m.codes (y first lists).taken) (sym s.size)
+          (embedded_second first l.codes m.codes (x first lists).taken (y first lists).taken
           (x_size first lists) h)
 
       x_gives : (first : ℕ) (lists : ByPort)
-          → Stands first (l.codes ++ m.codes) ((x first lists).taken ++ (y first lists).taken)
+          → IsEmbedded first (l.codes ++ m.codes) ((x first lists).taken ++ (y first lists).taken)
           → (port : ℕ) → (x first lists).given port ≡ arrived input now (l.outlet first port)
-      x_gives first lists h = s.outlet first (x_in first lists) (x_stands first lists h)
+      x_gives first lists h = s.outlet first (x_in first lists) (x_embedded first lists h)
 
       back_comes : (first : ℕ) (lists : ByPort)
-          → Stands first (l.codes ++ m.codes) ((x first lists).taken ++ (y first lists).taken)
+          → IsEmbedded first (l.codes ++ m.codes) ((x first lists).taken ++ (y first lists).taken)
           → back first lists ≡ arrived input now
           (delayed enqueued (m.outlet (first + length l.codes) 0))
       back_comes first lists h =
           sym (turn-loop_solution a b steady_a steady_b enqueued first lists)
           ∙ delayed_comes enqueued ((y first lists).given 0) (m.outlet (first + a.size) 0)
-          (t.outlet (first + a.size) (y_in first lists) (y_stands first lists h) 0)
+          (t.outlet (first + a.size) (y_in first lists) (y_embedded first lists h) 0)
           ∙ ap (λ (n : ℕ). arrived input now (delayed enqueued (m.outlet (first + n) 0))) s.size
 
       x_fed : (first : ℕ) (lists : ByPort) (before : ℕ → Source)
-          → Stands first (l.codes ++ m.codes) ((x first lists).taken ++ (y first lists).taken)
+          → IsEmbedded first (l.codes ++ m.codes) ((x first lists).taken ++ (y first lists).taken)
           → ((port : ℕ) → prepend (lists 0) (at_port_0 (back first lists)) port
           ≡ arrived input now (sources_in first before port))
           → Fed (x first lists).taken (l.sources first (sources_in first before))
       x_fed first lists before h come = s.fed first (x_in first lists) (sources_in first before)
-          (x_stands first lists h) come
+          (x_embedded first lists h) come
 
       y_fed : (first : ℕ) (lists : ByPort)
-          → Stands first (l.codes ++ m.codes) ((x first lists).taken ++ (y first lists).taken)
+          → IsEmbedded first (l.codes ++ m.codes) ((x first lists).taken ++ (y first lists).taken)
           → ((port : ℕ) → at_port_0 ((x first lists).given 1) port
           ≡ arrived input now (source_at_0 (l.outlet first 1) port))
           → Fed (y first lists).taken (m.sources (first + length l.codes)
@@ -391,7 +393,7 @@ module _ {Code State Cause Word : Type 0} (meaning : Meaning Code State Cause Wo
           subst (λ (n : ℕ). Fed (y first lists).taken
           (m.sources (first + n) (source_at_0 (l.outlet first 1)))) s.size
           (t.fed (first + a.size) (y_in first lists) (source_at_0 (l.outlet first 1))
-          (y_stands first lists h) come)
+          (y_embedded first lists h) come)
 
   -- The codes' rates are kept.
   abbrev pub AllKeepRates : List Code → Type 0
@@ -515,10 +517,11 @@ nothing_comes input all = refl
 
 module _ {Code State Cause Word : Type 0} (meaning : Meaning Code State Cause Word) (counts : ℕ → ℕ)
     (input : List ℤ) (stream : Stream Code) where
-  flat_stands : Stands meaning counts input (flat stream) (solution meaning counts input stream) 0
+  flat_embedded : IsEmbedded meaning counts input (flat stream)
+      (solution meaning counts input stream) 0
       (layout stream).codes ((part meaning counts input stream).solve 0 none).taken
   unfolding flat solution
-  flat_stands = record {
+  flat_embedded = record {
     code_at = λ i d h. ap (λ (n : ℕ). get_or (layout stream).codes n (any_code stream)) (zero-add i)
         ∙ get_or_default (layout stream).codes i (any_code stream) d h;
     taken_at = λ i h. ap (λ (n : ℕ). get_or
@@ -531,7 +534,7 @@ module _ {Code State Cause Word : Type 0} (meaning : Meaning Code State Cause Wo
   unfolding flat solution
   stream_solves keeps node port =
       elim (cases_lt node (length (layout stream).codes)) [
-        | inl less ↦ sound.fed 0 none nowhere flat_stands (λ p. none_comes p) node
+        | inl less ↦ sound.fed 0 none nowhere flat_embedded (λ p. none_comes p) node
             (omega (arith, sound.taken_size 0 none)) port
         | inr more ↦ past more
       ]

@@ -8,7 +8,8 @@ use Rattle.std.proofs.lemmas.Bool.{and_parts, cases_lt, ne_eqb}
 use Rattle.strc_dataflow.specs.Node.{Meaning, total}
 use Rattle.strc_dataflow.specs.Histories.{all_below}
 use Rattle.strc_dataflow.specs.Flat.{Graph}
-use Rattle.strc_dataflow.specs.Order.{raised, tally, counts_after, supply, IsOrder, IsSchedule}
+use Rattle.strc_dataflow.specs.Order.{raised, firing_count, counts_after, supply, IsOrder}
+use Rattle.strc_dataflow.specs.Order.{IsSchedule}
 use Rattle.strc_dataflow.proofs.Runs.{each_below}
 
 module _ {Code State Cause Word : Type 0} (meaning : Meaning Code State Cause Word)
@@ -49,31 +50,32 @@ within_test n [] = true
 within_test n (node ∷ order) = ltb node n && within_test n order
 
 -- Are these the counts of an order?
-unfoldable pub tally_test : List ℕ → List ℕ → Bool
-tally_test order counts = within_test (length counts) order
-    && all_below (length counts) (λ node. eqb (tally order node) (get_or counts node 0))
+unfoldable pub firing_count_test : List ℕ → List ℕ → Bool
+firing_count_test order counts = within_test (length counts) order
+    && all_below (length counts) (λ node. eqb (firing_count order node) (get_or counts node 0))
 
-tally_past : (n : ℕ) (order : List ℕ) (v : ℕ) → within_test n order ≡ true → n ≤ v
-    → tally order v ≡ 0
-unfolding within_test tally raised
-tally_past n [] v h more = refl
-tally_past n (node ∷ order) v h more =
+firing_count_past : (n : ℕ) (order : List ℕ) (v : ℕ) → within_test n order ≡ true → n ≤ v
+    → firing_count order v ≡ 0
+unfolding within_test firing_count raised
+firing_count_past n [] v h more = refl
+firing_count_past n (node ∷ order) v h more =
     let parts = and_parts (ltb node n) (within_test n order) h in
     let less : node < n = ltb-true node n parts.0 in
-    ap (λ (t : Bool). cond t (suc (tally order v)) (tally order v))
-    (ne_eqb v node (λ e. omega arith)) ∙ tally_past n order v parts.1 more
+    ap (λ (t : Bool). cond t (suc (firing_count order v)) (firing_count order v))
+    (ne_eqb v node (λ e. omega arith)) ∙ firing_count_past n order v parts.1 more
 
-pub tally_from_test : (order counts : List ℕ) → tally_test order counts ≡ true → (v : ℕ)
-    → tally order v ≡ get_or counts v 0
-unfolding tally_test
-tally_from_test order counts h v =
+pub firing_count_from_test : (order counts : List ℕ) → firing_count_test order counts ≡ true
+    → (v : ℕ)
+    → firing_count order v ≡ get_or counts v 0
+unfolding firing_count_test
+firing_count_from_test order counts h v =
     let parts = and_parts (within_test (length counts) order)
-    (all_below (length counts) (λ node. eqb (tally order node) (get_or counts node 0))) h in
+    (all_below (length counts) (λ node. eqb (firing_count order node) (get_or counts node 0))) h in
     elim (cases_lt v (length counts)) [
-      | inl less ↦ eqb-true (tally order v) (get_or counts v 0)
-          (each_below (length counts) (λ node. eqb (tally order node) (get_or counts node 0))
+      | inl less ↦ eqb-true (firing_count order v) (get_or counts v 0)
+          (each_below (length counts) (λ node. eqb (firing_count order node) (get_or counts node 0))
           parts.1 v less)
-      | inr more ↦ tally_past (length counts) order v parts.0 more
+      | inr more ↦ firing_count_past (length counts) order v parts.0 more
           ∙ sym (get_or-eq_default counts 0 more)
     ]
 
@@ -83,8 +85,8 @@ module _ {Code State Cause Word : Type 0} (meaning : Meaning Code State Cause Wo
     -- Is this a schedule of start-up and k rounds?
     unfoldable pub schedule_test : Bool
     schedule_test =
-        tally_test startup_order startup
-        && (tally_test round_order round
+        firing_count_test startup_order startup
+        && (firing_count_test round_order round
         && (order_test meaning graph input (λ node. 0) startup_order
         && all_below k (λ q. order_test meaning graph input
         (counts_after (λ node. get_or startup node 0) (λ node. get_or round node 0) q)
@@ -98,15 +100,15 @@ module _ {Code State Cause Word : Type 0} (meaning : Meaning Code State Cause Wo
         let rounds : Bool = all_below k (λ q. order_test meaning graph input
         (counts_after (λ node. get_or startup node 0) (λ node. get_or round node 0) q)
         round_order) in
-        let a = and_parts (tally_test startup_order startup)
-        (tally_test round_order round
+        let a = and_parts (firing_count_test startup_order startup)
+        (firing_count_test round_order round
         && (order_test meaning graph input (λ node. 0) startup_order && rounds)) h in
-        let b = and_parts (tally_test round_order round)
+        let b = and_parts (firing_count_test round_order round)
         (order_test meaning graph input (λ node. 0) startup_order && rounds) a.1 in
         let c = and_parts (order_test meaning graph input (λ node. 0) startup_order) rounds b.1 in
         record {
-          startup_counts = tally_from_test startup_order startup a.0;
-          round_counts = tally_from_test round_order round b.0;
+          startup_counts = firing_count_from_test startup_order startup a.0;
+          round_counts = firing_count_from_test round_order round b.0;
           startup_finds = order_from_test meaning graph input startup_order (λ node. 0) c.0;
           round_finds = λ q less. order_from_test meaning graph input round_order
               (counts_after (λ node. get_or startup node 0) (λ node. get_or round node 0) q)

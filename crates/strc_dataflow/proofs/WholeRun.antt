@@ -7,9 +7,9 @@ use mathlib.Core.Path.{fun_ext}
 use mathlib.Core.Logic.{inl, inr}
 use Rattle.std.proofs.lemmas.Bool.{cases_order}
 use Rattle.strc_dataflow.specs.Node.{ByPort, Meaning}
-use Rattle.strc_dataflow.specs.Histories.{Run, begun, runs, KeepsRates}
+use Rattle.strc_dataflow.specs.Histories.{Run, initial_run, runs, KeepsRates}
 use Rattle.strc_dataflow.specs.Flat.{Graph, runs_at, Solves}
-use Rattle.strc_dataflow.specs.Order.{raised, counted, tally, counts_after, IsSchedule}
+use Rattle.strc_dataflow.specs.Order.{raised, counted, firing_count, counts_after, IsSchedule}
 use Rattle.strc_dataflow.specs.Machine.{Stop, Progress, Progress.Went, Progress.Stopped, at_first}
 use Rattle.strc_dataflow.specs.Machine.{go, stop_at, or_else, first_fault}
 use Rattle.strc_dataflow.specs.Answer.{Verdict.AllWords, Verdict.StoppedInRound, verdict, Outcome}
@@ -18,18 +18,18 @@ use Rattle.strc_dataflow.specs.Answer.{words_of, IsFaultless, IsAnswerOf, round_
 use Rattle.strc_dataflow.specs.Answer.{startup_outcome, whole_run}
 use Rattle.strc_dataflow.proofs.Invariant.{IsExact, Tells, run_tells}
 
-tally_by : (counts : ℕ → ℕ) (order : List ℕ) (v : ℕ) (test : Bool)
-    → cond test (suc (counts v)) (counts v) + tally order v ≡ counts v
-    + cond test (suc (tally order v)) (tally order v)
-tally_by counts order v true = omega arith
-tally_by counts order v false = refl
+firing_count_by : (counts : ℕ → ℕ) (order : List ℕ) (v : ℕ) (test : Bool)
+    → cond test (suc (counts v)) (counts v) + firing_count order v ≡ counts v
+    + cond test (suc (firing_count order v)) (firing_count order v)
+firing_count_by counts order v true = omega arith
+firing_count_by counts order v false = refl
 
-pub counted-tally : (order : List ℕ) (counts : ℕ → ℕ) (v : ℕ)
-    → counted counts order v ≡ counts v + tally order v
-unfolding counted tally raised
-counted-tally [] counts v = omega arith
-counted-tally (node ∷ order) counts v = counted-tally order (raised counts node) v
-    ∙ tally_by counts order v (eqb v node)
+pub counted-firing_count : (order : List ℕ) (counts : ℕ → ℕ) (v : ℕ)
+    → counted counts order v ≡ counts v + firing_count order v
+unfolding counted firing_count raised
+counted-firing_count [] counts v = omega arith
+counted-firing_count (node ∷ order) counts v = counted-firing_count order (raised counts node) v
+    ∙ firing_count_by counts order v (eqb v node)
 
 module _ {State Cause Word : Type 0} where
   -- Some node has a fault.
@@ -174,14 +174,14 @@ module _ {Code State Cause Word : Type 0}
     after_startup : counted (λ node. 0) startup_order ≡ counts_after startup round 0
     unfolding counts_after
     after_startup = fun_ext (λ node. omega
-        (arith, counted-tally startup_order (λ v. 0) node, schedule.startup_counts node))
+        (arith, counted-firing_count startup_order (λ v. 0) node, schedule.startup_counts node))
 
     after_round : (q : ℕ) → counted (counts_after startup round q) round_order
         ≡ counts_after startup round (suc q)
     unfolding counts_after
     after_round q = fun_ext (λ node. omega (
       arith,
-      counted-tally round_order (λ v. startup v + q * round v) node,
+      counted-firing_count round_order (λ v. startup v + q * round v) node,
       schedule.round_counts node,
     ))
 
@@ -277,7 +277,7 @@ module _ {Code State Cause Word : Type 0}
         (go meaning graph input round_order now) (round_tells q now (omega arith) at)
 
     first_exact : (j : ℕ) → IsExact meaning graph input (λ node. 0) (inputs j)
-    unfolding runs_at runs begun
+    unfolding runs_at runs initial_run
     first_exact j = record { fired = λ node. refl; faultless = λ node. refl }
 
     startup_tells : (j : ℕ) → (within : j ≤ k)

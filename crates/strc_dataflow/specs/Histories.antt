@@ -34,8 +34,8 @@ module _ {Code State Cause Word : Type 0} (meaning : Meaning Code State Cause Wo
         (length (inputs port)))
 
     -- Before the first firing.
-    unfoldable pub begun : Run State Cause Word
-    begun = record {
+    unfoldable pub initial_run : Run State Cause Word
+    initial_run = record {
       fired = 0;
       state = meaning.start code;
       pushes = λ port. [];
@@ -79,7 +79,7 @@ module _ {Code State Cause Word : Type 0} (meaning : Meaning Code State Cause Wo
     -- n firings over whole inputs; firings that find no window, or are after a fault, aren't
     -- done.
     unfoldable pub runs : ℕ → ByPort → Run State Cause Word
-    runs zero inputs = begun
+    runs zero inputs = initial_run
     runs (suc n) inputs = advance inputs (runs n inputs)
 
     -- The declared rates are kept: as long as no firing faults, n firings push at each port the sum

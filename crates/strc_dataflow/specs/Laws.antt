@@ -5,7 +5,8 @@ use Rattle.strc_dataflow.specs.Node.{ByPort, Meaning}
 use Rattle.strc_dataflow.specs.Histories.{runs, KeepsRates, Run}
 use Rattle.strc_dataflow.specs.Flat.{Graph, runs_at, Solves, arrived}
 use Rattle.strc_dataflow.specs.Streams.{Stream, flat, solution}
-use Rattle.strc_dataflow.specs.Order.{tally, counts_after, IsOrder, IsSchedule, counted, fill}
+use Rattle.strc_dataflow.specs.Order.{firing_count, counts_after, IsOrder, IsSchedule, counted}
+use Rattle.strc_dataflow.specs.Order.{fill}
 use Rattle.strc_dataflow.specs.Pipelines.{pipeline_of, nodes_from, once_each, IsChain, IsMatched}
 use Rattle.strc_dataflow.specs.RoundRobin.{dealt, duplicated, woven, IsRoundRobinSplitter}
 use Rattle.strc_dataflow.specs.RoundRobin.{IsDuplicateSplitter, IsRoundRobinJoiner}
@@ -145,7 +146,7 @@ abbrev pub OrderIsValidAgain : (Code State Cause Word : Type 0) → Type 0
 OrderIsValidAgain Code State Cause Word =
     (meaning : Meaning Code State Cause Word) (graph : Graph Code) (input : List ℤ)
     (startup round : ℕ → ℕ) (round_order : List ℕ) (k : ℕ)
-    → ((node : ℕ) → tally round_order node ≡ round node)
+    → ((node : ℕ) → firing_count round_order node ≡ round node)
     → RepeatsRates meaning graph startup
     → IsBalanced meaning graph startup round
     → IsSupplied meaning graph input (counts_after startup round k)

@@ -2,7 +2,7 @@
 -- order.
 use Rattle.std.specs.Prelude.{ℕ, cond, eqb, ℤ, List, [], ◌∷◌, Option, Some, None}
 use Rattle.strc_dataflow.specs.Node.{Meaning}
-use Rattle.strc_dataflow.specs.Histories.{Run, begun, advance}
+use Rattle.strc_dataflow.specs.Histories.{Run, initial_run, advance}
 use Rattle.strc_dataflow.specs.Flat.{Graph, arrived}
 use Rattle.strc_dataflow.specs.Order.{raised}
 
@@ -32,7 +32,7 @@ unless_faulted node run None later = later
 -- No node has fired.
 unfoldable pub at_first : {Code State Cause Word : Type 0} → Meaning Code State Cause Word
     → Graph Code → ℕ → Run State Cause Word
-at_first meaning graph node = begun meaning (graph.code node)
+at_first meaning graph node = initial_run meaning (graph.code node)
 
 module _ {Code State Cause Word : Type 0} (meaning : Meaning Code State Cause Word)
     (graph : Graph Code) (input : List ℤ) where

@@ -15,9 +15,9 @@ counted counts [] = counts
 counted counts (node ∷ order) = counted (raised counts node) order
 
 -- How often a node occurs in an order.
-unfoldable pub tally : List ℕ → ℕ → ℕ
-tally [] node = 0
-tally (other ∷ order) node = raised (tally order) other node
+unfoldable pub firing_count : List ℕ → ℕ → ℕ
+firing_count [] node = 0
+firing_count (other ∷ order) node = raised (firing_count order) other node
 
 -- Counts after start-up and k rounds.
 unfoldable pub counts_after : (startup round : ℕ → ℕ) → ℕ → ℕ → ℕ
@@ -58,7 +58,7 @@ module _ {Code State Cause Word : Type 0} (meaning : Meaning Code State Cause Wo
   -- Start-up and k rounds: orders with these counts in which each firing finds its windows.
   pub record IsSchedule (startup round : ℕ → ℕ) (startup_order round_order : List ℕ)
       (k : ℕ) : Type 0 where
-    pub startup_counts : (node : ℕ) → tally startup_order node ≡ startup node
-    pub round_counts : (node : ℕ) → tally round_order node ≡ round node
+    pub startup_counts : (node : ℕ) → firing_count startup_order node ≡ startup node
+    pub round_counts : (node : ℕ) → firing_count round_order node ≡ round node
     pub startup_finds : IsOrder (λ node. 0) startup_order
     pub round_finds : (q : ℕ) → q < k → IsOrder (counts_after startup round q) round_order

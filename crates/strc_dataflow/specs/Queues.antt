@@ -4,7 +4,7 @@
 use Rattle.std.specs.Prelude.{◌≡◌, ℕ, ◌<◌, ◌≤◌, Bool, true, false, cond, eqb, leb, ltb, ℤ, List, []}
 use Rattle.std.specs.Prelude.{◌∷◌, ◌++◌, length, take, drop, None, zero, suc}
 use Rattle.strc_dataflow.specs.Node.{ByPort, Fired, Fired.Fires, Fired.Faults, Meaning, total}
-use Rattle.strc_dataflow.specs.Histories.{Run, all_below, begun, after_firing}
+use Rattle.strc_dataflow.specs.Histories.{Run, all_below, initial_run, after_firing}
 use Rattle.strc_dataflow.specs.Flat.{Origin, Origin.Nowhere, Origin.Input, Origin.Port, Graph}
 use Rattle.strc_dataflow.specs.Flat.{arrived}
 use Rattle.strc_dataflow.specs.Answer.{Outcome, Outcome.Done, Outcome.StartupFault}
@@ -102,9 +102,10 @@ module _ {Code State Cause Word : Type 0} (meaning : Meaning Code State Cause Wo
     -- is read.
     unfoldable pub fifo_at_first : Fifo State Cause Word
     fifo_at_first = record {
-      runs = λ node. begun meaning (graph.code node);
+      runs = λ node. initial_run meaning (graph.code node);
       queues =
-          λ node port. arrived input (λ v. begun meaning (graph.code v)) (graph.source node port);
+          λ node port. arrived input (λ v. initial_run meaning (graph.code v))
+          (graph.source node port);
     }
 
   -- No firing takes more than it looks at.

@@ -60,25 +60,26 @@ composite_child setting names role written kind block progress =
 
 -- a child is added to a body whose store is given anew
 added_anew : (setting : Setting) (role : Role) (progress : Progress) (before after : firing.Store)
-    (made : Elaborated) → child_added setting role (record progress { store = before }) after made
-    ≡ child_added setting role progress after made
-added_anew setting roles.Add progress before after made = refl
-added_anew setting roles.Body progress before after made = refl
-added_anew setting roles.Loop progress before after made = refl
+    (elaborated : Elaborated)
+    → child_added setting role (record progress { store = before }) after elaborated
+    ≡ child_added setting role progress after elaborated
+added_anew setting roles.Add progress before after elaborated = refl
+added_anew setting roles.Body progress before after elaborated = refl
+added_anew setting roles.Loop progress before after elaborated = refl
 
 pub found_anew : (setting : Setting) (role : Role) (found : Found) (progress : Progress)
     (before : firing.Store) → found_run setting role (Ok found) (record progress { store = before })
     ≡ found_run setting role (Ok found) progress
 found_anew setting role found progress before =
-    by_made (setting.elaborate found.place found.text
+    by_elaborated (setting.elaborate found.place found.text
     (record { turns = found.store.traffic.turns; filters = progress.filters }))
   where
-    by_made : (r : Result Elaborated ElabError)
-        → result_and_then r (λ made. child_added setting role
-        (record progress { store = before }) found.store made)
-        ≡ result_and_then r (λ made. child_added setting role progress found.store made)
-    by_made (Ok made) = added_anew setting role progress before found.store made
-    by_made (Err refusal) = refl
+    by_elaborated : (r : Result Elaborated ElabError)
+        → result_and_then r (λ elaborated. child_added setting role
+        (record progress { store = before }) found.store elaborated)
+        ≡ result_and_then r (λ elaborated. child_added setting role progress found.store elaborated)
+    by_elaborated (Ok elaborated) = added_anew setting role progress before found.store elaborated
+    by_elaborated (Err refusal) = refl
 
 -- a child by its name, with as many arguments as it has parameters
 pub called_found : (setting : Setting) (names : TypedNames) (name : List ℕ) (number : ℕ)

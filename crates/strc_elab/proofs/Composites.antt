@@ -16,10 +16,10 @@ use Rattle.strc_scope.specs.declared.error.ElabError.TheVariants as refused
 use Rattle.strc_elab.specs.Answering.{join_view, part_view}
 use Rattle.strc_weights.specs.Splits.{split_view}
 use Rattle.strc_elab.specs.Elaboration as spec
-use Rattle.strc_elab.specs.Elaboration.{where_kept, loop_made, splitjoin_made}
+use Rattle.strc_elab.specs.Elaboration.{where_kept, loop_assembly, splitjoin_assembly}
 use Rattle.strc_declarations.specs.Written.{is_as_written}
 use Rattle.strc_weights.specs.Sides.{any_side, inputs_in, outputs_in}
-use Rattle.strc_elab.specs.Making.{made_as}
+use Rattle.strc_elab.specs.Assembly.{elaborated_as}
 use Rattle.strc_weights.specs.Weights as weights
 use Rattle.strc_weights.specs.Weights.{weighted, loop_weights, loop_splitter, input_written}
 use Rattle.strc_weights.specs.Weights.{output_written, split_dealt, join_dealt}
@@ -37,27 +37,27 @@ pub splitjoin_done : (declaration : ℕ) (written : Option StreamType) (types : 
     → join_dealt declaration j (outputs_in p.types) ≡ Ok joiner
     → input ≡ any_side (inputs_in p.types) → output ≡ any_side (outputs_in p.types)
     → is_as_written written (record { input = input; output = output }) ≡ true
-    → splitjoin_made declaration written types split join p
-    ≡ Ok (made_as (record { input = input; output = output })
+    → splitjoin_assembly declaration written types split join p
+    ≡ Ok (elaborated_as (record { input = input; output = output })
     (instances.SplitJoin splitter (in_a_row p.children) joiner) p)
 splitjoin_done declaration written [] split join p s j splitter joiner input output some split_is
     join_is splits joins input_is output_is kept = absurd (some refl)
 splitjoin_done declaration written (first ∷ rest) split join p s j splitter joiner input output some
     split_is join_is splits joins input_is output_is kept =
-    ap (λ x. splitjoin_made declaration written (first ∷ rest) x join p) split_is
-    ∙ ap (λ x. splitjoin_made declaration written (first ∷ rest) (Some s) x p) join_is
+    ap (λ x. splitjoin_assembly declaration written (first ∷ rest) x join p) split_is
+    ∙ ap (λ x. splitjoin_assembly declaration written (first ∷ rest) (Some s) x p) join_is
     ∙ both_done (split_dealt declaration s (inputs_in p.types)) _ splitter _ splits
     (both_done (join_dealt declaration j (outputs_in p.types)) _ joiner _ joins
-    (ap (λ i. as_made i (any_side (outputs_in p.types))) (sym input_is)
-    ∙ ap (as_made input) (sym output_is)
+    (ap (λ i. as_elaborated i (any_side (outputs_in p.types))) (sym input_is)
+    ∙ ap (as_elaborated input) (sym output_is)
     ∙ ap (λ b. where_kept b (refused.TypeMismatch declaration)
-    (Ok (made_as (record { input = input; output = output })
+    (Ok (elaborated_as (record { input = input; output = output })
     (instances.SplitJoin splitter (in_a_row p.children) joiner) p))) kept))
   where
-    as_made : ItemType → ItemType → Result spec.Elaborated ElabError
-    as_made i o = where_kept (is_as_written written (record { input = i; output = o }))
+    as_elaborated : ItemType → ItemType → Result spec.Elaborated ElabError
+    as_elaborated i o = where_kept (is_as_written written (record { input = i; output = o }))
         (refused.TypeMismatch declaration)
-        (Ok (made_as (record { input = i; output = o })
+        (Ok (elaborated_as (record { input = i; output = o })
         (instances.SplitJoin splitter (in_a_row p.children) joiner) p))
 
 -- feedback loops
@@ -69,9 +69,10 @@ pub record LoopStarts (declaration : ℕ) (written : Option StreamType)
     : Type 0 where
   pub inner : instances.Stream
   pub back : instances.Stream
-  pub starts : loop_made declaration written (join_view join) (part_view body)
+  pub starts : loop_assembly declaration written (join_view join) (part_view body)
       (option_map split_view split) (part_view loop) p
-      ≡ loop_made declaration written (Some j.items) (Some inner) (Some (split_view s)) (Some back)
+      ≡ loop_assembly declaration written (Some j.items) (Some inner) (Some (split_view s))
+      (Some back)
       p
 
 pub loop_starts : (declaration : ℕ) (written : Option StreamType)
@@ -86,16 +87,16 @@ loop_starts declaration written join (Some b) split (Some l) p j s join_is split
     record {
       inner = stream_view b.value;
       back = stream_view l.value;
-      starts = ap (λ x. loop_made declaration written (join_view x) (Some (stream_view b.value))
+      starts = ap (λ x. loop_assembly declaration written (join_view x) (Some (stream_view b.value))
           (option_map split_view split) (Some (stream_view l.value)) p) join_is
-          ∙ ap (λ x. loop_made declaration written (Some j.items) (Some (stream_view b.value))
+          ∙ ap (λ x. loop_assembly declaration written (Some j.items) (Some (stream_view b.value))
           (option_map split_view x) (Some (stream_view l.value)) p) split_is;
     }
 
 pub joiner_refused : (declaration : ℕ) (written : Option StreamType) (j : List ℤ)
     (body loop : instances.Stream) (s : weights.Split) (p : spec.Progress) (e : ElabError)
     → IsRefusal (weighted declaration (loop_weights (input_written written) j)) e
-    → IsRefusal (loop_made declaration written (Some j) (Some body) (Some s) (Some loop) p) e
+    → IsRefusal (loop_assembly declaration written (Some j) (Some body) (Some s) (Some loop) p) e
 joiner_refused declaration written j body loop s p e h =
     first_refused (weighted declaration (loop_weights (input_written written) j)) _ e h
 
@@ -103,7 +104,7 @@ pub splitter_refused : (declaration : ℕ) (written : Option StreamType) (j : Li
     (body loop : instances.Stream) (s : weights.Split) (p : spec.Progress) (joiner : List ℕ)
     (e : ElabError) → weighted declaration (loop_weights (input_written written) j) ≡ Ok joiner
     → IsRefusal (weighted declaration (loop_splitter (output_written written) s)) e
-    → IsRefusal (loop_made declaration written (Some j) (Some body) (Some s) (Some loop) p) e
+    → IsRefusal (loop_assembly declaration written (Some j) (Some body) (Some s) (Some loop) p) e
 splitter_refused declaration written j body loop s p joiner e joins h =
     second_refused (weighted declaration (loop_weights (input_written written) j)) _ joiner e joins
     (first_refused (weighted declaration (loop_splitter (output_written written) s)) _ e h)
@@ -119,7 +120,7 @@ pub types_refused : (declaration : ℕ) (written : Option StreamType) (j : List 
     → found.output
     ≡ output_of (instances.FeedbackLoop joiner body splitter loop p.enqueued)
     → is_as_written written found ≡ false
-    → loop_made declaration written (Some j) (Some body) (Some s) (Some loop) p
+    → loop_assembly declaration written (Some j) (Some body) (Some s) (Some loop) p
     ≡ Err (refused.TypeMismatch declaration)
 types_refused declaration written j body loop s p joiner splitter found joins splits input_is
     output_is differs =
@@ -127,9 +128,9 @@ types_refused declaration written j body loop s p joiner splitter found joins sp
     then_done (weighted declaration (loop_weights (input_written written) j)) _ joiner _ joins
     (then_done (weighted declaration (loop_splitter (output_written written) s)) _ splitter _ splits
     (ap (λ (t : StreamType). where_kept (is_as_written written t)
-    (refused.TypeMismatch declaration) (Ok (made_as t stream p)))
+    (refused.TypeMismatch declaration) (Ok (elaborated_as t stream p)))
     (types_are (input_of stream) (output_of stream) input_is output_is)
-    ∙ ap (λ b. where_kept b (refused.TypeMismatch declaration) (Ok (made_as found stream p)))
+    ∙ ap (λ b. where_kept b (refused.TypeMismatch declaration) (Ok (elaborated_as found stream p)))
     differs))
   where
     types_are : (i o : ItemType) → found.input ≡ i → found.output ≡ o

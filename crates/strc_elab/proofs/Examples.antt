@@ -12,7 +12,7 @@ use Rattle.strc_semantics.specs.declared.fault.Cause.TheVariants.{Turns}
 use Rattle.strc_scope.specs.Statements.{computed}
 use Rattle.strc_elab.specs.Elaboration.{Setting, Progress, condition_evaluated, inside, looped}
 use Rattle.strc_elab.specs.Elaboration.{stmt_run, stmts_run, stream_elaborated, initial_progress}
-use Rattle.strc_elab.specs.Elaboration.{composite_made, level_limit, filter_limit}
+use Rattle.strc_elab.specs.Elaboration.{composite_assembly, level_limit, filter_limit}
 use Rattle.strc_stream.specs.Instances.{Stream}
 use Rattle.strc_elab.specs.Examples.{RecursionRow, EndlessRow, LoopRow, EndlessLoopRow}
 use Rattle.strc_elab.specs.Examples.{endless_loop, both_added, block}
@@ -72,9 +72,9 @@ abbrev main_after : Result Progress ElabError → Result Stream ElabError
 main_after first =
     result_and_then (result_and_then (result_and_then first
     (stmts_run main_setting [] 0 (block both_added)))
-    (λ progress. composite_made Pipeline 4
+    (λ progress. composite_assembly Pipeline 4
     (Some (record { input = Void; output = Void })) progress))
-    (λ made. Ok made.stream)
+    (λ elaborated. Ok elaborated.stream)
 
 pub endless_loop_is : EndlessLoopRow
 unfolding level_limit

@@ -1,36 +1,36 @@
 -- Streams in one another, level by level.
 use Rattle.std.proofs.Common.{◌≡◌, ℕ, zero, suc, ◌-◌, List, [], refl, ap, ◌∙◌, arith}
 use Rattle.strc_syntax.specs.Tree.{Declaration}
-use Rattle.strc_elab.specs.Elaboration.{Tally, text_elaborated, stream_elaborated, main_elaborated}
+use Rattle.strc_elab.specs.Elaboration.{Totals, text_elaborated, stream_elaborated, main_elaborated}
 use Rattle.strc_elab.specs.Elaboration.{level_limit}
 use Rattle.strc_scope.specs.Texts.{Constants, Place, Text, text_of}
 
 -- a stream that may have a level is what its text makes of the streams of the levels below
 pub stream_elaborated-level : (program : List Declaration) (levels : ℕ) (place : Place)
-    (text : Text) (tally : Tally) → (levels ≡ 0 → ⊥)
-    → stream_elaborated program levels place text tally
+    (text : Text) (totals : Totals) → (levels ≡ 0 → ⊥)
+    → stream_elaborated program levels place text totals
     ≡ text_elaborated (record {
       program = program;
       place = place;
       elaborate =
           stream_elaborated program (levels - 1);
-    }) text tally
-stream_elaborated-level program zero place text tally some = absurd (some refl)
-stream_elaborated-level program (suc levels) place text tally some =
+    }) text totals
+stream_elaborated-level program zero place text totals some = absurd (some refl)
+stream_elaborated-level program (suc levels) place text totals some =
     let below : levels ≡ suc levels - 1 = omega arith in
     ap (λ n. text_elaborated (record {
       program = program;
       place = place;
       elaborate =
           stream_elaborated program n;
-    }) text tally) below
+    }) text totals) below
 
 -- a stream without a level isn't made
 pub stream_elaborated-none : (program : List Declaration) (levels : ℕ) (place : Place) (text : Text)
-    (tally : Tally) → levels ≡ 0 → stream_elaborated program levels place text tally
-    ≡ stream_elaborated program 0 place text tally
-stream_elaborated-none program levels place text tally none =
-    ap (λ n. stream_elaborated program n place text tally) none
+    (totals : Totals) → levels ≡ 0 → stream_elaborated program levels place text totals
+    ≡ stream_elaborated program 0 place text totals
+stream_elaborated-none program levels place text totals none =
+    ap (λ n. stream_elaborated program n place text totals) none
 
 level_limit_is : 64 ≡ level_limit
 unfolding level_limit

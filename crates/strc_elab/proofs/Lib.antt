@@ -7,11 +7,11 @@ pub mod Keeping
 pub mod Levels
 pub mod LoopRuns
 pub mod SoundBodies
-pub mod SoundMaking
+pub mod SoundAssembly
 pub mod SoundRows
 pub mod Soundness
 pub mod Steps
-pub mod Tallies
+pub mod Totals
 pub mod Turns
 pub mod TypeRows
 pub mod Views

@@ -16,21 +16,21 @@ use Rattle.strc_stream.specs.Types.{is_int}
 use Rattle.strc_scope.specs.declared.error.ElabError.TheVariants as refused
 use Rattle.strc_scope.specs.Statements.{eval_checked}
 use Rattle.strc_scope.specs.Texts.{Place, Text}
-use Rattle.strc_elab.specs.Elaboration.{Tally, Elaborated, Setting, Progress, child_found}
+use Rattle.strc_elab.specs.Elaboration.{Totals, Elaborated, Setting, Progress, child_found}
 use Rattle.strc_elab.specs.Elaboration.{child_run}
 use Rattle.strc_elab.specs.Elaboration.{child_added, may_add, may_have, may_split}
 use Rattle.strc_weights.specs.Sides.{passes_items}
 use Rattle.strc_elab.specs.Elaboration.{may_join, is_loop, splitter_evaluated, values_evaluated}
 use Rattle.strc_elab.specs.Elaboration.{composed}
 use Rattle.strc_elab.proofs.Keeping.{Keeps}
-use Rattle.strc_elab.proofs.SoundMaking.{IsPart, IsSound, IsSoundlyMade}
+use Rattle.strc_elab.proofs.SoundAssembly.{IsPart, IsSound, IsSoundlyElaborated}
 use Rattle.strc_elab.proofs.SoundRows.{IsSoundStream, one_more_sound, one_more_in_a_row}
 use Rattle.strc_elab.proofs.Steps.{then_holds, any_holds, kept_holds, both_true}
 
 -- what elaborates the streams one level below makes sound ones
 abbrev pub MakesSound : Setting → Type 0
-MakesSound setting = (place : Place) (text : Text) (tally : Tally)
-    → IfOk (setting.elaborate place text tally) IsSoundlyMade
+MakesSound setting = (place : Place) (text : Text) (totals : Totals)
+    → IfOk (setting.elaborate place text totals) IsSoundlyElaborated
 
 int_is : (side : ItemType) → is_int side ≡ true → side ≡ item.Int
 int_is item.Int e = refl
@@ -46,36 +46,37 @@ part_sound stream types sound e =
     )
 
 added_sound : (kind : CompositeKind) (setting : Setting) (purpose : Role) (progress : Progress)
-    (store : Store) (made : Elaborated) → IsSound kind progress → IsSoundlyMade made
-    → IfOk (child_added setting purpose progress store made) (IsSound kind)
-added_sound kind setting role.Add progress store made sound next =
-    kept_holds (may_add progress.kind progress.types made.types)
+    (store : Store) (elaborated : Elaborated) → IsSound kind progress
+    → IsSoundlyElaborated elaborated
+    → IfOk (child_added setting purpose progress store elaborated) (IsSound kind)
+added_sound kind setting role.Add progress store elaborated sound next =
+    kept_holds (may_add progress.kind progress.types elaborated.types)
     (refused.TypeMismatch setting.place.declaration) _ (IsSound kind) (λ e. record {
       is_kind = sound.is_kind;
-      children = one_more_sound progress.children progress.types made.stream made.types
+      children = one_more_sound progress.children progress.types elaborated.stream elaborated.types
           sound.children next;
-      row = λ is. one_more_in_a_row progress.types made.types (sound.row is)
-          (subst (λ k. may_add k progress.types made.types ≡ true) (sound.is_kind ∙ is) e);
+      row = λ is. one_more_in_a_row progress.types elaborated.types (sound.row is)
+          (subst (λ k. may_add k progress.types elaborated.types ≡ true) (sound.is_kind ∙ is) e);
       body = sound.body;
       loop = sound.loop;
     })
-added_sound kind setting role.Body progress store made sound next =
-    kept_holds (passes_items made.types)
+added_sound kind setting role.Body progress store elaborated sound next =
+    kept_holds (passes_items elaborated.types)
     (refused.TypeMismatch setting.place.declaration) _ (IsSound kind) (λ e. record {
       is_kind = sound.is_kind;
       children = sound.children;
       row = sound.row;
-      body = part_sound made.stream made.types next e;
+      body = part_sound elaborated.stream elaborated.types next e;
       loop = sound.loop;
     })
-added_sound kind setting role.Loop progress store made sound next =
-    kept_holds (passes_items made.types)
+added_sound kind setting role.Loop progress store elaborated sound next =
+    kept_holds (passes_items elaborated.types)
     (refused.TypeMismatch setting.place.declaration) _ (IsSound kind) (λ e. record {
       is_kind = sound.is_kind;
       children = sound.children;
       row = sound.row;
       body = sound.body;
-      loop = part_sound made.stream made.types next e;
+      loop = part_sound elaborated.stream elaborated.types next e;
     })
 
 child_sound : (kind : CompositeKind) (setting : Setting) → MakesSound setting
@@ -85,10 +86,11 @@ child_sound kind setting makes names purpose child progress sound =
     then_holds (child_found setting names child progress.store) _ (λ found. Unit {0}) (IsSound kind)
     (any_holds (child_found setting names child progress.store)) (λ found h.
     then_holds (setting.elaborate found.place found.text
-    (record { turns = found.store.traffic.turns; filters = progress.filters })) _ IsSoundlyMade
+    (record { turns = found.store.traffic.turns; filters = progress.filters })) _
+    IsSoundlyElaborated
     (IsSound kind) (makes found.place found.text (record
-    { turns = found.store.traffic.turns; filters = progress.filters })) (λ made g.
-    added_sound kind setting purpose progress found.store made sound g))
+    { turns = found.store.traffic.turns; filters = progress.filters })) (λ elaborated g.
+    added_sound kind setting purpose progress found.store elaborated sound g))
 
 composed_sound : (kind : CompositeKind) (setting : Setting) → MakesSound setting
     → (names : TypedNames) (statement : tree.Composition) (progress : Progress)

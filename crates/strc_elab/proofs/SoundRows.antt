@@ -86,13 +86,13 @@ row_typed (first ∷ second ∷ rest) (one ∷ other ∷ others) sound row = (
   row_typed (second ∷ rest) (other ∷ others) sound.1 row.1,
 )
 
-pub row_gives : (given : ItemType) (children : List Stream) (told : ItemType)
-    (types : List StreamType) → AreSound children types → given ≡ told
-    → last_output given (in_a_row children) ≡ last_given told types
-row_gives given [] told [] sound e = e
-row_gives given [] told (one ∷ others) sound e = absurd sound
-row_gives given (first ∷ rest) told [] sound e = absurd sound
-row_gives given (first ∷ rest) told (one ∷ others) sound e =
+pub row_gives : (given : ItemType) (children : List Stream) (known : ItemType)
+    (types : List StreamType) → AreSound children types → given ≡ known
+    → last_output given (in_a_row children) ≡ last_given known types
+row_gives given [] known [] sound e = e
+row_gives given [] known (one ∷ others) sound e = absurd sound
+row_gives given (first ∷ rest) known [] sound e = absurd sound
+row_gives given (first ∷ rest) known (one ∷ others) sound e =
     row_gives (output_of first) rest one.output others sound.1 sound.0.output
 
 pub each_typed : (children : List Stream) (types : List StreamType) → AreSound children types

@@ -25,12 +25,12 @@ use Rattle.strc_stream.specs.Flattening.{nodes_of}
 use Rattle.strc_stream.specs.Instances.{Stream}
 use Rattle.strc_stream.specs.Instances as instance
 use Rattle.strc_stream.specs.Types.{IsWellTyped}
-use Rattle.strc_elab.specs.Elaboration.{filter_limit, Tally, Elaborated, Setting, Progress}
+use Rattle.strc_elab.specs.Elaboration.{filter_limit, Totals, Elaborated, Setting, Progress}
 use Rattle.strc_elab.specs.Elaboration.{stmts_run, started_as, instance_of}
 use Rattle.strc_declarations.specs.Written.{same_item}
-use Rattle.strc_elab.specs.Elaboration.{initial_progress, as_written, pipeline_made}
+use Rattle.strc_elab.specs.Elaboration.{initial_progress, as_written, pipeline_assembly}
 use Rattle.strc_declarations.specs.Written.{is_as_written}
-use Rattle.strc_elab.specs.Elaboration.{splitjoin_made, loop_made, composite_made}
+use Rattle.strc_elab.specs.Elaboration.{splitjoin_assembly, loop_assembly, composite_assembly}
 use Rattle.strc_weights.specs.Sides.{inputs_in}
 use Rattle.strc_elab.specs.Elaboration.{composite_elaborated, given_elaborated}
 use Rattle.strc_weights.specs.Sides.{outputs_in}
@@ -45,7 +45,7 @@ use Rattle.strc_weights.specs.Weights.{Split, weighted, split_dealt, join_dealt,
 use Rattle.strc_weights.specs.Weights.{output_written, loop_weights, loop_splitter}
 use Rattle.strc_elab.proofs.Keeping.{stmts_kept}
 use Rattle.strc_elab.proofs.SoundBodies.{MakesSound, keeps_sound}
-use Rattle.strc_elab.proofs.SoundMaking.{IsSound, IsSoundlyMade, composite_sound}
+use Rattle.strc_elab.proofs.SoundAssembly.{IsSound, IsSoundlyElaborated, composite_sound}
 use Rattle.strc_elab.proofs.SoundRows.{items_same}
 use Rattle.strc_elab.proofs.Steps.{then_holds, then_known, then_did, any_holds, kept_holds}
 use Rattle.strc_elab.proofs.Steps.{both_hold, both_true}
@@ -75,29 +75,29 @@ instance_resolved place filter found e =
 -- streams
 
 body_sound : (setting : Setting) → MakesSound setting
-    → (written : Option StreamType) (kind : CompositeKind) (block : tree.Stmts) (tally : Tally)
-    → IfOk (composite_elaborated setting written kind block tally) IsSoundlyMade
-body_sound setting makes written kind block tally =
-    then_holds (stmts_run setting [] 0 block (initial_progress kind tally))
-    (λ progress. composite_made kind setting.place.declaration written progress)
-    (IsSound kind) IsSoundlyMade
+    → (written : Option StreamType) (kind : CompositeKind) (block : tree.Stmts) (totals : Totals)
+    → IfOk (composite_elaborated setting written kind block totals) IsSoundlyElaborated
+body_sound setting makes written kind block totals =
+    then_holds (stmts_run setting [] 0 block (initial_progress kind totals))
+    (λ progress. composite_assembly kind setting.place.declaration written progress)
+    (IsSound kind) IsSoundlyElaborated
     (stmts_kept setting (IsSound kind) (keeps_sound kind setting makes) [] 0 block
-    (initial_progress kind tally)
+    (initial_progress kind totals)
     (record { is_kind = refl; children = tt; row = λ is. tt; body = tt; loop = tt }))
     (λ progress sound. composite_sound kind setting.place.declaration written progress sound)
 
-given_sound : (stream : Stream) (tally : Tally) → IsWellTyped stream
+given_sound : (stream : Stream) (totals : Totals) → IsWellTyped stream
     → AllByRecursion IsInstance (nodes_of stream)
-    → IfOk (given_elaborated stream tally) IsSoundlyMade
-given_sound stream tally typed instances =
-    kept_holds (nat_lt tally.filters filter_limit) refused.NodeLimit _ IsSoundlyMade
+    → IfOk (given_elaborated stream totals) IsSoundlyElaborated
+given_sound stream totals typed instances =
+    kept_holds (nat_lt totals.filters filter_limit) refused.NodeLimit _ IsSoundlyElaborated
     (λ e. record { typed = typed; input = refl; output = refl; instances = instances })
 
-text_sound : (setting : Setting) → MakesSound setting → (text : Text) (tally : Tally)
-    → IfOk (text_elaborated setting text tally) IsSoundlyMade
-text_sound setting makes (FilterText name filter) tally =
-    kept_holds (nat_lt tally.filters filter_limit) refused.NodeLimit _ IsSoundlyMade (λ e.
-    then_known (instance_of setting.place filter) _ IsSoundlyMade (λ resolved is.
+text_sound : (setting : Setting) → MakesSound setting → (text : Text) (totals : Totals)
+    → IfOk (text_elaborated setting text totals) IsSoundlyElaborated
+text_sound setting makes (FilterText name filter) totals =
+    kept_holds (nat_lt totals.filters filter_limit) refused.NodeLimit _ IsSoundlyElaborated (λ e.
+    then_known (instance_of setting.place filter) _ IsSoundlyElaborated (λ resolved is.
     record {
       typed = tt;
       input = refl;
@@ -105,28 +105,30 @@ text_sound setting makes (FilterText name filter) tally =
       instances =
           ((setting.place, filter, is), tt);
     }))
-text_sound setting makes (CompositeText written kind block) tally =
-    body_sound setting makes written kind block tally
-text_sound setting makes IdentityText tally = given_sound instance.Identity tally tt (tt, tt)
-text_sound setting makes (ReaderText text) tally = given_sound (instance.FileReader text) tally tt
+text_sound setting makes (CompositeText written kind block) totals =
+    body_sound setting makes written kind block totals
+text_sound setting makes IdentityText totals = given_sound instance.Identity totals tt (tt, tt)
+text_sound setting makes (ReaderText text) totals = given_sound (instance.FileReader text) totals tt
     (tt, tt)
-text_sound setting makes (WriterText text) tally = given_sound (instance.FileWriter text) tally tt
+text_sound setting makes (WriterText text) totals = given_sound (instance.FileWriter text) totals tt
     (tt, tt)
 
 pub stream_sound : (program : List Declaration) (levels : ℕ) (place : Place) (text : Text)
-    (tally : Tally) → IfOk (stream_elaborated program levels place text tally) IsSoundlyMade
-stream_sound program zero place text tally = tt
-stream_sound program (suc levels) place text tally =
+    (totals : Totals)
+    → IfOk (stream_elaborated program levels place text totals) IsSoundlyElaborated
+stream_sound program zero place text totals = tt
+stream_sound program (suc levels) place text totals =
     text_sound (record {
       program = program;
       place = place;
       elaborate =
           stream_elaborated program levels;
-    }) (λ p t y. stream_sound program levels p t y) text tally
+    }) (λ p t y. stream_sound program levels p t y) text totals
 
 -- what is made of a declared stream has the declared types
 abbrev pub HasTypes : StreamType → Elaborated → Type 0
-HasTypes types made = (made.types.input ≡ types.input) × (made.types.output ≡ types.output)
+HasTypes types elaborated =
+    (elaborated.types.input ≡ types.input) × (elaborated.types.output ≡ types.output)
 
 written_types : (declaration : ℕ) (types found : StreamType) (stream : Stream)
     (progress : Progress)
@@ -142,14 +144,15 @@ written_types declaration types found stream progress =
 
 pipeline_types : (declaration : ℕ) (types : StreamType) (children : List StreamType)
     (progress : Progress)
-    → IfOk (pipeline_made declaration (Some types) children progress) (HasTypes types)
+    → IfOk (pipeline_assembly declaration (Some types) children progress) (HasTypes types)
 pipeline_types declaration types [] progress = tt
 pipeline_types declaration types (first ∷ rest) progress =
     written_types declaration types _ _ progress
 
 splitjoin_types : (declaration : ℕ) (types : StreamType) (children : List StreamType)
     (split : Option Split) (join : Option (List ℤ)) (progress : Progress)
-    → IfOk (splitjoin_made declaration (Some types) children split join progress) (HasTypes types)
+    → IfOk (splitjoin_assembly declaration (Some types) children split join progress)
+    (HasTypes types)
 splitjoin_types declaration types [] split join progress = tt
 splitjoin_types declaration types (first ∷ rest) None join progress = tt
 splitjoin_types declaration types (first ∷ rest) (Some split) None progress = tt
@@ -161,7 +164,7 @@ splitjoin_types declaration types (first ∷ rest) (Some split) (Some join) prog
 
 loop_types : (declaration : ℕ) (types : StreamType) (join : Option (List ℤ)) (body : Option Stream)
     (split : Option Split) (loop : Option Stream) (progress : Progress)
-    → IfOk (loop_made declaration (Some types) join body split loop progress) (HasTypes types)
+    → IfOk (loop_assembly declaration (Some types) join body split loop progress) (HasTypes types)
 loop_types declaration types None body split loop progress = tt
 loop_types declaration types (Some join) None split loop progress = tt
 loop_types declaration types (Some join) (Some body) None loop progress = tt
@@ -174,7 +177,7 @@ loop_types declaration types (Some join) (Some body) (Some split) (Some loop) pr
 
 composite_types : (kind : CompositeKind) (declaration : ℕ) (types : StreamType)
     (progress : Progress)
-    → IfOk (composite_made kind declaration (Some types) progress) (HasTypes types)
+    → IfOk (composite_assembly kind declaration (Some types) progress) (HasTypes types)
 composite_types composite.Pipeline declaration types progress =
     pipeline_types declaration types progress.types progress
 composite_types composite.Splitjoin declaration types progress =
@@ -182,21 +185,21 @@ composite_types composite.Splitjoin declaration types progress =
 composite_types composite.Feedbackloop declaration types progress =
     loop_types declaration types progress.join progress.body progress.split progress.loop progress
 
-declared_types : (setting : Setting) (name : List ℕ) (stream : tree.Stream) (tally : Tally)
-    → IfOk (text_elaborated setting (text_of name stream) tally) (HasTypes (types_of stream))
-declared_types setting name (tree.Filter input output members) tally =
+declared_types : (setting : Setting) (name : List ℕ) (stream : tree.Stream) (totals : Totals)
+    → IfOk (text_elaborated setting (text_of name stream) totals) (HasTypes (types_of stream))
+declared_types setting name (tree.Filter input output members) totals =
     let filter : Filter = record { input = input; output = output; members = members } in
-    kept_holds (nat_lt tally.filters filter_limit) refused.NodeLimit _
+    kept_holds (nat_lt totals.filters filter_limit) refused.NodeLimit _
     (HasTypes (record { input = input; output = output })) (λ e.
     then_known (instance_of setting.place filter) _
     (HasTypes (record { input = input; output = output })) (λ resolved is.
     resolved_types setting.place.constants filter resolved
     (instance_resolved setting.place filter resolved is)))
-declared_types setting name (tree.Composite types kind block) tally =
-    then_holds (stmts_run setting [] 0 block (initial_progress kind tally))
-    (λ progress. composite_made kind setting.place.declaration (Some types) progress)
+declared_types setting name (tree.Composite types kind block) totals =
+    then_holds (stmts_run setting [] 0 block (initial_progress kind totals))
+    (λ progress. composite_assembly kind setting.place.declaration (Some types) progress)
     (λ progress. Unit {0}) (HasTypes types)
-    (any_holds (stmts_run setting [] 0 block (initial_progress kind tally)))
+    (any_holds (stmts_run setting [] 0 block (initial_progress kind totals)))
     (λ progress h. composite_types kind setting.place.declaration types progress)
 
 -- the main stream
@@ -237,14 +240,14 @@ main_is program None = only_is (mains_from 0 program) (mains_are 0 program)
 main_is program (Some name) = named_is (declared_from 0 program name)
 
 main_sound : (program : List Declaration) (found : ℕ × Declaration) → IsMain found
-    → IfOk (main_elaborated program found) (λ made. IsElaborated made.stream)
+    → IfOk (main_elaborated program found) (λ elaborated. IsElaborated elaborated.stream)
 unfolding level_limit
 main_sound program found is = then_finish (main_elaborated program found)
-    (both_hold (main_elaborated program found) IsSoundlyMade
-    (HasTypes (types_of found.1.stream)) made typed)
+    (both_hold (main_elaborated program found) IsSoundlyElaborated
+    (HasTypes (types_of found.1.stream)) is_sound typed)
   where
-    made : IfOk (main_elaborated program found) IsSoundlyMade
-    made = stream_sound program level_limit (record { declaration = found.0; constants = [] })
+    is_sound : IfOk (main_elaborated program found) IsSoundlyElaborated
+    is_sound = stream_sound program level_limit (record { declaration = found.0; constants = [] })
         (text_of found.1.name found.1.stream) (record { turns = 0; filters = 0 })
 
     typed : IfOk (main_elaborated program found) (HasTypes (types_of found.1.stream))
@@ -265,9 +268,10 @@ main_sound program found is = then_finish (main_elaborated program found)
         both_true (same_item item.Void (types_of found.1.stream).input)
         (same_item item.Void (types_of found.1.stream).output) both.0
 
-    finish : (made : Elaborated) → IsSoundlyMade made × HasTypes (types_of found.1.stream) made
-        → IsElaborated made.stream
-    finish made h = record {
+    finish : (elaborated : Elaborated) → IsSoundlyElaborated elaborated
+        × HasTypes (types_of found.1.stream) elaborated
+        → IsElaborated elaborated.stream
+    finish elaborated h = record {
       closed = record {
         typed = h.0.typed;
         input = h.0.input ∙ h.1.0 ∙ sym (items_same item.Void
@@ -279,9 +283,10 @@ main_sound program found is = then_finish (main_elaborated program found)
     }
 
     then_finish : (r : Result Elaborated ElabError)
-        → IfOk r (λ made. IsSoundlyMade made × HasTypes (types_of found.1.stream) made)
-        → IfOk r (λ made. IsElaborated made.stream)
-    then_finish (Ok made) h = finish made h
+        → IfOk r (λ elaborated. IsSoundlyElaborated elaborated
+        × HasTypes (types_of found.1.stream) elaborated)
+        → IfOk r (λ elaborated. IsElaborated elaborated.stream)
+    then_finish (Ok elaborated) h = finish elaborated h
     then_finish (Err e) h = tt
 
 -- each stream that a program means is sound
@@ -294,5 +299,6 @@ elaborated_is_sound program main stream e = subst (λ r. IfOk r IsElaborated) e 
         then_holds (not_doubled (doubled_from [] 0 program)) _ (λ u. Unit {0}) IsElaborated
         (any_holds (not_doubled (doubled_from [] 0 program))) (λ u h.
         then_holds (main_of program main) _ IsMain IsElaborated (main_is program main) (λ found is.
-        then_holds (main_elaborated program found) _ (λ made. IsElaborated made.stream) IsElaborated
-        (main_sound program found is) (λ made sound. sound)))
+        then_holds (main_elaborated program found) _ (λ elaborated. IsElaborated elaborated.stream)
+        IsElaborated
+        (main_sound program found is) (λ elaborated sound. sound)))

@@ -15,12 +15,12 @@ use Rattle.strc_stream.specs.Instances.{in_a_row}
 use Rattle.strc_stream.specs.View.{stream_view, row_view, streams_view}
 use Rattle.strc_elab.specs.Elaboration.{Elaborated}
 
--- a stream of these types, with its tally
-abbrev pub made_of : StreamType → instances.Stream → (turns filters : ℕ) → Elaborated
-made_of types stream turns filters = record {
+-- a stream of these types, with its totals
+abbrev pub elaborated_of : StreamType → instances.Stream → (turns filters : ℕ) → Elaborated
+elaborated_of types stream turns filters = record {
   stream = stream;
   types = types;
-  tally = record { turns = turns; filters = filters };
+  totals = record { turns = turns; filters = filters };
 }
 
 abbrev row_of : Stream → (n : Count) × Row_of-Stream n
@@ -71,10 +71,10 @@ pub stream_view-FeedbackLoop : (joiner : Vec ℕ Global) (body : Box Stream Glob
 stream_view-FeedbackLoop joiner body splitter loop enqueued = refl
 
 -- what is made, part by part
-pub made_same : (types : StreamType) (one other : instances.Stream) (turns turns' : ℕ)
+pub elaborated_same : (types : StreamType) (one other : instances.Stream) (turns turns' : ℕ)
     (filters filters' : ℕ) → one ≡ other → turns ≡ turns' → filters ≡ filters'
-    → made_of types one turns filters ≡ made_of types other turns' filters'
-made_same types one other turns turns' filters filters' is turned counted =
-    ap (λ s. made_of types s turns filters) is
-    ∙ ap (λ n. made_of types other n filters) turned
-    ∙ ap (made_of types other turns') counted
+    → elaborated_of types one turns filters ≡ elaborated_of types other turns' filters'
+elaborated_same types one other turns turns' filters filters' is turned counted =
+    ap (λ s. elaborated_of types s turns filters) is
+    ∙ ap (λ n. elaborated_of types other n filters) turned
+    ∙ ap (elaborated_of types other turns') counted

@@ -51,22 +51,22 @@ where_kept true refusal next = next
 where_kept false refusal next = Err refusal
 
 -- how many turns all loops have made, and how many filters there are, so far
-pub record Tally : Type 0 where
+pub record Totals : Type 0 where
   pub turns : ℕ
   pub filters : ℕ
 
--- what the elaboration of a stream gives: its instances, what it takes and gives, and the tally
+-- what the elaboration of a stream gives: its instances, what it takes and gives, and the totals
 -- after it
 pub record Elaborated : Type 0 where
   pub stream : Stream
   pub types : StreamType
-  pub tally : Tally
+  pub totals : Totals
 
 -- what a composite stream's body is in: the program, its place, and how a child is elaborated
 pub record Setting : Type 0 where
   pub program : List Declaration
   pub place : Place
-  pub elaborate : Place → Text → Tally → Result Elaborated ElabError
+  pub elaborate : Place → Text → Totals → Result Elaborated ElabError
 
 -- how far the body of a composite stream has run: its variables and the turns so far, what its
 -- stream statements have said, and how many filters there are
@@ -211,29 +211,29 @@ abbrev pub may_add : CompositeKind → List StreamType → StreamType → Bool
 may_add composite.Pipeline types next = follows types next
 may_add _ types next = true
 
--- the store and the tally after a child
-abbrev pub tallied : Progress → Store → Tally → Progress
-tallied progress store tally = record progress {
-  store = record store { traffic = record store.traffic { turns = tally.turns } };
-  filters = tally.filters;
+-- the store and the totals after a child
+abbrev pub with_totals : Progress → Store → Totals → Progress
+with_totals progress store totals = record progress {
+  store = record store { traffic = record store.traffic { turns = totals.turns } };
+  filters = totals.filters;
 }
 
 -- a composite stream with one more child
 abbrev pub child_added : Setting → Role → Progress → Store → Elaborated
     → Result Progress ElabError
-child_added setting role.Add progress store made =
-    where_kept (may_add progress.kind progress.types made.types)
+child_added setting role.Add progress store elaborated =
+    where_kept (may_add progress.kind progress.types elaborated.types)
     (refused.TypeMismatch setting.place.declaration)
-    (Ok (record (tallied progress store made.tally) {
-      children = progress.children ++ made.stream ∷ [];
-      types = progress.types ++ made.types ∷ [];
+    (Ok (record (with_totals progress store elaborated.totals) {
+      children = progress.children ++ elaborated.stream ∷ [];
+      types = progress.types ++ elaborated.types ∷ [];
     }))
-child_added setting role.Body progress store made =
-    where_kept (passes_items made.types) (refused.TypeMismatch setting.place.declaration)
-    (Ok (record (tallied progress store made.tally) { body = Some made.stream }))
-child_added setting role.Loop progress store made =
-    where_kept (passes_items made.types) (refused.TypeMismatch setting.place.declaration)
-    (Ok (record (tallied progress store made.tally) { loop = Some made.stream }))
+child_added setting role.Body progress store elaborated =
+    where_kept (passes_items elaborated.types) (refused.TypeMismatch setting.place.declaration)
+    (Ok (record (with_totals progress store elaborated.totals) { body = Some elaborated.stream }))
+child_added setting role.Loop progress store elaborated =
+    where_kept (passes_items elaborated.types) (refused.TypeMismatch setting.place.declaration)
+    (Ok (record (with_totals progress store elaborated.totals) { loop = Some elaborated.stream }))
 
 -- a child that was found is elaborated and added
 abbrev pub found_run : Setting → Role → Result Found ElabError → Progress
@@ -241,8 +241,8 @@ abbrev pub found_run : Setting → Role → Result Found ElabError → Progress
 found_run setting role outcome progress =
     result_and_then outcome (λ found.
     result_and_then (setting.elaborate found.place found.text
-    (record { turns = found.store.traffic.turns; filters = progress.filters })) (λ made.
-    child_added setting role progress found.store made))
+    (record { turns = found.store.traffic.turns; filters = progress.filters })) (λ elaborated.
+    child_added setting role progress found.store elaborated))
 
 -- a child, elaborated at the moment that its statement runs
 abbrev pub child_run : Setting → TypedNames → Role → tree.Child → Progress
@@ -368,9 +368,9 @@ unfoldable pub level_limit : ℕ
 level_limit = LEVEL_LIMIT
 
 -- one more filter, unless the limit is reached
-abbrev pub one_more : {A : Type 0} → Tally → (Tally → Result A ElabError) → Result A ElabError
-one_more tally go = where_kept (nat_lt tally.filters filter_limit) refused.NodeLimit
-    (go (record tally { filters = tally.filters + 1 }))
+abbrev pub one_more : {A : Type 0} → Totals → (Totals → Result A ElabError) → Result A ElabError
+one_more totals go = where_kept (nat_lt totals.filters filter_limit) refused.NodeLimit
+    (go (record totals { filters = totals.filters + 1 }))
 
 -- a filter whose start doesn't fault
 abbrev pub started_as : {A : Type 0} → Filter → Result A Cause → Result Filter ElabError
@@ -389,10 +389,10 @@ abbrev pub filter_types : Filter → StreamType
 filter_types filter = record { input = filter.input; output = filter.output }
 
 -- a body before it runs
-abbrev pub initial_progress : CompositeKind → Tally → Progress
-initial_progress kind tally = record {
+abbrev pub initial_progress : CompositeKind → Totals → Progress
+initial_progress kind totals = record {
   kind = kind;
-  store = record { variables = []; traffic = record no_traffic { turns = tally.turns } };
+  store = record { variables = []; traffic = record no_traffic { turns = totals.turns } };
   children = [];
   types = [];
   split = None;
@@ -400,7 +400,7 @@ initial_progress kind tally = record {
   body = None;
   loop = None;
   enqueued = [];
-  filters = tally.filters;
+  filters = totals.filters;
 }
 
 -- what is made of a body that has run, where its type is the written one
@@ -411,98 +411,102 @@ as_written declaration written found stream progress =
     (Ok (record {
       stream = stream;
       types = found;
-      tally = record { turns = progress.store.traffic.turns; filters = progress.filters };
+      totals = record { turns = progress.store.traffic.turns; filters = progress.filters };
     }))
 
 -- a pipeline has a child
-abbrev pub pipeline_made : (declaration : ℕ) → Option StreamType → List StreamType → Progress
+abbrev pub pipeline_assembly : (declaration : ℕ) → Option StreamType → List StreamType → Progress
     → Result Elaborated ElabError
-pipeline_made declaration written [] progress = Err (refused.TypeMismatch declaration)
-pipeline_made declaration written (first ∷ rest) progress =
+pipeline_assembly declaration written [] progress = Err (refused.TypeMismatch declaration)
+pipeline_assembly declaration written (first ∷ rest) progress =
     as_written declaration written
     (record { input = first.input; output = last_given first.output rest })
     (instance.Pipeline (in_a_row progress.children)) progress
 
 -- a split-join has a child, a splitter and a joiner, whose weights are allowed
-abbrev pub splitjoin_made : (declaration : ℕ) → Option StreamType → List StreamType → Option Split
+abbrev pub splitjoin_assembly : (declaration : ℕ) → Option StreamType → List StreamType
+    → Option Split
     → Option (List ℤ) → Progress → Result Elaborated ElabError
-splitjoin_made declaration written (first ∷ rest) (Some split) (Some join) progress =
+splitjoin_assembly declaration written (first ∷ rest) (Some split) (Some join) progress =
     result_and_then (split_dealt declaration split (inputs_in progress.types)) (λ splitter.
     result_and_then (join_dealt declaration join (outputs_in progress.types)) (λ joiner.
     as_written declaration written (record {
       input = any_side (inputs_in progress.types);
       output = any_side (outputs_in progress.types);
     }) (instance.SplitJoin splitter (in_a_row progress.children) joiner) progress))
-splitjoin_made declaration written types split join progress =
+splitjoin_assembly declaration written types split join progress =
     Err (refused.TypeMismatch declaration)
 
 -- a feedback loop has each of its parts, and its weights are allowed
-abbrev pub loop_made : (declaration : ℕ) → Option StreamType → Option (List ℤ) → Option Stream
+abbrev pub loop_assembly : (declaration : ℕ) → Option StreamType → Option (List ℤ) → Option Stream
     → Option Split → Option Stream → Progress → Result Elaborated ElabError
-loop_made declaration written (Some join) (Some body) (Some split) (Some loop) progress =
+loop_assembly declaration written (Some join) (Some body) (Some split) (Some loop) progress =
     result_and_then (weighted declaration (loop_weights (input_written written) join)) (λ joiner.
     result_and_then (weighted declaration (loop_splitter (output_written written) split))
     (λ splitter.
     let stream = instance.FeedbackLoop joiner body splitter loop progress.enqueued in
     as_written declaration written
     (record { input = input_of stream; output = output_of stream }) stream progress))
-loop_made declaration written join body split loop progress =
+loop_assembly declaration written join body split loop progress =
     Err (refused.TypeMismatch declaration)
 
-abbrev pub composite_made : CompositeKind → (declaration : ℕ) → Option StreamType → Progress
+abbrev pub composite_assembly : CompositeKind → (declaration : ℕ) → Option StreamType → Progress
     → Result Elaborated ElabError
-composite_made composite.Pipeline declaration written progress =
-    pipeline_made declaration written progress.types progress
-composite_made composite.Splitjoin declaration written progress =
-    splitjoin_made declaration written progress.types progress.split progress.join progress
-composite_made composite.Feedbackloop declaration written progress =
-    loop_made declaration written progress.join progress.body progress.split progress.loop progress
+composite_assembly composite.Pipeline declaration written progress =
+    pipeline_assembly declaration written progress.types progress
+composite_assembly composite.Splitjoin declaration written progress =
+    splitjoin_assembly declaration written progress.types progress.split progress.join progress
+composite_assembly composite.Feedbackloop declaration written progress =
+    loop_assembly declaration written progress.join progress.body progress.split progress.loop
+    progress
 
 -- a composite stream: its body runs
-abbrev pub composite_elaborated : Setting → Option StreamType → CompositeKind → tree.Stmts → Tally
+abbrev pub composite_elaborated : Setting → Option StreamType → CompositeKind → tree.Stmts → Totals
     → Result Elaborated ElabError
-composite_elaborated setting written kind block tally =
-    result_and_then (stmts_run setting [] 0 block (initial_progress kind tally)) (λ progress.
-    composite_made kind setting.place.declaration written progress)
+composite_elaborated setting written kind block totals =
+    result_and_then (stmts_run setting [] 0 block (initial_progress kind totals)) (λ progress.
+    composite_assembly kind setting.place.declaration written progress)
 
 -- a filter that the language has
-abbrev pub given_elaborated : Stream → Tally → Result Elaborated ElabError
-given_elaborated stream tally =
-    one_more tally (λ tally'.
+abbrev pub given_elaborated : Stream → Totals → Result Elaborated ElabError
+given_elaborated stream totals =
+    one_more totals (λ totals'.
     Ok (record {
       stream = stream;
       types = record { input = input_of stream; output = output_of stream };
-      tally = tally';
+      totals = totals';
     }))
 
 -- a stream of this text
-abbrev pub text_elaborated : Setting → Text → Tally → Result Elaborated ElabError
-text_elaborated setting (FilterText name filter) tally =
-    one_more tally (λ tally'.
+abbrev pub text_elaborated : Setting → Text → Totals → Result Elaborated ElabError
+text_elaborated setting (FilterText name filter) totals =
+    one_more totals (λ totals'.
     result_and_then (instance_of setting.place filter) (λ resolved.
     Ok (record {
       stream = instance.Filter name resolved;
       types = filter_types resolved;
-      tally =
-          tally';
+      totals =
+          totals';
     })))
-text_elaborated setting (CompositeText written kind block) tally =
-    composite_elaborated setting written kind block tally
-text_elaborated setting IdentityText tally = given_elaborated instance.Identity tally
-text_elaborated setting (ReaderText text) tally = given_elaborated (instance.FileReader text) tally
-text_elaborated setting (WriterText text) tally = given_elaborated (instance.FileWriter text) tally
+text_elaborated setting (CompositeText written kind block) totals =
+    composite_elaborated setting written kind block totals
+text_elaborated setting IdentityText totals = given_elaborated instance.Identity totals
+text_elaborated setting (ReaderText text) totals =
+    given_elaborated (instance.FileReader text) totals
+text_elaborated setting (WriterText text) totals =
+    given_elaborated (instance.FileWriter text) totals
 
 -- a stream that may have so many levels, its own among them
-abbrev pub stream_elaborated : List Declaration → (levels : ℕ) → Place → Text → Tally
+abbrev pub stream_elaborated : List Declaration → (levels : ℕ) → Place → Text → Totals
     → Result Elaborated ElabError
-stream_elaborated program zero place text tally = Err refused.DepthLimit
-stream_elaborated program (suc levels) place text tally =
+stream_elaborated program zero place text totals = Err refused.DepthLimit
+stream_elaborated program (suc levels) place text totals =
     text_elaborated (record {
       program = program;
       place = place;
       elaborate =
           stream_elaborated program levels;
-    }) text tally
+    }) text totals
 
 -- the main stream
 
@@ -517,4 +521,4 @@ abbrev pub elaborated : List Declaration → Option (List ℕ) → Result Stream
 elaborated program main =
     result_and_then (not_doubled (doubled_from [] 0 program)) (λ _.
     result_and_then (main_of program main) (λ found.
-    result_and_then (main_elaborated program found) (λ made. Ok made.stream)))
+    result_and_then (main_elaborated program found) (λ elaborated. Ok elaborated.stream)))

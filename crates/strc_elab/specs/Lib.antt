@@ -1,8 +1,8 @@
 pub mod Elaboration
 pub mod Examples
 pub mod Tasks
-pub mod Tallies
+pub mod Totals
 pub mod Loops
 pub mod Answering
-pub mod Making
+pub mod Assembly
 pub mod Sound

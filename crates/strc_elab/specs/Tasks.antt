@@ -36,9 +36,9 @@ program_of task = map declaration_view task.declarations.now
 abbrev pub place_of : Task → texts.Place
 place_of task = record { declaration = task.declaration; constants = task.constants.now }
 
--- the tally before a task
-abbrev pub tally_of : Task → spec.Tally
-tally_of task = record { turns = task.tally.turns; filters = task.tally.filters }
+-- the totals before a task
+abbrev pub totals_of : Task → spec.Totals
+totals_of task = record { turns = task.totals.turns; filters = task.totals.filters }
 
 -- the table has the number of each declaration by its name
 abbrev pub KnowsNames : Task → Type 0
@@ -48,24 +48,24 @@ KnowsNames task =
 
 -- what is made
 abbrev pub elaborated_view : Elaborated → spec.Elaborated
-elaborated_view made = record {
-  stream = stream_view made.stream;
-  types = made.types;
-  tally = record { turns = made.tally.turns; filters = made.tally.filters };
+elaborated_view elaborated = record {
+  stream = stream_view elaborated.stream;
+  types = elaborated.types;
+  totals = record { turns = elaborated.totals.turns; filters = elaborated.totals.filters };
 }
 
 -- an answer is what the definitions make of the task
-abbrev pub IsMade : Task → Result Elaborated ElabError → Type 0
-IsMade task result = IsVerdict elaborated_view
+abbrev pub IsTaskVerdict : Task → Result Elaborated ElabError → Type 0
+IsTaskVerdict task result = IsVerdict elaborated_view
     (spec.stream_elaborated (program_of task) task.levels (place_of task) (text_view task.text)
-    (tally_of task)) result
+    (totals_of task)) result
 
 -- a function value that elaborates texts with so many levels
 pub record Elaborates (levels : ℕ) (pre : Task → Type 0)
     (post : Task → Result Elaborated ElabError → Type 0) : Type 0 where
   pub callable : (task : Task) → task.levels ≡ levels → KnowsNames task → pre task
   pub elaborates : (task : Task) (result : Result Elaborated ElabError) → task.levels ≡ levels
-      → post task result → IsMade task result
+      → post task result → IsTaskVerdict task result
 
 -- what the body of a task's text is in
 abbrev pub setting_of : Task → spec.Setting

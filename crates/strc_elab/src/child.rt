@@ -7,7 +7,7 @@ ghost use Rattle.strc_elab.specs.Elaboration as spec;
 ghost use Rattle.strc_scope.specs.Texts as texts;
 ghost use Rattle.strc_scope.specs.Saying.{store_of};
 ghost use Rattle.strc_elab.specs.Answering.{progress_of, Binds, Runs};
-ghost use Rattle.strc_elab.specs.Making.{made_by};
+ghost use Rattle.strc_elab.specs.Assembly.{elaborated_by};
 ghost use Rattle.strc_elab.specs.Tasks.{IsReady, setting_of, program_of};
 ghost use Rattle.strc_elab.specs.Tasks.{text_view};
 
@@ -199,7 +199,7 @@ impl<F: Fn(Task) -> Result<Elaborated, ElabError>> Body<'_, F> {
         ensures names { OnOk result (progress.new.store.variables.names
             ≡ progress.old.store.variables.names) }
     {
-        let made = (self.elaborate)(Task {
+        let elaborated = (self.elaborate)(Task {
             alloc: self.task.alloc,
             declarations: self.task.declarations,
             numbers: self.task.numbers,
@@ -207,14 +207,14 @@ impl<F: Fn(Task) -> Result<Elaborated, ElabError>> Body<'_, F> {
             declaration,
             constants,
             text,
-            tally: progress.tally(),
+            totals: progress.totals(),
         })?;
-        progress.store.turns = made.tally.turns;
-        progress.filters = made.tally.filters;
+        progress.store.turns = elaborated.totals.turns;
+        progress.filters = elaborated.totals.filters;
         match role {
-            Role::Add => self.add(made.stream, made.types, progress),
-            Role::Body => self.set_body(made.stream, made.types, progress),
-            Role::Loop => self.set_loop(made.stream, made.types, progress),
+            Role::Add => self.add(elaborated.stream, elaborated.types, progress),
+            Role::Body => self.set_body(elaborated.stream, elaborated.types, progress),
+            Role::Loop => self.set_loop(elaborated.stream, elaborated.types, progress),
         }
     }
 
@@ -227,7 +227,7 @@ impl<F: Fn(Task) -> Result<Elaborated, ElabError>> Body<'_, F> {
     ) -> Result<(), ElabError>
         ensures runs { Runs (spec.child_added (setting_of self.now.task) roles.Add
             (progress_of progress.old) (store_of progress.old.store)
-            (made_by progress.old stream types)) result (progress_of progress.new) }
+            (elaborated_by progress.old stream types)) result (progress_of progress.new) }
         ensures names { OnOk result (progress.new.store.variables.names
             ≡ progress.old.store.variables.names) }
     {
@@ -248,7 +248,7 @@ impl<F: Fn(Task) -> Result<Elaborated, ElabError>> Body<'_, F> {
     ) -> Result<(), ElabError>
         ensures runs { Runs (spec.child_added (setting_of self.now.task) roles.Body
             (progress_of progress.old) (store_of progress.old.store)
-            (made_by progress.old stream types)) result (progress_of progress.new) }
+            (elaborated_by progress.old stream types)) result (progress_of progress.new) }
         ensures names { OnOk result (progress.new.store.variables.names
             ≡ progress.old.store.variables.names) }
     {
@@ -268,7 +268,7 @@ impl<F: Fn(Task) -> Result<Elaborated, ElabError>> Body<'_, F> {
     ) -> Result<(), ElabError>
         ensures runs { Runs (spec.child_added (setting_of self.now.task) roles.Loop
             (progress_of progress.old) (store_of progress.old.store)
-            (made_by progress.old stream types)) result (progress_of progress.new) }
+            (elaborated_by progress.old stream types)) result (progress_of progress.new) }
         ensures names { OnOk result (progress.new.store.variables.names
             ≡ progress.old.store.variables.names) }
     {

@@ -14,7 +14,7 @@ ghost use Rattle.strc_stream.specs.View.{stream_view};
 
 use crate::declared::text_of;
 use crate::level::elaborate_text;
-use crate::task::{Elaborated, Tally, Task};
+use crate::task::{Elaborated, Task, Totals};
 use indexmap::IndexMap;
 use std::alloc::Global;
 use strc_check::constants::Constants;
@@ -41,8 +41,8 @@ pub fn elaborate(alloc: Global, program: &Program, main: Option<&str>) -> Result
     let declarations = program.declarations.as_slice();
     let numbers = index_of(alloc, declarations)?;
     let (number, declaration) = main_of(declarations, &numbers, main)?;
-    let made = main_elaborated(alloc, declarations, &numbers, number, declaration)?;
-    Ok(made.stream)
+    let elaborated = main_elaborated(alloc, declarations, &numbers, number, declaration)?;
+    Ok(elaborated.stream)
 }
 
 /// What the main stream's text means.
@@ -68,7 +68,7 @@ fn main_elaborated(
         declaration: number,
         constants: &constants,
         text: text_of(declaration),
-        tally: Tally {
+        totals: Totals {
             turns: 0,
             filters: 0,
         },

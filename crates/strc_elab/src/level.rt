@@ -1,7 +1,7 @@
 // Streams in one another, level by level. The rules of a level are made of what elaborates the
 // level below, so that each is proved by itself; here they are joined.
 
-ghost use Rattle.strc_elab.specs.Tasks.{KnowsNames, IsMade};
+ghost use Rattle.strc_elab.specs.Tasks.{KnowsNames, IsTaskVerdict};
 
 use crate::body::Body;
 use crate::task::{Elaborated, Task};
@@ -10,7 +10,7 @@ use strc_scope::error::ElabError;
 /// The instances that a text means, with so many levels as the task allows.
 pub(crate) fn elaborate_text(task: Task) -> Result<Elaborated, ElabError>
     requires { KnowsNames task }
-    ensures { IsMade task.entry result }
+    ensures { IsTaskVerdict task.entry result }
 {
     if task.levels == 0 {
         return Err(ElabError::DepthLimit);
@@ -19,5 +19,5 @@ pub(crate) fn elaborate_text(task: Task) -> Result<Elaborated, ElabError>
         task,
         elaborate: elaborate_text,
     };
-    body.made()
+    body.text_elaborated()
 }

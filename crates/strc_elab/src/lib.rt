@@ -7,6 +7,7 @@
 // strc_stream and strc_graph, whose streams and splitters it makes, and on indexmap.
 #![tactic(auto)]
 
+mod assembly;
 mod body;
 mod child;
 mod compose;
@@ -14,7 +15,6 @@ mod declared;
 pub mod elaborate;
 pub mod laws;
 mod level;
-mod made;
 mod progress;
 mod task;
 mod text;

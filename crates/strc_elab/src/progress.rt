@@ -4,7 +4,7 @@ ghost use Rattle.std.specs.Prelude.{◌≡◌};
 ghost use Rattle.strc_elab.specs.Elaboration as spec;
 ghost use Rattle.strc_elab.specs.Answering.{progress_of};
 
-use crate::task::Tally;
+use crate::task::Totals;
 use strc_declarations::written::same_item;
 use strc_scope::store::Store;
 use strc_stream::stream::Stream;
@@ -99,12 +99,12 @@ impl Progress {
         }
     }
 
-    /// The tally so far.
-    pub(crate) fn tally(&self) -> Tally
+    /// The totals so far.
+    pub(crate) fn totals(&self) -> Totals
         ensures turns { result.turns ≡ self.now.store.turns }
         ensures filters { result.filters ≡ self.now.filters }
     {
-        Tally {
+        Totals {
             turns: self.store.turns,
             filters: self.filters,
         }

@@ -20,13 +20,13 @@ pub(crate) enum Text<'a> {
 
 /// How many turns all loops have made, and how many filters there are, so far.
 #[derive(Clone, Copy, PartialEq, Eq)]
-pub(crate) struct Tally {
+pub(crate) struct Totals {
     pub(crate) turns: u32,
     pub(crate) filters: u32,
 }
 
 /// A text to be elaborated: the program that it is in, how many levels it may have, the number
-/// of the declaration that holds it, the constants that it sees, and the tally before it.
+/// of the declaration that holds it, the constants that it sees, and the totals before it.
 #[derive(Clone, Copy)]
 pub(crate) struct Task<'a> {
     pub(crate) alloc: Global,
@@ -36,14 +36,14 @@ pub(crate) struct Task<'a> {
     pub(crate) declaration: usize,
     pub(crate) constants: &'a Constants,
     pub(crate) text: Text<'a>,
-    pub(crate) tally: Tally,
+    pub(crate) totals: Totals,
 }
 
-/// What the elaboration of a stream gives: its instances, what it takes and gives, and the tally
+/// What the elaboration of a stream gives: its instances, what it takes and gives, and the totals
 /// after it.
 #[derive(Drop)]
 pub(crate) struct Elaborated {
     pub(crate) stream: Stream,
     pub(crate) types: StreamType,
-    pub(crate) tally: Tally,
+    pub(crate) totals: Totals,
 }

@@ -8,14 +8,14 @@ ghost use Rattle.strc_semantics.specs.Firing as firing;
 ghost use Rattle.strc_elab.specs.Elaboration as spec;
 ghost use Rattle.strc_scope.specs.Answers.{IsVerdict};
 ghost use Rattle.strc_elab.specs.Answering.{progress_of};
-ghost use Rattle.strc_elab.specs.Tallies.{tally_view};
-ghost use Rattle.strc_elab.specs.Tasks.{IsReady, setting_of, place_of, tally_of, text_view};
+ghost use Rattle.strc_elab.specs.Totals.{totals_view};
+ghost use Rattle.strc_elab.specs.Tasks.{IsReady, setting_of, place_of, totals_of, text_view};
 ghost use Rattle.strc_elab.specs.Tasks.{elaborated_view};
 ghost use Rattle.strc_scope.specs.Texts as texts;
 
 use crate::body::Body;
 use crate::progress::Progress;
-use crate::task::{Elaborated, Tally, Task, Text};
+use crate::task::{Elaborated, Task, Text, Totals};
 use std::alloc::{AllocError, Global};
 use strc_graph::instance::Instance;
 use strc_lex::token::{Name, StringLiteral};
@@ -31,16 +31,16 @@ use strc_work::lowering::lower_parts;
 /// How many filters a program may have.
 const FILTER_LIMIT: u32 = 4096;
 
-impl Tally {
+impl Totals {
     /// One more filter, unless the limit is reached.
-    fn one_more(self) -> Result<Tally, ElabError>
-        ensures { IsVerdict tally_view (spec.one_more (tally_view self)
-            (λ tally. Ok tally)) result }
+    fn one_more(self) -> Result<Totals, ElabError>
+        ensures { IsVerdict totals_view (spec.one_more (totals_view self)
+            (λ totals. Ok totals)) result }
     {
         if self.filters >= FILTER_LIMIT {
             return Err(ElabError::NodeLimit);
         }
-        Ok(Tally {
+        Ok(Totals {
             turns: self.turns,
             filters: self.filters + 1,
         })
@@ -99,9 +99,9 @@ impl Task<'_> {
     ) -> Result<Elaborated, ElabError>
         ensures { IsVerdict elaborated_view (spec.text_elaborated (setting_of self.now)
             (texts.FilterText (option_map (λ n. n.now) name.entry)
-            (filter_parts types.input types.output members.now)) (tally_of self.now)) result }
+            (filter_parts types.input types.output members.now)) (totals_of self.now)) result }
     {
-        let tally = self.tally.one_more()?;
+        let totals = self.totals.one_more()?;
         let name = copied(name)?;
         let code = self.instance(types, members)?;
         let types = StreamType {
@@ -111,7 +111,7 @@ impl Task<'_> {
         Ok(Elaborated {
             stream: Stream::Filter(Instance { name, code }),
             types,
-            tally,
+            totals,
         })
     }
 
@@ -119,16 +119,16 @@ impl Task<'_> {
     fn identity(&self) -> Result<Elaborated, ElabError>
         ensures { IsVerdict elaborated_view
             (spec.text_elaborated (setting_of self.now) texts.IdentityText
-            (tally_of self.now)) result }
+            (totals_of self.now)) result }
     {
-        let tally = self.tally.one_more()?;
+        let totals = self.totals.one_more()?;
         Ok(Elaborated {
             stream: Stream::Identity,
             types: StreamType {
                 input: ItemType::Int,
                 output: ItemType::Int,
             },
-            tally,
+            totals,
         })
     }
 
@@ -136,16 +136,16 @@ impl Task<'_> {
     fn reader(&self, text: &StringLiteral) -> Result<Elaborated, ElabError>
         ensures { IsVerdict elaborated_view
             (spec.text_elaborated (setting_of self.now) (texts.ReaderText text.now)
-            (tally_of self.now)) result }
+            (totals_of self.now)) result }
     {
-        let tally = self.tally.one_more()?;
+        let totals = self.totals.one_more()?;
         Ok(Elaborated {
             stream: Stream::FileReader(text.copy()?),
             types: StreamType {
                 input: ItemType::Void,
                 output: ItemType::Int,
             },
-            tally,
+            totals,
         })
     }
 
@@ -153,29 +153,29 @@ impl Task<'_> {
     fn writer(&self, text: &StringLiteral) -> Result<Elaborated, ElabError>
         ensures { IsVerdict elaborated_view
             (spec.text_elaborated (setting_of self.now) (texts.WriterText text.now)
-            (tally_of self.now)) result }
+            (totals_of self.now)) result }
     {
-        let tally = self.tally.one_more()?;
+        let totals = self.totals.one_more()?;
         Ok(Elaborated {
             stream: Stream::FileWriter(text.copy()?),
             types: StreamType {
                 input: ItemType::Int,
                 output: ItemType::Void,
             },
-            tally,
+            totals,
         })
     }
 
     /// A body before it runs.
     fn initial_progress(&self, kind: CompositeKind) -> Progress
-        ensures progress { progress_of result ≡ spec.initial_progress kind (tally_of self.now) }
+        ensures progress { progress_of result ≡ spec.initial_progress kind (totals_of self.now) }
         ensures names { result.store.variables.names ≡ [] }
     {
         Progress {
             kind,
             store: Store {
                 variables: Variables::new(self.alloc),
-                turns: self.tally.turns,
+                turns: self.totals.turns,
             },
             children: Vec::new(self.alloc),
             types: Vec::new(self.alloc),
@@ -184,17 +184,17 @@ impl Task<'_> {
             body: None,
             looped: None,
             enqueued: Vec::new(self.alloc),
-            filters: self.tally.filters,
+            filters: self.totals.filters,
         }
     }
 }
 
 impl<F: Fn(Task) -> Result<Elaborated, ElabError>> Body<'_, F> {
     /// The stream of the task's text.
-    pub(crate) fn made(&self) -> Result<Elaborated, ElabError>
+    pub(crate) fn text_elaborated(&self) -> Result<Elaborated, ElabError>
         requires { IsReady self.now.task (F.pre self.now.elaborate) (F.post self.now.elaborate) }
         ensures { IsVerdict elaborated_view (spec.text_elaborated (setting_of self.now.task)
-            (text_view self.now.task.text) (tally_of self.now.task)) result }
+            (text_view self.now.task.text) (totals_of self.now.task)) result }
     {
         match self.task.text {
             Text::Filter(name, types, members) => self.task.filter(name, types, members),
@@ -209,7 +209,7 @@ impl<F: Fn(Task) -> Result<Elaborated, ElabError>> Body<'_, F> {
     fn run(&self, kind: CompositeKind, block: &[Stmt]) -> Result<Progress, ElabError>
         requires { IsReady self.now.task (F.pre self.now.elaborate) (F.post self.now.elaborate) }
         ensures { IsVerdict progress_of (spec.stmts_run (setting_of self.now.task) [] 0
-            (block_view block.now) (spec.initial_progress kind (tally_of self.now.task))) result }
+            (block_view block.now) (spec.initial_progress kind (totals_of self.now.task))) result }
     {
         let mut progress = self.task.initial_progress(kind);
         self.statements(0, block, &mut progress)?;
@@ -226,9 +226,9 @@ impl<F: Fn(Task) -> Result<Elaborated, ElabError>> Body<'_, F> {
         requires { IsReady self.now.task (F.pre self.now.elaborate) (F.post self.now.elaborate) }
         ensures { IsVerdict elaborated_view
             (spec.composite_elaborated (setting_of self.now.task) written
-            kind (block_view block.now) (tally_of self.now.task)) result }
+            kind (block_view block.now) (totals_of self.now.task)) result }
     {
         let mut progress = self.run(kind, block)?;
-        self.task.composite_made(kind, written, &mut progress)
+        self.task.composite_assembly(kind, written, &mut progress)
     }
 }

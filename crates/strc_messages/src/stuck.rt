@@ -45,7 +45,7 @@ pub(crate) fn push_stuck_loop(
 
 /// The joiner that waits for items of its loop when no node fires any more.
 fn stuck_joiner(alloc: Global, graph: &Graph) -> Result<Option<usize>, AllocError> {
-    let mut trial = begun(alloc, graph)?;
+    let mut trial = initial_trial(alloc, graph)?;
     for _turn in 0..MOST_FIRINGS {
         if !trial.fire_each() {
             break;
@@ -55,7 +55,7 @@ fn stuck_joiner(alloc: Global, graph: &Graph) -> Result<Option<usize>, AllocErro
 }
 
 /// No node has fired.
-fn begun(alloc: Global, graph: &Graph) -> Result<Trial<'_>, AllocError> {
+fn initial_trial(alloc: Global, graph: &Graph) -> Result<Trial<'_>, AllocError> {
     let items: Vec<u128> = graph
         .channels()
         .iter()

@@ -19,7 +19,7 @@ use Rattle.strc_startup.specs.declared.channel_rates.ChannelRates.{ChannelRates}
 use Rattle.strc_order.specs.Buffers.{peak_fill}
 use Rattle.strc_order.specs.Firings.{Firings, none_fired, fired, fill}
 use Rattle.strc_order.specs.Peaks.{AreBelow, AreRaised}
-use Rattle.strc_order.specs.Rounds.{IsSettled}
+use Rattle.strc_order.specs.Rounds.{IsPastPrework}
 use Rattle.strc_order.specs.Sizing.{rates_on, all_rates_on, IsCovered, HasFills, PassesOn}
 use Rattle.strc_order.proofs.Fills.{peak_first}
 use Rattle.strc_order.proofs.Repeating.{supply_more, popped_more, pops_alike, rates_there}
@@ -40,14 +40,14 @@ popped_by_work rates items (suc n) = omega arith
 abbrev more : (counts later : Firings) → Firings
 more counts later node = counts node + later node
 
-module _ (rates : ChannelRates) (counts : Firings) (settled : IsSettled counts rates)
+module _ (rates : ChannelRates) (counts : Firings) (past_prework : IsPastPrework counts rates)
     (covered : IsCovered counts rates) where
   fill_on : (later : Firings)
       → fill (rates_on rates (fill rates counts)) later ≡ fill rates (more counts later)
   fill_on later =
-      let s = supply_more rates (counts rates.source) (later rates.source) settled.source in
+      let s = supply_more rates (counts rates.source) (later rates.source) past_prework.source in
       let p = popped_more rates (counts rates.target) (later rates.target)
-      (pops_alike rates (counts rates.target) settled.target) in
+      (pops_alike rates (counts rates.target) past_prework.target) in
       let t = supply_by_work rates (fill rates counts) (later rates.source) in
       let q = popped_by_work rates (fill rates counts) (later rates.target) in
       omega (arith, s, p, t, q, covered)
@@ -86,13 +86,14 @@ pub raised_on : (channels : List ChannelRates) (counts : Firings)
     → AreRaised (all_rates_on channels fills) none_fired order before sizes
     → AreRaised channels counts order before sizes
 raised_on channels counts fills order before sizes has raised number rates there =
-    let settled = rates_there (IsSettled counts) channels number rates has.settled there in
+    let past_prework =
+    rates_there (IsPastPrework counts) channels number rates has.past_prework there in
     let covered = rates_there (IsCovered counts) channels number rates has.covered there in
     let own = subst (λ l. slice_get (all_rates_on channels l) number
     ≡ Some (rates_on rates (fill rates counts))) (sym has.items)
     (at_on (λ r. fill r counts) channels number rates there) in
     let now = raised number (rates_on rates (fill rates counts)) own in
-    omega (arith, now, peak_from rates counts settled covered order)
+    omega (arith, now, peak_from rates counts past_prework covered order)
 
 pub length_on : (channels : List ChannelRates) (fills : List ℕ) → length fills ≡ length channels
     → length (all_rates_on channels fills) ≡ length channels

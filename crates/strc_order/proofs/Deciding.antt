@@ -8,10 +8,11 @@ use Rattle.strc_order.specs.declared.unit as units
 use Rattle.strc_order.specs.Firings.{Firings, fired, FindsWindows}
 use Rattle.strc_order.specs.Greedy.{firings_of, less_turns, IsNext, IsGreedy}
 use Rattle.strc_order.specs.Laws.{GreedyIsAnOrder, GreedyFindsAnOrder, OneGreedyOrder}
-use Rattle.strc_order.specs.Order.{tally, after, repeated}
+use Rattle.strc_order.specs.Order.{firing_count, after, repeated}
 use Rattle.strc_order.proofs.Exchange.{spent}
 use Rattle.strc_order.proofs.Greedily.{greedy_order}
-use Rattle.strc_order.proofs.Tallies.{fired_none, tally_append, tally_repeated, turns_same}
+use Rattle.strc_order.proofs.FiringCounts.{fired_none, firing_count_append, firing_count_repeated}
+use Rattle.strc_order.proofs.FiringCounts.{turns_same}
 
 pub is_an_order : GreedyIsAnOrder
 is_an_order channels counts firings order is =
@@ -49,17 +50,17 @@ same_turns channels counts left m n v one two =
 fires : (channels : List ChannelRates) (counts left : Firings) (unit : units.Unit.Unit)
     (rest : List units.Unit.Unit) (node : ℕ) → unit.nodes.items ≡ node ∷ []
     → IsNext channels counts left unit.turns node
-    → 0 < tally (firings_of (unit ∷ rest)) node
+    → 0 < firing_count (firings_of (unit ∷ rest)) node
 fires channels counts left unit rest node single next =
-    let a = tally_append (repeated unit.turns unit.nodes.items) (firings_of rest) node in
-    let r = ap (λ l. tally (repeated unit.turns l) node) single
-    ∙ tally_repeated unit.turns node node in
+    let a = firing_count_append (repeated unit.turns unit.nodes.items) (firings_of rest) node in
+    let r = ap (λ l. firing_count (repeated unit.turns l) node) single
+    ∙ firing_count_repeated unit.turns node node in
     omega (arith, a, r, turns_same unit.turns node node refl, next.some)
 
 same_firings : (channels : List ChannelRates) (counts left : Firings)
     (order other : List units.Unit.Unit) → IsGreedy channels counts left order
     → IsGreedy channels counts left other
-    → ((node : ℕ) → tally (firings_of order) node ≡ tally (firings_of other) node)
+    → ((node : ℕ) → firing_count (firings_of order) node ≡ firing_count (firings_of other) node)
     → firings_of order ≡ firings_of other
 same_firings channels counts left [] [] one two same = refl
 same_firings channels counts left [] (unit ∷ rest) one (node, single, next, later) same =
@@ -89,9 +90,9 @@ same_firings channels counts left (a ∷ as_rest) (b ∷ bs_rest) (v, v_is, one,
     let rest = same_firings channels (fired counts b.turns w) (less_turns left b.turns w) as_rest
     bs_rest later bs_later (λ other.
     let s = same other in
-    let x = tally_append (repeated a.turns a.nodes.items) (firings_of as_rest) other in
-    let y = tally_append (repeated b.turns b.nodes.items) (firings_of bs_rest) other in
-    let u = ap (λ l. tally l other) unit_is in
+    let x = firing_count_append (repeated a.turns a.nodes.items) (firings_of as_rest) other in
+    let y = firing_count_append (repeated b.turns b.nodes.items) (firings_of bs_rest) other in
+    let u = ap (λ l. firing_count l other) unit_is in
     omega (arith, s, x, y, u)) in
     ap (λ l. l ++ firings_of as_rest) unit_is
     ∙ ap (λ l. repeated b.turns b.nodes.items ++ l) rest

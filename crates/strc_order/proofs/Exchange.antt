@@ -7,9 +7,9 @@ use Rattle.std.proofs.lemmas.Bool.{cases_eq, cases_lt}
 use Rattle.strc_startup.proofs.Counting.{supply-le}
 use Rattle.strc_startup.specs.declared.channel_rates.ChannelRates.{ChannelRates}
 use Rattle.strc_order.specs.Firings.{Firings, fired, reach, HasWindow, FindsWindows}
-use Rattle.strc_order.specs.Order.{tally, IsOrder, HasOrder}
+use Rattle.strc_order.specs.Order.{firing_count, IsOrder, HasOrder}
 use Rattle.strc_order.specs.Progress.{IsStuck}
-use Rattle.strc_order.proofs.Tallies.{turns_same, turns_other}
+use Rattle.strc_order.proofs.FiringCounts.{turns_same, turns_other}
 
 -- more firings of others leave a window where it was
 pub keeps_window : (rates : ChannelRates) (before now : Firings)
@@ -31,14 +31,14 @@ finds_later channels before now node grown same finds k d within is =
 pub record Exchanges (channels : List ChannelRates) (before now : Firings) (order : List ℕ) : Type 0
   where
     pub node : ℕ
-    pub left : now node < before node + tally order node
+    pub left : now node < before node + firing_count order node
     pub finds : FindsWindows channels now node
 
 -- in an order take the first firing that is yet to come: all before it have been, and it finds its
 -- windows
 pub exchange : (channels : List ChannelRates) (before now : Firings) (order : List ℕ) (some : ℕ)
     → IsOrder channels before order → ((node : ℕ) → before node ≤ now node)
-    → now some < before some + tally order some → Exchanges channels before now order
+    → now some < before some + firing_count order some → Exchanges channels before now order
 exchange channels before now [] some is grown less = absurd (omega (arith, grown some, less))
 exchange channels before now (first ∷ order) some is grown less =
     elim (cases_lt (before first) (now first)) [

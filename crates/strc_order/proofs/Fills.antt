@@ -7,8 +7,9 @@ use Rattle.strc_startup.specs.declared.channel_rates.ChannelRates.{ChannelRates}
 use Rattle.strc_order.specs.Buffers.{peak_fill}
 use Rattle.strc_order.specs.Firings.{Firings, turns_of, fired, fill}
 use Rattle.strc_order.specs.Order.{after, repeated}
-use Rattle.strc_order.proofs.Tallies.{turns_same, turns_other, fired_none, fired_fired, after_cons}
-use Rattle.strc_order.proofs.Tallies.{after_none, one_more}
+use Rattle.strc_order.proofs.FiringCounts.{turns_same, turns_other, fired_none, fired_fired}
+use Rattle.strc_order.proofs.FiringCounts.{after_cons}
+use Rattle.strc_order.proofs.FiringCounts.{after_none, one_more}
 
 popped-le : (rates : ChannelRates) (m n : ℕ) → m ≤ n → popped rates m ≤ popped rates n
 popped-le rates zero n less = omega arith

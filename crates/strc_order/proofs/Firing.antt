@@ -16,7 +16,7 @@ use Rattle.strc_order.specs.Network.{NetworkView, IsNetwork, size_of}
 use Rattle.strc_order.specs.Progress.{count_bound, HasFirst, IsReady, ProgressView}
 use Rattle.strc_order.specs.Progress.{IsSound}
 use Rattle.strc_order.specs.Progress.{IsProgress, IsCompleteBut, EndsAt}
-use Rattle.strc_order.proofs.Tallies.{turns_same, turns_other, fired_none}
+use Rattle.strc_order.proofs.FiringCounts.{turns_same, turns_other, fired_none}
 use Rattle.strc_order.proofs.Exchange.{keeps_window, finds_later}
 use Rattle.strc_order.proofs.Networks.{listed_end, end_listed, contains_at, nothing}
 

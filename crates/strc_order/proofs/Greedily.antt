@@ -5,10 +5,11 @@ use mathlib.Core.Path.{fun_ext}
 use Rattle.strc_startup.specs.declared.channel_rates.ChannelRates.{ChannelRates}
 use Rattle.strc_order.specs.declared.unit as units
 use Rattle.strc_order.specs.Firings.{Firings, fired, FindsWindows}
-use Rattle.strc_order.specs.Order.{tally, after, repeated, IsOrder}
+use Rattle.strc_order.specs.Order.{firing_count, after, repeated, IsOrder}
 use Rattle.strc_order.specs.Greedy.{firings_of, less_turns, IsNext, IsGreedy}
-use Rattle.strc_order.proofs.Tallies.{one_more, fired_none, fired_fired, tally_append}
-use Rattle.strc_order.proofs.Tallies.{after_append, after_none, after_repeated, tally_repeated}
+use Rattle.strc_order.proofs.FiringCounts.{one_more, fired_none, fired_fired, firing_count_append}
+use Rattle.strc_order.proofs.FiringCounts.{after_append, after_none, after_repeated}
+use Rattle.strc_order.proofs.FiringCounts.{firing_count_repeated}
 
 -- so many firings of a node, and then an order
 pub turns_order : (channels : List ChannelRates) (counts : Firings) (turns node : ℕ)
@@ -41,14 +42,15 @@ greedy_order channels counts left (unit ∷ rest) (node, single, next, later) =
 
 -- what is left after an order
 abbrev pub left_after : Firings → (order : List ℕ) → Firings
-left_after left order node = left node - tally order node
+left_after left order node = left node - firing_count order node
 
 left_after_unit : (left : Firings) (turns node : ℕ) (nodes rest : List ℕ) → nodes ≡ node ∷ []
     → left_after left (repeated turns nodes ++ rest)
     ≡ left_after (less_turns left turns node) rest
 left_after_unit left turns node nodes rest single = fun_ext (λ other.
-    let e = tally_append (repeated turns nodes) rest other in
-    let t = ap (λ l. tally (repeated turns l) other) single ∙ tally_repeated turns node other in
+    let e = firing_count_append (repeated turns nodes) rest other in
+    let t = ap (λ l. firing_count (repeated turns l) other) single
+    ∙ firing_count_repeated turns node other in
     omega (arith, e, t))
 
 after_unit : (counts : Firings) (turns node : ℕ) (nodes rest : List ℕ) → nodes ≡ node ∷ []

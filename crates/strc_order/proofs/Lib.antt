@@ -1,4 +1,4 @@
-pub mod Tallies
+pub mod FiringCounts
 pub mod Windows
 pub mod Networks
 pub mod Looking
@@ -17,6 +17,6 @@ pub mod Ordering
 pub mod Deciding
 pub mod Limiting
 pub mod Repeating
-pub mod Settling
+pub mod PastPrework
 pub mod Passing
 pub mod Continuing

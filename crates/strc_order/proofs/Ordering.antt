@@ -8,10 +8,11 @@ use Rattle.strc_order.specs.declared.unit as units
 use Rattle.strc_order.specs.Firings.{Firings, turns_of, fired}
 use Rattle.strc_order.specs.Greedy.{firings_of, less_turns, IsNext, IsGreedy, IsGreedyOrder}
 use Rattle.strc_order.specs.Network.{NetworkView}
-use Rattle.strc_order.specs.Order.{tally, after, repeated, HasOrder}
+use Rattle.strc_order.specs.Order.{firing_count, after, repeated, HasOrder}
 use Rattle.strc_order.specs.Progress.{ProgressView, IsProgress, IsStuck}
-use Rattle.strc_order.proofs.Tallies.{tally_append, tally_repeated, after_append, after_repeated}
-use Rattle.strc_order.proofs.Tallies.{turns_same, turns_other}
+use Rattle.strc_order.proofs.FiringCounts.{firing_count_append, firing_count_repeated, after_append}
+use Rattle.strc_order.proofs.FiringCounts.{after_repeated}
+use Rattle.strc_order.proofs.FiringCounts.{turns_same, turns_other}
 use Rattle.std.proofs.lemmas.Bool.{cases_eq}
 use Rattle.strc_order.proofs.Exchange.{spent}
 use Rattle.strc_order.proofs.Greedily.{left_after, greedy_push, firings_push}
@@ -23,7 +24,7 @@ pub record Orders (network : NetworkView) (counts firings : Firings)
   pub greedy : IsGreedy network.channels counts firings order
   pub done : count_at progress.counts ≡ after counts (firings_of order)
   pub left : (node : ℕ)
-      → count_at progress.left node + tally (firings_of order) node ≡ firings node
+      → count_at progress.left node + firing_count (firings_of order) node ≡ firings node
 
 -- numbers that are nowhere greater and once less have a lesser sum
 pub sum_less : (before after : List ℕ) → length after ≡ length before
@@ -86,9 +87,9 @@ module _ (network : NetworkView) (counts firings : Firings) (order : List units.
       (left_now : count_at now.left ≡ less_turns (count_at before.left) unit.turns node)
       (progress : IsProgress network now) where
     fires : (other : ℕ)
-        → tally (repeated unit.turns unit.nodes.items) other ≡ turns_of unit.turns node other
-    fires other = ap (λ l. tally (repeated unit.turns l) other) single
-        ∙ tally_repeated unit.turns node other
+        → firing_count (repeated unit.turns unit.nodes.items) other ≡ turns_of unit.turns node other
+    fires other = ap (λ l. firing_count (repeated unit.turns l) other) single
+        ∙ firing_count_repeated unit.turns node other
 
     same_left : count_at before.left ≡ left_after firings (firings_of order)
     same_left = fun_ext (λ other. omega (arith, orders.left other))
@@ -119,8 +120,8 @@ module _ (network : NetworkView) (counts firings : Firings) (order : List units.
           ∙ ap (after counts) (sym (firings_push order unit));
       left = λ other.
           let l = ap (λ f. f other) left_now in
-          let p = ap (λ o. tally o other) (firings_push order unit)
-          ∙ tally_append (firings_of order) (repeated unit.turns unit.nodes.items) other in
+          let p = ap (λ o. firing_count o other) (firings_push order unit)
+          ∙ firing_count_append (firings_of order) (repeated unit.turns unit.nodes.items) other in
           omega (arith, l, p, fires other, orders.left other, bounded other);
     }
 

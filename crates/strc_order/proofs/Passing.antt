@@ -7,11 +7,12 @@ use Rattle.strc_startup.specs.declared.channel_rates.ChannelRates.{ChannelRates}
 use Rattle.strc_order.specs.declared.unit as units
 use Rattle.strc_order.specs.Firings.{fired}
 use Rattle.strc_order.specs.Greedy.{firings_of}
-use Rattle.strc_order.specs.Order.{after, tally, repeated}
+use Rattle.strc_order.specs.Order.{after, firing_count, repeated}
 use Rattle.strc_order.specs.Peaks.{AreBelow, AreRaised, Raises}
 use Rattle.strc_order.proofs.Greedily.{firings_push}
-use Rattle.strc_order.proofs.Tallies.{after_append, after_none, after_repeated, tally_append}
-use Rattle.strc_order.proofs.Units.{tally_take}
+use Rattle.strc_order.proofs.FiringCounts.{after_append, after_none, after_repeated}
+use Rattle.strc_order.proofs.FiringCounts.{firing_count_append}
+use Rattle.strc_order.proofs.Units.{firing_count_take}
 use Rattle.strc_order.proofs.Touching.{raised_then, raised_below}
 
 -- no firings
@@ -87,39 +88,43 @@ units_more order i unit within is =
 -- what has fired and what is next is within all
 
 pub list_within : (nodes : List ℕ) (i node : ℕ) → i < length nodes
-    → tally (take i nodes) node + tally (get_or nodes i 0 ∷ []) node ≤ tally nodes node
+    → firing_count (take i nodes) node + firing_count (get_or nodes i 0 ∷ []) node
+    ≤ firing_count nodes node
 list_within (first ∷ nodes) zero node within = omega arith
 list_within (first ∷ nodes) (suc i) node within =
     let more = list_within nodes i node (omega (arith, within)) in omega (arith, more)
 list_within [] i node within = absurd (omega (arith, within))
 
 fewer_turns : (some more : ℕ) (nodes : List ℕ) (node : ℕ)
-    → tally (repeated some nodes) node ≤ tally (repeated (some + more) nodes) node
+    → firing_count (repeated some nodes) node ≤ firing_count (repeated (some + more) nodes) node
 fewer_turns zero more nodes node = omega arith
 fewer_turns (suc some) more nodes node =
     let e : suc some + more ≡ suc (some + more) = omega arith in
-    let f = ap (λ n. tally (repeated n nodes) node) e in
-    let a = tally_append nodes (repeated some nodes) node in
-    let b = tally_append nodes (repeated (some + more) nodes) node in
+    let f = ap (λ n. firing_count (repeated n nodes) node) e in
+    let a = firing_count_append nodes (repeated some nodes) node in
+    let b = firing_count_append nodes (repeated (some + more) nodes) node in
     omega (arith, f, a, b, fewer_turns some more nodes node)
 
 pub turns_within : (turn turns : ℕ) (nodes : List ℕ) (node : ℕ) → turn < turns
-    → tally (repeated turn nodes) node + tally nodes node ≤ tally (repeated turns nodes) node
+    → firing_count (repeated turn nodes) node + firing_count nodes node
+    ≤ firing_count (repeated turns nodes) node
 turns_within turn turns nodes node less =
     let e : turn + 1 + (turns - (turn + 1)) ≡ turns = omega (arith, less) in
-    let f = ap (λ n. tally (repeated n nodes) node) e in
-    let g = ap (λ l. tally l node) (repeated_more turn nodes) in
-    let a = tally_append (repeated turn nodes) nodes node in
+    let f = ap (λ n. firing_count (repeated n nodes) node) e in
+    let g = ap (λ l. firing_count l node) (repeated_more turn nodes) in
+    let a = firing_count_append (repeated turn nodes) nodes node in
     omega (arith, f, g, a, fewer_turns (turn + 1) (turns - (turn + 1)) nodes node)
 
 pub units_within : (order : List units.Unit.Unit) (i node : ℕ) (unit : units.Unit.Unit)
     → i < length order → unit ≡ get_or order i unit
-    → tally (firings_of (take i order)) node + tally (repeated unit.turns unit.nodes.items) node
-    ≤ tally (firings_of order) node
+    → firing_count (firings_of (take i order)) node
+    + firing_count (repeated unit.turns unit.nodes.items) node
+    ≤ firing_count (firings_of order) node
 units_within order i node unit within is =
-    let e = ap (λ l. tally l node) (units_more order i unit within is) in
-    let a = tally_append (firings_of (take i order)) (repeated unit.turns unit.nodes.items) node in
-    omega (arith, e, a, tally_take order (i + 1) node)
+    let e = ap (λ l. firing_count l node) (units_more order i unit within is) in
+    let a = firing_count_append (firings_of (take i order)) (repeated unit.turns unit.nodes.items)
+    node in
+    omega (arith, e, a, firing_count_take order (i + 1) node)
 
 -- a list of one node
 pub single_node : (nodes : List ℕ) (node : ℕ) → length nodes ≡ 1 → node ≡ get_or nodes 0 node

@@ -11,7 +11,8 @@ use Rattle.strc_order.specs.Buffers.{peak_fill, buffer_size}
 use Rattle.strc_order.specs.Firings.{Firings, turns_of, fired, reach, fill, HasWindow}
 use Rattle.strc_order.specs.Greedy.{firings_of}
 use Rattle.strc_order.specs.Order.{IsOrder}
-use Rattle.strc_order.specs.Rounds.{rounds_on, RoundBalances, IsSettled, OrderRepeats, FillsRepeat}
+use Rattle.strc_order.specs.Rounds.{rounds_on, RoundBalances, IsPastPrework, OrderRepeats}
+use Rattle.strc_order.specs.Rounds.{FillsRepeat}
 use Rattle.strc_order.specs.Rounds.{NoBufferOverflows}
 use Rattle.strc_order.proofs.Buffering.{at_channel}
 use Rattle.std.proofs.lemmas.Option.{same_Some, slice_get-get_or, slice_get_within}
@@ -20,35 +21,35 @@ use Rattle.std.proofs.lemmas.Option.{same_Some, slice_get-get_or, slice_get_with
 
 pub supply_more : (rates : ChannelRates) (n more : ℕ) → (0 < n) ⊎ (rates.first_push ≡ rates.push)
     → supply rates (n + more) ≡ supply rates n + rates.push * more
-supply_more rates zero zero settled = omega arith
+supply_more rates zero zero past_prework = omega arith
 supply_more rates zero (suc more) (inl some) = absurd (omega (arith, some))
 supply_more rates zero (suc more) (inr same) =
     let e : zero + suc more ≡ suc more = omega arith in
     omega (arith, ap (supply rates) e, same)
-supply_more rates (suc n) more settled =
+supply_more rates (suc n) more past_prework =
     let e : suc n + more ≡ suc (n + more) = omega arith in
     omega (arith, ap (supply rates) e)
 
 pub popped_more : (rates : ChannelRates) (n more : ℕ) → (0 < n) ⊎ (rates.first_pop ≡ rates.pop)
     → popped rates (n + more) ≡ popped rates n + rates.pop * more
-popped_more rates zero zero settled = omega arith
+popped_more rates zero zero past_prework = omega arith
 popped_more rates zero (suc more) (inl some) = absurd (omega (arith, some))
 popped_more rates zero (suc more) (inr same) =
     let e : zero + suc more ≡ suc more = omega arith in
     omega (arith, ap (popped rates) e, same)
-popped_more rates (suc n) more settled =
+popped_more rates (suc n) more past_prework =
     let e : suc n + more ≡ suc (n + more) = omega arith in
     omega (arith, ap (popped rates) e)
 
 reach_more : (rates : ChannelRates) (n more : ℕ)
     → (0 < n) ⊎ ((rates.first_pop ≡ rates.pop) × (rates.first_window ≡ rates.window))
     → reach rates (n + more) ≡ reach rates n + rates.pop * more
-reach_more rates zero zero settled = omega arith
+reach_more rates zero zero past_prework = omega arith
 reach_more rates zero (suc more) (inl some) = absurd (omega (arith, some))
 reach_more rates zero (suc more) (inr same) =
     let e : zero + suc more ≡ suc more = omega arith in
     omega (arith, ap (reach rates) e, same.0, same.1)
-reach_more rates (suc n) more settled =
+reach_more rates (suc n) more past_prework =
     let e : suc n + more ≡ suc (n + more) = omega arith in
     omega (arith, ap (reach rates) e)
 
@@ -68,59 +69,61 @@ module _ (rates : ChannelRates) (round : Firings) (rounds : ℕ)
       ∙ ap (λ n. rounds * n) balances
       ∙ sym (mul_left_comm rates.pop rounds (round rates.target))
 
-  fill_again : (counts : Firings) → IsSettled counts rates
+  fill_again : (counts : Firings) → IsPastPrework counts rates
       → fill rates (rounds_on counts rounds round) ≡ fill rates counts
-  fill_again counts settled =
+  fill_again counts past_prework =
       let s = supply_more rates (counts rates.source) (rounds * round rates.source)
-      settled.source in
+      past_prework.source in
       let p = popped_more rates (counts rates.target) (rounds * round rates.target)
-      (pops_alike rates (counts rates.target) settled.target) in
+      (pops_alike rates (counts rates.target) past_prework.target) in
       omega (arith, s, p, all_balance)
 
-  window_again : (counts : Firings) → IsSettled counts rates → HasWindow counts rates
+  window_again : (counts : Firings) → IsPastPrework counts rates → HasWindow counts rates
       → HasWindow (rounds_on counts rounds round) rates
-  window_again counts settled has =
+  window_again counts past_prework has =
       let s = supply_more rates (counts rates.source) (rounds * round rates.source)
-      settled.source in
+      past_prework.source in
       let r = reach_more rates (counts rates.target) (rounds * round rates.target)
-      settled.target in
+      past_prework.target in
       omega (arith, s, r, all_balance, has)
 
 fired_again : (counts round : Firings) (rounds node : ℕ)
     → fired (rounds_on counts rounds round) 1 node ≡ rounds_on (fired counts 1 node) rounds round
 fired_again counts round rounds node = fun_ext (λ other. omega arith)
 
-more_settled : (a b : ℕ) (P : Type 0) → (0 < a) ⊎ P → (0 < a + b) ⊎ P
-more_settled a b P (inl some) = inl (omega (arith, some))
-more_settled a b P (inr same) = inr same
+more_past_prework : (a b : ℕ) (P : Type 0) → (0 < a) ⊎ P → (0 < a + b) ⊎ P
+more_past_prework a b P (inl some) = inl (omega (arith, some))
+more_past_prework a b P (inr same) = inr same
 
-settled_after : (counts : Firings) (node : ℕ) (rates : ChannelRates) → IsSettled counts rates
-    → IsSettled (fired counts 1 node) rates
-settled_after counts node rates settled = record {
-  source = more_settled (counts rates.source) (turns_of 1 node rates.source)
-      (rates.first_push ≡ rates.push) settled.source;
-  target = more_settled (counts rates.target) (turns_of 1 node rates.target)
-      ((rates.first_pop ≡ rates.pop) × (rates.first_window ≡ rates.window)) settled.target;
+past_prework_after : (counts : Firings) (node : ℕ) (rates : ChannelRates)
+    → IsPastPrework counts rates
+    → IsPastPrework (fired counts 1 node) rates
+past_prework_after counts node rates past_prework = record {
+  source = more_past_prework (counts rates.source) (turns_of 1 node rates.source)
+      (rates.first_push ≡ rates.push) past_prework.source;
+  target = more_past_prework (counts rates.target) (turns_of 1 node rates.target)
+      ((rates.first_pop ≡ rates.pop) × (rates.first_window ≡ rates.window)) past_prework.target;
 }
 
 pub fills_repeat : FillsRepeat
-fills_repeat rates counts round rounds [] settled balances =
-    fill_again rates round rounds balances counts settled
-fills_repeat rates counts round rounds (node ∷ order) settled balances =
-    let now = fill_again rates round rounds balances counts settled in
+fills_repeat rates counts round rounds [] past_prework balances =
+    fill_again rates round rounds balances counts past_prework
+fills_repeat rates counts round rounds (node ∷ order) past_prework balances =
+    let now = fill_again rates round rounds balances counts past_prework in
     let later = fills_repeat rates (fired counts 1 node) round rounds order
-    (settled_after counts node rates settled) balances in
+    (past_prework_after counts node rates past_prework) balances in
     let e = ap (λ k. peak_fill rates k order) (fired_again counts round rounds node) in
     omega (arith, now, later, e)
 
 pub order_repeats : OrderRepeats
-order_repeats channels counts round rounds [] settled balances is = is
-order_repeats channels counts round rounds (node ∷ order) settled balances (finds, later) = (
+order_repeats channels counts round rounds [] past_prework balances is = is
+order_repeats channels counts round rounds (node ∷ order) past_prework balances (finds, later) = (
   λ k d within target. window_again (get_or channels k d) round rounds (balances k d within) counts
-      (settled k d within) (finds k d within target),
+      (past_prework k d within) (finds k d within target),
   subst (λ n. IsOrder channels n order) (sym (fired_again counts round rounds node))
       (order_repeats channels (fired counts 1 node) round rounds order
-      (λ k d within. settled_after counts node (get_or channels k d) (settled k d within)) balances
+      (λ k d within. past_prework_after counts node (get_or channels k d) (past_prework k d within))
+      balances
       later),
 )
 
@@ -133,8 +136,8 @@ rates_there P channels number rates all there =
     (sym (slice_get-get_or channels number rates within) ∙ there)) (all number rates within)
 
 pub no_overflow : NoBufferOverflows
-no_overflow channels startup round schedule is settled balances rounds number rates there =
-    let own = rates_there (IsSettled startup) channels number rates settled there in
+no_overflow channels startup round schedule is past_prework balances rounds number rates there =
+    let own = rates_there (IsPastPrework startup) channels number rates past_prework there in
     let even = rates_there (RoundBalances round) channels number rates balances there in
     let same = fills_repeat rates startup round rounds (firings_of schedule.round) own even in
     let size = ap (λ l. slice_index l number) is.sizes

@@ -6,24 +6,25 @@ use Rattle.std.proofs.lemmas.List.{take_more}
 use Rattle.strc_order.specs.declared.unit as units
 use Rattle.strc_order.specs.Firings.{Firings, fired}
 use Rattle.strc_order.specs.Greedy.{firings_of}
-use Rattle.strc_order.specs.Order.{after, tally, repeated}
+use Rattle.strc_order.specs.Order.{after, firing_count, repeated}
 use Rattle.strc_order.proofs.Greedily.{firings_push}
-use Rattle.strc_order.proofs.Tallies.{tally_append, tally_repeated, after_append, after_repeated}
-use Rattle.strc_order.proofs.Tallies.{turns_same}
+use Rattle.strc_order.proofs.FiringCounts.{firing_count_append, firing_count_repeated, after_append}
+use Rattle.strc_order.proofs.FiringCounts.{after_repeated}
+use Rattle.strc_order.proofs.FiringCounts.{turns_same}
 
 -- no node fires more often in some of the units than in all
-pub tally_take : (order : List units.Unit.Unit) (i node : ℕ)
-    → tally (firings_of (take i order)) node ≤ tally (firings_of order) node
-tally_take order zero node = omega arith
-tally_take [] (suc i) node = omega arith
-tally_take (unit ∷ order) (suc i) node =
+pub firing_count_take : (order : List units.Unit.Unit) (i node : ℕ)
+    → firing_count (firings_of (take i order)) node ≤ firing_count (firings_of order) node
+firing_count_take order zero node = omega arith
+firing_count_take [] (suc i) node = omega arith
+firing_count_take (unit ∷ order) (suc i) node =
     let own = repeated unit.turns unit.nodes.items in
-    let more = tally_take order i node in
+    let more = firing_count_take order i node in
     omega (
       arith,
       more,
-      tally_append own (firings_of (take i order)) node,
-      tally_append own (firings_of order) node,
+      firing_count_append own (firings_of (take i order)) node,
+      firing_count_append own (firings_of order) node,
     )
 
 module _ (order : List units.Unit.Unit) (i : ℕ) (within : i < length order)
@@ -47,11 +48,12 @@ module _ (order : List units.Unit.Unit) (i : ℕ) (within : i < length order)
       ∙ ap (after counts) (sym firings_take)
 
   -- the unit's turns are among the firings of its node
-  pub turns_within : tally (firings_of (take i order)) node + unit.turns
-      ≤ tally (firings_of order) node
+  pub turns_within : firing_count (firings_of (take i order)) node + unit.turns
+      ≤ firing_count (firings_of order) node
   turns_within =
-      let e = ap (λ l. tally l node) firings_take in
-      let a = tally_append (firings_of (take i order)) (repeated unit.turns (node ∷ [])) node in
-      let t = tally_repeated unit.turns node node in
+      let e = ap (λ l. firing_count l node) firings_take in
+      let a =
+      firing_count_append (firings_of (take i order)) (repeated unit.turns (node ∷ [])) node in
+      let t = firing_count_repeated unit.turns node node in
       let s = turns_same unit.turns node node refl in
-      omega (arith, e, a, t, s, tally_take order (i + 1) node)
+      omega (arith, e, a, t, s, firing_count_take order (i + 1) node)

@@ -7,7 +7,7 @@ use Rattle.std.proofs.lemmas.Bool.{cases_eq}
 use Rattle.strc_startup.specs.Startup.{supply}
 use Rattle.strc_startup.specs.declared.channel_rates.ChannelRates.{ChannelRates}
 use Rattle.strc_order.specs.Firings.{Firings, turns_of, fired, reach, HasWindow}
-use Rattle.strc_order.proofs.Tallies.{fired_none, turns_same, turns_other}
+use Rattle.strc_order.proofs.FiringCounts.{fired_none, turns_same, turns_other}
 
 module _ (rates : ChannelRates) (counts : Firings) where
   -- how often a firing of the target is one of the source

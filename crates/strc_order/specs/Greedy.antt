@@ -4,7 +4,7 @@ use Rattle.std.specs.Prelude.{◌≡◌, ℕ, ◌-◌, ◌<◌, ◌≤◌, List,
 use Rattle.strc_startup.specs.declared.channel_rates.ChannelRates.{ChannelRates}
 use Rattle.strc_order.specs.declared.unit as units
 use Rattle.strc_order.specs.Firings.{Firings, turns_of, fired, FindsWindows}
-use Rattle.strc_order.specs.Order.{tally, repeated}
+use Rattle.strc_order.specs.Order.{firing_count, repeated}
 
 -- the firings that units mean: the list of each as often as it has turns
 abbrev pub firings_of : List units.Unit.Unit → List ℕ
@@ -37,4 +37,4 @@ IsGreedy channels counts left (unit ∷ rest) =
 pub record IsGreedyOrder (channels : List ChannelRates) (counts firings : Firings)
     (order : List units.Unit.Unit) : Type 0 where
   pub greedy : IsGreedy channels counts firings order
-  pub all : (node : ℕ) → tally (firings_of order) node ≡ firings node
+  pub all : (node : ℕ) → firing_count (firings_of order) node ≡ firings node

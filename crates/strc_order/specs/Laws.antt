@@ -4,7 +4,7 @@ use Rattle.strc_startup.specs.declared.channel_rates.ChannelRates.{ChannelRates}
 use Rattle.strc_order.specs.declared.unit as units
 use Rattle.strc_order.specs.Firings.{Firings}
 use Rattle.strc_order.specs.Greedy.{firings_of, IsGreedy, IsGreedyOrder}
-use Rattle.strc_order.specs.Order.{tally, after, IsOrder, HasOrder}
+use Rattle.strc_order.specs.Order.{firing_count, after, IsOrder, HasOrder}
 use Rattle.strc_order.specs.Progress.{IsStuck}
 
 -- a greedy order is an order
@@ -20,7 +20,7 @@ abbrev pub GreedyFindsAnOrder : Type 0
 GreedyFindsAnOrder =
     (channels : List ChannelRates) (counts firings left : Firings) (order : List units.Unit.Unit)
     → IsGreedy channels counts firings order
-    → ((node : ℕ) → tally (firings_of order) node + left node ≡ firings node)
+    → ((node : ℕ) → firing_count (firings_of order) node + left node ≡ firings node)
     → IsStuck channels (after counts (firings_of order)) left
     → HasOrder channels counts firings
     → IsGreedyOrder channels counts firings order

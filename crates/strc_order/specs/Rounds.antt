@@ -22,7 +22,7 @@ abbrev pub RoundBalances : (round : Firings) → ChannelRates → Type 0
 RoundBalances round rates = rates.push * round rates.source ≡ rates.pop * round rates.target
 
 -- the first firings of a channel's ends are done, or are like all others
-pub record IsSettled (counts : Firings) (rates : ChannelRates) : Type 0 where
+pub record IsPastPrework (counts : Firings) (rates : ChannelRates) : Type 0 where
   pub source : (0 < counts rates.source) ⊎ (rates.first_push ≡ rates.push)
   pub target : (0 < counts rates.target)
       ⊎ ((rates.first_pop ≡ rates.pop) × (rates.first_window ≡ rates.window))
@@ -31,7 +31,7 @@ pub record IsSettled (counts : Firings) (rates : ChannelRates) : Type 0 where
 abbrev pub OrderRepeats : Type 0
 OrderRepeats =
     (channels : List ChannelRates) (counts round : Firings) (rounds : ℕ) (order : List ℕ)
-    → All (IsSettled counts) channels → All (RoundBalances round) channels
+    → All (IsPastPrework counts) channels → All (RoundBalances round) channels
     → IsOrder channels counts order
     → IsOrder channels (rounds_on counts rounds round) order
 
@@ -39,7 +39,7 @@ OrderRepeats =
 abbrev pub FillsRepeat : Type 0
 FillsRepeat =
     (rates : ChannelRates) (counts round : Firings) (rounds : ℕ) (order : List ℕ)
-    → IsSettled counts rates → RoundBalances round rates
+    → IsPastPrework counts rates → RoundBalances round rates
     → peak_fill rates (rounds_on counts rounds round) order ≡ peak_fill rates counts order
 
 -- so no buffer ever holds more than its size
@@ -47,14 +47,14 @@ abbrev pub NoBufferOverflows : Type 0
 NoBufferOverflows =
     (channels : List ChannelRates) (startup round : Firings) (schedule : ScheduleParts)
     → IsSchedule channels startup round schedule
-    → All (IsSettled startup) channels → All (RoundBalances round) channels
+    → All (IsPastPrework startup) channels → All (RoundBalances round) channels
     → (rounds number : ℕ) (rates : ChannelRates) → slice_get channels number ≡ Some rates
     → peak_fill rates (rounds_on startup rounds round) (firings_of schedule.round)
     ≤ slice_index schedule.sizes number
 
 -- counts that prime a graph leave no first firing that is unlike the others
-abbrev pub PrimedCountsSettle : Type 0
-PrimedCountsSettle =
+abbrev pub PrimedCountsArePastPrework : Type 0
+PrimedCountsArePastPrework =
     (graph : Graph) (counts : List ℕ) → All IsRated (equations_of graph)
     → IsPrimed (first_counts graph) (rates_of graph) counts
-    → All (IsSettled (count_at counts)) (rates_of graph)
+    → All (IsPastPrework (count_at counts)) (rates_of graph)

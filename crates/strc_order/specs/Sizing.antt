@@ -5,7 +5,7 @@ use Rattle.strc_startup.specs.Startup.{popped, supply}
 use Rattle.strc_startup.specs.declared.channel_rates.ChannelRates.{ChannelRates}
 use Rattle.strc_order.specs.Firings.{Firings, fill}
 use Rattle.strc_order.specs.Peaks.{AreRaised, IsFirstPast}
-use Rattle.strc_order.specs.Rounds.{IsSettled}
+use Rattle.strc_order.specs.Rounds.{IsPastPrework}
 
 -- the rates of a channel that has so many items, where all firings are by work
 abbrev pub rates_on : ChannelRates → (items : ℕ) → ChannelRates
@@ -34,7 +34,7 @@ IsCovered counts rates = popped rates (counts rates.target) ≤ supply rates (co
 -- at these counts the channels have so many items, and first firings are done or like all others
 pub record HasFills (channels : List ChannelRates) (counts : Firings) (fills : List ℕ) : Type 0
   where
-    pub settled : All (IsSettled counts) channels
+    pub past_prework : All (IsPastPrework counts) channels
     pub covered : All (IsCovered counts) channels
     pub items : fills ≡ map (λ rates. fill rates counts) channels
 

@@ -8,7 +8,7 @@ ghost use Rattle.strc_order.specs.Firings as spec;
 ghost use Rattle.strc_order.specs.Firings.{none_fired};
 ghost use Rattle.strc_order.specs.Greedy.{firings_of};
 ghost use Rattle.strc_order.specs.Network.{size_of};
-ghost use Rattle.strc_order.specs.Order.{after, tally};
+ghost use Rattle.strc_order.specs.Order.{after, firing_count};
 ghost use Rattle.strc_order.specs.Peaks.{AreBelow, AreRaised, IsTurns, IsFirstPast};
 ghost use Rattle.strc_order.specs.Progress.{AreCounts, count_bound};
 ghost use Rattle.strc_order.specs.declared.error.ScheduleError.TheVariants as refused;
@@ -38,8 +38,8 @@ pub(crate) fn buffers_of(
 ) -> Result<Buffers, ScheduleError>
     requires startup { All (IsTurns (size_of network.now)) startup.now }
     requires round { All (IsTurns (size_of network.now)) round.now }
-    requires few { (node : ℕ) → tally (firings_of startup.now) node
-        + tally (firings_of round.now) node ≤ count_bound }
+    requires few { (node : ℕ) → firing_count (firings_of startup.now) node
+        + firing_count (firings_of round.now) node ≤ count_bound }
     ensures greatest { IfOk result (λ buffers. buffers.greatest.items
         ≡ map (λ rates. peak_fill rates none_fired (firings_of startup.now))
         network.now.channels) }
@@ -80,7 +80,8 @@ fn after_units(
     requires each { length counts.items ≡ size_of network.now }
     requires peaks { length peaks.items ≡ length network.now.channels }
     requires turns { All (IsTurns (size_of network.now)) units.now }
-    requires few { (node : ℕ) → count_at counts.items node + tally (firings_of units.now) node
+    requires few { (node : ℕ) → count_at counts.items node
+        + firing_count (firings_of units.now) node
         ≤ count_bound }
     requires known { AreBelow network.now.channels (count_at counts.items) peaks.items }
     ensures counts { count_at result.0.items

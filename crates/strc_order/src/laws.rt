@@ -2,7 +2,7 @@
 
 ghost use Rattle.strc_order.specs.Laws.{GreedyIsAnOrder, GreedyFindsAnOrder, OneGreedyOrder};
 ghost use Rattle.strc_order.specs.Rounds.{OrderRepeats, FillsRepeat, NoBufferOverflows};
-ghost use Rattle.strc_order.specs.Rounds.{PrimedCountsSettle};
+ghost use Rattle.strc_order.specs.Rounds.{PrimedCountsArePastPrework};
 
 /// In a greedy order each firing finds its windows.
 pub fn greedy_is_an_order()
@@ -35,6 +35,6 @@ pub fn no_buffer_overflows()
 {}
 
 /// After start-up no first firing is to come that is unlike the others.
-pub fn primed_counts_settle()
-    ensures { PrimedCountsSettle }
+pub fn primed_counts_are_past_prework()
+    ensures { PrimedCountsArePastPrework }
 {}

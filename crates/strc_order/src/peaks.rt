@@ -9,7 +9,7 @@ ghost use Rattle.strc_order.specs.Firings as spec;
 ghost use Rattle.strc_order.specs.Firings.{fired};
 ghost use Rattle.strc_order.specs.Greedy.{firings_of};
 ghost use Rattle.strc_order.specs.Network.{size_of};
-ghost use Rattle.strc_order.specs.Order.{after, tally, repeated};
+ghost use Rattle.strc_order.specs.Order.{after, firing_count, repeated};
 ghost use Rattle.strc_order.specs.Peaks.{AreBelow, AreRaised, AreTouched, IsTurns};
 ghost use Rattle.strc_order.specs.Peaks.{HasNodes, Raises};
 ghost use Rattle.strc_order.specs.Progress.{AreCounts, count_bound};
@@ -25,7 +25,7 @@ pub(crate) fn raise_peaks(network: &Network, units: &[Unit], counts: &mut [u32],
     requires each { length counts.old ≡ size_of network.now }
     requires peaks { length peaks.old ≡ length network.now.channels }
     requires turns { All (IsTurns (size_of network.now)) units.now }
-    requires few { (node : ℕ) → count_at counts.old node + tally (firings_of units.now) node
+    requires few { (node : ℕ) → count_at counts.old node + firing_count (firings_of units.now) node
         ≤ count_bound }
     requires known { AreBelow network.now.channels (count_at counts.old) peaks.old }
     ensures counts { count_at counts.new ≡ after (count_at counts.old) (firings_of units.now) }
@@ -44,7 +44,7 @@ pub(crate) fn raise_units(network: &Network, units: &[Unit], counts: &mut [u32],
     requires each { length counts.old ≡ size_of network.now }
     requires peaks { length peaks.old ≡ length network.now.channels }
     requires nodes { All (HasNodes (size_of network.now)) units.now }
-    requires few { (node : ℕ) → count_at counts.old node + tally (firings_of units.now) node
+    requires few { (node : ℕ) → count_at counts.old node + firing_count (firings_of units.now) node
         ≤ count_bound }
     requires known { AreBelow network.now.channels (count_at counts.old) peaks.old }
     ensures { Raises network.now.channels (firings_of units.now) counts.old peaks.old
@@ -61,7 +61,7 @@ fn raise_unit(network: &Network, unit: &Unit, counts: &mut [u32], peaks: &mut [u
     requires peaks { length peaks.old ≡ length network.now.channels }
     requires nodes { HasNodes (size_of network.now) unit.now }
     requires few { (node : ℕ) → count_at counts.old node
-        + tally (repeated unit.now.turns unit.now.nodes.items) node ≤ count_bound }
+        + firing_count (repeated unit.now.turns unit.now.nodes.items) node ≤ count_bound }
     requires known { AreBelow network.now.channels (count_at counts.old) peaks.old }
     ensures { Raises network.now.channels (repeated unit.now.turns unit.now.nodes.items)
         counts.old peaks.old counts.new peaks.new }
@@ -84,7 +84,8 @@ fn raise_by_passes(
     requires each { length counts.old ≡ size_of network.now }
     requires peaks { length peaks.old ≡ length network.now.channels }
     requires nodes { All (λ node. node < size_of network.now) nodes.now }
-    requires few { (node : ℕ) → count_at counts.old node + tally (repeated turns nodes.now) node
+    requires few { (node : ℕ) → count_at counts.old node
+        + firing_count (repeated turns nodes.now) node
         ≤ count_bound }
     requires known { AreBelow network.now.channels (count_at counts.old) peaks.old }
     ensures { Raises network.now.channels (repeated turns nodes.now) counts.old peaks.old
@@ -100,7 +101,8 @@ fn raise_by_list(network: &Network, nodes: &[u32], counts: &mut [u32], peaks: &m
     requires each { length counts.old ≡ size_of network.now }
     requires peaks { length peaks.old ≡ length network.now.channels }
     requires nodes { All (λ node. node < size_of network.now) nodes.now }
-    requires few { (node : ℕ) → count_at counts.old node + tally nodes.now node ≤ count_bound }
+    requires few { (node : ℕ) → count_at counts.old node + firing_count nodes.now node
+        ≤ count_bound }
     requires known { AreBelow network.now.channels (count_at counts.old) peaks.old }
     ensures { Raises network.now.channels nodes.now counts.old peaks.old counts.new peaks.new }
 {

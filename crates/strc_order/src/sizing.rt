@@ -10,7 +10,7 @@ ghost use Rattle.strc_order.specs.Buffers.{size_limit};
 ghost use Rattle.strc_order.specs.Firings.{Firings, none_fired};
 ghost use Rattle.strc_order.specs.Greedy.{firings_of};
 ghost use Rattle.strc_order.specs.Network.{size_of};
-ghost use Rattle.strc_order.specs.Order.{tally};
+ghost use Rattle.strc_order.specs.Order.{firing_count};
 ghost use Rattle.strc_order.specs.Peaks.{AreBelow, AreRaised, HasNodes};
 ghost use Rattle.strc_order.specs.Progress.{count_bound};
 ghost use Rattle.strc_order.specs.Sizing.{rates_on, all_rates_on, HasFills, PassesOn};
@@ -46,7 +46,7 @@ pub fn sizes(
     requires before { length before.now ≡ length graph.now.channels }
     requires fill { length fill.now ≡ length graph.now.channels }
     requires nodes { All (HasNodes (length graph.now.nodes)) round.now }
-    requires few { (node : ℕ) → tally (firings_of round.now) node ≤ count_bound }
+    requires few { (node : ℕ) → firing_count (firings_of round.now) node ≤ count_bound }
     ensures channels { IfOk result (λ sizes. length sizes.items ≡ length graph.now.channels) }
     ensures within { IfOk result (λ sizes. All (λ size. size ≤ size_limit) sizes.items) }
     // The sizes are those of the order, from whichever counts it goes on.
@@ -108,7 +108,7 @@ fn sizes_on(
 ) -> Result<Vec<u32>, ScheduleError>
     requires before { length before.now ≡ length network.now.channels }
     requires nodes { All (HasNodes (size_of network.now)) round.now }
-    requires few { (node : ℕ) → tally (firings_of round.now) node ≤ count_bound }
+    requires few { (node : ℕ) → firing_count (firings_of round.now) node ≤ count_bound }
     ensures channels { IfOk result (λ sizes. length sizes.items ≡ length network.now.channels) }
     ensures within { IfOk result (λ sizes. All (λ size. size ≤ size_limit) sizes.items) }
     ensures sizes { IfOk result (λ sizes. AreRaised network.now.channels none_fired
@@ -131,7 +131,8 @@ fn peaks_after(network: &Network, units: &[Unit], counts: Vec<u32>, peaks: Vec<u
     requires each { length counts.items ≡ size_of network.now }
     requires peaks { length peaks.items ≡ length network.now.channels }
     requires nodes { All (HasNodes (size_of network.now)) units.now }
-    requires few { (node : ℕ) → count_at counts.items node + tally (firings_of units.now) node
+    requires few { (node : ℕ) → count_at counts.items node
+        + firing_count (firings_of units.now) node
         ≤ count_bound }
     requires known { AreBelow network.now.channels (count_at counts.items) peaks.items }
     ensures peaks { length result.items ≡ length peaks.items }

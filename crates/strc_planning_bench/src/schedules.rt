@@ -49,14 +49,14 @@ pub(crate) fn timed_schedule(
         let begun = Instant::now(rt)?;
         let answer = schedule(rt.alloc(), graph, &before, &round);
         let took = scheduled.took.min(begun.elapsed(rt)?);
-        scheduled = told(&answer, took)?;
+        scheduled = reported(&answer, took)?;
         last = answer;
     }
     drop(last);
     Ok(scheduled)
 }
 
-fn told(answer: &Result<Schedule, ScheduleError>, took: Duration) -> io::Result<Scheduled> {
+fn reported(answer: &Result<Schedule, ScheduleError>, took: Duration) -> io::Result<Scheduled> {
     match answer {
         Ok(schedule) => Ok(Scheduled {
             units: schedule

@@ -154,7 +154,7 @@ module _ (one_program : SpellsOneProgram) where
       -- a program that means the accepted stream breaks no rule
       breaks_none : (program : List Declaration) → elaborated program main ≡ Ok accepted.stream
           → Breaks program main refused → ⊥
-      breaks_none program elaborates (Breaks.InElaboration broken is told) =
+      breaks_none program elaborates (Breaks.InElaboration broken is reported) =
           one_result (elaborated program main) accepted.stream broken elaborates is
       breaks_none program elaborates (Breaks.InGraph other is cannot) =
           let same = same_stream (elaborated program main) accepted.stream other elaborates is in

@@ -34,14 +34,14 @@ use Rattle.strc_run.specs.Accepts.{CanRun, round_counts}
 use Rattle.strc_run.specs.Plans.{HasPlan, IsPlanOf}
 use Rattle.strc_run.specs.Refuses.{Breaks, HasNoBalance, IsTrueOf, IsReadRefusal}
 use Rattle.strc_run.specs.Rates.{rates_checked, node_checked, filter_checked, then_check}
-use Rattle.strc_run.specs.Rates.{told_of_node}
+use Rattle.strc_run.specs.Rates.{rate_refusal_of}
 use Rattle.strc_refusal.specs.Reports.{refusal_of, balance_refusal_of, startup_refusal_of}
 use Rattle.strc_refusal.specs.Reports.{schedule_refusal_of}
 use Rattle.strc_run.specs.Verdicts.{IsRefusal}
 
 -- a test of rates doesn't speak of the balance
 not_of_rate : (node channel : ℕ) (broken : RateError)
-    → told_of_node node broken ≡ refusal.Inconsistent channel → ⊥
+    → rate_refusal_of node broken ≡ refusal.Inconsistent channel → ⊥
 not_of_rate node channel rate.RateLimit e = absurd (cc)
 not_of_rate node channel rate.RateUnknown e = absurd (cc)
 not_of_rate node channel (rate.RateMismatch declared counted) e = absurd (cc)
@@ -52,7 +52,7 @@ not_of_filter : (node channel : ℕ) (one : Result FilterRates RateError)
     → filter_checked node one ≡ Err (refusal.Inconsistent channel) → ⊥
 not_of_filter node channel (Ok rates) e = absurd (cc)
 not_of_filter node channel (Err broken) e =
-    let same : told_of_node node broken ≡ refusal.Inconsistent channel = cc in
+    let same : rate_refusal_of node broken ≡ refusal.Inconsistent channel = cc in
     not_of_rate node channel broken same
 
 not_of_node : (node channel : ℕ) (code : NodeCode)
@@ -178,16 +178,17 @@ which_deadlock graph startup round broken first later true is = first is
 which_deadlock graph startup round broken first later false is = later is
 
 -- the refusal that is reported
-pub refusal_told : (text : List ℕ) (main : Option (List ℕ)) (result : Result PlanParts Refusal)
+pub refusal_reported : (text : List ℕ) (main : Option (List ℕ)) (result : Result PlanParts Refusal)
     (refused : Refusal) → IsErrAnd result (λ found. found ≡ refused) → IsTrueOf text main refused
     → HasPlan text main result
-refusal_told text main (Ok plan) refused told is = absurd told
-refusal_told text main (Err found) refused told is = subst (IsTrueOf text main) (sym told) is
+refusal_reported text main (Ok plan) refused reported is = absurd reported
+refusal_reported text main (Err found) refused reported is =
+    subst (IsTrueOf text main) (sym reported) is
 
 -- the plan that is given
-pub plan_told : (text : List ℕ) (main : Option (List ℕ)) (plan parts : PlanParts) → plan ≡ parts
+pub plan_reported : (text : List ℕ) (main : Option (List ℕ)) (plan parts : PlanParts) → plan ≡ parts
     → IsPlanOf text main (planning_of parts) → IsPlanOf text main (planning_of plan)
-plan_told text main plan parts same is =
+plan_reported text main plan parts same is =
     subst (λ (p : PlanParts). IsPlanOf text main (planning_of p)) (sym same) is
 
 -- before there is a program

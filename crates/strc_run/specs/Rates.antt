@@ -8,17 +8,18 @@ use Rattle.strc_refusal.specs.declared.refusal.Refusal.{Refusal}
 use Rattle.strc_refusal.specs.declared.refusal.Refusal.TheVariants as refusal
 
 -- a refusal of a filter's rates, with its node
-abbrev pub told_of_node : ℕ → RateError → Refusal
-told_of_node node rate.RateLimit = refusal.RateLimit node
-told_of_node node rate.RateUnknown = refusal.RateUnknown node
-told_of_node node (rate.RateMismatch declared counted) = refusal.RateMismatch node declared counted
-told_of_node node rate.PeekOutside = refusal.PeekOutside node
-told_of_node node rate.NoMemory = refusal.NoMemory
+abbrev pub rate_refusal_of : ℕ → RateError → Refusal
+rate_refusal_of node rate.RateLimit = refusal.RateLimit node
+rate_refusal_of node rate.RateUnknown = refusal.RateUnknown node
+rate_refusal_of node (rate.RateMismatch declared counted) =
+    refusal.RateMismatch node declared counted
+rate_refusal_of node rate.PeekOutside = refusal.PeekOutside node
+rate_refusal_of node rate.NoMemory = refusal.NoMemory
 
 -- a filter's test, with its node
 abbrev pub filter_checked : ℕ → Result FilterRates RateError → Result (Unit {0}) Refusal
 filter_checked node (Ok rates) = Ok tt
-filter_checked node (Err broken) = Err (told_of_node node broken)
+filter_checked node (Err broken) = Err (rate_refusal_of node broken)
 
 -- a node's test: nodes other than filters have none
 abbrev pub node_checked : ℕ → NodeCode → Result (Unit {0}) Refusal

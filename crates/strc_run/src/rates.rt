@@ -31,7 +31,7 @@ fn check_node(alloc: Global, number: usize, node: &Node) -> Result<(), Refusal>
     match node {
         Node::Filter(instance) => match check(alloc, &instance.code) {
             Ok(_) => Ok(()),
-            Err(error) => Err(told_of_node(number, error)),
+            Err(error) => Err(rate_refusal_of(number, error)),
         },
         Node::Identity
         | Node::FileReader(_)
@@ -45,8 +45,8 @@ fn check_node(alloc: Global, number: usize, node: &Node) -> Result<(), Refusal>
 }
 
 // A refusal of a filter's rates, with its node.
-fn told_of_node(node: usize, error: RateError) -> Refusal
-    ensures { result ≡ spec.told_of_node node error }
+fn rate_refusal_of(node: usize, error: RateError) -> Refusal
+    ensures { result ≡ spec.rate_refusal_of node error }
 {
     match error {
         RateError::RateLimit => Refusal::RateLimit { node },

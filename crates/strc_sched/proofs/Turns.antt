@@ -135,38 +135,40 @@ length-spread_out (weight ∷ weights) outputs count cycle items port rings =
 
 -- ---- where a ring is
 
-abbrev Stands : List (Option ℕ) → ℕ → Type 0
-Stands ports number = ((port : ℕ) × (at_port ports port ≡ Some number))
+abbrev PortOrNone : List (Option ℕ) → ℕ → Type 0
+PortOrNone ports number = ((port : ℕ) × (at_port ports port ≡ Some number))
     ⊎ ((port : ℕ) → at_port ports port ≡ Some number → ⊥)
 
-stands_later : (first : Option ℕ) (ports : List (Option ℕ)) (number : ℕ)
-    → (first ≡ Some number → ⊥) → Stands ports number → Stands (first ∷ ports) number
-stands_later first ports number differs (inl h) = inl (suc h.0, h.1)
-stands_later first ports number differs (inr none) = inr (λ port e. by_port port e)
+port_or_none_later : (first : Option ℕ) (ports : List (Option ℕ)) (number : ℕ)
+    → (first ≡ Some number → ⊥) → PortOrNone ports number → PortOrNone (first ∷ ports) number
+port_or_none_later first ports number differs (inl h) = inl (suc h.0, h.1)
+port_or_none_later first ports number differs (inr none) = inr (λ port e. by_port port e)
   where
     by_port : (port : ℕ) → at_port (first ∷ ports) port ≡ Some number → ⊥
     by_port zero e = differs e
     by_port (suc port) e = none port e
 
-stands : (ports : List (Option ℕ)) (number : ℕ) → Stands ports number
-stands [] number = inr (λ port e. nowhere e)
+port_or_none : (ports : List (Option ℕ)) (number : ℕ) → PortOrNone ports number
+port_or_none [] number = inr (λ port e. nowhere e)
   where
     nowhere : ◌≡◌ {A = Option ℕ} None (Some number) → ⊥
     nowhere e = cc
-stands (None ∷ ports) number = stands_later None ports number nowhere (stands ports number)
+port_or_none (None ∷ ports) number =
+    port_or_none_later None ports number nowhere (port_or_none ports number)
   where
     nowhere : ◌≡◌ {A = Option ℕ} None (Some number) → ⊥
     nowhere e = cc
-stands (Some other ∷ ports) number =
-    by_number (cases_eq other number) (stands ports number)
+port_or_none (Some other ∷ ports) number =
+    by_number (cases_eq other number) (port_or_none ports number)
   where
     apart : (other ≡ number → ⊥) → Some other ≡ Some number → ⊥
     apart differs e = let same : other ≡ number = cc in differs same
 
-    by_number : (other ≡ number) ⊎ (other ≡ number → ⊥) → Stands ports number
-        → Stands (Some other ∷ ports) number
+    by_number : (other ≡ number) ⊎ (other ≡ number → ⊥) → PortOrNone ports number
+        → PortOrNone (Some other ∷ ports) number
     by_number (inl same) later = inl (0, ap Some same)
-    by_number (inr differs) later = stands_later (Some other) ports number (apart differs) later
+    by_number (inr differs) later =
+        port_or_none_later (Some other) ports number (apart differs) later
 
 -- rings of so many are at ports that are apart
 pub are_placed : (inputs outputs : List (Option ℕ)) (count : ℕ) → AreRings count inputs
@@ -186,18 +188,18 @@ module _ (inputs outputs : List (Option ℕ)) where
       → one ≡ other
   same_rings pops pushes rings one other first second =
       ext_get_or (buffer [] 0) one other (first.each ∙ sym second.each)
-      (λ number less. by_input number (stands inputs number))
+      (λ number less. by_input number (port_or_none inputs number))
     where
       by_output : (number : ℕ) → ((port : ℕ) → at_port inputs port ≡ Some number → ⊥)
-          → Stands outputs number → ring_at one number ≡ ring_at other number
+          → PortOrNone outputs number → ring_at one number ≡ ring_at other number
       by_output number none (inl h) =
           first.gives h.0 number h.1 ∙ sym (second.gives h.0 number h.1)
       by_output number none (inr neither) =
           first.stays number none neither ∙ sym (second.stays number none neither)
 
-      by_input : (number : ℕ) → Stands inputs number → ring_at one number ≡ ring_at other number
+      by_input : (number : ℕ) → PortOrNone inputs number → ring_at one number ≡ ring_at other number
       by_input number (inl h) = first.takes h.0 number h.1 ∙ sym (second.takes h.0 number h.1)
-      by_input number (inr none) = by_output number none (stands outputs number)
+      by_input number (inr none) = by_output number none (port_or_none outputs number)
 
   -- ---- a splitter's turns
 

@@ -10,7 +10,7 @@ use Rattle.strc_order.specs.Schedules.{ScheduleParts}
 use Rattle.strc_admissible.specs.Laws.{counts_at}
 use Rattle.strc_admissible.specs.Machine.{Ending, Ended, FaultedAtFirst, FaultedIn}
 use Rattle.strc_admissible.specs.Planned.{items_read}
-use Rattle.strc_admissible.specs.Told.{IsAnswered}
+use Rattle.strc_admissible.specs.RingAnswer.{IsAnswered}
 use Rattle.strc_outcome.specs.declared.outcome.Outcome.{Outcome}
 use Rattle.strc_outcome.specs.declared.outcome.Outcome.TheVariants as outcome
 use Rattle.strc_outcome.specs.declared.outcome.Round.{Round}
@@ -34,7 +34,7 @@ pub record IsAnswer (tree : trees.Stream NodeCode) (schedule : ScheduleParts) (i
     (rounds count : ℕ) (outcome : Outcome) : Type 0 where
   pub ending : Ending
   pub answered : IsAnswered tree schedule input rounds count ending
-  pub told : IsEnding outcome ending
+  pub reported : IsEnding outcome ending
 
 -- of whatever program the graph is
 abbrev pub AnswersGraph : Graph → ScheduleParts → (input : List ℤ) → (rounds : ℕ) → Outcome → Type 0

@@ -1,6 +1,6 @@
 -- How many items of the program's input a run reads.
 use Rattle.std.specs.Prelude.{ℕ, ◌≤◌, ◌^◌, List, Option, Some, None}
-use Rattle.strc_order.specs.Order.{tally}
+use Rattle.strc_order.specs.Order.{firing_count}
 
 -- the count of a node, where there is one
 abbrev pub count_of : Option ℕ → (counts : ℕ → ℕ) → ℕ
@@ -9,4 +9,4 @@ count_of (Some node) counts = counts node
 
 -- no node fires more than about a million times
 abbrev pub FiresFew : (order : List ℕ) → Type 0
-FiresFew order = (node : ℕ) → tally order node ≤ 2 ^ 20
+FiresFew order = (node : ℕ) → firing_count order node ≤ 2 ^ 20

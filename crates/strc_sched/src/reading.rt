@@ -3,7 +3,7 @@
 ghost use Rattle.std.specs.Prelude.{◌≡◌, ◌≤◌, ◌^◌, ℕ, map};
 ghost use Rattle.strc_graph.specs.NodeView.{node_view};
 ghost use Rattle.strc_order.specs.Greedy as spec;
-ghost use Rattle.strc_order.specs.Order.{tally, repeated};
+ghost use Rattle.strc_order.specs.Order.{firing_count, repeated};
 ghost use Rattle.strc_admissible.specs.Laws.{startup_order, round_order, counts_at};
 ghost use Rattle.strc_admissible.specs.Planned.{items_read};
 ghost use Rattle.strc_sched.specs.Reading.{count_of, FiresFew};
@@ -43,7 +43,7 @@ pub(crate) fn reader_of(nodes: &[Node]) -> Option<usize>
 /// How often a node fires in an order.
 pub(crate) fn firings_of(units: &[Unit], node: usize) -> u64
     requires few { FiresFew (spec.firings_of units.now) }
-    ensures firings { result ≡ tally (spec.firings_of units.now) node }
+    ensures firings { result ≡ firing_count (spec.firings_of units.now) node }
     ensures bound { result ≤ 2 ^ 20 }
 {
     let mut firings: u64 = 0;
@@ -55,15 +55,15 @@ pub(crate) fn firings_of(units: &[Unit], node: usize) -> u64
 
 /// How often a node fires in a unit.
 fn firings_in(unit: &Unit, node: usize) -> u64
-    requires few { tally (repeated unit.now.turns unit.now.nodes.items) node ≤ 2 ^ 20 }
-    ensures { result ≡ tally (repeated unit.now.turns unit.now.nodes.items) node }
+    requires few { firing_count (repeated unit.now.turns unit.now.nodes.items) node ≤ 2 ^ 20 }
+    ensures { result ≡ firing_count (repeated unit.now.turns unit.now.nodes.items) node }
 {
     u64::from(unit.turns) * places_of(&unit.nodes, node)
 }
 
 /// How often a node occurs in a list.
 fn places_of(nodes: &[u32], node: usize) -> u64
-    ensures places { result ≡ tally nodes.now node }
+    ensures places { result ≡ firing_count nodes.now node }
 {
     let mut places: u64 = 0;
     for other in nodes {

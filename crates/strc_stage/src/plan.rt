@@ -14,7 +14,7 @@ use strc_order::parts::Schedule;
 /// A flat graph, how often each of its nodes fires before the first round and in each round, and
 /// the schedule of these firings (Lee and Messerschmitt 1987: a periodic admissible sequential
 /// schedule), as they are before and after fission and fusion. No node is split and no units are
-/// joined yet, so both are the same.
+/// fused yet, so both are the same.
 #[derive(Drop)]
 pub struct Plan {
     graph: Graph,
@@ -125,7 +125,7 @@ impl Plan {
         &self.graph
     }
 
-    /// The schedule of `transformed_graph`, after fission and fusion. No units are joined, so it is
+    /// The schedule of `transformed_graph`, after fission and fusion. No units are fused, so it is
     /// `schedule`.
     pub fn transformed_schedule(&self) -> &Schedule
         ensures schedule { result.now ≡ self.now.schedule }

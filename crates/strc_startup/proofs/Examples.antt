@@ -32,11 +32,12 @@ first_alone firings other enough (suc zero) = omega arith
 first_alone firings other enough (suc (suc zero)) = omega arith
 first_alone firings other enough (suc (suc (suc node))) = omega arith
 
-none_begun : (counts : List ℕ) (node : ℕ) → count_at (0 ∷ 0 ∷ 0 ∷ []) node ≤ count_at counts node
-none_begun counts zero = omega arith
-none_begun counts (suc zero) = omega arith
-none_begun counts (suc (suc zero)) = omega arith
-none_begun counts (suc (suc (suc node))) = omega arith
+none_past_prework : (counts : List ℕ) (node : ℕ) → count_at (0 ∷ 0 ∷ 0 ∷ []) node
+    ≤ count_at counts node
+none_past_prework counts zero = omega arith
+none_past_prework counts (suc zero) = omega arith
+none_past_prework counts (suc (suc zero)) = omega arith
+none_past_prework counts (suc (suc (suc node))) = omega arith
 
 both_met : (counts : List ℕ) (into out : ChannelRates) → IsMet counts into → IsMet counts out
     → All (IsMet counts) (into ∷ out ∷ [])
@@ -68,7 +69,7 @@ moving_sum =
     record {
       primed = record {
         each = refl;
-        begun = none_begun counts;
+        past_prework = none_past_prework counts;
         met = both_met counts into out first second;
       };
       least = λ other primed. first_alone 2 other
@@ -86,7 +87,7 @@ far_peek =
     record {
       primed = record {
         each = refl;
-        begun = none_begun counts;
+        past_prework = none_past_prework counts;
         met = both_met counts into out first second;
       };
       least = λ other primed. first_alone 65535 other
@@ -105,8 +106,8 @@ delay =
     record {
       primed = record {
         each = refl;
-        begun = λ node. omega arith;
+        past_prework = λ node. omega arith;
         met = both_met counts into out first second;
       };
-      least = λ other primed. primed.begun;
+      least = λ other primed. primed.past_prework;
     }

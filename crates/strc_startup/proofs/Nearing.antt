@@ -92,7 +92,7 @@ pub arrived : (first : List ℕ) (channels : List ChannelRates) (counts waiting 
 arrived first channels counts waiting nears none = record {
   primed = record {
     each = nears.each;
-    begun = nears.grown;
+    past_prework = nears.grown;
     met = λ k d within.
         elim (nears.served k (slice_index_or channels k d)
         (slice_get-get_or channels k d within)) [
@@ -101,5 +101,5 @@ arrived first channels counts waiting nears none = record {
               (sym waits ∙ none (slice_index_or channels k d).target))
         ];
   };
-  least = λ other primed. nears.below other primed.met primed.begun;
+  least = λ other primed. nears.below other primed.met primed.past_prework;
 }

@@ -32,7 +32,7 @@ IsMet counts rates =
 -- counts that prime a graph: a node with a prework fires once at least, and each channel is met
 pub record IsPrimed (first : List ℕ) (channels : List ChannelRates) (counts : List ℕ) : Type 0 where
   pub each : length counts ≡ length first
-  pub begun : (node : ℕ) → count_at first node ≤ count_at counts node
+  pub past_prework : (node : ℕ) → count_at first node ≤ count_at counts node
   pub met : All (IsMet counts) channels
 
 -- no other such counts fire any node less often

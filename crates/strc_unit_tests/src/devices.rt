@@ -113,7 +113,7 @@ fn a_partial_write_goes_on(rt: HostRuntime) -> Result<(), Fail> {
 }
 
 #[test]
-fn a_writer_that_fails_or_takes_nothing_is_told(rt: HostRuntime) -> Result<(), Fail> {
+fn a_writer_that_fails_or_takes_nothing_is_reported(rt: HostRuntime) -> Result<(), Fail> {
     for fails in [true, false] {
         for calls in 0..3 {
             let nothing: &[u8] = &[];
@@ -159,7 +159,7 @@ fn a_text_is_read_to_its_end_or_its_limit(rt: HostRuntime) -> Result<(), Fail> {
 }
 
 #[test]
-fn a_reader_that_fails_is_told(rt: HostRuntime) {
+fn a_reader_that_fails_is_reported(rt: HostRuntime) {
     for calls in 0..4 {
         let mut reader = Reader {
             rest: MINIMAL.as_bytes(),
@@ -225,7 +225,7 @@ fn input_is_read_in_pieces_of_any_size(rt: HostRuntime) -> Result<(), Fail> {
 }
 
 #[test]
-fn input_that_fails_is_told_and_nothing_written(rt: HostRuntime) -> Result<(), Fail> {
+fn input_that_fails_is_reported_and_nothing_written(rt: HostRuntime) -> Result<(), Fail> {
     for calls in 0..3 {
         let mut input = Told::new(Reader {
             rest: b"12 34 56",

@@ -89,8 +89,8 @@ fn tells_kinds_and_places(rt: HostRuntime) -> Result<(), Fail> {
     for (token, place) in tokens.iter().zip(want) {
         assert_eq!(rt; (token.span.start, token.span.end), place);
     }
-    let told = format!(in rt.alloc(); "{}", LexError::Lex { at: 12 })?;
-    assert_eq!(rt; told.as_str(), "no token begins at byte 12");
+    let reported = format!(in rt.alloc(); "{}", LexError::Lex { at: 12 })?;
+    assert_eq!(rt; reported.as_str(), "no token begins at byte 12");
     one_token_list();
     Ok(())
 }

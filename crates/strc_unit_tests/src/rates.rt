@@ -89,11 +89,11 @@ fn peeks_are_closed_by_their_index(rt: HostRuntime) -> Result<(), Fail> {
     for (rates, block, closed) in cases {
         let bodies = format!(in rt.alloc(); "work {rates} {{ {block} }}")?;
         let rates = rates_of(rt.alloc(), &bodies)?;
-        let mut told = String::new(rt.alloc());
+        let mut reported = String::new(rt.alloc());
         for is_closed in &rates.work.closed {
-            told.push(if *is_closed { 'c' } else { 'o' })?;
+            reported.push(if *is_closed { 'c' } else { 'o' })?;
         }
-        assert_eq!(rt; told.as_str(), closed, "{bodies}");
+        assert_eq!(rt; reported.as_str(), closed, "{bodies}");
         assert!(rt; rates.prework.is_none(), "{bodies}");
     }
     Ok(())

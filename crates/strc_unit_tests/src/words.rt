@@ -6,7 +6,7 @@ use strc_command::line::{Command, Line, LineFault};
 use strc_command::words::{asks_for_help, asks_for_version, command, usage_error};
 
 // What is asked for, in one line: the command and its values, `-` where one isn't given.
-fn told(alloc: Global, line: &Line) -> Result<String, AllocError> {
+fn reported(alloc: Global, line: &Line) -> Result<String, AllocError> {
     let file = name_of(&line.file);
     match &line.command {
         Command::Run {
@@ -55,7 +55,7 @@ fn each_form_is_understood(rt: HostRuntime) -> Result<(), Fail> {
     ];
     for (words, wanted) in lines {
         let line = command(rt.alloc(), words)?;
-        let found = told(rt.alloc(), &line)?;
+        let found = reported(rt.alloc(), &line)?;
         assert_eq!(rt; found.as_str(), wanted, "at {words:?}");
     }
     Ok(())

@@ -8,7 +8,7 @@ use Rattle.strc_elab.proofs.elaborate.elaborate.Goals as goal
 pub returns-clause-sound : goal.returns-clause-sound
 returns-clause-sound c =
     let main = option_map (λ n. n.now) c.args.main in
-    let made : elaborated (program_view c.args.program.now) main
-    ≡ Ok (stream_view c.in_ok-made.made.stream) = search rules in
+    let gives : elaborated (program_view c.args.program.now) main
+    ≡ Ok (stream_view c.in_ok-elaborated.elaborated.stream) = search rules in
     elaborated_is_sound (program_view c.args.program.now) main
-    (stream_view c.in_ok-made.made.stream) made
+    (stream_view c.in_ok-elaborated.elaborated.stream) gives

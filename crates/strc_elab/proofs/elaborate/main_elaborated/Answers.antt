@@ -10,7 +10,7 @@ pub returns : goal.returns
 returns c =
     let program = map declaration_view c.args.declarations.now in
     let found : ℕ × Declaration = (c.args.number, declaration_view c.args.declaration.now) in
-    subst (λ made. IsVerdict elaborated_view made c.elaborate_text.result)
+    subst (λ elaborated. IsVerdict elaborated_view elaborated c.elaborate_text.result)
     (main_elaborated-task program found c.new-constants.result
     (text_view c.text_of.result) c.new-constants.ensures c.text_of.ensures)
     c.elaborate_text.ensures

@@ -1,14 +1,14 @@
 use Rattle.std.proofs.Common.{rules}
-use Rattle.strc_elab.specs.Tasks.{IsReady, program_of, place_of, text_view, tally_of}
+use Rattle.strc_elab.specs.Tasks.{IsReady, program_of, place_of, text_view, totals_of}
 use Rattle.strc_elab.proofs.Levels.{stream_elaborated-level}
 use Rattle.strc_elab.proofs.level.+elaborate_text.Goals as goal
 
-pub made-requires : goal.made-requires
+pub text_elaborated-requires : goal.text_elaborated-requires
 unfolding IsReady
-made-requires t c = (c.requires, search rules)
+text_elaborated-requires t c = (c.requires, search rules)
 
 pub returns : goal.returns
 returns t c =
     let task = c.args.task in
     rw (stream_elaborated-level (program_of task) task.levels (place_of task) (text_view task.text)
-    (tally_of task) c.if-task-eq0.false) c.made.ensures
+    (totals_of task) c.if-task-eq0.false) c.text_elaborated.ensures

@@ -2,7 +2,7 @@ use Rattle.std.proofs.Common.{refl, sym, ap, subst, ◌∷◌, [], take, get_or,
 use Rattle.strc_order.specs.Peaks.{Raises}
 use Rattle.strc_order.proofs.Passing.{raises_none, raises_below, raises_then, raises_turns}
 use Rattle.strc_order.proofs.Passing.{list_more, list_within}
-use Rattle.strc_order.proofs.Tallies.{turns_same}
+use Rattle.strc_order.proofs.FiringCounts.{turns_same}
 use Rattle.strc_order.proofs.peaks.raise_by_list.Goals as goal
 
 pub loop-node-init : goal.loop-node-init

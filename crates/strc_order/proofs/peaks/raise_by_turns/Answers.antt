@@ -6,7 +6,7 @@ use Rattle.strc_order.specs.Firings.{fired, fill}
 use Rattle.strc_order.specs.Peaks.{AreTouched}
 use Rattle.strc_order.proofs.Firing.{counts_fired}
 use Rattle.strc_order.proofs.Networks.{listed_within}
-use Rattle.strc_order.proofs.Tallies.{fired_fired}
+use Rattle.strc_order.proofs.FiringCounts.{fired_fired}
 use Rattle.strc_order.proofs.Touching.{raised_turns}
 use Rattle.strc_order.proofs.peaks.raise_by_turns.Goals as goal
 

@@ -7,13 +7,13 @@ use Rattle.strc_order.specs.Network.{size_of}
 use Rattle.strc_order.specs.Order.{after, repeated}
 use Rattle.strc_order.specs.Peaks.{AreBelow, AreRaised, IsTurns}
 use Rattle.strc_order.proofs.Touching.{raised_then, raised_below}
-use Rattle.strc_order.proofs.Units.{tally_take, firings_take, after_take, turns_within}
+use Rattle.strc_order.proofs.Units.{firing_count_take, firings_take, after_take, turns_within}
 use Rattle.strc_order.proofs.peaks.raise_peaks.Goals as goal
 
 pub raise_by_turns-requires-clause-few : goal.raise_by_turns-requires-clause-few
 raise_by_turns-requires-clause-few c node =
     let e = ap (λ f. f node) c.loop-unit.invariant.counts in
-    let t = tally_take c.args.units.now c.loop-unit.unit-index node in
+    let t = firing_count_take c.args.units.now c.loop-unit.unit-index node in
     omega (arith, e, t, c.requires.few node)
 
 pub raise_by_turns-requires-clause-room : goal.raise_by_turns-requires-clause-room

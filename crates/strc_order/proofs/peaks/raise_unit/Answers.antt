@@ -1,8 +1,8 @@
 use Rattle.std.proofs.Common.{◌≡◌, refl, sym, ap, subst, [], ◌∷◌, arith}
-use Rattle.strc_order.specs.Order.{tally, repeated}
+use Rattle.strc_order.specs.Order.{firing_count, repeated}
 use Rattle.strc_order.specs.Peaks.{Raises}
 use Rattle.strc_order.proofs.Passing.{raises_turns, single_node}
-use Rattle.strc_order.proofs.Tallies.{tally_repeated, turns_same}
+use Rattle.strc_order.proofs.FiringCounts.{firing_count_repeated, turns_same}
 use Rattle.strc_order.proofs.peaks.raise_unit.Goals as goal
 
 pub raise_by_turns-requires-clause-room : goal.raise_by_turns-requires-clause-room
@@ -11,8 +11,8 @@ raise_by_turns-requires-clause-room c =
     let node = c.index.result.now in
     let one : unit.nodes.items ≡ node ∷ [] = single_node unit.nodes.items node
     (omega (arith, c.if-len-eq1.true, c.len.ensures, unit.nodes.ok.0)) c.index.ensures in
-    let e = ap (λ l. tally (repeated unit.turns l) node) one in
-    let t = tally_repeated unit.turns node node in
+    let e = ap (λ l. firing_count (repeated unit.turns l) node) one in
+    let t = firing_count_repeated unit.turns node node in
     let s = turns_same unit.turns node node refl in
     omega (arith, e, t, s, c.requires.few node)
 

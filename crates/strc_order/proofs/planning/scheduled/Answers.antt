@@ -5,7 +5,7 @@ use Rattle.strc_order.specs.Buffers.{peak_fill, buffer_size, size_limit}
 use Rattle.strc_order.specs.Firings.{none_fired, fill}
 use Rattle.strc_order.specs.Greedy.{IsGreedyOrder, firings_of}
 use Rattle.strc_order.specs.Network.{size_of}
-use Rattle.strc_order.specs.Order.{after, tally}
+use Rattle.strc_order.specs.Order.{after, firing_count}
 use Rattle.strc_order.specs.Peaks.{IsTurns, IsFirstPast}
 use Rattle.strc_order.proofs.Buffering.{zero_counts}
 use Rattle.strc_order.proofs.Firing.{counted_within}
@@ -122,8 +122,8 @@ buffers_of-requires-clause-few c node =
       later.all node,
       c.requires.startup_within node,
       c.requires.round_within node,
-      ap (λ o. tally (firings_of o) node) c.deref.ensures.value,
-      ap (λ o. tally (firings_of o) node) c.deref-2.ensures.value,
+      ap (λ o. firing_count (firings_of o) node) c.deref.ensures.value,
+      ap (λ o. firing_count (firings_of o) node) c.deref-2.ensures.value,
     )
 
 pub returns-in-Err-clause-limit : goal.returns-in-Err-clause-limit

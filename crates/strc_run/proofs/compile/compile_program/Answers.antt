@@ -9,14 +9,14 @@ use Rattle.strc_refusal.specs.Reports.{schedule_refusal_of}
 use Rattle.strc_run.specs.Verdicts.{IsRefusal}
 use Rattle.strc_run.proofs.Refusals.{elaboration_refused, graph_refused, rates_refused}
 use Rattle.strc_run.proofs.Refusals.{balance_refused, startup_refused, schedule_refused}
-use Rattle.strc_run.proofs.Refusals.{plan_told, refusal_told, which_deadlock}
+use Rattle.strc_run.proofs.Refusals.{plan_reported, refusal_reported, which_deadlock}
 use Rattle.strc_run.proofs.RatedGraphs.{IsChecked, flat_is_rated, stream_checked}
 use Rattle.strc_run.proofs.PlannedGraphs.{graph_has_plan}
 use Rattle.strc_run.proofs.compile.compile_program.Goals as goal
 
 pub returns-in_err-stream : goal.returns-in_err-stream
 returns-in_err-stream c = λ text spells.
-    refusal_told _ _ c.from_residual.result
+    refusal_reported _ _ c.from_residual.result
     (refusal_of c.in_err-stream.field-0.0) c.from_residual.ensures.1
     (elaboration_refused _ _ _ spells c.in_err-stream.field-0.0 c.in_err-stream.ensures.verdict)
 
@@ -24,7 +24,7 @@ pub returns-in_err-graph : goal.returns-in_err-graph
 returns-in_err-graph c = λ text spells.
     let elaborates = c.in_ok-stream.ensures.verdict in
     let sound = c.in_ok-stream.ensures.sound in
-    refusal_told _ _ c.from_residual-in_err-graph.result
+    refusal_reported _ _ c.from_residual-in_err-graph.result
     (refusal_of c.in_err-graph.field-0.0) c.from_residual-in_err-graph.ensures.1
     (graph_refused _ _ _ spells _ elaborates c.in_err-graph.field-0.0
     (c.in_err-graph.ensures.verdict sound.closed.typed))
@@ -34,7 +34,7 @@ returns-in_err-check_rates c = λ text spells.
     let elaborates = c.in_ok-stream.ensures.verdict in
     let sound = c.in_ok-stream.ensures.sound in
     let same = ap (map node_view) c.nodes.ensures ∙ c.in_ok-graph.ensures.nodes in
-    refusal_told _ _ c.from_residual-in_err-check_rates.result c.in_err-check_rates.field-0.0
+    refusal_reported _ _ c.from_residual-in_err-check_rates.result c.in_err-check_rates.field-0.0
     c.from_residual-in_err-check_rates.ensures.1
     (rates_refused _ _ _ spells (stream_view c.in_ok-stream.stream) elaborates
     c.in_err-check_rates.field-0.0
@@ -62,7 +62,7 @@ returns-in_err-round_counts c = λ text spells.
     let rates = ap (rates_checked 0) (sym
     (ap (map node_view) c.nodes.ensures ∙ c.in_ok-graph.ensures.nodes))
     ∙ c.in_ok-check_rates.ensures in
-    refusal_told _ _ c.from_residual-in_err-round_counts.result
+    refusal_reported _ _ c.from_residual-in_err-round_counts.result
     (balance_refusal_of c.in_err-round_counts.field-0.0)
     c.from_residual-in_err-round_counts.ensures.1
     (balance_refused _ _ _ spells (stream_view c.in_ok-stream.stream) elaborates
@@ -87,7 +87,7 @@ returns-in_err-startup_counts c = λ text spells.
     let rates = ap (rates_checked 0) (sym
     (ap (map node_view) c.nodes.ensures ∙ c.in_ok-graph.ensures.nodes))
     ∙ c.in_ok-check_rates.ensures in
-    refusal_told _ _ c.from_residual-in_err-startup_counts.result
+    refusal_reported _ _ c.from_residual-in_err-startup_counts.result
     (startup_refusal_of c.in_err-startup_counts.field-0.0)
     c.from_residual-in_err-startup_counts.ensures.1
     (startup_refused _ _ _ spells (stream_view c.in_ok-stream.stream) elaborates
@@ -121,8 +121,8 @@ returns-in_err-schedule c = λ text spells.
     let counts = c.in_ok-round_counts.round_counts in
     let startup = c.in_ok-startup_counts.startup_counts in
     let broken = c.in_err-schedule.field-0.0 in
-    let told = c.in_err-schedule.ensures in
-    refusal_told _ _ c.from_residual-in_err-schedule.result (schedule_refusal_of broken)
+    let reported = c.in_err-schedule.ensures in
+    refusal_reported _ _ c.from_residual-in_err-schedule.result (schedule_refusal_of broken)
     c.from_residual-in_err-schedule.ensures.1
     (schedule_refused _ _ _ spells (stream_view c.in_ok-stream.stream) elaborates graph
     (c.in_ok-graph.ensures.verdict sound.closed.typed) rates
@@ -132,9 +132,9 @@ returns-in_err-schedule c = λ text spells.
       least = c.in_ok-startup_counts.ensures.least;
       within = c.in_ok-startup_counts.ensures.within;
     })
-    (which_deadlock graph startup counts broken (λ is. told.startup (ap Err is))
-    (λ is. (told.before (ap Err is), told.round (ap Err is))))
-    (λ channel is. told.limit channel (ap Err is)))
+    (which_deadlock graph startup counts broken (λ is. reported.startup (ap Err is))
+    (λ is. (reported.before (ap Err is), reported.round (ap Err is))))
+    (λ channel is. reported.limit channel (ap Err is)))
 
 pub new-requires : goal.new-requires
 new-requires c =
@@ -170,7 +170,7 @@ returns c = λ text spells.
     let nodes = c.in_ok-graph.ensures.nodes in
     let checks = ap (rates_checked 0) (sym (ap (map node_view) c.nodes.ensures))
     ∙ c.in_ok-check_rates.ensures in
-    plan_told text _ c.new.result _ c.new.ensures (record {
+    plan_reported text _ c.new.result _ c.new.ensures (record {
       accepted = record {
         program = _;
         spells = spells;

@@ -28,15 +28,16 @@ returns-clause-answer c =
     let round = ap firings_of (c.in-Ok-new-2.ensures.units ∙ c.round.ensures) in
     outcome_so c.run_orders.result _ (AnswersGraph graph schedule c.args.input.now rounds)
     c.run_orders.ensures.ending
-    (λ outcome told tree program. record {
+    (λ outcome reported tree program. record {
       ending = whole_run circuit (startup_order schedule) (round_order schedule) rounds machine;
       answered = ring_runs tree graph schedule c.args.input.now rounds circuit machine program
           c.requires.planned (closed_known graph c.in-Ok-new-3.ensures.known) c.ranges.rounds.fits
           supplied c.in-Ok.ensures.circuit c.in-Ok.ensures.input
           (subst (λ sizes. IsFirst graph sizes machine) c.sizes.ensures
           c.in-Ok-new-3.ensures.first);
-      told = subst (λ order. IsEnding outcome (whole_run circuit order (round_order schedule) rounds
+      reported =
+          subst (λ order. IsEnding outcome (whole_run circuit order (round_order schedule) rounds
           machine)) startup
           (subst (λ order. IsEnding outcome (whole_run circuit
-          (firings_of c.in-Ok-new.startup.units.now) order rounds machine)) round told);
+          (firings_of c.in-Ok-new.startup.units.now) order rounds machine)) round reported);
     })

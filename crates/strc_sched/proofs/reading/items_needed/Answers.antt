@@ -1,6 +1,6 @@
 use Rattle.std.proofs.Common.{◌∙◌, ap, sym, ◌+◌, ◌*◌}
 use Rattle.strc_order.specs.Greedy.{firings_of}
-use Rattle.strc_order.specs.Order.{tally}
+use Rattle.strc_order.specs.Order.{firing_count}
 use Rattle.strc_admissible.specs.Laws.{counts_at, startup_order}
 use Rattle.strc_sched.specs.Reading.{count_of}
 use Rattle.strc_sched.proofs.Counting.{counts_are}
@@ -13,9 +13,9 @@ returns-in-Some c =
     let counts = counts_at schedule c.args.rounds in
     ap (λ n. n + c.from.result * c.firings_of.result)
     (c.firings_of-before.ensures.firings
-    ∙ ap (λ l. tally (firings_of l) node) c.startup.ensures)
-    ∙ ap (λ n. tally (startup_order schedule) node + n * c.firings_of.result) c.from.ensures
-    ∙ ap (λ n. tally (startup_order schedule) node + c.args.rounds * n)
-    (c.firings_of.ensures.firings ∙ ap (λ l. tally (firings_of l) node) c.round.ensures)
+    ∙ ap (λ l. firing_count (firings_of l) node) c.startup.ensures)
+    ∙ ap (λ n. firing_count (startup_order schedule) node + n * c.firings_of.result) c.from.ensures
+    ∙ ap (λ n. firing_count (startup_order schedule) node + c.args.rounds * n)
+    (c.firings_of.ensures.firings ∙ ap (λ l. firing_count (firings_of l) node) c.round.ensures)
     ∙ sym (counts_are schedule c.args.rounds node)
     ∙ sym (c.reader_of.ensures counts ∙ ap (λ found. count_of found counts) c.in-Some.is)

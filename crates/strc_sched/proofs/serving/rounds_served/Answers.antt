@@ -1,7 +1,7 @@
 use Rattle.std.proofs.Common.{◌≡◌, ◌∙◌, ap, sym, ◌+◌, ◌*◌, ℕ, map}
 use Rattle.strc_graph.specs.NodeView.{node_view}
 use Rattle.strc_order.specs.Greedy.{firings_of}
-use Rattle.strc_order.specs.Order.{tally}
+use Rattle.strc_order.specs.Order.{firing_count}
 use Rattle.strc_admissible.specs.Laws.{counts_at}
 use Rattle.strc_admissible.specs.Planned.{items_read}
 use Rattle.strc_sched.specs.Reading.{count_of}
@@ -24,11 +24,12 @@ returns-in-Some c =
     ∙ c.reader_of.ensures counts
     ∙ ap (λ found. count_of found counts) c.in-Some.is
     ∙ counts_are schedule rounds node
-    ∙ ap (λ n. n + rounds * tally (firings_of schedule.round) node)
+    ∙ ap (λ n. n + rounds * firing_count (firings_of schedule.round) node)
     (sym (c.firings_of-before.ensures.firings
-    ∙ ap (λ l. tally (firings_of l) node) c.startup.ensures))
+    ∙ ap (λ l. firing_count (firings_of l) node) c.startup.ensures))
     ∙ ap (λ n. before + rounds * n)
-    (sym (c.firings_of.ensures.firings ∙ ap (λ l. tally (firings_of l) node) c.round.ensures)) in
+    (sym (c.firings_of.ensures.firings
+    ∙ ap (λ l. firing_count (firings_of l) node) c.round.ensures)) in
     same_served need (reads_by_round before each) c.args.got c.served.result same c.served.ensures
 
 pub returns-in-None : goal.returns-in-None

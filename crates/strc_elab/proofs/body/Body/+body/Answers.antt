@@ -79,7 +79,7 @@ block-returns-in_err-statements-clause-runs g t c =
     let no : IsRefusal (runs p) e = subst
     (λ n. IsRefusal (stmts_run setting names n (block_view c.args.block.now) p) e)
     c.count-start.ensures.names c.in_err-statements.ensures.runs in
-    let told : Runs (inside runs p) (Err e) (progress_of c.statements.new.progress) =
+    let reported : Runs (inside runs p) (Err e) (progress_of c.statements.new.progress) =
     inside_refused runs p e no in
     search rules
 
@@ -252,7 +252,7 @@ for_loop-returns-in_err-for_turns-clause-runs g t c =
     c.in_ok-statement.ensures.names in
     let e = c.in_err-for_turns.field-0.0 in
     let runs = stmt_run setting names 0 (tree.For first condition step body) p in
-    let told : Runs runs (Err e) (progress_of c.for_turns.new.progress) =
+    let reported : Runs runs (Err e) (progress_of c.for_turns.new.progress) =
     refused_same (inside loop p) runs e whole
     (inside_refused loop p e c.in_err-for_turns.ensures.runs) in
     search rules
@@ -314,7 +314,7 @@ while_turns-returns-in_err-eval_condition-clause-runs g t c =
     let met : IsRefusal (test m) e = subst
     (λ n. IsRefusal (condition_evaluated setting n condition m) e)
     c.loop-round.invariant.names c.in_err-eval_condition.ensures.tests in
-    let told : Runs whole (Err e) (progress_of c.eval_condition.new.progress) =
+    let reported : Runs whole (Err e) (progress_of c.eval_condition.new.progress) =
     test_refused test body round m whole e c.loop-round-test.true left met in
     search rules
 
@@ -361,7 +361,7 @@ while_turns-returns-in_err-turn-clause-runs g t c =
     let holds : is_true value ≡ true = sym truth ∙ c.if-not-is_true.false in
     let e = c.in_err-turn.field-0.0 in
     let over : IsRefusal (computed (firing.turned tested.store)) e = c.in_err-turn.ensures.done in
-    let told : Runs whole (Err e) (record tested { store = store_of c.turn.new.store }) =
+    let reported : Runs whole (Err e) (record tested { store = store_of c.turn.new.store }) =
     turn_refused test body round m tested value whole e c.loop-round-test.true left met holds
     over in
     search rules
@@ -395,7 +395,7 @@ while_turns-returns-in_err-inside-clause-runs g t c =
     let no : IsRefusal (body turning) e =
     subst (λ n. IsRefusal (inside (stmt_run setting n (length n) (stmt_view c.args.body.now))
     turning) e) same c.in_err-inside.ensures.runs in
-    let told : Runs whole (Err e) (progress_of c.inside.new.progress) =
+    let reported : Runs whole (Err e) (progress_of c.inside.new.progress) =
     body_refused test body round m tested value store whole e c.loop-round-test.true left met
     holds turn no in
     search rules
@@ -479,7 +479,7 @@ for_turns-returns-in_err-eval_condition-clause-runs g t c =
     let met : IsRefusal (test m) e = subst
     (λ n. IsRefusal (condition_evaluated setting n condition m) e)
     c.loop-round.invariant.names c.in_err-eval_condition.ensures.tests in
-    let told : Runs whole (Err e) (progress_of c.eval_condition.new.progress) =
+    let reported : Runs whole (Err e) (progress_of c.eval_condition.new.progress) =
     test_refused test body round m whole e c.loop-round-test.true left met in
     search rules
 
@@ -530,7 +530,7 @@ for_turns-returns-in_err-turn-clause-runs g t c =
     let holds : is_true value ≡ true = sym truth ∙ c.if-not-is_true.false in
     let e = c.in_err-turn.field-0.0 in
     let over : IsRefusal (computed (firing.turned tested.store)) e = c.in_err-turn.ensures.done in
-    let told : Runs whole (Err e) (record tested { store = store_of c.turn.new.store }) =
+    let reported : Runs whole (Err e) (record tested { store = store_of c.turn.new.store }) =
     turn_refused test body round m tested value whole e c.loop-round-test.true left met holds
     over in
     search rules
@@ -566,7 +566,7 @@ for_turns-returns-in_err-inside-clause-runs g t c =
     subst (λ n. IsRefusal (inside (stmt_run setting n (length n) (stmt_view c.args.body.now))
     turning) e) same c.in_err-inside.ensures.runs in
     let none : IsRefusal (body turning) e = first_refused (turns turning) steps e no in
-    let told : Runs whole (Err e) (progress_of c.inside.new.progress) =
+    let reported : Runs whole (Err e) (progress_of c.inside.new.progress) =
     body_refused test body round m tested value store whole e c.loop-round-test.true left met
     holds turn none in
     search rules
@@ -609,7 +609,7 @@ for_turns-returns-in_err-inside-2-clause-runs g t c =
     (λ n. IsRefusal (inside (stmt_run setting n (length n) (stmt_view c.args.step.now)) after)
     e) same' c.in_err-inside-2.ensures.runs in
     let none : IsRefusal (body turning) e = second_refused (turns turning) steps after e ran no in
-    let told : Runs whole (Err e) (progress_of c.inside-in-loop-round.new.progress) =
+    let reported : Runs whole (Err e) (progress_of c.inside-in-loop-round.new.progress) =
     body_refused test body round m tested value store whole e c.loop-round-test.true left met
     holds turn none in
     search rules

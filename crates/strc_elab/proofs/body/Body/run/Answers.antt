@@ -12,8 +12,8 @@ returns-in_err-statements g c =
     let p = err_from_is_err_and c.from_residual.result c.from_residual.ensures.1 in
     let setting = setting_of c.args.self.now.task in
     let block = block_view c.args.block.now in
-    let begun = c.initial_progress-progress.result in
-    let same = ap (λ names. stmts_run setting names 0 block (progress_of begun))
+    let initial = c.initial_progress-progress.result in
+    let same = ap (λ names. stmts_run setting names 0 block (progress_of initial))
     c.initial_progress-progress.ensures.names
     ∙ ap (stmts_run setting [] 0 block) c.initial_progress-progress.ensures.progress in
     rw (p.1, p.2) (subst (λ outcome. IsRefusal outcome c.in_err-statements.field-0.0) same

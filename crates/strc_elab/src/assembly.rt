@@ -11,7 +11,7 @@ ghost use Rattle.strc_scope.specs.Answers.{IsVerdict};
 ghost use Rattle.strc_elab.specs.Answering.{progress_of, join_view, part_view};
 ghost use Rattle.strc_weights.specs.Splits.{split_view};
 ghost use Rattle.strc_elab.specs.Elaboration as spec;
-ghost use Rattle.strc_elab.specs.Making.{made_as, IsLoopOf};
+ghost use Rattle.strc_elab.specs.Assembly.{elaborated_as, IsLoopOf};
 ghost use Rattle.strc_elab.specs.Tasks.{elaborated_view};
 
 use crate::progress::Progress;
@@ -29,29 +29,30 @@ use strc_weights::weights::{
 
 impl Task<'_> {
     /// What is made of a body that has run.
-    pub(crate) fn composite_made(
+    pub(crate) fn composite_assembly(
         &self,
         kind: CompositeKind,
         written: Option<StreamType>,
         progress: &mut Progress,
     ) -> Result<Elaborated, ElabError>
-        ensures { IsVerdict elaborated_view (spec.composite_made kind self.now.declaration written
+        ensures { IsVerdict elaborated_view
+            (spec.composite_assembly kind self.now.declaration written
             (progress_of progress.old)) result }
     {
         match kind {
-            CompositeKind::Pipeline => self.pipeline_made(written, progress),
-            CompositeKind::Splitjoin => self.splitjoin_made(written, progress),
-            CompositeKind::Feedbackloop => self.loop_made(written, progress),
+            CompositeKind::Pipeline => self.pipeline_assembly(written, progress),
+            CompositeKind::Splitjoin => self.splitjoin_assembly(written, progress),
+            CompositeKind::Feedbackloop => self.loop_assembly(written, progress),
         }
     }
 
     /// A pipeline has a child.
-    fn pipeline_made(
+    fn pipeline_assembly(
         &self,
         written: Option<StreamType>,
         progress: &mut Progress,
     ) -> Result<Elaborated, ElabError>
-        ensures { IsVerdict elaborated_view (spec.pipeline_made self.now.declaration written
+        ensures { IsVerdict elaborated_view (spec.pipeline_assembly self.now.declaration written
             progress.old.types.items (progress_of progress.old)) result }
     {
         match types_in_a_row(&progress.types) {
@@ -65,12 +66,12 @@ impl Task<'_> {
     }
 
     /// A split-join has a child, a splitter and a joiner, whose weights are allowed.
-    fn splitjoin_made(
+    fn splitjoin_assembly(
         &self,
         written: Option<StreamType>,
         progress: &mut Progress,
     ) -> Result<Elaborated, ElabError>
-        ensures { IsVerdict elaborated_view (spec.splitjoin_made self.now.declaration written
+        ensures { IsVerdict elaborated_view (spec.splitjoin_assembly self.now.declaration written
             progress.old.types.items (option_map split_view progress.old.split)
             (join_view progress.old.join) (progress_of progress.old)) result }
     {
@@ -99,12 +100,12 @@ impl Task<'_> {
     }
 
     /// A feedback loop has each of its parts, and its weights are allowed.
-    fn loop_made(
+    fn loop_assembly(
         &self,
         written: Option<StreamType>,
         progress: &mut Progress,
     ) -> Result<Elaborated, ElabError>
-        ensures { IsVerdict elaborated_view (spec.loop_made self.now.declaration written
+        ensures { IsVerdict elaborated_view (spec.loop_assembly self.now.declaration written
             (join_view progress.old.join) (part_view progress.old.body)
             (option_map split_view progress.old.split) (part_view progress.old.looped)
             (progress_of progress.old)) result }
@@ -133,7 +134,7 @@ impl Task<'_> {
 
 /// The children in a row.
 fn pipeline_of(alloc: Global, types: StreamType, progress: &mut Progress) -> Elaborated
-    ensures { elaborated_view result ≡ made_as types
+    ensures { elaborated_view result ≡ elaborated_as types
         (instances.Pipeline (instances.in_a_row (map stream_view progress.old.children.items)))
         (progress_of progress.old) }
 {
@@ -141,7 +142,7 @@ fn pipeline_of(alloc: Global, types: StreamType, progress: &mut Progress) -> Ela
     Elaborated {
         stream: Stream::Pipeline(children),
         types,
-        tally: progress.tally(),
+        totals: progress.totals(),
     }
 }
 
@@ -153,7 +154,7 @@ fn splitjoin_of(
     joiner: Option<Vec<u32>>,
     progress: &mut Progress,
 ) -> Elaborated
-    ensures { elaborated_view result ≡ made_as types
+    ensures { elaborated_view result ≡ elaborated_as types
         (instances.SplitJoin (option_map splitter_view splitter)
         (instances.in_a_row (map stream_view progress.old.children.items))
         (option_map (λ weights. weights.items) joiner)) (progress_of progress.old) }
@@ -162,7 +163,7 @@ fn splitjoin_of(
     Elaborated {
         stream: Stream::SplitJoin(splitter, children, joiner),
         types,
-        tally: progress.tally(),
+        totals: progress.totals(),
     }
 }
 
@@ -185,7 +186,7 @@ fn loop_of(
     Elaborated {
         stream: Stream::FeedbackLoop(joiner, body, splitter, looped, enqueued),
         types,
-        tally: progress.tally(),
+        totals: progress.totals(),
     }
 }
 

@@ -17,7 +17,7 @@ use Rattle.strc_admissible.specs.Circuits.{IsCircuit}
 use Rattle.strc_admissible.specs.Fits.{Queues}
 use Rattle.strc_admissible.specs.Machine.{CircuitView, MachineView}
 use Rattle.strc_admissible.specs.Rings.{Ring, ring_at, at_port, shortened, extended}
-use Rattle.strc_admissible.specs.Told.{words_below}
+use Rattle.strc_admissible.specs.RingAnswer.{words_below}
 use Rattle.strc_admissible.specs.Wiring.{ports_at}
 use Rattle.strc_admissible.proofs.Changes.{Moves, extended_none, extended_all}
 use Rattle.strc_admissible.proofs.Ends.{origin_is, apart, input_channel, output_channel}
@@ -25,7 +25,7 @@ use Rattle.strc_admissible.proofs.Ends.{target_ring, source_ring}
 
 -- each ring holds the queue of its channel and has its room; the program's input is read as far as
 -- its reader has fired; and the words are those of all nodes
-pub record Stands (graph : Graph) (sizes : List ℕ) (input : List ℤ) (now : Queues)
+pub record Simulates (graph : Graph) (sizes : List ℕ) (input : List ℤ) (now : Queues)
     (machine : MachineView) : Type 0 where
   pub each_fields : length machine.fields ≡ length graph.nodes
   pub each_fired : length machine.fired ≡ length graph.nodes

@@ -1,12 +1,12 @@
 use Rattle.std.proofs.Common.{map, ap, ◌∙◌}
 use Rattle.strc_stream.specs.Instances as instances
 use Rattle.strc_stream.specs.View.{stream_view}
-use Rattle.strc_elab.proofs.Views.{stream_view-Pipeline, made_same}
-use Rattle.strc_elab.proofs.made.pipeline_of.Goals as goal
+use Rattle.strc_elab.proofs.Views.{stream_view-Pipeline, elaborated_same}
+use Rattle.strc_elab.proofs.assembly.pipeline_of.Goals as goal
 
 pub returns : goal.returns
-returns c = made_same c.args.types _ _ _ _ _ _
+returns c = elaborated_same c.args.types _ _ _ _ _ _
     (stream_view-Pipeline c.replace-children.result
     ∙ ap (λ v. instances.Pipeline (instances.in_a_row (map stream_view v.items)))
     c.replace-children.ensures.value)
-    c.tally.ensures.turns c.tally.ensures.filters
+    c.totals.ensures.turns c.totals.ensures.filters

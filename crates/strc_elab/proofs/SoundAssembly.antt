@@ -15,7 +15,8 @@ use Rattle.strc_stream.specs.Types.{output_of}
 use Rattle.strc_scope.specs.declared.error.ElabError.TheVariants as refused
 use Rattle.strc_elab.specs.Elaboration.{Progress, Elaborated, as_written}
 use Rattle.strc_declarations.specs.Written.{is_as_written}
-use Rattle.strc_elab.specs.Elaboration.{pipeline_made, splitjoin_made, loop_made, composite_made}
+use Rattle.strc_elab.specs.Elaboration.{pipeline_assembly, splitjoin_assembly, loop_assembly}
+use Rattle.strc_elab.specs.Elaboration.{composite_assembly}
 use Rattle.strc_weights.specs.Sides.{last_given, inputs_in, outputs_in, any_side}
 use Rattle.strc_elab.specs.Sound.{IsInstance}
 use Rattle.strc_weights.specs.Weights.{Split, weighted, split_dealt, join_dealt, input_written}
@@ -45,20 +46,21 @@ abbrev pub IsSound : CompositeKind → Progress → Type 0
 IsSound kind progress = AreParts kind progress.kind progress.children progress.types progress.body
     progress.loop
 
-abbrev pub IsSoundlyMade : Elaborated → Type 0
-IsSoundlyMade made = IsSoundStream made.stream made.types
+abbrev pub IsSoundlyElaborated : Elaborated → Type 0
+IsSoundlyElaborated elaborated = IsSoundStream elaborated.stream elaborated.types
 
 written_sound : (declaration : ℕ) (written : Option StreamType) (found : StreamType)
     (stream : Stream) (progress : Progress) → IsSoundStream stream found
-    → IfOk (as_written declaration written found stream progress) IsSoundlyMade
+    → IfOk (as_written declaration written found stream progress) IsSoundlyElaborated
 written_sound declaration written found stream progress sound =
-    kept_holds (is_as_written written found) (refused.TypeMismatch declaration) _ IsSoundlyMade
+    kept_holds (is_as_written written found) (refused.TypeMismatch declaration) _
+    IsSoundlyElaborated
     (λ e. sound)
 
 -- pipelines
 pipeline_sound : (declaration : ℕ) (written : Option StreamType) (types : List StreamType)
     (progress : Progress) → AreSound progress.children types → InARow types
-    → IfOk (pipeline_made declaration written types progress) IsSoundlyMade
+    → IfOk (pipeline_assembly declaration written types progress) IsSoundlyElaborated
 pipeline_sound declaration written [] progress sound row = tt
 pipeline_sound declaration written (first ∷ rest) progress sound row =
     written_sound declaration written found (instance.Pipeline (in_a_row progress.children))
@@ -97,14 +99,14 @@ joiner_instance (Some joiner) = (tt, tt)
 splitjoin_sound : (declaration : ℕ) (written : Option StreamType) (types : List StreamType)
     (split : Option Split) (join : Option (List ℤ)) (progress : Progress)
     → AreSound progress.children progress.types → types ≡ progress.types
-    → IfOk (splitjoin_made declaration written types split join progress) IsSoundlyMade
+    → IfOk (splitjoin_assembly declaration written types split join progress) IsSoundlyElaborated
 splitjoin_sound declaration written [] split join progress sound is = tt
 splitjoin_sound declaration written (first ∷ rest) None join progress sound is = tt
 splitjoin_sound declaration written (first ∷ rest) (Some split) None progress sound is = tt
 splitjoin_sound declaration written (first ∷ rest) (Some split) (Some join) progress sound is =
-    then_known (split_dealt declaration split (inputs_in progress.types)) _ IsSoundlyMade
+    then_known (split_dealt declaration split (inputs_in progress.types)) _ IsSoundlyElaborated
     (λ splitter splits.
-    then_known (join_dealt declaration join (outputs_in progress.types)) _ IsSoundlyMade
+    then_known (join_dealt declaration join (outputs_in progress.types)) _ IsSoundlyElaborated
     (λ joiner joins.
     written_sound declaration written (record {
       input = any_side (inputs_in progress.types);
@@ -146,15 +148,17 @@ splitjoin_sound declaration written (first ∷ rest) (Some split) (Some join) pr
 loop_sound : (declaration : ℕ) (written : Option StreamType) (join : Option (List ℤ))
     (body : Option Stream) (split : Option Split) (loop : Option Stream) (progress : Progress)
     → IsPart body → IsPart loop
-    → IfOk (loop_made declaration written join body split loop progress) IsSoundlyMade
+    → IfOk (loop_assembly declaration written join body split loop progress) IsSoundlyElaborated
 loop_sound declaration written None body split loop progress held back = tt
 loop_sound declaration written (Some join) None split loop progress held back = tt
 loop_sound declaration written (Some join) (Some body) None loop progress held back = tt
 loop_sound declaration written (Some join) (Some body) (Some split) None progress held back = tt
 loop_sound declaration written (Some join) (Some body) (Some split) (Some loop) progress held back =
-    then_known (weighted declaration (loop_weights (input_written written) join)) _ IsSoundlyMade
+    then_known (weighted declaration (loop_weights (input_written written) join)) _
+    IsSoundlyElaborated
     (λ joiner joins.
-    then_known (weighted declaration (loop_splitter (output_written written) split)) _ IsSoundlyMade
+    then_known (weighted declaration (loop_splitter (output_written written) split)) _
+    IsSoundlyElaborated
     (λ splitter splits.
     let stream = instance.FeedbackLoop joiner body splitter loop progress.enqueued in
     written_sound declaration written
@@ -182,7 +186,7 @@ loop_sound declaration written (Some join) (Some body) (Some split) (Some loop) 
 -- whatever kind it is
 pub composite_sound : (kind : CompositeKind) (declaration : ℕ) (written : Option StreamType)
     (progress : Progress) → IsSound kind progress
-    → IfOk (composite_made kind declaration written progress) IsSoundlyMade
+    → IfOk (composite_assembly kind declaration written progress) IsSoundlyElaborated
 composite_sound composite.Pipeline declaration written progress sound =
     pipeline_sound declaration written progress.types progress sound.children (sound.row refl)
 composite_sound composite.Splitjoin declaration written progress sound =

@@ -11,7 +11,7 @@ use Rattle.strc_weights.specs.Weights.{output_written}
 use Rattle.strc_elab.proofs.Composites.{loop_starts, joiner_refused, splitter_refused}
 use Rattle.strc_elab.proofs.Composites.{types_refused}
 use Rattle.strc_weights.proofs.Refusals.{refused_same}
-use Rattle.strc_elab.proofs.task.Task.loop_made.Goals as goal
+use Rattle.strc_elab.proofs.task.Task.loop_assembly.Goals as goal
 
 pub returns-in_err-joiner-in-Some-Some : goal.returns-in_err-joiner-in-Some-Some
 returns-in_err-joiner-in-Some-Some c =

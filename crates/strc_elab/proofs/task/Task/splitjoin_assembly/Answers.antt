@@ -6,7 +6,7 @@ use Rattle.strc_elab.specs.Elaboration as spec
 use Rattle.strc_weights.specs.Sides.{inputs_in, outputs_in, any_side}
 use Rattle.strc_weights.specs.Weights.{split_dealt, join_dealt}
 use Rattle.strc_elab.proofs.Composites.{splitjoin_done}
-use Rattle.strc_elab.proofs.task.Task.splitjoin_made.Goals as goal
+use Rattle.strc_elab.proofs.task.Task.splitjoin_assembly.Goals as goal
 
 pub returns-then-is_as_written : goal.returns-then-is_as_written
 returns-then-is_as_written c =

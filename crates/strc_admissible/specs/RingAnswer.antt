@@ -8,7 +8,7 @@ use Rattle.strc_semantics.specs.declared.word.Word.{Word}
 use Rattle.strc_graph.specs.Graphs.{NodeCode, Graph}
 use Rattle.strc_graph.specs.FlatGraphs.{IsProgram}
 use Rattle.strc_graph.specs.Meaning.{node_meaning}
-use Rattle.strc_order.specs.Order.{tally}
+use Rattle.strc_order.specs.Order.{firing_count}
 use Rattle.strc_order.specs.Schedules.{ScheduleParts}
 use Rattle.strc_admissible.specs.Circuits.{IsCircuit, IsFirst}
 use Rattle.strc_admissible.specs.Laws.{startup_order, round_order, counts_at}
@@ -38,8 +38,9 @@ abbrev pub IsAnswered : trees.Stream NodeCode → ScheduleParts → (input : Lis
     → (count : ℕ) → Ending → Type 0
 IsAnswered tree schedule input rounds count ending =
     (outcome : Outcome Cause Word)
-    × IsAnswer node_meaning tree input (tally (startup_order schedule))
-    (tally (round_order schedule)) (startup_order schedule) (round_order schedule) rounds outcome
+    × IsAnswer node_meaning tree input (firing_count (startup_order schedule))
+    (firing_count (round_order schedule)) (startup_order schedule) (round_order schedule) rounds
+    outcome
     × Tells count outcome ending
 
 -- the machine over rings, each as large as the schedule says, gives the answer

@@ -15,7 +15,7 @@ use Rattle.strc_graph.specs.Rates.{window_at, pops_at, pushes_at, rate_at_0}
 use Rattle.strc_balance.specs.Balance.{count_at}
 use Rattle.strc_balance.specs.Rates.{fires_by_rounds, pops_by_work, equation_of, IsRated}
 use Rattle.strc_startup.specs.Rates.{has_prework, first_count, rates_of_channel}
-use Rattle.strc_order.specs.Rounds.{IsSettled, PrimedCountsSettle}
+use Rattle.strc_order.specs.Rounds.{IsPastPrework, PrimedCountsArePastPrework}
 
 -- where there is no prework, its rates are those of work
 no_rates : (members : List tree.Member) → is_some (prework_block members) ≡ false
@@ -79,9 +79,9 @@ first_found [] node = refl
 first_found (first ∷ rest) zero = refl
 first_found (first ∷ rest) (suc node) = first_found rest node
 
-begun : (node : NodeCode) (count : ℕ) → first_count node ≤ count → has_prework node ≡ true
+has_fired : (node : NodeCode) (count : ℕ) → first_count node ≤ count → has_prework node ≡ true
     → 0 < count
-begun node count least has =
+has_fired node count least has =
     let one : first_count node ≡ 1 = ap (λ t. cond t 1 0) has in
     omega (arith, one, least)
 
@@ -94,14 +94,14 @@ rounds_none node port true is some =
 
 source_node : (node : NodeCode) (port count : ℕ) (prework : Bool) → has_prework node ≡ prework
     → first_count node ≤ count → (0 < count) ⊎ (pushes_at node 0 port ≡ pushes_at node 1 port)
-source_node node port count true has least = inl (begun node count least has)
+source_node node port count true has least = inl (has_fired node count least has)
 source_node node port count false none least = inr (pushes_alike node port none)
 
 target_node : (node : NodeCode) (port count : ℕ) (prework : Bool) → has_prework node ≡ prework
     → first_count node ≤ count → fires_by_rounds node ≡ false
     → (0 < count) ⊎ ((pops_at node 0 port ≡ pops_at node 1 port)
     × (window_at node 0 port ≡ window_at node 1 port))
-target_node node port count true has least each = inl (begun node count least has)
+target_node node port count true has least each = inl (has_fired node count least has)
 target_node node port count false none least each =
     inr (pops_alike node port none each, windows_alike node port none)
 
@@ -125,11 +125,11 @@ target_found (Some node) port count least some =
     target_node node port count (has_prework node) refl least
     (rounds_none node port (fires_by_rounds node) refl some)
 
-channel_settled : (nodes : List NodeCode) (channel : Channel) (counts : List ℕ)
+channel_past_prework : (nodes : List NodeCode) (channel : Channel) (counts : List ℕ)
     → ((node : ℕ) → count_at (map first_count nodes) node ≤ count_at counts node)
     → IsRated (equation_of nodes channel)
-    → IsSettled (count_at counts) (rates_of_channel nodes channel)
-channel_settled nodes channel counts least rated =
+    → IsPastPrework (count_at counts) (rates_of_channel nodes channel)
+channel_past_prework nodes channel counts least rated =
     let from = channel.source in
     let to = channel.target in
     let first : (node : ℕ) → option_map_or first_count (slice_get nodes node) 0
@@ -142,8 +142,8 @@ channel_settled nodes channel counts least rated =
           (first to.node) rated.pop;
     }
 
-pub all_settle : PrimedCountsSettle
-all_settle graph counts rated primed k d within =
+pub all_past_prework : PrimedCountsArePastPrework
+all_past_prework graph counts rated primed k d within =
     let own = rates_of_channel graph.nodes in
     let short : k < length graph.channels = omega (arith, within, length-map graph.channels own) in
     let channel = get_or graph.channels k nowhere in
@@ -155,8 +155,8 @@ all_settle graph counts rated primed k d within =
       short,
       length-map graph.channels (equation_of graph.nodes),
     ))) in
-    subst (IsSettled (count_at counts)) (sym (get_or-map own graph.channels k nowhere d short))
-    (channel_settled graph.nodes channel counts primed.begun even)
+    subst (IsPastPrework (count_at counts)) (sym (get_or-map own graph.channels k nowhere d short))
+    (channel_past_prework graph.nodes channel counts primed.past_prework even)
   where
     nowhere : Channel
     nowhere = record {

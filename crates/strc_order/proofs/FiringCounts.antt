@@ -4,7 +4,7 @@ use Rattle.std.proofs.Common.{[], ◌∷◌, ◌++◌, replicate, inl, inr, arit
 use Rattle.std.proofs.lemmas.Bool.{cases_eq}
 use mathlib.Core.Path.{fun_ext}
 use Rattle.strc_order.specs.Firings.{Firings, turns_of, fired}
-use Rattle.strc_order.specs.Order.{tally, after, repeated}
+use Rattle.strc_order.specs.Order.{firing_count, after, repeated}
 
 pub turns_same : (turns node other : ℕ) → other ≡ node → turns_of turns node other ≡ turns
 turns_same turns node other same = ap (λ t. cond t turns 0) (eq-eqb other node same)
@@ -49,14 +49,15 @@ pub fired_fired : (counts : Firings) (a b node : ℕ)
     → fired (fired counts a node) b node ≡ fired counts (a + b) node
 fired_fired counts a b node = fun_ext (λ other. omega (arith, turns_add a b node other))
 
-pub tally_append : (a b : List ℕ) (node : ℕ) → tally (a ++ b) node ≡ tally a node + tally b node
-tally_append [] b node = omega arith
-tally_append (first ∷ a) b node = omega (arith, tally_append a b node)
+pub firing_count_append : (a b : List ℕ) (node : ℕ) → firing_count (a ++ b) node
+    ≡ firing_count a node + firing_count b node
+firing_count_append [] b node = omega arith
+firing_count_append (first ∷ a) b node = omega (arith, firing_count_append a b node)
 
 -- after an order, and after another one
 pub after_append : (counts : Firings) (a b : List ℕ)
     → after counts (a ++ b) ≡ after (after counts a) b
-after_append counts a b = fun_ext (λ node. omega (arith, tally_append a b node))
+after_append counts a b = fun_ext (λ node. omega (arith, firing_count_append a b node))
 
 pub after_cons : (counts : Firings) (node : ℕ) (order : List ℕ)
     → after counts (node ∷ order) ≡ after (fired counts 1 node) order
@@ -69,15 +70,16 @@ pub repeated_single : (turns node : ℕ) → repeated turns (node ∷ []) ≡ re
 repeated_single zero node = refl
 repeated_single (suc turns) node = ap (λ l. node ∷ l) (repeated_single turns node)
 
-pub tally_repeated : (turns node other : ℕ)
-    → tally (repeated turns (node ∷ [])) other ≡ turns_of turns node other
-tally_repeated zero node other = sym (turns_none node other)
-tally_repeated (suc turns) node other =
+pub firing_count_repeated : (turns node other : ℕ)
+    → firing_count (repeated turns (node ∷ [])) other ≡ turns_of turns node other
+firing_count_repeated zero node other = sym (turns_none node other)
+firing_count_repeated (suc turns) node other =
     let more = turns_add 1 turns node other in
     let same = ap (λ n. turns_of n node other) (one_more turns) in
-    omega (arith, more, same, tally_repeated turns node other)
+    omega (arith, more, same, firing_count_repeated turns node other)
 
 -- after a unit with a single node
 pub after_repeated : (counts : Firings) (turns node : ℕ)
     → after counts (repeated turns (node ∷ [])) ≡ fired counts turns node
-after_repeated counts turns node = fun_ext (λ other. omega (arith, tally_repeated turns node other))
+after_repeated counts turns node =
+    fun_ext (λ other. omega (arith, firing_count_repeated turns node other))
