@@ -1,7 +1,8 @@
 -- The bodies of streams in a text, by the numbers of its tokens.
 use Rattle.std.specs.Prelude.{◌≡◌, ℕ, ◌<◌, ◌≤◌, length, List, All, ⊤, Option, Some, None}
 use Rattle.strc_lex.specs.declared.token.Keyword.{Keyword}
-use Rattle.strc_lex.specs.declared.token.Keyword.TheVariants.{Filter, Pipeline, Splitjoin, Feedbackloop}
+use Rattle.strc_lex.specs.declared.token.Keyword.TheVariants.{Filter, Pipeline, Splitjoin}
+use Rattle.strc_lex.specs.declared.token.Keyword.TheVariants.{Feedbackloop}
 use Rattle.strc_lex.specs.declared.token.Token.{Token}
 use Rattle.strc_lex.specs.declared.token.TokenKind.{TokenKind}
 use Rattle.strc_lex.specs.declared.token.TokenKind.TheVariants as kinds
