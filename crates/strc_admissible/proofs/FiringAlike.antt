@@ -19,7 +19,7 @@ use Rattle.strc_graph.proofs.Quiet.{node_quiet}
 use Rattle.strc_admissible.specs.Circuits.{IsCircuit}
 use Rattle.strc_admissible.specs.Fits.{Queues, FitNow, FitThen}
 use Rattle.strc_admissible.specs.Machine as machines
-use Rattle.strc_admissible.specs.Machine.{CircuitView, MachineView, step_at, next_step, one_more}
+use Rattle.strc_admissible.specs.Machine.{CircuitView, MachineView, step_at, next_step}
 use Rattle.strc_admissible.specs.Machine.{after_step}
 use Rattle.strc_admissible.specs.Rings.{Ring, items_at}
 use Rattle.strc_admissible.specs.Steps as steps

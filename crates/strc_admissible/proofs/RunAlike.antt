@@ -25,7 +25,7 @@ use Rattle.strc_order.proofs.FiringCounts.{turns_same}
 use Rattle.strc_admissible.specs.Circuits.{IsCircuit, IsFirst}
 use Rattle.strc_admissible.specs.Fits.{Queues, FitNow, FitThen, Fit}
 use Rattle.strc_admissible.specs.Machine as machines
-use Rattle.strc_admissible.specs.Machine.{CircuitView, MachineView, Ending, next_step, after_step}
+use Rattle.strc_admissible.specs.Machine.{CircuitView, MachineView, next_step, after_step}
 use Rattle.strc_admissible.specs.Machine.{then_go, order_run, after_round, rounds_run}
 use Rattle.strc_admissible.specs.Machine.{after_startup, whole_run}
 use Rattle.strc_admissible.specs.RingAnswer.{words_below, Tells}

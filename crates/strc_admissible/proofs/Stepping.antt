@@ -29,7 +29,6 @@ use Rattle.strc_graph.proofs.Firings.{fired_within_window}
 use Rattle.strc_admissible.specs.Rings.{Ring, at_port, items_at, gathered_in}
 use Rattle.strc_admissible.specs.Steps as steps
 use Rattle.strc_admissible.specs.Steps.{Step, if_found, filter_after, look_by, finds_weights}
-use Rattle.strc_admissible.specs.Steps.{node_step}
 use Rattle.strc_admissible.proofs.Changes.{ArePlaced, Moves}
 use Rattle.strc_admissible.proofs.Changes.{one_passes}
 use Rattle.strc_admissible.proofs.Dealing.{rate_elsewhere, list_elsewhere, piece}

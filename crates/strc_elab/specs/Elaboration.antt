@@ -2,15 +2,12 @@
 -- up to the first rule that is broken (StreamIt specification 2.1, "Streams", "Pipelines",
 -- "Split-joins", "Feedback loops").
 use Rattle.std.specs.Prelude.{ℕ, zero, suc, ◌+◌, ℤ, pos, Bool, true, false, ◌&&◌, not, nat_lt}
-use Rattle.std.specs.Prelude.{nat_eq, List, [], ◌∷◌, ◌++◌, length, map, Option, Some, None}
+use Rattle.std.specs.Prelude.{nat_eq, List, [], ◌∷◌, ◌++◌, length, Option, Some, None}
 use Rattle.std.specs.Prelude.{unwrap_or}
 use Rattle.std.specs.Prelude.{Result, Ok, Err, if◌then◌else◌}
-use Rattle.std.specs.List.{list_any}
-use Rattle.std.specs.Cmp.Lexicographic.{pointwise}
 use Rattle.strc_base.specs.Results.{result_and_then}
 use Rattle.strc_syntax.specs.Tree as tree
 use Rattle.strc_syntax.specs.Tree.{Declaration}
-use Rattle.strc_syntax.specs.declared.tree.ItemType.{ItemType}
 use Rattle.strc_syntax.specs.declared.tree.ItemType.TheVariants as item
 use Rattle.strc_syntax.specs.declared.tree.StreamType.{StreamType}
 use Rattle.strc_syntax.specs.declared.tree.CompositeKind.{CompositeKind}
@@ -36,7 +33,7 @@ use Rattle.strc_weights.specs.Sides.{passes_items, last_given, inputs_in}
 use Rattle.strc_weights.specs.Sides.{outputs_in, any_side}
 use Rattle.strc_stream.specs.Instances.{Stream, in_a_row}
 use Rattle.strc_stream.specs.Instances as instance
-use Rattle.strc_stream.specs.Types.{side, is_int, input_of, output_of}
+use Rattle.strc_stream.specs.Types.{input_of, output_of}
 use Rattle.strc_scope.specs.Texts.{Constants, Place, Text, FilterText, CompositeText, IdentityText}
 use Rattle.strc_scope.specs.Texts.{ReaderText, WriterText, anonymous, text_of, parameters_of}
 use Rattle.strc_scope.specs.Texts.{is_doubled, declared_from, captures}

@@ -10,7 +10,7 @@ use Rattle.strc_syntax.specs.Tree as tree
 use Rattle.strc_semantics.specs.Filters.{prework_block, prework_rates, work_rates}
 use Rattle.strc_semantics.specs.Filters.{push_rate, pop_rate, item_count, window_size}
 use Rattle.strc_graph.specs.Graphs as graphs
-use Rattle.strc_graph.specs.Graphs.{NodeCode, Channel, Graph}
+use Rattle.strc_graph.specs.Graphs.{NodeCode, Channel}
 use Rattle.strc_graph.specs.Rates.{window_at, pops_at, pushes_at, rate_at_0}
 use Rattle.strc_balance.specs.Balance.{count_at}
 use Rattle.strc_balance.specs.Rates.{fires_by_rounds, pops_by_work, equation_of, IsRated}

@@ -1,6 +1,6 @@
 -- A loop that goes on while there is a separator, beside the definition's loop of at most so many
 -- turns.
-use Rattle.std.proofs.Common.{◌≡◌, ℕ, ◌+◌, ◌-◌, ◌<◌, ◌≤◌, true, List, [], ◌∷◌, length, max, zero}
+use Rattle.std.proofs.Common.{◌≡◌, ℕ, ◌-◌, ◌<◌, ◌≤◌, true, List, [], ◌∷◌, length, max, zero}
 use Rattle.std.proofs.Common.{suc, ◌∙◌, Option, Some, None, Result, Ok, Err, refl, ap, inl, inr}
 use Rattle.std.proofs.Common.{arith}
 use Rattle.std.proofs.lemmas.Bool.{cases_Bool}

@@ -1,9 +1,9 @@
-use Rattle.std.proofs.Common.{◌≡◌, ◌∙◌, length, map, All, ap, sym, subst, IfOk}
+use Rattle.std.proofs.Common.{◌≡◌, ◌∙◌, length, All, sym, subst, IfOk}
 use Rattle.std.proofs.lemmas.List.{length-map}
-use Rattle.strc_graph.specs.NodeView.{graph_view, node_view, channel_view}
+use Rattle.strc_graph.specs.NodeView.{graph_view, node_view}
 use Rattle.strc_balance.specs.Balance.{HasRates}
-use Rattle.strc_balance.specs.Rates.{equation_of, equations_of, size_of}
-use Rattle.strc_balance.specs.Verdicts.{IsVerdict, judged}
+use Rattle.strc_balance.specs.Rates.{equations_of, size_of}
+use Rattle.strc_balance.specs.Verdicts.{judged}
 use Rattle.strc_balance.proofs.Judging.{judged-least, judged-size, judged-large}
 use Rattle.strc_balance.proofs.Judging.{judged-inconsistent}
 use Rattle.strc_balance.proofs.Rated.{graph_rates}

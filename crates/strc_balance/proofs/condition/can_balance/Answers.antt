@@ -1,9 +1,8 @@
-use Rattle.std.proofs.Common.{◌≡◌, ◌∙◌, ◌↔◌, true, length, map, All, IfOk, ap, sym, subst, rules}
+use Rattle.std.proofs.Common.{◌∙◌, ◌↔◌, true, length, All, IfOk, sym, subst, rules}
 use Rattle.std.specs.Prelude.{IsTrue}
-use Rattle.std.proofs.lemmas.List.{length-map}
-use Rattle.strc_graph.specs.NodeView.{graph_view, node_view, channel_view}
+use Rattle.strc_graph.specs.NodeView.{graph_view}
 use Rattle.strc_balance.specs.Balance.{HasRates, AreConnected}
-use Rattle.strc_balance.specs.Rates.{IsRated, equation_of, equations_of, size_of}
+use Rattle.strc_balance.specs.Rates.{IsRated, equations_of, size_of}
 use Rattle.strc_balance.proofs.Channels.{can_be}
 use Rattle.strc_balance.proofs.Rated.{graph_rates}
 use Rattle.strc_balance.proofs.GraphViews.{same_size, same_equations}

@@ -1,10 +1,10 @@
-use Rattle.std.proofs.Common.{◌≡◌, ◌+◌, ◌-◌, ◌<◌, ◌≤◌, Some, length, refl, sym, arith, rules}
+use Rattle.std.proofs.Common.{◌≡◌, ◌-◌, ◌<◌, Some, length, refl, arith, rules}
 use Rattle.strc_syntax.specs.View.{expr_view}
 use Rattle.strc_grammar.specs.Grammar.{kinds}
 use Rattle.strc_grammar.specs.Reading.{expression, operator}
 use Rattle.strc_syntax.specs.Tree as tree
 use Rattle.std.proofs.lemmas.Result.{err_from_is_err_and}
-use Rattle.strc_rules.proofs.Loops.{chains_on, chains_to, chain_fails, chain_rises}
+use Rattle.strc_rules.proofs.Loops.{chains_on, chain_fails, chain_rises}
 use Rattle.strc_rules.proofs.Loops.{expression_within, past_operator}
 use Rattle.strc_rules.proofs.expression.ExpressionRules.chain.Goals as goal
 
