@@ -18,6 +18,7 @@ use Rattle.strc_semantics.specs.Firing.{Port, Store, item_ahead, value_of}
 use Rattle.strc_interval.specs.Constant.{constant}
 use Rattle.strc_interval.specs.Loops.{expr_writes}
 use Rattle.strc_peeks.specs.Counts.{saturated, branch_counts, needed, need_of, expr_counts}
+use Rattle.strc_peeks.specs.declared.counts.TheConstants.{COUNT_LIMIT}
 use Rattle.strc_interval.specs.declared.interval.Interval.{Interval}
 use Rattle.strc_interval.specs.Intervals.{Intervals, interval_of}
 use Rattle.strc_peeks.specs.Peeks.{Closed, Outside, Open, PopInterval, pops_of, advance, sight_at}
@@ -36,7 +37,7 @@ use Rattle.strc_peeks.proofs.Readiness.{ready_value}
 
 -- a firing may look at so many items, and they are there
 pub record IsWhole (window : ℕ) (port : Port) : Type 0 where
-  pub small : window ≤ 65536
+  pub small : window < COUNT_LIMIT
   pub ahead : window ≤ length port.ahead
 
 item_there : {A : Type 0} (items : List A) (place : ℕ) → place < length items
@@ -59,7 +60,7 @@ closed_by false false e = absurd (cc)
 -- the place of an item in the window
 place_within : (low high : ℤ) (n p most count window : ℕ) → pos 0 ≤ℤ low
     → (high +ℤ pos (saturated (most + count))) <ℤ pos window → low ≤ℤ pos n → pos n ≤ℤ high
-    → saturated p ≤ most → window ≤ 65536 → p + n < window
+    → saturated p ≤ most → window < COUNT_LIMIT → p + n < window
 place_within low high n p most count window a b c d e f =
     let all : n + saturated (most + count) < window = omega (arith, ints) in
     omega arith

@@ -1,10 +1,11 @@
 -- What is known of a text, as laws about all its runs.
-use Rattle.std.specs.Prelude.{◌≡◌, ℕ, ◌≤◌, true, [], length, map, IfOk, IfSome, is_some}
+use Rattle.std.specs.Prelude.{◌≡◌, ℕ, ◌<◌, ◌≤◌, true, [], length, map, IfOk, IfSome, is_some}
 use Rattle.strc_syntax.specs.Tree as tree
 use Rattle.strc_semantics.specs.Scoping.{Scope}
 use Rattle.strc_semantics.specs.Closed.{AreClosed}
 use Rattle.strc_semantics.specs.Firing.{Port, Store, no_traffic, stmts_done}
 use Rattle.strc_peeks.specs.Counts.{saturated, stmts_counts}
+use Rattle.strc_peeks.specs.declared.counts.TheConstants.{COUNT_LIMIT}
 use Rattle.strc_peeks.specs.Entries.{peeks_of}
 use Rattle.strc_peeks.specs.Peeks.{is_closed, body_sights}
 use Rattle.strc_peeks.specs.Safe.{StmtsAreSafe}
@@ -27,6 +28,6 @@ EachPeekHasAnEntry = (window : ℕ) (block : tree.Stmts)
 -- item of each peek whose entry is closed
 abbrev pub ClosedPeeksFindItems : Type 0
 ClosedPeeksFindItems = (window : ℕ) (port : Port) (block : tree.Stmts) (names : Scope)
-    (store : Store) → window ≤ 65536 → window ≤ length port.ahead → AreClosed names block
+    (store : Store) → window < COUNT_LIMIT → window ≤ length port.ahead → AreClosed names block
     → is_some (stmts_counts [] block) ≡ true → store.traffic ≡ no_traffic
     → StmtsAreSafe port (map is_closed (body_sights window block)) 0 block store

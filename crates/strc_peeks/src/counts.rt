@@ -7,8 +7,8 @@ ghost use Rattle.strc_peeks.specs.Counts as spec;
 use strc_interval::constant::constant;
 use strc_syntax::tree::{BinaryOperator, Expr};
 
-// From here on a count is saturated.
-const COUNT_LIMIT: u32 = 65537;
+/// From here on a count is saturated.
+pub const COUNT_LIMIT: u32 = 65537;
 
 /// So many items, each number saturated at 65,537.
 #[derive(Clone, Copy, PartialEq, Eq)]

@@ -1,5 +1,6 @@
 -- Each peek of a filter whose rates are accepted has an entry, and each closed one finds its item.
-use Rattle.std.proofs.Common.{◌≡◌, refl, ap, ◌∙◌, ◌≤◌, true, List, [], length, take, reverse, arith}
+use Rattle.std.proofs.Common.{◌≡◌, refl, ap, ◌∙◌, ◌<◌, ◌≤◌, true, List, [], length, take, reverse}
+use Rattle.std.proofs.Common.{arith}
 use Rattle.std.specs.Prelude.{is_some}
 use Rattle.std.proofs.lemmas.List.{length-map, length-take-le}
 use Rattle.std.proofs.lemmas.Result.{IfOk-weaker}
@@ -11,6 +12,7 @@ use Rattle.strc_semantics.specs.Filters.{peek_rate, window_size}
 use Rattle.strc_semantics.specs.Closed.{AreClosed}
 use Rattle.strc_semantics.specs.Firing.{Port, Store, no_traffic, port_of, store_at}
 use Rattle.strc_peeks.specs.Counts.{stmts_counts}
+use Rattle.strc_peeks.specs.declared.counts.TheConstants.{COUNT_LIMIT}
 use Rattle.strc_peeks.specs.Entries.{peeks_of}
 use Rattle.strc_peeks.specs.Peeks.{is_closed, body_sights}
 use Rattle.strc_peeks.specs.Safe.{StmtsAreSafe}
@@ -26,7 +28,8 @@ RunsSafe rates block accepted =
     (port : Port) (store : Store) → window_size rates ≤ length port.ahead
     → store.traffic ≡ no_traffic → StmtsAreSafe port accepted.closed 0 block store
 
-small_window : (rates : List tree.Rate) → are_within_limit rates ≡ true → window_size rates ≤ 65536
+small_window : (rates : List tree.Rate) → are_within_limit rates ≡ true
+    → window_size rates < COUNT_LIMIT
 small_window rates limits =
     let rest = and_second (within_limit (push_rate rates)) _ limits in
     let pops = limited (pop_rate rates) (and_first (within_limit (pop_rate rates)) _ rest) in
