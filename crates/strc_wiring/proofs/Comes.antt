@@ -8,7 +8,7 @@ use Rattle.strc_dataflow.specs.Flat.{Source}
 use Rattle.strc_dataflow.specs.Streams.{delayed}
 use Rattle.strc_syntax.specs.declared.tree.ItemType.TheVariants as item
 use Rattle.strc_graph.specs.Graphs as graphs
-use Rattle.strc_graph.specs.Graphs.{Channel, NodeCode, SplitterCode, source_of, ports_of}
+use Rattle.strc_graph.specs.Graphs.{Channel, NodeCode, SplitterCode, source_of}
 use Rattle.strc_graph.specs.Carriers.{splitter_carries, carries_in, takes_at, gives_at}
 use Rattle.strc_graph.specs.Carriers.{JoinsCarriers}
 use Rattle.strc_stream.specs.Instances.{Streams}

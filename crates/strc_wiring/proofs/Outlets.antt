@@ -8,7 +8,7 @@ use Rattle.strc_dataflow.specs.Streams.{layout, pipeline_layout, branch_layout, 
 use Rattle.strc_dataflow.specs.Streams.{maybe_layout, chained_layout, beside_layout, nothing}
 use Rattle.strc_dataflow.specs.Streams.{fed_back_layout, source_at_0, prepend}
 use Rattle.strc_graph.specs.Graphs as graphs
-use Rattle.strc_graph.specs.Graphs.{NodeCode, SplitterCode}
+use Rattle.strc_graph.specs.Graphs.{SplitterCode}
 use Rattle.strc_stream.specs.Instances.{Stream, Streams, Filter, Identity, FileReader, FileWriter}
 use Rattle.strc_stream.specs.Instances.{Pipeline, SplitJoin, FeedbackLoop, Done, More}
 use Rattle.strc_stream.specs.Types.{IsWellTyped, AreWellTyped, AreEach, HasFirst}
