@@ -8,6 +8,9 @@ use strc_graph::rates::{pops_at, pushes_at};
 /// How often a node may fire in a round.
 const MOST: u128 = 1_000_000;
 
+/// Two numbers of 128 bits have their divisor after fewer steps.
+const MOST_STEPS: usize = 200;
+
 /// A firing that isn't the first one, so that it is by `work`.
 const LATER: u64 = 1;
 
@@ -115,7 +118,10 @@ fn multiple(one: u128, other: u128) -> u128 {
 fn divisor(one: u128, other: u128) -> u128 {
     let mut greater = one;
     let mut less = other;
-    while less != 0 {
+    for _step in 0..MOST_STEPS {
+        if less == 0 {
+            break;
+        }
         let rest = greater % less;
         greater = less;
         less = rest;
