@@ -7,22 +7,22 @@ use Rattle.strc_sched.proofs.block.pass_at_once.Goals as goal
 pub pass_between-requires-clause-from : goal.pass_between-requires-clause-from
 pass_between-requires-clause-from c =
     let circuit = circuit_view c.args.circuit.now in
-    let known = known_kind circuit c.args.batch.now (kind.Identity c.in-Identity.from c.in-Identity.to)
-    c.requires.batch c.in-Identity.is in
+    let known = known_kind circuit c.args.batch.now
+    (kind.Identity c.in-Identity.from c.in-Identity.to) c.requires.batch c.in-Identity.is in
     c.requires.inputs c.args.batch.now.node 0 c.in-Identity.from known.1
 
 pub pass_between-requires-clause-to : goal.pass_between-requires-clause-to
 pass_between-requires-clause-to c =
     let circuit = circuit_view c.args.circuit.now in
-    let known = known_kind circuit c.args.batch.now (kind.Identity c.in-Identity.from c.in-Identity.to)
-    c.requires.batch c.in-Identity.is in
+    let known = known_kind circuit c.args.batch.now
+    (kind.Identity c.in-Identity.from c.in-Identity.to) c.requires.batch c.in-Identity.is in
     c.requires.outputs c.args.batch.now.node 0 c.in-Identity.to known.2
 
 pub pass_between-requires-clause-apart : goal.pass_between-requires-clause-apart
 pass_between-requires-clause-apart c =
     let circuit = circuit_view c.args.circuit.now in
-    let known = known_kind circuit c.args.batch.now (kind.Identity c.in-Identity.from c.in-Identity.to)
-    c.requires.batch c.in-Identity.is in
+    let known = known_kind circuit c.args.batch.now
+    (kind.Identity c.in-Identity.from c.in-Identity.to) c.requires.batch c.in-Identity.is in
     known.3
 
 pub deal_at_once-requires-clause-apart : goal.deal_at_once-requires-clause-apart
@@ -37,8 +37,8 @@ returns-in-Identity-clause-passed c =
     let to = c.in-Identity.to in
     let known = known_kind circuit c.args.batch.now (kind.Identity from to) c.requires.batch
     c.in-Identity.is in
-    passed_between AllocError circuit c.args.batch.now from to c.args.rings.now c.pass_between.new.rings
-    c.pass_between.result c.requires.batch c.in-Identity.is
+    passed_between AllocError circuit c.args.batch.now from to c.args.rings.now
+    c.pass_between.new.rings c.pass_between.result c.requires.batch c.in-Identity.is
     (c.requires.inputs c.args.batch.now.node 0 from known.1)
     (c.requires.outputs c.args.batch.now.node 0 to known.2) c.pass_between.ensures.all
     c.pass_between.ensures.none
