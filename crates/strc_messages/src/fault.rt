@@ -3,13 +3,13 @@
 ghost use Rattle.std.specs.Prelude.{[], codes, IfOk};
 ghost use Rattle.strc_source.specs.Messages.{IsMessage};
 
-use crate::nodes::push_node;
 use crate::places::place_of_node;
 use crate::program::graph_of;
 use std::alloc::Global;
 use strc_base::memory::NoMemory;
 use strc_graph::graph::Graph;
 use strc_lex::lexer::lex;
+use strc_nodes::nodes::push_node;
 use strc_outcome::outcome::Round;
 use strc_outcome::refusal::RunRefusal;
 use strc_semantics::fault::Cause;

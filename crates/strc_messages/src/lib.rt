@@ -2,22 +2,19 @@
 // Gives what a person reads of it: the place in the file, one sentence, the source line with a
 // mark, and where it helps a hint.
 // Stands on strc_source, which finds places and builds messages, on strc_trial, which finds the
-// statement that a refusal is about, on strc_elab, strc_stream, strc_flatten and strc_graph, whose
-// nodes it names, and on strc_refusal and strc_outcome, whose refusals and rounds it tells of.
+// statement that a refusal is about, on strc_nodes, which finds the nodes that it is about, on
+// strc_elab, strc_stream, strc_flatten and strc_graph, which make these of a text, and on
+// strc_refusal and strc_outcome, whose refusals and rounds it tells of.
 #![tactic(auto)]
 
-mod counts;
 mod depth;
 pub mod fault;
 mod hints;
 mod moved;
-mod nodes;
 mod origin;
 mod pairs;
 mod parts;
 mod places;
-mod preorder;
 mod program;
 pub mod refusal;
 mod sentences;
-mod stuck;

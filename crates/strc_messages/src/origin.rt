@@ -1,11 +1,11 @@
 // The statement that a node comes from. It is found by asking: a text in which the statement makes
 // another node has that one in the node's place.
 
-use crate::preorder::preorder_of;
 use crate::program::stream_of;
 use std::alloc::Global;
 use strc_base::memory::NoMemory;
 use strc_lex::lexer::lex;
+use strc_nodes::preorder::preorder_of;
 use strc_source::added::{Added, added_at};
 use strc_source::message::Extent;
 use strc_source::source::Source;

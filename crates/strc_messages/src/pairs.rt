@@ -5,10 +5,10 @@ ghost use Rattle.std.specs.Prelude.{IfOk, IfSome};
 ghost use Rattle.strc_source.specs.Messages.{IsMessage};
 
 use crate::origin::origin_of;
-use crate::preorder::{Preorder, preorder_of};
 use crate::program::stream_of;
 use std::alloc::Global;
 use strc_base::memory::NoMemory;
+use strc_nodes::preorder::{Preorder, preorder_of};
 use strc_refusal::refusal::Refusal;
 use strc_source::declarations::{declaration_named, declaration_numbered, extent_of, print_of};
 use strc_source::message::{Extent, Message};

@@ -1,6 +1,5 @@
 // Which part of a text a refusal is about.
 
-use crate::counts::{large_channel, rates_of};
 use crate::depth::deepest_token;
 use crate::moved::{moved_of, place_of_rate};
 use crate::origin::origin_of;
@@ -8,6 +7,7 @@ use std::alloc::Global;
 use strc_base::memory::NoMemory;
 use strc_graph::graph::Graph;
 use strc_lex::token::Keyword;
+use strc_nodes::counts::{large_channel, rates_of};
 use strc_refusal::refusal::Refusal;
 use strc_source::declarations::{
     declaration_named, declaration_numbered, first_keyword, unused_declaration,

@@ -3,21 +3,21 @@
 ghost use Rattle.std.specs.Prelude.{IfOk};
 ghost use Rattle.strc_source.specs.Messages.{IsMessage};
 
-use crate::counts::large_channel;
 use crate::hints::push_hint;
 use crate::moved::{Moved, moved_of};
-use crate::nodes::{push_channel, push_node};
 use crate::pairs::pair_message;
 use crate::parts::{is_statement, push_part, refused_part};
 use crate::places::place_of_refusal;
 use crate::program::graph_of;
 use crate::sentences::plain_sentence;
-use crate::stuck::push_stuck_loop;
 use std::alloc::Global;
 use strc_base::memory::NoMemory;
 use strc_graph::graph::Graph;
 use strc_lex::lexer::lex;
 use strc_lex::token::Token;
+use strc_nodes::counts::large_channel;
+use strc_nodes::nodes::{push_channel, push_node};
+use strc_nodes::stuck::push_stuck_loop;
 use strc_refusal::refusal::Refusal;
 use strc_source::expected::{Expected, expected_after};
 use strc_source::message::{Extent, Message};

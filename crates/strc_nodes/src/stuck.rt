@@ -26,7 +26,7 @@ struct Trial<'a> {
 }
 
 /// Names the nodes of a loop whose joiner waits for items of the loop itself, where there is one.
-pub(crate) fn push_stuck_loop(
+pub fn push_stuck_loop(
     alloc: Global,
     message: &mut Message,
     graph: Option<&Graph>,

@@ -12,20 +12,20 @@ use strc_syntax::tree::ItemType;
 
 /// A node.
 #[derive(Drop)]
-pub(crate) struct Seen {
-    pub(crate) name: Vec<u8>,
+pub struct Seen {
+    pub name: Vec<u8>,
     /// Whether it takes the program's input.
-    pub(crate) reads: bool,
+    pub reads: bool,
     /// Whether it can write words.
-    pub(crate) prints: bool,
+    pub prints: bool,
     /// Whether it is the one that was put into a text.
-    pub(crate) is_sought: bool,
+    pub is_sought: bool,
 }
 
 /// The nodes of a stream, and pairs of them that a channel joins.
 #[derive(Drop)]
-pub(crate) struct Preorder {
-    pub(crate) nodes: Vec<Seen>,
+pub struct Preorder {
+    pub nodes: Vec<Seen>,
     links: Vec<(usize, usize)>,
 }
 
@@ -37,7 +37,7 @@ struct Ends {
 }
 
 /// The nodes of a stream.
-pub(crate) fn preorder_of(alloc: Global, stream: &Stream) -> Result<Preorder, NoMemory> {
+pub fn preorder_of(alloc: Global, stream: &Stream) -> Result<Preorder, NoMemory> {
     let mut order = Preorder {
         nodes: Vec::new(alloc),
         links: Vec::new(alloc),
@@ -234,7 +234,7 @@ impl Preorder {
     }
 
     /// Whether a node is the one that was put into a text.
-    pub(crate) fn is_sought(&self, node: usize) -> bool {
+    pub fn is_sought(&self, node: usize) -> bool {
         match self.nodes.get(node) {
             Some(seen) => seen.is_sought,
             None => false,
@@ -242,7 +242,7 @@ impl Preorder {
     }
 
     /// The first node that no channels join with node 0.
-    pub(crate) fn first_apart(&self, alloc: Global) -> Result<Option<usize>, NoMemory> {
+    pub fn first_apart(&self, alloc: Global) -> Result<Option<usize>, NoMemory> {
         let mut joined: Vec<bool> = Vec::from_elem(alloc, false, self.nodes.len())?;
         if let Some(first) = joined.get_mut(0) {
             *first = true;
@@ -256,7 +256,7 @@ impl Preorder {
     }
 
     /// A node's name and number.
-    pub(crate) fn push_name(&self, message: &mut Message, node: usize) -> Result<(), NoMemory> {
+    pub fn push_name(&self, message: &mut Message, node: usize) -> Result<(), NoMemory> {
         if let Some(seen) = self.nodes.get(node) {
             message.quoted(&seen.name)?;
             message.add(b" (")?;

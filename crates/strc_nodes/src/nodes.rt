@@ -9,7 +9,7 @@ use strc_source::message::Message;
 const LATER: u64 = 1;
 
 /// A node's name and number.
-pub(crate) fn push_node(
+pub fn push_node(
     message: &mut Message,
     graph: Option<&Graph>,
     node: usize,
@@ -27,7 +27,7 @@ pub(crate) fn push_node(
 }
 
 /// A channel with both its ends and their rates.
-pub(crate) fn push_channel(
+pub fn push_channel(
     message: &mut Message,
     graph: Option<&Graph>,
     channel: usize,

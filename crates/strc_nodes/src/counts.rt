@@ -1,12 +1,10 @@
 // The channel whose rates make a node fire too often in a round.
 
 use std::alloc::Global;
+use strc_balance::COUNT_LIMIT;
 use strc_base::memory::NoMemory;
 use strc_graph::graph::{Channel, Graph};
 use strc_graph::rates::{pops_at, pushes_at};
-
-/// How often a node may fire in a round.
-const MOST: u128 = 1_000_000;
 
 /// Two numbers of 128 bits have their divisor after fewer steps.
 const MOST_STEPS: usize = 200;
@@ -30,7 +28,7 @@ struct Given {
 }
 
 /// The channel at which the counts of a round become too large, going from node to node.
-pub(crate) fn large_channel(alloc: Global, graph: &Graph) -> Result<Option<usize>, NoMemory> {
+pub fn large_channel(alloc: Global, graph: &Graph) -> Result<Option<usize>, NoMemory> {
     let mut shares: Vec<Option<Share>> = Vec::from_elem(alloc, None, graph.nodes().len())?;
     if let Some(first) = shares.get_mut(0) {
         *first = Some(Share { top: 1, bottom: 1 });
@@ -55,7 +53,7 @@ pub(crate) fn large_channel(alloc: Global, graph: &Graph) -> Result<Option<usize
 /// Whether a node fires too often in so many firings of node 0.
 fn passes(shares: &[Option<Share>], rounds: u128) -> bool {
     shares.iter().any(|share| match share {
-        Some(share) => count(*share, rounds) > MOST,
+        Some(share) => count(*share, rounds) > COUNT_LIMIT,
         None => false,
     })
 }
@@ -89,7 +87,7 @@ fn given_by(graph: &Graph, shares: &[Option<Share>], channel: &Channel) -> Optio
 }
 
 /// What a channel's source pushes and what its target pops.
-pub(crate) fn rates_of(graph: &Graph, channel: &Channel) -> Option<(u128, u128)> {
+pub fn rates_of(graph: &Graph, channel: &Channel) -> Option<(u128, u128)> {
     let source = graph.nodes().get(channel.source.node as usize)?;
     let target = graph.nodes().get(channel.target.node as usize)?;
     Some((
