@@ -148,19 +148,20 @@ fn depth_after(kind: &TokenKind, depth: usize) -> usize {
     }
 }
 
-/// The first declared stream whose name is nowhere else.
+/// The last declared stream whose name is nowhere else.
 pub fn unused_declaration(tokens: &[Token]) -> Option<Extent> {
     if tokens.len() > MOST_TOKENS {
         return None;
     }
     let mut depth: usize = 0;
+    let mut found = None;
     for place in 0..tokens.len() {
         depth = depth_after(&tokens[place].kind, depth);
         if depth == 0 && is_declared(tokens, place) && is_single(tokens, &tokens[place]) {
-            return Some(extent_of(tokens[place].span));
+            found = Some(extent_of(tokens[place].span));
         }
     }
-    None
+    found
 }
 
 /// Whether no other token is the same name.
