@@ -9,7 +9,7 @@ use std::alloc::Global;
 use strc_base::memory::NoMemory;
 use strc_lex::lexer::lex;
 use strc_lex::token::{Keyword, Punctuation, Token};
-use strc_semantics::fault::Cause;
+use strc_semantics::fault::{Cause, TURN_LIMIT};
 use strc_source::declarations::is_keyword;
 use strc_source::message::Extent;
 use strc_source::rows::{is_mark, loop_before, row_of};
@@ -22,9 +22,6 @@ use strc_steps::statements::plain_end;
 /// A loop that makes so many turns in one body has most of the turns that a program may make while
 /// its streams are put together.
 const MOST_TURNS: usize = 600_000;
-
-/// How many turns a filter may make before it runs.
-const TURNS_OF_START: usize = 1_000_000;
 
 /// How many loops of filters are tried.
 const MOST: usize = 8;
@@ -189,7 +186,7 @@ fn push_turn(text: &mut Vec<u8>, turning: Loop, sought: Option<usize>) -> Result
     match sought {
         Some(open) if open == turning.open => {
             text.extend_from_slice(b" if (++strc_turn == ")?;
-            push_number(text, TURNS_OF_START)?;
+            push_number(text, TURN_LIMIT as usize)?;
             text.extend_from_slice(b") strc_turn = 1 / 0; ")?;
         }
         None if !turning.in_filter => {
