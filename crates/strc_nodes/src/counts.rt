@@ -1,5 +1,8 @@
 // The channel whose rates make a node fire too often in a round.
 
+ghost use Rattle.std.specs.Prelude.{◌<◌, IfOk, IfSome, length};
+ghost use Rattle.strc_graph.specs.NodeView.{graph_view};
+
 use std::alloc::Global;
 use strc_balance::COUNT_LIMIT;
 use strc_base::memory::NoMemory;
@@ -28,7 +31,10 @@ struct Given {
 }
 
 /// The channel at which the counts of a round become too large, going from node to node.
-pub fn large_channel(alloc: Global, graph: &Graph) -> Result<Option<usize>, NoMemory> {
+pub fn large_channel(alloc: Global, graph: &Graph) -> Result<Option<usize>, NoMemory>
+    ensures { IfOk result (λ found. IfSome found (λ channel. channel
+        < length (graph_view graph.now).channels)) }
+{
     let mut shares: Vec<Option<Share>> = Vec::from_elem(alloc, None, graph.nodes().len())?;
     if let Some(first) = shares.get_mut(0) {
         *first = Some(Share { top: 1, bottom: 1 });
@@ -63,9 +69,12 @@ fn count(share: Share, rounds: u128) -> u128 {
 }
 
 /// The lowest channel of which one end is known gives the other.
-fn next_given(graph: &Graph, shares: &[Option<Share>]) -> Option<Given> {
-    for (number, channel) in graph.channels().iter().enumerate() {
-        if let Some((node, share)) = given_by(graph, shares, channel) {
+fn next_given(graph: &Graph, shares: &[Option<Share>]) -> Option<Given>
+    ensures { IfSome result (λ given. given.channel < length (graph_view graph.now).channels) }
+{
+    let channels = graph.channels();
+    for number in 0..channels.len() {
+        if let Some((node, share)) = given_by(graph, shares, &channels[number]) {
             return Some(Given {
                 channel: number,
                 node,

@@ -1,6 +1,8 @@
 // The nodes of a program's stream in preorder, and which of them channels join. A program has them
 // also where its flat graph is refused.
 
+ghost use Rattle.std.specs.Prelude.{◌≡◌, ◌<◌, IfOk, IfSome, length};
+
 use std::alloc::Global;
 use strc_base::memory::NoMemory;
 use strc_graph::graph::Splitter;
@@ -138,6 +140,8 @@ fn gives_items(splitter: &Splitter) -> bool {
 }
 
 impl Preorder {
+    ghost use Rattle.std.specs.Prelude.{◌≡◌, ◌<◌, IfOk, IfSome, length};
+
     fn push(
         &mut self,
         alloc: Global,
@@ -242,7 +246,9 @@ impl Preorder {
     }
 
     /// The first node that no channels join with node 0.
-    pub fn first_apart(&self, alloc: Global) -> Result<Option<usize>, NoMemory> {
+    pub fn first_apart(&self, alloc: Global) -> Result<Option<usize>, NoMemory>
+        ensures { IfOk result (λ found. IfSome found (λ node. node < length self.now.nodes.items)) }
+    {
         let mut joined: Vec<bool> = Vec::from_elem(alloc, false, self.nodes.len())?;
         if let Some(first) = joined.get_mut(0) {
             *first = true;
@@ -275,7 +281,9 @@ fn has_sought_weight(weights: &[u32]) -> bool {
 }
 
 /// Joins what a channel joins with a joined node. Whether there was one.
-fn spread(joined: &mut Vec<bool>, links: &[(usize, usize)]) -> bool {
+fn spread(joined: &mut Vec<bool>, links: &[(usize, usize)]) -> bool
+    ensures { length joined.new.items ≡ length joined.old.items }
+{
     let mut changed = false;
     for (source, target) in links {
         let from = joined.get(*source).copied().unwrap_or(false);
