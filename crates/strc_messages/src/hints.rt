@@ -5,7 +5,7 @@ use std::alloc::Global;
 use strc_base::memory::NoMemory;
 use strc_lex::token::{Keyword, Punctuation, TokenKind};
 use strc_refusal::refusal::Refusal;
-use strc_source::declarations::{body_of, place_named};
+use strc_source::declarations::{body_of, extent_of, place_named};
 use strc_source::message::Message;
 use strc_source::nearest::nearest_name;
 use strc_source::rows::is_mark;
@@ -28,7 +28,7 @@ pub(crate) fn push_hint(
     }
     let own = part_hint(part);
     let hint = if own.is_empty() {
-        hint_of(source, refusal, is_statement(part))
+        hint_of(source, refusal, part)
     } else {
         own
     };
@@ -95,16 +95,16 @@ fn push_nearest(
 }
 
 /// How a refusal can be mended; nothing where the sentence says enough.
-fn hint_of(source: Source<'_>, refusal: &Refusal, in_statement: bool) -> &'static [u8] {
+fn hint_of(source: Source<'_>, refusal: &Refusal, part: Option<Part>) -> &'static [u8] {
     match refusal {
         Refusal::NoMain => b"the main stream is one like `void->void pipeline Main { .. }`",
         Refusal::BadWeights { .. } => {
             b"one weight for each child, from 0 to 65,536, and not all of them 0"
         }
-        Refusal::TypeMismatch { stream } => mismatch_hint(source, *stream, in_statement),
+        Refusal::TypeMismatch { stream } => mismatch_hint(source, *stream, part),
         Refusal::DepthLimit => b"a stream that adds itself needs a condition that ends it",
         Refusal::Nesting => b"a variable can hold a part of a long expression",
-        Refusal::ConstFault { .. } if !in_statement => {
+        Refusal::ConstFault { .. } if !is_statement(part) => {
             b"look at rates, lengths, initialisers, init, and the loops of composite streams"
         }
         _ => rate_hint(refusal),
@@ -112,15 +112,35 @@ fn hint_of(source: Source<'_>, refusal: &Refusal, in_statement: bool) -> &'stati
 }
 
 /// How a type, a kind or a part can be mended, in a filter and in another stream.
-fn mismatch_hint(source: Source<'_>, stream: usize, in_statement: bool) -> &'static [u8] {
+fn mismatch_hint(source: Source<'_>, stream: usize, part: Option<Part>) -> &'static [u8] {
     match body_of(source.tokens, stream) {
-        Some(body) if body.is_filter && in_statement => {
+        Some(body) if body.is_filter && declares(source, part) => {
+            b"a name is declared once in its block; numbers and truth values differ"
+        }
+        Some(body) if body.is_filter && is_statement(part) => {
             b"numbers and truth values differ; push, pop and peek need work and a side with items"
         }
         Some(body) if body.is_filter => {
             b"a filter has one work, at most one prework and one init, and no name twice"
         }
         _ => b"see what each child takes and gives, and that conditions are truth values",
+    }
+}
+
+/// Whether a part is a statement that begins with the type of a variable.
+fn declares(source: Source<'_>, part: Option<Part>) -> bool {
+    let Some(part) = part else {
+        return false;
+    };
+    source.tokens.iter().any(|token| {
+        extent_of(token.span).at == part.place.at && is_variable_type(&token.kind)
+    })
+}
+
+fn is_variable_type(kind: &TokenKind) -> bool {
+    match kind {
+        TokenKind::Keyword(Keyword::Int | Keyword::Boolean) => true,
+        _ => false,
     }
 }
 
