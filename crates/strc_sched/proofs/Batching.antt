@@ -1,8 +1,8 @@
 -- A batch for each unit, one after another.
-use Rattle.std.proofs.Common.{◌≡◌, refl, sym, ap, ◌∙◌, ℕ, zero, suc, ◌<◌, List, [], ◌∷◌, ◌++◌}
+use Rattle.std.proofs.Common.{◌≡◌, refl, sym, ap, ℕ, zero, suc, ◌<◌, List, [], ◌∷◌, ◌++◌}
 use Rattle.std.proofs.Common.{length, get_or, arith}
 use Rattle.std.proofs.Common.{subst, ◌≤◌, Bool, true, false, Ok}
-use Rattle.std.specs.Prelude.{Option, Some, slice_get}
+use Rattle.std.specs.Prelude.{Option, Some}
 use Rattle.std.proofs.lemmas.Option.{slice_get-get_or}
 use Rattle.strc_graph.specs.Graphs as graphs
 use Rattle.strc_graph.specs.Graphs.{NodeCode}
@@ -12,10 +12,11 @@ use Rattle.strc_admissible.specs.Rings.{Ring, items_at, moved}
 use Rattle.strc_admissible.specs.Wiring.{ports_at}
 use Rattle.strc_sched.specs.Blocks.{HasPassed, PassesOn}
 use Rattle.strc_sched.specs.Batches.{AreBatches, FitsKind, FitsUnit, IsBatch}
+use Rattle.strc_sched.specs.Identities.{KeepsNothing, PassesItems}
 use Rattle.strc_sched.specs.declared.batches.Kind.{Kind}
 use Rattle.strc_sched.specs.declared.batches.Kind.TheVariants as kinds
 use Rattle.strc_sched.proofs.Blocks.{identity_passes}
-use Rattle.strc_sched.proofs.TurnFirings.{passive_at}
+use Rattle.strc_sched.proofs.TurnFirings.{keeps_nothing}
 use Rattle.strc_sched.specs.declared.batches.Batch.{Batch}
 
 module _ (circuit : CircuitView) where
@@ -56,7 +57,19 @@ known_kind circuit batch kind is same =
     same
     (is.kind code (slice_get-get_or circuit.codes batch.node graphs.Identity is.node))
 
--- an identity passes its items on
+-- what passes its items on keeps nothing
+passing_keeps : (code : NodeCode) → PassesItems code → KeepsNothing code
+passing_keeps graphs.Identity passing = tt
+passing_keeps (graphs.Filter name filter) passing = passing.fields
+passing_keeps (graphs.FileReader text) passing = absurd passing
+passing_keeps (graphs.FileWriter text) passing = absurd passing
+passing_keeps (graphs.Splitter splitter) passing = absurd passing
+passing_keeps (graphs.Joiner weights) passing = absurd passing
+passing_keeps (graphs.Scatter fission) passing = absurd passing
+passing_keeps (graphs.Copy name filter fission) passing = absurd passing
+passing_keeps (graphs.Gather fission) passing = absurd passing
+
+-- what does what an identity does passes its items on
 pub passed_between : (E : Type 0) (circuit : CircuitView) (batch : Batch) (from to : ℕ)
     (before after : List Ring) (all : Bool) → IsBatch circuit batch
     → batch.kind ≡ kinds.Identity from to → from < length before → to < length before
@@ -66,12 +79,11 @@ pub passed_between : (E : Type 0) (circuit : CircuitView) (batch : Batch) (from 
     → HasPassed {E = E} circuit batch.node batch.turns (Ok all) before after
 passed_between E circuit batch from to before after true is same inner outer moves stays =
     let known = known_kind circuit batch (kinds.Identity from to) is same in
-    let here : slice_get circuit.codes batch.node ≡ Some graphs.Identity =
-    slice_get-get_or circuit.codes batch.node graphs.Identity is.node
-    ∙ ap (λ (code : NodeCode). Some code) known.0 in (
-      passive_at circuit batch.node graphs.Identity here tt,
+    let code = get_or circuit.codes batch.node graphs.Identity in
+    let here = slice_get-get_or circuit.codes batch.node graphs.Identity is.node in (
+      keeps_nothing circuit batch.node code here (passing_keeps code known.0),
       subst (PassesOn circuit batch.node batch.turns before) (sym (moves refl).1)
-          (identity_passes from to known.3 circuit batch.node batch.turns before here
+          (identity_passes from to known.3 circuit batch.node code batch.turns before here known.0
           known.1 known.2 inner outer (moves refl).0),
     )
 passed_between E circuit batch from to before after false is same inner outer moves stays =

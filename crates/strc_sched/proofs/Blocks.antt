@@ -17,10 +17,12 @@ use Rattle.strc_admissible.specs.Machine.{CircuitView, MachineView, Went, after_
 use Rattle.strc_admissible.specs.Machine.{next_step, order_run, then_go, one_more}
 use Rattle.strc_admissible.specs.Rings.{Ring, ring_at, at_port, items_at, shortened, extended}
 use Rattle.strc_admissible.specs.Rings.{moved}
-use Rattle.strc_admissible.specs.Steps.{Goes, if_found, identity_step, node_step}
+use Rattle.strc_admissible.specs.Steps.{Goes, if_found, filter_step, identity_step, node_step}
 use Rattle.strc_admissible.specs.Wiring.{ports_at}
 use Rattle.strc_sched.specs.Blocks.{PassesOn, times}
+use Rattle.strc_sched.specs.Identities.{PassesItems}
 use Rattle.strc_sched.proofs.Done.{fields_kept, step_of}
+use Rattle.strc_sched.proofs.Identities.{filter_passes}
 
 -- of an item and more of them as many join a list as there is room for
 joined_more : (front more : List ℤ) (item : ℤ) (room left : ℕ)
@@ -277,20 +279,53 @@ module _ (from to : ℕ) (apart : from ≢ to) where
     pub to_there : to < length rings
     pub enough : count ≤ length (items_at rings (Some from))
 
-  pub identity_passes : (circuit : CircuitView) (node count : ℕ) (rings : List Ring)
-      → slice_get circuit.codes node ≡ Some graphs.Identity
+  -- a firing moves an item
+  step_moves : (code : NodeCode) → PassesItems code → (firing : ℕ)
+      (inputs outputs : List (Option ℕ)) (input : List ℤ) (rings : List Ring)
+      → at_port inputs 0 ≡ Some from → at_port outputs 0 ≡ Some to
+      → 1 ≤ length (items_at rings (Some from))
+      → node_step code firing [] inputs outputs input rings
+      ≡ Goes [] (moved (Some from) (Some to) 1 rings) []
+  step_moves graphs.Identity passing firing inputs outputs input rings at_input at_output some =
+      ap (λ i. identity_step i (at_port outputs 0) rings) at_input
+      ∙ ap (λ o. identity_step (Some from) o rings) at_output
+      ∙ ap (λ found. if_found found (Goes [] (moved (Some from) (Some to) 1 rings) []))
+      (le-leb 1 (length (items_at rings (Some from))) some)
+  step_moves (graphs.Filter name filter) passing firing inputs outputs input rings at_input
+      at_output some =
+      ap (λ i. filter_step filter firing [] i (at_port outputs 0) rings) at_input
+      ∙ ap (λ o. filter_step filter firing [] (Some from) o rings) at_output
+      ∙ filter_passes filter passing firing from to rings some
+  step_moves (graphs.FileReader text) passing firing inputs outputs input rings at_input
+      at_output some = absurd passing
+  step_moves (graphs.FileWriter text) passing firing inputs outputs input rings at_input
+      at_output some = absurd passing
+  step_moves (graphs.Splitter splitter) passing firing inputs outputs input rings at_input
+      at_output some = absurd passing
+  step_moves (graphs.Joiner weights) passing firing inputs outputs input rings at_input
+      at_output some = absurd passing
+  step_moves (graphs.Scatter fission) passing firing inputs outputs input rings at_input
+      at_output some = absurd passing
+  step_moves (graphs.Copy name filter fission) passing firing inputs outputs input rings at_input
+      at_output some = absurd passing
+  step_moves (graphs.Gather fission) passing firing inputs outputs input rings at_input
+      at_output some = absurd passing
+
+  pub identity_passes : (circuit : CircuitView) (node : ℕ) (code : NodeCode) (count : ℕ)
+      (rings : List Ring) → slice_get circuit.codes node ≡ Some code → PassesItems code
       → at_port (ports_at circuit.inputs node) 0 ≡ Some from
       → at_port (ports_at circuit.outputs node) 0 ≡ Some to
       → from < length rings → to < length rings → count ≤ length (items_at rings (Some from))
       → PassesOn circuit node count rings (moved (Some from) (Some to) count rings)
-  identity_passes circuit node count rings here input output from_there to_there enough =
+  identity_passes circuit node code count rings here passing input output from_there to_there
+      enough =
       subst (PassesOn circuit node count rings)
       (moved_times count rings from_there to_there enough)
-      (passes circuit node graphs.Identity here (moved (Some from) (Some to) 1) IsFull next count
+      (passes circuit node code here (moved (Some from) (Some to) 1) IsFull next count
       rings (record { from_there = from_there; to_there = to_there; enough = enough }))
     where
       next : (left firing : ℕ) (rings : List Ring) → IsFull (suc left) rings
-          → (node_step graphs.Identity firing [] (ports_at circuit.inputs node)
+          → (node_step code firing [] (ports_at circuit.inputs node)
           (ports_at circuit.outputs node) circuit.input rings
           ≡ Goes [] (moved (Some from) (Some to) 1 rings) [])
           × IsFull left (moved (Some from) (Some to) 1 rings)
@@ -303,11 +338,8 @@ module _ (from to : ℕ) (apart : from ≢ to) where
           let fewer = ap (λ (r : Ring). length r.items)
           (source_after from to apart rings full.from_there)
           ∙ length-drop 1 (ring_at rings from).items in (
-            ap (λ (i : Option ℕ). identity_step i (at_port (ports_at circuit.outputs node) 0) rings)
-                input
-                ∙ ap (λ (o : Option ℕ). identity_step (Some from) o rings) output
-                ∙ ap (λ found. if_found found (Goes [] (moved (Some from) (Some to) 1 rings) []))
-                (le-leb 1 (length (items_at rings (Some from))) some),
+            step_moves code passing firing (ports_at circuit.inputs node)
+                (ports_at circuit.outputs node) circuit.input rings input output some,
             record {
               from_there = omega (arith, inner, many);
               to_there = omega (arith, outer, many);

@@ -1,5 +1,5 @@
 -- The ports at which a graph's channels begin and end.
-use Rattle.std.proofs.Common.{◌∙◌, length, sym}
+use Rattle.std.proofs.Common.{◌∙◌, sym}
 use Rattle.std.proofs.Common.{◌≡◌, refl, ap, ℕ, zero, suc, ◌<◌, List, [], ◌∷◌, map, arith}
 use Rattle.std.specs.Prelude.{All, Option, Some, None, slice_get}
 use Rattle.std.specs.Option.{option_map_or}

@@ -5,6 +5,7 @@ use Rattle.std.proofs.Common.{List, [], ◌∷◌, length, get_or, set, map, ari
 use Rattle.std.proofs.Common.{append-nil, ◌≢◌, ◌⊎◌, inl, inr}
 use Rattle.std.specs.Prelude.{Option, Some, slice_get}
 use Rattle.std.proofs.lemmas.List.{map-set, get_or-map, length-map, length-set, set-get_or}
+use Rattle.std.proofs.lemmas.List.{nil_from_length}
 use Rattle.std.proofs.lemmas.Option.{slice_get-get_or, slice_get_within, slice_get_past}
 use Rattle.std.proofs.lemmas.Option.{slice_get-map}
 use Rattle.std.specs.Option.{option_map}
@@ -27,6 +28,7 @@ use Rattle.strc_admissible.specs.Steps.{Step, node_step, maybe_step, filter_step
 use Rattle.strc_admissible.specs.Wiring.{PortRings, ports_at, IsWired}
 use Rattle.strc_sched.specs.Actors.{AreActors, IsActorOf, fields_of}
 use Rattle.strc_sched.specs.Answers.{HasStepped, IsPassive}
+use Rattle.strc_sched.specs.Identities.{KeepsNothing}
 use Rattle.strc_sched.specs.Running.{HasDone, HoldRings, IsMachine}
 use Rattle.strc_sched.specs.declared.actor.Actor.{Actor}
 use Rattle.strc_sched.specs.declared.actor.Actor.TheVariants as kinds
@@ -218,6 +220,42 @@ passive_kept codes actors are number code here passive =
     get_or-map fields_of actors number none [] there
     ∙ passive_fields code kept passive
     (are.kept number code kept here (slice_get-get_or actors number none there))
+
+-- nor does a filter that has none
+nothing_fields : (code : NodeCode) (actor : Actor) → KeepsNothing code → IsActorOf code actor
+    → fields_of actor ≡ []
+nothing_fields (graphs.Filter name filter) actor none is = by_actor actor is
+  where
+    by_actor : (actor : Actor) → IsActorOf (graphs.Filter name filter) actor → fields_of actor ≡ []
+    by_actor (kinds.Filter kept) is = nil_from_length kept.state.fields (is.state.one_for_each ∙ none)
+    by_actor kinds.Passive is = absurd is
+nothing_fields graphs.Identity actor none is = passive_fields graphs.Identity actor tt is
+nothing_fields (graphs.FileReader text) actor none is =
+    passive_fields (graphs.FileReader text) actor tt is
+nothing_fields (graphs.FileWriter text) actor none is =
+    passive_fields (graphs.FileWriter text) actor tt is
+nothing_fields (graphs.Splitter splitter) actor none is =
+    passive_fields (graphs.Splitter splitter) actor tt is
+nothing_fields (graphs.Joiner weights) actor none is =
+    passive_fields (graphs.Joiner weights) actor tt is
+nothing_fields (graphs.Scatter fission) actor none is =
+    passive_fields (graphs.Scatter fission) actor tt is
+nothing_fields (graphs.Copy name filter fission) actor none is =
+    passive_fields (graphs.Copy name filter fission) actor tt is
+nothing_fields (graphs.Gather fission) actor none is =
+    passive_fields (graphs.Gather fission) actor tt is
+
+pub nothing_kept : (codes : List NodeCode) (actors : List Actor) → AreActors codes actors
+    → (number : ℕ) (code : NodeCode) → slice_get codes number ≡ Some code → KeepsNothing code
+    → get_or (map fields_of actors) number [] ≡ []
+nothing_kept codes actors are number code here none =
+    let less = slice_get_within codes number code here in
+    let there : number < length actors = let e = are.each in omega arith in
+    let nobody : Actor = kinds.Passive in
+    let kept = get_or actors number nobody in
+    get_or-map fields_of actors number nobody [] there
+    ∙ nothing_fields code kept none
+    (are.kept number code kept here (slice_get-get_or actors number nobody there))
 
 pub fields_kept : (fields : List (List ℤ)) (number : ℕ) → get_or fields number [] ≡ []
     → fields ≡ set fields number []

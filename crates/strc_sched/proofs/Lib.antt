@@ -9,6 +9,7 @@ pub mod Going
 pub mod Counting
 pub mod ServedRounds
 pub mod Endings
+pub mod Identities
 pub mod Blocks
 pub mod Moves
 pub mod Batching

@@ -6,7 +6,7 @@ use Rattle.std.proofs.Common.{append-nil, length-append, length-take}
 use Rattle.std.specs.Prelude.{Some}
 use Rattle.std.proofs.lemmas.List.{set_comm, get_or-set_other}
 use Rattle.circular_buffer.specs.Buffer.{buffer}
-use Rattle.strc_admissible.specs.Rings.{Ring, ring_at, items_at, shortened, extended, moved}
+use Rattle.strc_admissible.specs.Rings.{Ring, ring_at, shortened, extended, moved}
 use Rattle.strc_sched.proofs.Fronts.{pieces}
 
 take_append : (n : ℕ) (a b : List ℤ) → take n (a ++ b) ≡ take n a ++ take (n - length a) b
@@ -25,6 +25,27 @@ extended_twice a b ring =
     ∙ ap (λ (l : List ℤ). buffer l ring.capacity)
     (append_assoc ring.items (take room a) (take (room - length a) b)
     ∙ ap (λ (l : List ℤ). ring.items ++ l) (sym (take_append room a b)))
+
+-- two items join a ring, one after the other, and leave one
+pub two_first : (items : List ℤ) (ring : Ring)
+    → extended (take 1 (drop 1 items)) (extended (take 1 items) ring)
+    ≡ extended (take 2 items) ring
+two_first items ring =
+    extended_twice (take 1 items) (take 1 (drop 1 items)) ring
+    ∙ ap (λ (l : List ℤ). extended l ring) (both items)
+  where
+    both : (items : List ℤ) → take 1 items ++ take 1 (drop 1 items) ≡ take 2 items
+    both [] = refl
+    both (item ∷ []) = refl
+    both (item ∷ (other ∷ items)) = refl
+
+pub shortened_twice : (ring : Ring) → shortened 1 (shortened 1 ring) ≡ shortened 2 ring
+shortened_twice ring = ap (λ (l : List ℤ). buffer l ring.capacity) (both ring.items)
+  where
+    both : (items : List ℤ) → drop 1 (drop 1 items) ≡ drop 2 items
+    both [] = refl
+    both (item ∷ []) = refl
+    both (item ∷ (other ∷ items)) = refl
 
 -- the first items of two pieces join a ring
 pub both_pieces : (front back all : List ℤ) (count : ℕ) (ring : Ring) → front ++ back ≡ all

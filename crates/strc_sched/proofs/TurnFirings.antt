@@ -1,8 +1,8 @@
 -- Turns of splitters and joiners are firings of their nodes.
-use Rattle.std.proofs.Common.{◌≡◌, refl, sym, ap, ◌∙◌, subst, ℕ, zero, suc, ◌+◌, ◌*◌, ◌-◌, ◌<◌, ◌≤◌}
-use Rattle.std.proofs.Common.{ℤ, Bool, true, false, List, [], ◌∷◌, length, take, drop, sum, arith}
+use Rattle.std.proofs.Common.{◌≡◌, refl, sym, ap, ◌∙◌, subst, ℕ, suc, ◌+◌, ◌*◌, ◌-◌, ◌<◌, ◌≤◌}
+use Rattle.std.proofs.Common.{ℤ, Bool, true, false, List, [], ◌∷◌, length, take, sum, arith}
 use Rattle.std.proofs.Common.{Result, Ok, Err}
-use Rattle.std.specs.Prelude.{Option, Some, ◌&&◌, nat_le, slice_get, slice_index}
+use Rattle.std.specs.Prelude.{Option, Some, ◌&&◌, slice_get, slice_index}
 use Rattle.std.proofs.lemmas.Bool.{le-leb}
 use Rattle.std.proofs.lemmas.List.{length-drop}
 use Rattle.strc_dataflow.specs.Node.{at_port_0}
@@ -16,7 +16,7 @@ use Rattle.strc_admissible.specs.Steps.{Goes, if_found, finds_weights, node_step
 use Rattle.strc_admissible.specs.Wiring.{ports_at}
 use Rattle.strc_admissible.proofs.Changes.{ArePlaced, Moves, items_after, still_placed}
 use Rattle.strc_admissible.proofs.Dealing.{gathering_moves, piece}
-use Rattle.strc_sched.specs.Answers.{IsPassive}
+use Rattle.strc_sched.specs.Identities.{KeepsNothing}
 use Rattle.strc_sched.specs.Blocks.{FindsCycles, HasPassed, HasTurned, PassesOn, times}
 use Rattle.strc_sched.proofs.Blocks.{passes}
 use Rattle.strc_sched.proofs.Turns.{deal, deal_moves}
@@ -34,21 +34,21 @@ times_next count turn change rings next less is =
 pub turned_passed : {E : Type 0} (circuit : CircuitView) (node turns : ℕ)
     (change : List Ring → List Ring) (ready : Type 0) (result : Result Bool E)
     (before after : List Ring)
-    → ((code : NodeCode) → slice_get circuit.codes node ≡ Some code → IsPassive code)
+    → ((code : NodeCode) → slice_get circuit.codes node ≡ Some code → KeepsNothing code)
     → (ready → PassesOn circuit node turns before (times turns change before))
     → HasTurned ready turns change result before after
     → HasPassed circuit node turns result before after
-turned_passed circuit node turns change ready (Ok true) before after passive all h =
-    (passive, subst (PassesOn circuit node turns before) (sym h.1) (all h.0))
-turned_passed circuit node turns change ready (Ok false) before after passive all h = h
-turned_passed circuit node turns change ready (Err refused) before after passive all h = tt
+turned_passed circuit node turns change ready (Ok true) before after none all h =
+    (none, subst (PassesOn circuit node turns before) (sym h.1) (all h.0))
+turned_passed circuit node turns change ready (Ok false) before after none all h = h
+turned_passed circuit node turns change ready (Err refused) before after none all h = tt
 
--- a node that is known is passive
-pub passive_at : (circuit : CircuitView) (node : ℕ) (known : NodeCode)
-    → slice_get circuit.codes node ≡ Some known → IsPassive known
-    → (code : NodeCode) → slice_get circuit.codes node ≡ Some code → IsPassive code
-passive_at circuit node known here passive code there =
-    subst IsPassive (same known code here there) passive
+-- a node that is known keeps nothing
+pub keeps_nothing : (circuit : CircuitView) (node : ℕ) (known : NodeCode)
+    → slice_get circuit.codes node ≡ Some known → KeepsNothing known
+    → (code : NodeCode) → slice_get circuit.codes node ≡ Some code → KeepsNothing code
+keeps_nothing circuit node known here none code there =
+    subst KeepsNothing (same known code here there) none
   where
     same : (one other : NodeCode) → slice_get circuit.codes node ≡ Some one
         → slice_get circuit.codes node ≡ Some other → one ≡ other

@@ -1,12 +1,11 @@
 -- Turns of a splitter in a row, and the same items dealt port by port.
-use Rattle.std.proofs.Common.{◌≡◌, refl, sym, ap, ◌∙◌, subst, ℕ, zero, suc, ◌+◌, ◌*◌, ◌-◌, ◌<◌, ◌≤◌}
+use Rattle.std.proofs.Common.{◌≡◌, refl, sym, ap, ◌∙◌, ℕ, zero, suc, ◌+◌, ◌*◌, ◌-◌, ◌<◌, ◌≤◌}
 use Rattle.std.proofs.Common.{ℤ, List, [], ◌∷◌, ◌++◌, length, take, drop, sum, get_or, arith}
-use Rattle.std.proofs.Common.{add-one, drop-drop, append-nil, inl, inr, ◌⊎◌}
+use Rattle.std.proofs.Common.{add-one, drop-drop, inl, inr, ◌⊎◌}
 use Rattle.std.specs.Prelude.{Option, Some, None, slice_index}
 use Rattle.std.proofs.lemmas.Bool.{cases_eq}
-use Rattle.std.proofs.lemmas.List.{drop-take, ext_get_or, length-set}
+use Rattle.std.proofs.lemmas.List.{drop-take, ext_get_or}
 use Rattle.std.proofs.lemmas.List.Sums.{sum_by-cons}
-use Rattle.std.proofs.Math.Seq.{take-nil}
 use Rattle.circular_buffer.specs.Buffer.{buffer}
 use Rattle.strc_dataflow.specs.Node.{ByPort}
 use Rattle.strc_dataflow.specs.RoundRobin.{span_start}

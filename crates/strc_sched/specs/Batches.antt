@@ -1,13 +1,13 @@
 -- What is known once about the units of an order.
 use Rattle.std.specs.Prelude.{◌≡◌, ◌≢◌, ℕ, ◌<◌, List, [], ◌∷◌, Option, Some, length, slice_get}
 use Rattle.std.specs.Prelude.{IfSome}
-use Rattle.strc_graph.specs.Graphs as graphs
 use Rattle.strc_graph.specs.Graphs.{NodeCode}
 use Rattle.strc_order.specs.declared.unit as units
 use Rattle.strc_admissible.specs.Machine.{CircuitView}
 use Rattle.strc_admissible.specs.Rings.{at_port}
 use Rattle.strc_admissible.specs.Wiring.{ports_at}
 use Rattle.strc_sched.specs.Blocks.{AreApart}
+use Rattle.strc_sched.specs.Identities.{PassesItems}
 use Rattle.strc_sched.specs.declared.batches.Kind.{Kind}
 use Rattle.strc_sched.specs.declared.batches.Kind.TheVariants as kind
 use Rattle.strc_sched.specs.declared.batches.Batch.{Batch}
@@ -15,7 +15,7 @@ use Rattle.strc_sched.specs.declared.batches.Batch.{Batch}
 -- a node is of a kind, by the rings at its ports
 abbrev pub FitsKind : NodeCode → (inputs outputs : List (Option ℕ)) → Kind → Type 0
 FitsKind code inputs outputs (kind.Identity from to) =
-    (code ≡ graphs.Identity) × (at_port inputs 0 ≡ Some from) × (at_port outputs 0 ≡ Some to)
+    PassesItems code × (at_port inputs 0 ≡ Some from) × (at_port outputs 0 ≡ Some to)
     × (from ≢ to)
 FitsKind code inputs outputs kind.Dealer = AreApart inputs outputs
 FitsKind code inputs outputs kind.Other = Unit {0}

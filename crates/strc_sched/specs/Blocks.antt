@@ -9,7 +9,7 @@ use Rattle.strc_order.specs.Order.{repeated}
 use Rattle.strc_admissible.specs.Machine.{CircuitView, Went, order_run}
 use Rattle.strc_admissible.specs.Rings.{Ring, at_port, items_at, given}
 use Rattle.strc_admissible.specs.Wiring.{PortRings, ports_at}
-use Rattle.strc_sched.specs.Answers.{IsPassive}
+use Rattle.strc_sched.specs.Identities.{KeepsNothing}
 
 -- no ring is at two ports
 pub record AreApart (inputs outputs : List (Option ℕ)) : Type 0 where
@@ -70,12 +70,12 @@ PassesOn circuit node turns before after =
       words = words;
     })
 
--- an answer tells whether a node that is no filter has fired so often, and what it left; out of
+-- an answer tells whether a node that keeps nothing has fired so often, and what it left; out of
 -- memory tells nothing
 abbrev pub HasPassed : {E : Type 0} → CircuitView → (node turns : ℕ) → Result Bool E
     → (before after : List Ring) → Type 0
 HasPassed circuit node turns (Ok true) before after =
-    ((code : NodeCode) → slice_get circuit.codes node ≡ Some code → IsPassive code)
+    ((code : NodeCode) → slice_get circuit.codes node ≡ Some code → KeepsNothing code)
     × PassesOn circuit node turns before after
 HasPassed circuit node turns (Ok false) before after = after ≡ before
 HasPassed circuit node turns (Err refused) before after = Unit {0}

@@ -5,5 +5,6 @@ pub mod Running
 pub mod Reading
 pub mod Plain
 pub mod Serving
+pub mod Identities
 pub mod Blocks
 pub mod Batches

@@ -8,6 +8,7 @@ ghost use Rattle.strc_sched.specs.Circuits.{circuit_view};
 ghost use Rattle.strc_sched.specs.Batches.{AreBatches, FitsKind, IsKindBetween, IsBatch, IsBatchOf};
 
 use crate::circuit::Circuit;
+use crate::identity::is_identity;
 use crate::movers::ring_of;
 use std::alloc::{AllocError, Global};
 use strc_graph::graph::Node;
@@ -28,7 +29,7 @@ pub(crate) struct Batch {
 /// What is known of a node that fires in a row.
 #[derive(Clone, Copy)]
 pub(crate) enum Kind {
-    /// It is an identity between these two rings.
+    /// It is an identity between these two rings, or a filter that does what one does.
     Identity { from: usize, to: usize },
     /// No ring is at two of its ports: so it may deal its items, or join them, many times at
     /// once.
@@ -91,6 +92,7 @@ pub(crate) fn batch_at(circuit: &Circuit, node: u32) -> Batch
     requires node { node < length circuit.now.nodes.now }
     ensures batch { IsBatch (circuit_view circuit.now) result }
     ensures node { result.node ≡ node }
+    ensures turns { result.turns ≡ 1 }
 {
     let place = node as usize;
     Batch {
@@ -117,6 +119,16 @@ fn kind_at(circuit: &Circuit, node: usize) -> Kind
             ring_of(circuit.inputs.at(node), 0),
             ring_of(circuit.outputs.at(node), 0),
         ),
+        Node::Filter(instance) => {
+            if is_identity(&instance.code) {
+                kind_between(
+                    ring_of(circuit.inputs.at(node), 0),
+                    ring_of(circuit.outputs.at(node), 0),
+                )
+            } else {
+                Kind::Other
+            }
+        }
         Node::Splitter(_) | Node::Joiner(_) => {
             if circuit.apart {
                 Kind::Dealer

@@ -41,7 +41,7 @@ pub(crate) fn pass_at_once(
     }
 }
 
-/// The same for an identity between two rings.
+/// The same for what does what an identity does, between two rings.
 fn pass_between(rings: &mut [Ring], from: usize, to: usize, count: usize) -> bool
     requires from { from < length rings.old }
     requires to { to < length rings.old }

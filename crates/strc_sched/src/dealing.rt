@@ -7,7 +7,7 @@ ghost use Rattle.strc_sched.specs.Answers.{AreRings};
 ghost use Rattle.strc_sched.specs.Blocks.{AreApart, FindsCycles, HasTurned};
 ghost use Rattle.strc_sched.specs.Blocks.{firsts, spread_out, times};
 
-use crate::movers::{cycle_length, gather, ring_of};
+use crate::movers::{cycle_length, fire_roundrobin, gather, ring_of};
 use crate::pouring::extend;
 use crate::ring::{Ring, copy_front, count_at, first_of, rest_of, take_from};
 use std::alloc::AllocError;
@@ -45,7 +45,7 @@ fn cycles_within(weights: &[u32], count: usize, held: usize) -> Option<Cycles>
 }
 
 /// So many turns of a splitter, where its ring holds their items: whether it does. If not, it
-/// leaves all as it was.
+/// leaves all as it was. Items of a single turn go straight to each port.
 pub(crate) fn deal_turns(
     rings: &mut [Ring],
     weights: &[u32],
@@ -62,6 +62,9 @@ pub(crate) fn deal_turns(
         ≤ length (items_at rings.old (at_port inputs.now 0))) turns
         (dealt_out weights.now (at_port inputs.now 0) outputs.now 0) result rings.old rings.new }
 {
+    if turns == 1 {
+        return fire_roundrobin(rings, weights, ring_of(inputs, 0), outputs, items);
+    }
     let held = count_at(rings, ring_of(inputs, 0));
     let Some(cycles) = cycles_within(weights, turns, held) else {
         return Ok(false);

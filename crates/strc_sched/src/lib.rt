@@ -14,6 +14,7 @@ mod block;
 mod circuit;
 mod dealing;
 mod filter;
+mod identity;
 mod machine;
 mod movers;
 mod passing;

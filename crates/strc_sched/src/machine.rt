@@ -141,7 +141,7 @@ impl Machine {
     }
 
     /// Fires a batch's node so often, one firing after another.
-    #[inline]
+    #[inline(never)]
     fn fire_alone(&mut self, circuit: &Circuit, batch: &Batch) -> Result<(), Stop>
         requires machine { IsMachine (circuit_view circuit.now) self.old }
         requires batch { IsBatch (circuit_view circuit.now) batch.now }
@@ -204,11 +204,11 @@ impl Machine {
         if place >= circuit.nodes.len() {
             return Ok(());
         }
-        self.fire_once(circuit, &batch_at(circuit, node))
+        self.fire_alone(circuit, &batch_at(circuit, node))
     }
 
     /// Fires a batch's node once, where it finds its windows.
-    #[inline]
+    #[inline(always)]
     fn fire_once(&mut self, circuit: &Circuit, batch: &Batch) -> Result<(), Stop>
         requires machine { IsMachine (circuit_view circuit.now) self.old }
         requires batch { IsBatch (circuit_view circuit.now) batch.now }

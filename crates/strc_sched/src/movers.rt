@@ -149,7 +149,7 @@ fn copy_out(rings: &mut [Ring], carried: &[bool], outputs: &[Option<usize>], ite
 }
 
 /// One firing of a round-robin splitter: each port gets as many items as its weight, in turn.
-fn fire_roundrobin(
+pub(crate) fn fire_roundrobin(
     rings: &mut [Ring],
     weights: &[u32],
     input: Option<usize>,

@@ -31,6 +31,7 @@ pub(crate) fn extend(ring: &mut Ring, items: &[i32])
 }
 
 /// So many items go from a ring to another one.
+#[inline(always)]
 pub(crate) fn move_across(rings: &mut [Ring], source: usize, target: usize, count: usize)
     requires source { source < length rings.old }
     requires target { target < length rings.old }
@@ -47,18 +48,22 @@ pub(crate) fn move_across(rings: &mut [Ring], source: usize, target: usize, coun
 }
 
 /// The first items of a ring, so many or all, join another one.
+#[inline(always)]
 fn pour(source: &mut Ring, target: &mut Ring, count: usize)
     ensures source { source.new ≡ spec.shortened count source.old }
     ensures target { target.new ≡ spec.extended (take count source.old.items) target.old }
 {
     if count == 1 {
         pour_one(source, target);
+    } else if count == 2 {
+        pour_two(source, target);
     } else {
         pour_many(source, target, count);
     }
 }
 
 /// The first item of a ring joins another one.
+#[inline(always)]
 fn pour_one(source: &mut Ring, target: &mut Ring)
     ensures source { source.new ≡ spec.shortened 1 source.old }
     ensures target { target.new ≡ spec.extended (take 1 source.old.items) target.old }
@@ -68,7 +73,18 @@ fn pour_one(source: &mut Ring, target: &mut Ring)
     }
 }
 
+/// The first two items of a ring join another one.
+#[inline(always)]
+fn pour_two(source: &mut Ring, target: &mut Ring)
+    ensures source { source.new ≡ spec.shortened 2 source.old }
+    ensures target { target.new ≡ spec.extended (take 2 source.old.items) target.old }
+{
+    pour_one(source, target);
+    pour_one(source, target);
+}
+
 /// The first items of a ring join another one, piece by piece as the ring has them.
+#[inline(never)]
 fn pour_many(source: &mut Ring, target: &mut Ring, count: usize)
     ensures source { source.new ≡ spec.shortened count source.old }
     ensures target { target.new ≡ spec.extended (take count source.old.items) target.old }

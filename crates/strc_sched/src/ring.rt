@@ -152,6 +152,7 @@ pub(crate) fn copy_front(
 
 /// So many items go from the ring at one port to that at another, where they are two rings without
 /// a list of items between them.
+#[inline(always)]
 pub(crate) fn move_items(
     rings: &mut [Ring],
     from: Option<usize>,
@@ -173,6 +174,7 @@ pub(crate) fn move_items(
 }
 
 /// The same by way of a list of items.
+#[inline(never)]
 fn move_by_list(
     rings: &mut [Ring],
     from: Option<usize>,

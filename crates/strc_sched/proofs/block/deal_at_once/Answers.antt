@@ -1,9 +1,8 @@
-use Rattle.std.proofs.Common.{◌≡◌, ◌∙◌, ap, sym, subst, ◌<◌, ◌≤◌, ◌*◌, length, sum, arith, map}
+use Rattle.std.proofs.Common.{◌≡◌, ◌∙◌, ap, subst, ◌<◌, ◌≤◌, ◌*◌, length, sum, arith}
 use Rattle.std.specs.Prelude.{Some, slice_get}
 use Rattle.std.proofs.lemmas.List.{length-map}
 use Rattle.strc_graph.specs.Graphs as graphs
-use Rattle.strc_graph.specs.NodeView.{node_view, splitter_view}
-use Rattle.strc_graph.specs.declared.graph.Node.{Node}
+use Rattle.strc_graph.specs.NodeView.{node_view}
 use Rattle.strc_graph.specs.declared.graph.Node.TheVariants as node
 use Rattle.strc_graph.specs.declared.graph.Splitter.TheVariants as splitter
 use Rattle.strc_admissible.specs.Rings.{at_port, dealt_out, gathered_in, items_at}
@@ -11,7 +10,7 @@ use Rattle.strc_admissible.specs.Wiring.{ports_at}
 use Rattle.strc_sched.specs.Blocks.{FindsCycles, HasTurned}
 use Rattle.strc_sched.specs.Circuits.{circuit_view}
 use Rattle.strc_sched.proofs.Done.{code_at}
-use Rattle.strc_sched.proofs.TurnFirings.{deals_pass, joins_pass, passive_at, turned_passed}
+use Rattle.strc_sched.proofs.TurnFirings.{deals_pass, joins_pass, keeps_nothing, turned_passed}
 use Rattle.strc_sched.proofs.Turns.{are_placed}
 use Rattle.strc_sched.proofs.block.deal_at_once.Goals as goal
 
@@ -33,7 +32,7 @@ returns-in-Roundrobin-clause-passed c =
     (c.in-Splitter.is ∙ ap (λ s. node.Splitter s) c.in-Roundrobin.is) in
     turned_passed circuit number turns (dealt_out weights (at_port inputs 0) outputs 0)
     (turns * sum weights ≤ length (items_at rings (at_port inputs 0))) c.deal_turns.result rings
-    c.deal_turns.new.rings (passive_at circuit number _ here tt)
+    c.deal_turns.new.rings (keeps_nothing circuit number _ here tt)
     (λ enough. deals_pass circuit number weights turns rings here
     (are_placed inputs outputs (length rings) (c.requires.inputs number)
     (c.requires.outputs number) c.requires.apart) enough)
@@ -66,7 +65,7 @@ returns-in-Joiner-clause-passed c =
     c.in-Joiner.is in
     turned_passed circuit number turns (gathered_in weights inputs (at_port outputs 0) 0)
     (FindsCycles turns weights inputs rings) c.join_turns.result rings
-    c.join_turns.new.rings (passive_at circuit number _ here tt)
+    c.join_turns.new.rings (keeps_nothing circuit number _ here tt)
     (λ enough. joins_pass circuit number weights turns rings here
     (are_placed inputs outputs (length rings) (c.requires.inputs number)
     (c.requires.outputs number) c.requires.apart) enough)

@@ -1,4 +1,4 @@
-use Rattle.std.proofs.Common.{◌∙◌, ap, sym, take, length, ◌*◌}
+use Rattle.std.proofs.Common.{◌∙◌, ap, take, length, ◌*◌}
 use Rattle.strc_admissible.specs.Rings.{at_port, items_at, taken}
 use Rattle.strc_sched.specs.Blocks.{spread_out}
 use Rattle.strc_sched.proofs.Turns.{are_placed, spread_is_dealt}

@@ -1,4 +1,4 @@
-use Rattle.std.proofs.Common.{ℕ, ◌<◌, arith}
+use Rattle.std.proofs.Common.{◌<◌, arith}
 use Rattle.strc_sched.proofs.Moves.{poured_up, poured_down}
 use Rattle.strc_sched.proofs.pouring.move_across.Goals as goal
 

@@ -1,4 +1,4 @@
-use Rattle.std.proofs.Common.{◌≡◌, ◌∙◌, ap, ℤ, List, take, ◌-◌, length}
+use Rattle.std.proofs.Common.{◌∙◌, ap, ℤ, List, take, ◌-◌, length}
 use Rattle.strc_admissible.specs.Rings as spec
 use Rattle.strc_sched.proofs.Moves.{both_pieces, one_piece}
 use Rattle.strc_sched.proofs.pouring.pour_many.Goals as goal

@@ -9,7 +9,7 @@ use Rattle.strc_admissible.specs.Machine.{Went}
 use Rattle.strc_sched.specs.Blocks.{HasPassed, PassesOn}
 use Rattle.strc_sched.specs.Circuits.{circuit_view}
 use Rattle.strc_sched.specs.Running.{machine_view}
-use Rattle.strc_sched.proofs.Done.{machine_after, more_refl, passive_kept}
+use Rattle.strc_sched.proofs.Done.{machine_after, more_refl, nothing_kept}
 use Rattle.strc_sched.proofs.machine.Machine.fire_batch.Goals as goal
 
 pub returns-in-Ok-true-clause-gone : goal.returns-in-Ok-true-clause-gone
@@ -29,7 +29,7 @@ returns-in-Ok-true-clause-gone c =
     let passed = subst (λ all. HasPassed {E = AllocError}
     circuit node turns (Ok all) c.deref_mut.result.now c.pass_at_once.new.rings)
     c.in-Ok-true.field-0-test c.in-Ok-true.ensures.passed in
-    let none = passive_kept circuit.codes c.args.self.now.actors.items
+    let none = nothing_kept circuit.codes c.args.self.now.actors.items
     c.requires.machine.actors node code here (passed.0 code here) in
     let rings = with_items_is c.args.self.now.rings c.pass_at_once.new.rings
     (c.pass_at_once.ensures.rings ∙ ap length c.deref_mut.ensures.value
