@@ -1,15 +1,16 @@
 -- How many filters there are.
 use Rattle.std.proofs.Common.{◌≡◌, ◌<◌, ◌≤◌, ◌+◌, true, false, Ok, Err, refl, arith, nat_lt}
 use Rattle.std.proofs.lemmas.Bool.{lt-ltb, le-ltb}
+use Rattle.strc_graph.specs.declared.graph.TheConstants.{NODE_LIMIT}
 use Rattle.strc_elab.specs.Elaboration.{Totals, filter_limit, one_more}
 use Rattle.strc_scope.specs.declared.error.ElabError.TheVariants.{NodeLimit}
 
-filter_limit_is : filter_limit ≡ 4096
+filter_limit_is : filter_limit ≡ NODE_LIMIT
 unfolding filter_limit
 filter_limit_is = refl
 
 -- a filter within the limit is counted
-pub one_more-under : (totals : Totals) → totals.filters < 4096
+pub one_more-under : (totals : Totals) → totals.filters < NODE_LIMIT
     → one_more totals (λ t. Ok t) ≡ Ok (record totals { filters = totals.filters + 1 })
 one_more-under totals below =
     let lt : totals.filters < filter_limit = omega (arith, filter_limit_is) in
@@ -17,7 +18,7 @@ one_more-under totals below =
     rw e refl
 
 -- a filter past the limit is refused
-pub one_more-over : (totals : Totals) → 4096 ≤ totals.filters
+pub one_more-over : (totals : Totals) → NODE_LIMIT ≤ totals.filters
     → one_more {A = Totals} totals (λ t. Ok t) ≡ Err NodeLimit
 one_more-over totals above =
     let ge : filter_limit ≤ totals.filters = omega (arith, filter_limit_is) in

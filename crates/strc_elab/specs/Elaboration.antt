@@ -14,7 +14,7 @@ use Rattle.strc_syntax.specs.declared.tree.CompositeKind.{CompositeKind}
 use Rattle.strc_syntax.specs.declared.tree.CompositeKind.TheVariants as composite
 use Rattle.strc_syntax.specs.declared.tree.Role.{Role}
 use Rattle.strc_syntax.specs.declared.tree.Role.TheVariants as role
-use Rattle.strc_elab.specs.declared.text.TheConstants.{FILTER_LIMIT}
+use Rattle.strc_graph.specs.declared.graph.TheConstants.{NODE_LIMIT}
 use Rattle.strc_elab.specs.declared.elaborate.TheConstants.{LEVEL_LIMIT}
 use Rattle.strc_semantics.specs.Filters.{Filter}
 use Rattle.strc_semantics.specs.Arithmetic.{is_true}
@@ -358,7 +358,7 @@ abbrev mutual
 
 -- how many instances of filters a program may have
 unfoldable pub filter_limit : ℕ
-filter_limit = FILTER_LIMIT
+filter_limit = NODE_LIMIT
 
 -- how many levels streams may be nested in one another, the main one being the first
 unfoldable pub level_limit : ℕ

@@ -17,6 +17,7 @@ use crate::body::Body;
 use crate::progress::Progress;
 use crate::task::{Elaborated, Task, Text, Totals};
 use std::alloc::{AllocError, Global};
+use strc_graph::graph::NODE_LIMIT;
 use strc_graph::instance::Instance;
 use strc_lex::token::{Name, StringLiteral};
 use strc_scope::error::ElabError;
@@ -28,16 +29,13 @@ use strc_syntax::tree::{CompositeKind, ItemType, Member, Stmt, StreamType};
 use strc_work::code::{Code, StartError};
 use strc_work::lowering::lower_parts;
 
-/// How many filters a program may have.
-const FILTER_LIMIT: u32 = 4096;
-
 impl Totals {
     /// One more filter, unless the limit is reached.
     fn one_more(self) -> Result<Totals, ElabError>
         ensures { IsVerdict totals_view (spec.one_more (totals_view self)
             (λ totals. Ok totals)) result }
     {
-        if self.filters >= FILTER_LIMIT {
+        if self.filters >= NODE_LIMIT {
             return Err(ElabError::NodeLimit);
         }
         Ok(Totals {

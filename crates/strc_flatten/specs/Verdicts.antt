@@ -1,6 +1,6 @@
 -- Which streams have a flat graph that can be run (StreamIt specification 2.1, "Streams").
 use Rattle.std.specs.Prelude.{ℕ, ◌<◌, ◌≤◌, List, length, count_by, Result, Ok, Err}
-use Rattle.strc_flatten.specs.declared.limits.TheConstants.{NODE_LIMIT}
+use Rattle.strc_graph.specs.declared.graph.TheConstants.{NODE_LIMIT}
 use Rattle.strc_scope.specs.declared.error.ElabError.{ElabError}
 use Rattle.strc_scope.specs.declared.error.ElabError.TheVariants as refusal
 use Rattle.strc_stream.specs.Instances.{Stream}

@@ -5,17 +5,14 @@ ghost use Rattle.strc_graph.specs.Graphs as graphs;
 ghost use Rattle.strc_graph.specs.NodeView.{node_view};
 ghost use Rattle.strc_flatten.specs.Verdicts.{IsVerdict};
 
-use strc_graph::graph::Node;
+use strc_graph::graph::{NODE_LIMIT, Node};
 use strc_scope::error::ElabError;
-
-/// How many nodes a program may have.
-const NODE_LIMIT: usize = 4096;
 
 /// Whether a graph can have these nodes, by the first test that fails.
 pub(crate) fn check(nodes: &[Node]) -> Result<(), ElabError>
     ensures { IsVerdict (map node_view nodes.now) (Unit {0}) result }
 {
-    if nodes.len() > NODE_LIMIT {
+    if nodes.len() > NODE_LIMIT as usize {
         return Err(ElabError::NodeLimit);
     }
     if count_inputs(nodes) > 1 {

@@ -9,6 +9,9 @@ use std::marker::Model;
 use strc_lex::token::StringLiteral;
 use strc_syntax::tree::ItemType;
 
+/// How many nodes a program may have, and so how many filters.
+pub const NODE_LIMIT: u32 = 4096;
+
 /// A node: what fires.
 #[derive(Drop)]
 pub enum Node {

@@ -227,7 +227,8 @@ nothing_fields : (code : NodeCode) (actor : Actor) → KeepsNothing code → IsA
 nothing_fields (graphs.Filter name filter) actor none is = by_actor actor is
   where
     by_actor : (actor : Actor) → IsActorOf (graphs.Filter name filter) actor → fields_of actor ≡ []
-    by_actor (kinds.Filter kept) is = nil_from_length kept.state.fields (is.state.one_for_each ∙ none)
+    by_actor (kinds.Filter kept) is =
+        nil_from_length kept.state.fields (is.state.one_for_each ∙ none)
     by_actor kinds.Passive is = absurd is
 nothing_fields graphs.Identity actor none is = passive_fields graphs.Identity actor tt is
 nothing_fields (graphs.FileReader text) actor none is =

@@ -3,10 +3,10 @@ use Rattle.strc_elab.specs.Totals.{totals_view}
 use Rattle.strc_elab.proofs.Totals.{one_more-under, one_more-over}
 use Rattle.strc_elab.proofs.task.Totals.one_more.Goals as goal
 
-pub returns-then-self-ge-FILTER_LIMIT : goal.returns-then-self-ge-FILTER_LIMIT
-returns-then-self-ge-FILTER_LIMIT c = one_more-over (totals_view c.args.self)
-    (omega (arith, c.if-self-ge-FILTER_LIMIT.true))
+pub returns-then-self-ge-NODE_LIMIT : goal.returns-then-self-ge-NODE_LIMIT
+returns-then-self-ge-NODE_LIMIT c = one_more-over (totals_view c.args.self)
+    (omega (arith, c.if-self-ge-NODE_LIMIT.true))
 
 pub returns : goal.returns
 returns c =
-    one_more-under (totals_view c.args.self) (omega (arith, c.if-self-ge-FILTER_LIMIT.false))
+    one_more-under (totals_view c.args.self) (omega (arith, c.if-self-ge-NODE_LIMIT.false))
