@@ -7,4 +7,5 @@ pub mod Plain
 pub mod Serving
 pub mod Identities
 pub mod Blocks
+pub mod Pairs
 pub mod Batches

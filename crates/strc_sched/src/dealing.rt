@@ -8,6 +8,7 @@ ghost use Rattle.strc_sched.specs.Blocks.{AreApart, FindsCycles, HasTurned};
 ghost use Rattle.strc_sched.specs.Blocks.{firsts, spread_out, times};
 
 use crate::movers::{cycle_length, fire_roundrobin, gather, ring_of};
+use crate::pair::{gather_from, pair_of};
 use crate::pouring::extend;
 use crate::ring::{Ring, copy_front, count_at, first_of, rest_of, take_from};
 use std::alloc::AllocError;
@@ -93,6 +94,10 @@ pub(crate) fn join_turns(
         return Ok(false);
     }
     let output = ring_of(outputs, 0);
+    if let Some(pair) = pair_of(weights, inputs, output) {
+        gather_from(rings, pair, turns);
+        return Ok(true);
+    }
     for _turn in 0..turns {
         gather(rings, weights, inputs, output, items)?;
     }

@@ -17,6 +17,7 @@ mod filter;
 mod identity;
 mod machine;
 mod movers;
+mod pair;
 mod passing;
 pub mod plain;
 mod pouring;

@@ -8,6 +8,7 @@ ghost use Rattle.strc_admissible.specs.Rings.{at_port};
 ghost use Rattle.strc_admissible.specs.Steps as steps;
 ghost use Rattle.strc_sched.specs.Answers.{AreRings, HasMoved, HasStepped, MovesBy};
 
+use crate::pair::{deal_to, pair_of};
 use crate::ring::{Ring, copy_front, count_at, give_to, move_items, take_from};
 use std::alloc::AllocError;
 use strc_graph::graph::Splitter;
@@ -164,6 +165,10 @@ pub(crate) fn fire_roundrobin(
 {
     if (count_at(rings, input) as u128) < cycle_length(weights) {
         return Ok(false);
+    }
+    if let Some(pair) = pair_of(weights, outputs, input) {
+        deal_to(rings, pair);
+        return Ok(true);
     }
     for port in 0..weights.len() {
         move_items(
