@@ -6,9 +6,15 @@ ghost use Rattle.strc_balance.specs.Balance.{IsWithinLimit};
 use std::marker::Model;
 
 /// How often each node fires, by its number: at most 1,000,000 times. Contracts see a list.
-#[derive(Debug, Drop)]
+#[derive(Debug)]
 pub struct Counts {
     counts: Vec<u32>,
+}
+
+impl Drop for Counts {
+    fn drop(self) {
+        let Counts { counts: _ } = self;
+    }
 }
 
 impl Model for Counts {

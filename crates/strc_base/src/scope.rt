@@ -19,11 +19,19 @@ struct Declared {
 
 /// Names in the order in which they were declared, numbered from 0. Contracts see the list of the
 /// names, the innermost first. A look-up takes expected constant time.
-#[derive(Drop)]
 pub struct Scope {
     declared: Vec<Declared>,
     /// The number of the innermost variable of each name.
     innermost: HashMap<Vec<u8>, usize>,
+}
+
+impl Drop for Scope {
+    fn drop(self) {
+        let Scope {
+            declared: _,
+            innermost: _,
+        } = self;
+    }
 }
 
 impl Model for Scope {

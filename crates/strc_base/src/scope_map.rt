@@ -12,11 +12,19 @@ use strc_lex::token::Name;
 /// Names with a value each, as the types of variables, in the order in which they were declared,
 /// numbered from 0. Contracts see the list of the names with their values, the innermost first. A
 /// look-up takes expected constant time.
-#[derive(Drop)]
 pub struct ScopeMap<T> {
     names: Scope,
     /// The value of the name of each number.
     values: Vec<T>,
+}
+
+impl<T: Drop> Drop for ScopeMap<T> {
+    fn drop(self) {
+        let ScopeMap {
+            names: _,
+            values: _,
+        } = self;
+    }
 }
 
 impl<T> Model for ScopeMap<T> {

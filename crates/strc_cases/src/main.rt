@@ -3,11 +3,15 @@
 // Takes the files of the folder that it runs in. A case is a text NAME.str and its words NAME.args,
 // the command first; its input NAME.in, if it has one; what it writes, NAME.out; the status it ends
 // with, NAME.status, if that isn't 0; and what a person reads of it, NAME.message, if there is one.
-// Gives a line for each case that differs, and at the end how many do.
+// Gives a line for each case that differs, and at the end how many do; and the same of devices that
+// fail or take little at a time.
 // There is no theorem here; the values are those of the language's rules.
 // Stands on strc_cli, whose `command` and `execute_explained` it calls.
 #![tactic(auto)]
 
+mod devices;
+
+use crate::devices::run_devices;
 use std::io::ErrorKind;
 use std::process::ExitCode;
 use std::thread::Builder;
@@ -54,7 +58,7 @@ fn main(rt: HostRuntime) -> ExitCode {
 
 /// Runs the cases. 0 where all are as they are to be.
 fn status_of(rt: &HostRuntime) -> u8 {
-    match run_cases(rt) {
+    match run_all(rt) {
         Ok(true) => 0,
         Ok(false) => DIFFERENT,
         Err(error) => {
@@ -67,7 +71,16 @@ fn status_of(rt: &HostRuntime) -> u8 {
     }
 }
 
-/// Whether no case differs. An error is out of memory, or a folder or an output that fails.
+/// Whether no case and no device differs. An error is out of memory, or a folder or an output that
+/// fails.
+fn run_all(rt: &HostRuntime) -> io::Result<bool> {
+    let cases_are_as_wanted = run_cases(rt)?;
+    let (devices, different) = run_devices(rt)?;
+    println!(rt; "{devices} devices, {different} differ")?;
+    Ok(cases_are_as_wanted && different == 0)
+}
+
+/// Whether no case differs.
 fn run_cases(rt: &HostRuntime) -> io::Result<bool> {
     let names = case_names(rt)?;
     let mut different: usize = 0;

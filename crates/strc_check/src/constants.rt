@@ -11,9 +11,14 @@ use strc_lex::token::Name;
 
 /// Names with their values. Contracts see the list of the pairs, the one pushed last first: it
 /// shadows earlier ones of its name. A look-up takes expected constant time.
-#[derive(Drop)]
 pub struct Constants {
     values: ScopeMap<i32>,
+}
+
+impl Drop for Constants {
+    fn drop(self) {
+        let Constants { values: _ } = self;
+    }
 }
 
 impl Model for Constants {

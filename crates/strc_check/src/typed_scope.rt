@@ -14,9 +14,14 @@ use strc_lex::token::Name;
 /// the list of the names with their types, the innermost first. A look-up takes expected constant
 /// time.
 // It says at one type what ScopeMap says at each, so that lemmas on typed names are found.
-#[derive(Drop)]
 pub struct TypedScope {
     variables: ScopeMap<ValueType>,
+}
+
+impl Drop for TypedScope {
+    fn drop(self) {
+        let TypedScope { variables: _ } = self;
+    }
 }
 
 impl Model for TypedScope {

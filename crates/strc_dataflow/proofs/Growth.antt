@@ -354,7 +354,7 @@ module _ (body loop : Part) (s : IsSteady body) (t : IsSteady loop) (enqueued : 
   unfolding around
   around_bounded first lists x = s.bounded first (prepend (lists 0) (at_port_0 x)) 0
 
-  -- The list that comes back is settled.
+  -- A turn gives back the list that it is given.
   pub turn-loop_solution : (first : ℕ) (lists : ByPort)
       → turn body loop enqueued first lists (loop_solution body loop enqueued first lists)
       ≡ loop_solution body loop enqueued first lists

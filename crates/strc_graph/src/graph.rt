@@ -13,7 +13,6 @@ use strc_syntax::tree::ItemType;
 pub const NODE_LIMIT: u32 = 4096;
 
 /// A node: what fires.
-#[derive(Drop)]
 pub enum Node {
     Filter(Instance),
     /// What comes in goes out, item by item.
@@ -33,13 +32,36 @@ pub enum Node {
     Gather(Fission),
 }
 
+impl Drop for Node {
+    fn drop(self) {
+        match self {
+            Node::Filter(_)
+            | Node::Identity
+            | Node::FileReader(_)
+            | Node::FileWriter(_)
+            | Node::Splitter(_)
+            | Node::Joiner(_)
+            | Node::Scatter(_)
+            | Node::Copy(_, _)
+            | Node::Gather(_) => {}
+        }
+    }
+}
+
 /// How a splitter deals its items.
-#[derive(Drop)]
 pub enum Splitter {
     /// Each item to each port that carries items; whether a port does.
     Duplicate(Vec<bool>),
     /// So many items to each port in turn.
     Roundrobin(Vec<u32>),
+}
+
+impl Drop for Splitter {
+    fn drop(self) {
+        match self {
+            Splitter::Duplicate(_) | Splitter::Roundrobin(_) => {}
+        }
+    }
 }
 
 /// How a filter's firings in a round are dealt to copies of it.
@@ -66,19 +88,37 @@ pub struct Port {
 
 /// What leaves an output port comes to an input port, after the items that are enqueued on it
 /// before the first firing.
-#[derive(Drop)]
 pub struct Channel {
     pub source: Port,
     pub target: Port,
     pub enqueued: Vec<i32>,
 }
 
+impl Drop for Channel {
+    fn drop(self) {
+        let Channel {
+            source: _,
+            target: _,
+            enqueued: _,
+        } = self;
+    }
+}
+
 /// A flat graph.
-#[derive(Drop)]
 pub struct Graph {
     nodes: Vec<Node>,
     channels: Vec<Channel>,
     outer_loops: Vec<Option<u32>>,
+}
+
+impl Drop for Graph {
+    fn drop(self) {
+        let Graph {
+            nodes: _,
+            channels: _,
+            outer_loops: _,
+        } = self;
+    }
 }
 
 impl Model for Graph {

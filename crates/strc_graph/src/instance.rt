@@ -9,11 +9,16 @@ use strc_lex::token::Name;
 use strc_work::code::Code;
 
 /// A filter with its constants substituted.
-#[derive(Drop)]
 pub struct Instance {
     /// The name that it is declared by; an anonymous one has none.
     pub name: Option<Name>,
     pub code: Code,
+}
+
+impl Drop for Instance {
+    fn drop(self) {
+        let Instance { name: _, code: _ } = self;
+    }
 }
 
 impl Instance {
@@ -23,7 +28,7 @@ impl Instance {
         ensures code { IfOk result (λ copy. filter_of copy.code ≡ filter_of self.now.code) }
     {
         let name = copy_name(&self.name)?;
-        let code = self.code.copy(alloc)?;
+        let code = self.code.copy()?;
         Ok(Instance { name, code })
     }
 }

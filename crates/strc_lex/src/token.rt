@@ -5,10 +5,18 @@ use std::alloc::AllocError;
 use std::marker::Model;
 
 /// A token and where it is in the text.
-#[derive(Debug, Drop)]
+#[derive(Debug)]
 pub struct Token {
     pub kind: TokenKind,
     pub span: Span,
+}
+
+// Here and below a drop is written out: it is a call for the crates above, which would each prove
+// a derived one anew.
+impl Drop for Token {
+    fn drop(self) {
+        let Token { kind: _, span: _ } = self;
+    }
 }
 
 /// The bytes from `start` up to `end`, `end` not included.
@@ -19,7 +27,7 @@ pub struct Span {
 }
 
 /// What kind of token it is, with the name, the number or the text that it carries.
-#[derive(Debug, Drop)]
+#[derive(Debug)]
 pub enum TokenKind {
     Name(Name),
     /// 0 to 2147483647, or the minimum, for which 2147483648 is written.
@@ -30,11 +38,29 @@ pub enum TokenKind {
     StringLiteral(StringLiteral),
 }
 
+impl Drop for TokenKind {
+    fn drop(self) {
+        match self {
+            TokenKind::Name(_)
+            | TokenKind::Number(_)
+            | TokenKind::Keyword(_)
+            | TokenKind::Punctuation(_)
+            | TokenKind::StringLiteral(_) => {}
+        }
+    }
+}
+
 /// A name: a letter or `_`, then letters, digits and `_`. Contracts see it as the list of its
 /// bytes.
-#[derive(Debug, Drop)]
+#[derive(Debug)]
 pub struct Name {
     bytes: Vec<u8>,
+}
+
+impl Drop for Name {
+    fn drop(self) {
+        let Name { bytes: _ } = self;
+    }
 }
 
 impl Model for Name {
@@ -78,9 +104,15 @@ impl Name {
 }
 
 /// What a string has between its quotes. Contracts see it as the list of its bytes.
-#[derive(Debug, Drop)]
+#[derive(Debug)]
 pub struct StringLiteral {
     bytes: Vec<u8>,
+}
+
+impl Drop for StringLiteral {
+    fn drop(self) {
+        let StringLiteral { bytes: _ } = self;
+    }
 }
 
 impl Model for StringLiteral {

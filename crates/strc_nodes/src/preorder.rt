@@ -13,7 +13,6 @@ use strc_stream::stream::Stream;
 use strc_syntax::tree::ItemType;
 
 /// A node.
-#[derive(Drop)]
 pub struct Seen {
     pub name: Vec<u8>,
     /// Whether it takes the program's input.
@@ -24,11 +23,27 @@ pub struct Seen {
     pub is_sought: bool,
 }
 
+impl Drop for Seen {
+    fn drop(self) {
+        let Seen {
+            name: _,
+            reads: _,
+            prints: _,
+            is_sought: _,
+        } = self;
+    }
+}
+
 /// The nodes of a stream, and pairs of them that a channel joins.
-#[derive(Drop)]
 pub struct Preorder {
     pub nodes: Vec<Seen>,
     links: Vec<(usize, usize)>,
+}
+
+impl Drop for Preorder {
+    fn drop(self) {
+        let Preorder { nodes: _, links: _ } = self;
+    }
 }
 
 /// The nodes at which a stream's items come and go; none on a side without items.

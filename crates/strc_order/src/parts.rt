@@ -6,13 +6,24 @@ use crate::unit::Unit;
 use std::marker::Model;
 
 /// Orders of the firings of start-up and of a round, and the buffers that they need.
-#[derive(Drop)]
 pub struct Schedule {
     startup: Vec<Unit>,
     round: Vec<Unit>,
     greatest: Vec<u32>,
     last: Vec<u32>,
     sizes: Vec<u32>,
+}
+
+impl Drop for Schedule {
+    fn drop(self) {
+        let Schedule {
+            startup: _,
+            round: _,
+            greatest: _,
+            last: _,
+            sizes: _,
+        } = self;
+    }
 }
 
 impl Model for Schedule {

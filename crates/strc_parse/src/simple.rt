@@ -10,6 +10,7 @@ ghost use Rattle.strc_grammar.specs.Reading as spec;
 ghost use Rattle.strc_grammar.specs.Reading.{Gives};
 
 use std::alloc::Global;
+use std::mem;
 use strc_grammar::ReadError;
 use strc_lex::token::{Keyword, Name, Punctuation, Token, TokenKind};
 use strc_rules::expression::{LOWEST_PRECEDENCE, closed, expression};
@@ -104,7 +105,7 @@ fn assign_element<'t>(
 fn assignment<'t>(
     alloc: Global,
     depth: usize,
-    value: Expr,
+    mut value: Expr,
     height: usize,
     operator: AssignOperator,
     tokens: &'t [Token],
@@ -113,13 +114,18 @@ fn assignment<'t>(
     ensures { Gives (parsed stmt_view) result
         (spec.assignment depth (expr_view value) height operator (kinds tokens.now)) }
 {
-    match value {
-        Expr::Read(name) => assign_to(alloc, depth, name, operator, tail(tokens)),
+    // Its parts are taken out of it, as a value with a drop of its own isn't taken apart.
+    match &mut value {
+        Expr::Read(name) => {
+            let name = mem::replace(name, Name::new(Vec::new(alloc)));
+            assign_to(alloc, depth, name, operator, tail(tokens))
+        }
         Expr::Element(name, index) => {
-            let index = Box::into_inner(index);
+            let name = mem::replace(name, Name::new(Vec::new(alloc)));
+            let index = mem::replace(&mut **index, Expr::Pop);
             assign_element(alloc, depth, name, index, height, operator, tail(tokens))
         }
-        value => evaluate(depth, value, height, tokens),
+        _ => evaluate(depth, value, height, tokens),
     }
 }
 

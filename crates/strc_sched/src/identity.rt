@@ -31,7 +31,7 @@ fn is_only_work(members: &[Member]) -> bool
     ensures { result ≡ true → IsOnlyWork (members_of members.now) }
 {
     match members {
-        [Member::Work(_, _)] => true,
+        [Member::Work(..)] => true,
         _ => false,
     }
 }
@@ -49,8 +49,8 @@ fn moves_one(rates: DeclaredRates) -> bool
 fn is_passing(block: &[Stmt]) -> bool
     ensures { result ≡ true → block_view block.now ≡ pushes_popped }
 {
-    match block {
-        [Stmt::Push(Expr::Pop)] => true,
-        _ => false,
-    }
+    let [only] = block else {
+        return false;
+    };
+    matches!(only, Stmt::Push(Expr::Pop))
 }

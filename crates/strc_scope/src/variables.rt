@@ -13,11 +13,16 @@ use strc_lex::token::Name;
 /// cells: one cell for a number or a truth value, and one for each element of an array. Contracts
 /// see the names with their types and the variables with their values, the innermost first. A
 /// look-up takes expected constant time.
-#[derive(Drop)]
 pub struct Variables {
     names: TypedScope,
     /// The cells of the variable of each number.
     cells: Vec<Vec<i32>>,
+}
+
+impl Drop for Variables {
+    fn drop(self) {
+        let Variables { names: _, cells: _ } = self;
+    }
 }
 
 impl Model for Variables {

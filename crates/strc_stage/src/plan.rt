@@ -15,12 +15,22 @@ use strc_order::parts::Schedule;
 /// the schedule of these firings (Lee and Messerschmitt 1987: a periodic admissible sequential
 /// schedule), as they are before and after fission and fusion. No node is split and no units are
 /// fused yet, so both are the same.
-#[derive(Drop)]
 pub struct Plan {
     graph: Graph,
     startup_counts: Counts,
     round_counts: Counts,
     schedule: Schedule,
+}
+
+impl Drop for Plan {
+    fn drop(self) {
+        let Plan {
+            graph: _,
+            startup_counts: _,
+            round_counts: _,
+            schedule: _,
+        } = self;
+    }
 }
 
 impl Model for Plan {

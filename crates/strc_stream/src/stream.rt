@@ -5,7 +5,6 @@ use strc_graph::instance::Instance;
 use strc_lex::token::StringLiteral;
 
 /// A stream, with its constants substituted (StreamIt specification 2.1, "Streams").
-#[derive(Drop)]
 pub enum Stream {
     /// A filter.
     Filter(Instance),
@@ -23,4 +22,18 @@ pub enum Stream {
     /// The joiner's weights, the body, the splitter, the loop, and the items that are enqueued on
     /// the channel from the loop to the joiner.
     FeedbackLoop(Vec<u32>, Box<Stream>, Splitter, Box<Stream>, Vec<i32>),
+}
+
+impl Drop for Stream {
+    fn drop(self) {
+        match self {
+            Stream::Filter(_)
+            | Stream::Identity
+            | Stream::FileReader(_)
+            | Stream::FileWriter(_)
+            | Stream::Pipeline(_)
+            | Stream::SplitJoin(_, _, _)
+            | Stream::FeedbackLoop(_, _, _, _, _) => {}
+        }
+    }
 }

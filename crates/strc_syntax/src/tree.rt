@@ -3,13 +3,11 @@
 use strc_lex::token::{Name, StringLiteral};
 
 /// A whole text: its declarations, in order.
-#[derive(Drop)]
 pub struct Program {
     pub declarations: Vec<Decl>,
 }
 
 /// A named stream: `int->void filter Printer(int n) { .. }`.
-#[derive(Drop)]
 pub struct Decl {
     pub name: Name,
     /// The names of its parameters; nothing where no brackets are written.
@@ -18,7 +16,6 @@ pub struct Decl {
 }
 
 /// What is declared.
-#[derive(Drop)]
 pub enum StreamTree {
     Filter(FilterTree),
     Composite(CompositeTree),
@@ -32,7 +29,6 @@ pub enum ItemType {
 }
 
 /// A filter without its name: its types and its members, in order.
-#[derive(Drop)]
 pub struct FilterTree {
     pub input: ItemType,
     pub output: ItemType,
@@ -41,7 +37,6 @@ pub struct FilterTree {
 
 /// A part of a filter.
 #[cycle(tree)]
-#[derive(Drop)]
 pub enum Member {
     /// `int x = 1, y;`
     Fields(Variables),
@@ -54,7 +49,6 @@ pub enum Member {
 }
 
 /// A rate as it is written: `push 1`.
-#[derive(Drop)]
 pub struct RateTree {
     pub kind: RateKind,
     pub rate: Expr,
@@ -69,7 +63,6 @@ pub enum RateKind {
 }
 
 /// A pipeline, a split-join or a feedback loop without its name: its types, its kind and its block.
-#[derive(Drop)]
 pub struct CompositeTree {
     pub types: StreamType,
     pub kind: CompositeKind,
@@ -92,7 +85,6 @@ pub enum CompositeKind {
 }
 
 /// A declaration of variables of one type: `int x = 1, y`.
-#[derive(Drop)]
 pub struct Variables {
     pub kind: VariableType,
     /// At least one.
@@ -100,7 +92,6 @@ pub struct Variables {
 }
 
 /// The type of variables as it is written.
-#[derive(Drop)]
 pub enum VariableType {
     /// `boolean`
     Boolean,
@@ -111,7 +102,6 @@ pub enum VariableType {
 }
 
 /// A variable in a declaration: `x = 1`.
-#[derive(Drop)]
 pub struct Variable {
     pub name: Name,
     pub initial: Option<Expr>,
@@ -119,7 +109,6 @@ pub struct Variable {
 
 /// A statement.
 #[cycle(tree)]
-#[derive(Drop)]
 pub enum Stmt {
     /// `;`
     Empty,
@@ -154,7 +143,6 @@ pub enum Stmt {
 
 /// A statement of a composite stream.
 #[cycle(tree)]
-#[derive(Drop)]
 pub enum Composition {
     /// `add A(1);`, `body A;` or `loop A;`
     Child(Role, Child),
@@ -179,7 +167,6 @@ pub enum Role {
 
 /// A child of a composite stream.
 #[cycle(tree)]
-#[derive(Drop)]
 pub enum Child {
     /// `A(1, 2)`, or `A` without brackets
     Named(Name, Option<Vec<Expr>>),
@@ -203,7 +190,6 @@ pub enum Brackets {
 }
 
 /// How items are split.
-#[derive(Drop)]
 pub enum Splitter {
     /// `duplicate`, with or without `()`
     Duplicate(Brackets),
@@ -212,7 +198,6 @@ pub enum Splitter {
 }
 
 /// An expression.
-#[derive(Drop)]
 pub enum Expr {
     /// 0 to 2147483647, or the minimum, for which 2147483648 is written.
     Number(i32),
@@ -320,4 +305,167 @@ pub enum BinaryOperator {
     Divide,
     /// `%`
     Remainder,
+}
+
+// How trees are given up. A drop that is written out is a call for the crates above, which would
+// each prove a derived one anew.
+
+impl Drop for Program {
+    fn drop(self) {
+        let Program { declarations: _ } = self;
+    }
+}
+
+impl Drop for Decl {
+    fn drop(self) {
+        let Decl {
+            name: _,
+            parameters: _,
+            stream: _,
+        } = self;
+    }
+}
+
+impl Drop for StreamTree {
+    fn drop(self) {
+        match self {
+            StreamTree::Filter(_) | StreamTree::Composite(_) => {}
+        }
+    }
+}
+
+impl Drop for FilterTree {
+    fn drop(self) {
+        let FilterTree {
+            input: _,
+            output: _,
+            members: _,
+        } = self;
+    }
+}
+
+impl Drop for CompositeTree {
+    fn drop(self) {
+        let CompositeTree {
+            types: _,
+            kind: _,
+            block: _,
+        } = self;
+    }
+}
+
+impl Drop for Member {
+    #[cycle(drops)]
+    fn drop(self) {
+        match self {
+            Member::Fields(_) | Member::Init(_) | Member::Prework(_, _) | Member::Work(_, _) => {}
+        }
+    }
+}
+
+impl Drop for RateTree {
+    fn drop(self) {
+        let RateTree { kind: _, rate: _ } = self;
+    }
+}
+
+impl Drop for Variables {
+    fn drop(self) {
+        let Variables {
+            kind: _,
+            variables: _,
+        } = self;
+    }
+}
+
+impl Drop for VariableType {
+    fn drop(self) {
+        match self {
+            VariableType::Boolean | VariableType::Int | VariableType::Array(_) => {}
+        }
+    }
+}
+
+impl Drop for Variable {
+    fn drop(self) {
+        let Variable {
+            name: _,
+            initial: _,
+        } = self;
+    }
+}
+
+impl Drop for Stmt {
+    #[cycle(drops)]
+    fn drop(self) {
+        match self {
+            Stmt::Empty
+            | Stmt::Block(_)
+            | Stmt::Declare(_)
+            | Stmt::Evaluate(_)
+            | Stmt::Assign(_, _, _)
+            | Stmt::AssignElement(_, _, _, _)
+            | Stmt::If(_, _)
+            | Stmt::IfElse(_, _, _)
+            | Stmt::While(_, _)
+            | Stmt::For(_, _, _, _)
+            | Stmt::Push(_)
+            | Stmt::Print(_)
+            | Stmt::Println(_)
+            | Stmt::Compose(_) => {}
+        }
+    }
+}
+
+impl Drop for Composition {
+    #[cycle(drops)]
+    fn drop(self) {
+        match self {
+            Composition::Child(_, _)
+            | Composition::Split(_)
+            | Composition::Join(_)
+            | Composition::Enqueue(_) => {}
+        }
+    }
+}
+
+impl Drop for Child {
+    #[cycle(drops)]
+    fn drop(self) {
+        match self {
+            Child::Named(_, _)
+            | Child::Identity(_)
+            | Child::FileReader(_)
+            | Child::FileWriter(_)
+            | Child::Filter(_, _)
+            | Child::Composite(_, _, _) => {}
+        }
+    }
+}
+
+impl Drop for Splitter {
+    fn drop(self) {
+        match self {
+            Splitter::Duplicate(_) | Splitter::Roundrobin(_) => {}
+        }
+    }
+}
+
+impl Drop for Expr {
+    fn drop(self) {
+        match self {
+            Expr::Number(_)
+            | Expr::Truth(_)
+            | Expr::Read(_)
+            | Expr::Element(_, _)
+            | Expr::Pop
+            | Expr::Peek(_)
+            | Expr::Group(_)
+            | Expr::Unary(_, _)
+            | Expr::Step(_, _)
+            | Expr::StepElement(_, _, _)
+            | Expr::Binary(_, _, _)
+            | Expr::Conditional(_, _, _) => {}
+        }
+    }
 }

@@ -77,7 +77,7 @@ fn codes_tell_their_declaration(rt: HostRuntime) -> Result<(), Fail> {
     let first = "prework push 2 { push(7); push(8); }";
     let then = "work push 1 pop 1 { push(-pop()); }";
     let text = format!(in alloc; "int->int filter F {{ {first} {then} }}")?;
-    let code = code(alloc, &text)?.copy(alloc).expect(&rt, "copy");
+    let code = code(alloc, &text)?.copy().expect(&rt, "copy");
     pushes_are(&rt, alloc, &code, Body::Prework, &[], &[7, 8])?;
     pushes_are(&rt, alloc, &code, Body::Work, &[5], &[-5])?;
     tells_rates_and_blocks(&rt, &code);
@@ -113,7 +113,7 @@ fn tells_rates_and_blocks(rt: &impl Abort, code: &Code) {
 fn fields_are_kept_and_words_are_printed(rt: HostRuntime) -> Result<(), Fail> {
     let alloc = rt.alloc();
     let text = "void->void filter F { int x = limit; work { print(x); x++; println(-x); } }";
-    let code = code(alloc, text)?.copy(alloc).expect(&rt, "copy");
+    let code = code(alloc, text)?.copy().expect(&rt, "copy");
     assert!(rt; code.prints() && !code.has_prework());
     let mut state = code.start(alloc).expect(&rt, "start");
     let mut frame = code.frame(alloc).expect(&rt, "frame");
@@ -124,17 +124,17 @@ fn fields_are_kept_and_words_are_printed(rt: HostRuntime) -> Result<(), Fail> {
     let second = code.fire(Body::Work, &mut state, &mut frame, &window, &mut words);
     assert_eq!(rt; (first, second), (Ok(()), Ok(())));
     let expected = [(8, false), (-9, true), (9, false), (-10, true)];
-    assert_eq!(rt; words.len(), expected.len());
-    for (word, (value, ends_line)) in words.iter().zip(expected) {
-        assert_eq!(rt; word.value, value);
-        assert_eq!(rt; word.ends_line, ends_line);
+    let mut found = Vec::new(alloc);
+    for word in &words {
+        found.push((word.value, word.ends_line))?;
     }
+    assert_eq!(rt; found.as_slice(), expected.as_slice());
     Ok(())
 }
 
 // The code of a text is copied and dropped, and the copy fired.
 fn copy_pushes(rt: &impl Abort, alloc: Global, text: &str, want: i32) -> Result<(), Fail> {
-    let copy = code(alloc, text)?.copy(alloc).expect(rt, "copy");
+    let copy = code(alloc, text)?.copy().expect(rt, "copy");
     let pushes = fired(rt, alloc, &copy, Body::Work, &[])?.expect(rt, "a firing");
     assert_eq!(rt; pushes.as_slice(), [want].as_slice());
     Ok(())

@@ -5,7 +5,7 @@ use std::alloc::{AllocError, Global};
 use std::process::Abort;
 use std::test::Fail;
 use strc_flatten::flatten::flatten;
-use strc_graph::graph::{Graph, Splitter};
+use strc_graph::graph::{Graph, Port, Splitter};
 use strc_graph::instance::Instance;
 use strc_lex::token::{Name, StringLiteral};
 use strc_stream::stream::Stream;
@@ -24,26 +24,30 @@ fn filter(alloc: Global, name: Option<&str>, text: &str) -> Result<Stream, Fail>
 /// `node.port-node.port:enqueued`.
 fn shown(alloc: Global, graph: &Graph) -> Result<String, AllocError> {
     let mut text = String::new(alloc);
+    push_names(&mut text, graph)?;
+    for channel in graph.channels() {
+        push_port(&mut text, channel.source, '-')?;
+        push_port(&mut text, channel.target, ':')?;
+        write!(text, "{} ", channel.enqueued.len())?;
+    }
+    Ok(text)
+}
+
+fn push_names(text: &mut String, graph: &Graph) -> Result<(), AllocError> {
     for node in 0..graph.nodes().len() {
         text.push_str(std::str::from_utf8(graph.name(node)).unwrap_or("?"))?;
-        text.push_str(if graph.outer_loop(node).is_none() {
+        let end = if graph.outer_loop(node).is_none() {
             " "
         } else {
             "! "
-        })?;
+        };
+        text.push_str(end)?;
     }
-    for channel in graph.channels() {
-        let line = format!(in alloc;
-            "{}.{}-{}.{}:{} ",
-            channel.source.node,
-            channel.source.port,
-            channel.target.node,
-            channel.target.port,
-            channel.enqueued.len()
-        )?;
-        text.push_str(&line)?;
-    }
-    Ok(text)
+    Ok(())
+}
+
+fn push_port(text: &mut String, port: Port, end: char) -> Result<(), AllocError> {
+    write!(text, "{}.{}{end}", port.node, port.port)
 }
 
 fn flat(rt: &impl Abort, alloc: Global, stream: Stream) -> Result<String, AllocError> {

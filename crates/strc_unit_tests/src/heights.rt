@@ -29,14 +29,20 @@ fn repeated(
 }
 
 // Each: before, a level, the greatest number of levels, between, after.
-type Row<'a> = (&'a str, (&'a str, &'a str), usize, &'a str, &'a str);
+type Row = (
+    &'static str,
+    (&'static str, &'static str),
+    usize,
+    &'static str,
+    &'static str,
+);
 
 // Compares each row at its greatest number of levels, and at one less and one more.
 fn compare(
     rt: &impl Abort,
     alloc: Global,
     begin: &str,
-    rows: &[Row<'_>],
+    rows: &[Row],
     end: &str,
 ) -> Result<(), Fail> {
     for (front, level, most, inner, back) in rows {
@@ -60,73 +66,76 @@ fn compare(
     Ok(())
 }
 
+const STATEMENTS: [Row; 26] = [
+    ("push(", ("(", ")"), 254, "1", ");"),
+    ("", ("{", "}"), 256, "", ""),
+    ("x =", ("- ", ""), 254, "1", ";"),
+    ("", ("1 +", ""), 254, "1", ";"),
+    ("", ("1 +", ""), 254, "(1", ");"),
+    ("a = 1 &&", ("b ||", ""), 253, "c", ";"),
+    ("", ("b ? 1 :", ""), 254, "2", ";"),
+    ("", ("b ?", ": 2"), 254, "1", ";"),
+    ("", ("a[", "]"), 254, "i", ";"),
+    ("", ("a[", "]"), 253, "i", "++;"),
+    ("++", ("a[", "]"), 253, "i", ";"),
+    ("", ("a[", "]"), 254, "i", "= 1;"),
+    ("b[0] =", ("a[", "]"), 254, "i", ";"),
+    ("", ("peek(", ")"), 254, "i", ";"),
+    ("int[", ("(", ")"), 254, "2", "] a;"),
+    ("int a, b = 1, c =", ("(", ")"), 254, "2", ", d;"),
+    ("", ("if (b) ", ""), 255, ";", ""),
+    ("", ("if (b) x; else ", ""), 254, "x;", ""),
+    ("", ("if (b) ; else ", ""), 255, ";", ""),
+    ("", ("if (b) ", ""), 255, ";", "else ;"),
+    ("", ("while (b) ", ""), 255, ";", ""),
+    ("", ("for (;;) ", ""), 255, ";", ""),
+    ("for (", ("(", ")"), 253, "1", ";;) ;"),
+    ("for (;", ("(", ")"), 254, "1", ";) ;"),
+    ("for (;;", ("(", ")"), 253, "1", ") ;"),
+    ("while (", ("(", ")"), 254, "1", ") ;"),
+];
+
 #[test]
 fn heights_of_statements_are_limited(rt: HostRuntime) -> Result<(), Fail> {
-    let rows: [Row; 26] = [
-        ("push(", ("(", ")"), 254, "1", ");"),
-        ("", ("{", "}"), 256, "", ""),
-        ("x =", ("- ", ""), 254, "1", ";"),
-        ("", ("1 +", ""), 254, "1", ";"),
-        ("", ("1 +", ""), 254, "(1", ");"),
-        ("a = 1 &&", ("b ||", ""), 253, "c", ";"),
-        ("", ("b ? 1 :", ""), 254, "2", ";"),
-        ("", ("b ?", ": 2"), 254, "1", ";"),
-        ("", ("a[", "]"), 254, "i", ";"),
-        ("", ("a[", "]"), 253, "i", "++;"),
-        ("++", ("a[", "]"), 253, "i", ";"),
-        ("", ("a[", "]"), 254, "i", "= 1;"),
-        ("b[0] =", ("a[", "]"), 254, "i", ";"),
-        ("", ("peek(", ")"), 254, "i", ";"),
-        ("int[", ("(", ")"), 254, "2", "] a;"),
-        ("int a, b = 1, c =", ("(", ")"), 254, "2", ", d;"),
-        ("", ("if (b) ", ""), 255, ";", ""),
-        ("", ("if (b) x; else ", ""), 254, "x;", ""),
-        ("", ("if (b) ; else ", ""), 255, ";", ""),
-        ("", ("if (b) ", ""), 255, ";", "else ;"),
-        ("", ("while (b) ", ""), 255, ";", ""),
-        ("", ("for (;;) ", ""), 255, ";", ""),
-        ("for (", ("(", ")"), 253, "1", ";;) ;"),
-        ("for (;", ("(", ")"), 254, "1", ";) ;"),
-        ("for (;;", ("(", ")"), 253, "1", ") ;"),
-        ("while (", ("(", ")"), 254, "1", ") ;"),
-    ];
     let begin = "void->int filter A { work push 1 { ";
-    compare(&rt, rt.alloc(), begin, &rows, " } }")
+    compare(&rt, rt.alloc(), begin, &STATEMENTS, " } }")
 }
 
-// A member has the height of its highest statement or expression. A child is a node below its
-// statement, and its own statements and expressions are below it.
+// A member has the height of its highest statement or expression.
+const MEMBERS: [Row; 4] = [
+    ("int x =", ("- ", ""), 255, "1", ";"),
+    ("int[", ("- ", ""), 255, "1", "] x;"),
+    ("work push", ("- ", ""), 255, "1", "{ }"),
+    ("prework pop 1 peek", ("- ", ""), 255, "1", "{ }"),
+];
+
+// A child is a node below its statement, and its own statements and expressions are below it.
+const CHILDREN: [Row; 13] = [
+    ("", ("add pipeline {", "}"), 128, "", ""),
+    ("", ("add int->int splitjoin {", "}"), 128, "", ""),
+    ("", ("add pipeline {", "}"), 127, ";", ""),
+    ("", ("add int->int filter { work {", "} }"), 128, "", ""),
+    ("", ("add int->int filter { init { {", "} } }"), 85, "", ""),
+    ("", ("{", "}"), 254, "add A;", ""),
+    ("", ("{", "}"), 254, "join roundrobin;", ""),
+    ("add A(", ("- ", ""), 253, "1", ");"),
+    ("add A(1,", ("- ", ""), 253, "1", ");"),
+    ("enqueue ", ("- ", ""), 254, "1", ";"),
+    ("split roundrobin(", ("- ", ""), 253, "1", ");"),
+    ("join roundrobin(", ("- ", ""), 253, "1", ", 2);"),
+    (
+        "add int->int filter { work push ",
+        ("- ", ""),
+        253,
+        "1",
+        "{ } }",
+    ),
+];
+
 #[test]
 fn heights_of_members_and_children_are_limited(rt: HostRuntime) -> Result<(), Fail> {
-    let members: [Row; 4] = [
-        ("int x =", ("- ", ""), 255, "1", ";"),
-        ("int[", ("- ", ""), 255, "1", "] x;"),
-        ("work push", ("- ", ""), 255, "1", "{ }"),
-        ("prework pop 1 peek", ("- ", ""), 255, "1", "{ }"),
-    ];
-    compare(&rt, rt.alloc(), "int->void filter A { ", &members, " }")?;
-    let children: [Row; 13] = [
-        ("", ("add pipeline {", "}"), 128, "", ""),
-        ("", ("add int->int splitjoin {", "}"), 128, "", ""),
-        ("", ("add pipeline {", "}"), 127, ";", ""),
-        ("", ("add int->int filter { work {", "} }"), 128, "", ""),
-        ("", ("add int->int filter { init { {", "} } }"), 85, "", ""),
-        ("", ("{", "}"), 254, "add A;", ""),
-        ("", ("{", "}"), 254, "join roundrobin;", ""),
-        ("add A(", ("- ", ""), 253, "1", ");"),
-        ("add A(1,", ("- ", ""), 253, "1", ");"),
-        ("enqueue ", ("- ", ""), 254, "1", ";"),
-        ("split roundrobin(", ("- ", ""), 253, "1", ");"),
-        ("join roundrobin(", ("- ", ""), 253, "1", ", 2);"),
-        (
-            "add int->int filter { work push ",
-            ("- ", ""),
-            253,
-            "1",
-            "{ } }",
-        ),
-    ];
-    compare(&rt, rt.alloc(), "void->void pipeline P { ", &children, " }")
+    compare(&rt, rt.alloc(), "int->void filter A { ", &MEMBERS, " }")?;
+    compare(&rt, rt.alloc(), "void->void pipeline P { ", &CHILDREN, " }")
 }
 
 #[test]

@@ -1,15 +1,14 @@
 // Takes nothing: this crate is tests alone.
 // Gives what no whole program shows: tokens with their places, trees of compositions, limits of
 // heights, firings over given windows, closed peeks, copies of large codes, graphs of streams,
-// devices that fail, and forms of the command line.
+// and forms of the command line.
 // There is no theorem here; the values are those of the language's rules.
-// Stands on strc_lex, strc_parse, strc_work, strc_rate, strc_flatten and strc_cli.
+// Stands on strc_lex, strc_parse, strc_work, strc_rate, strc_flatten and strc_command, and on no
+// crate above, so that the tests' program is small.
 #![tactic(auto)]
 
 #[cfg(test)]
 mod codes;
-#[cfg(test)]
-mod devices;
 #[cfg(test)]
 mod graphs;
 #[cfg(test)]

@@ -27,33 +27,34 @@ fn name_of(name: &Option<String>) -> &str {
     }
 }
 
+const UNDERSTOOD: [(&[&str], &str); 11] = [
+    (&["strc"], "run - 5 -"),
+    (&["strc", "run", "a.str"], "run a.str - -"),
+    (&["strc", "run", "a.str", "--rounds=0"], "run a.str 0 -"),
+    (&["strc", "run", "--main", "M", "a.str"], "run a.str - M"),
+    (
+        &[
+            "strc",
+            "run",
+            "--rounds",
+            "4294967295",
+            "a.str",
+            "--main",
+            "M",
+        ],
+        "run a.str 4294967295 M",
+    ),
+    (&["strc", "check", "a.str"], "check a.str -"),
+    (&["strc", "check", "a.str", "--main", "M"], "check a.str M"),
+    (&["strc", "plan", "a.str"], "plan a.str -"),
+    (&["strc", "plan", "--main=M", "a.str"], "plan a.str M"),
+    (&["strc", "graph", "a.str"], "graph a.str -"),
+    (&["strc", "graph", "a.str", "--main", "M"], "graph a.str M"),
+];
+
 #[test]
 fn each_form_is_understood(rt: HostRuntime) -> Result<(), Fail> {
-    let lines: [(&[&str], &str); 11] = [
-        (&["strc"], "run - 5 -"),
-        (&["strc", "run", "a.str"], "run a.str - -"),
-        (&["strc", "run", "a.str", "--rounds=0"], "run a.str 0 -"),
-        (&["strc", "run", "--main", "M", "a.str"], "run a.str - M"),
-        (
-            &[
-                "strc",
-                "run",
-                "--rounds",
-                "4294967295",
-                "a.str",
-                "--main",
-                "M",
-            ],
-            "run a.str 4294967295 M",
-        ),
-        (&["strc", "check", "a.str"], "check a.str -"),
-        (&["strc", "check", "a.str", "--main", "M"], "check a.str M"),
-        (&["strc", "plan", "a.str"], "plan a.str -"),
-        (&["strc", "plan", "--main=M", "a.str"], "plan a.str M"),
-        (&["strc", "graph", "a.str"], "graph a.str -"),
-        (&["strc", "graph", "a.str", "--main", "M"], "graph a.str M"),
-    ];
-    for (words, wanted) in lines {
+    for (words, wanted) in UNDERSTOOD {
         let line = command(rt.alloc(), words)?;
         let found = reported(rt.alloc(), &line)?;
         assert_eq!(rt; found.as_str(), wanted, "at {words:?}");
@@ -61,23 +62,24 @@ fn each_form_is_understood(rt: HostRuntime) -> Result<(), Fail> {
     Ok(())
 }
 
+const OTHERS: [&[&str]; 12] = [
+    &["strc", "go"],
+    &["strc", "run"],
+    &["strc", "run", "a.str", "b.str"],
+    &["strc", "run", "a.str", "--rounds", "4294967296"],
+    &["strc", "run", "a.str", "--rounds", "-1"],
+    &["strc", "run", "a.str", "--rounds", "many"],
+    &["strc", "run", "a.str", "--rounds"],
+    &["strc", "run", "a.str", "--ways", "2"],
+    &["strc", "check"],
+    &["strc", "check", "a.str", "--rounds", "2"],
+    &["strc", "plan", "--main", "M"],
+    &["strc", "plan", "a.str", "b.str"],
+];
+
 #[test]
 fn other_words_are_not(rt: HostRuntime) -> Result<(), Fail> {
-    let lines: [&[&str]; 12] = [
-        &["strc", "go"],
-        &["strc", "run"],
-        &["strc", "run", "a.str", "b.str"],
-        &["strc", "run", "a.str", "--rounds", "4294967296"],
-        &["strc", "run", "a.str", "--rounds", "-1"],
-        &["strc", "run", "a.str", "--rounds", "many"],
-        &["strc", "run", "a.str", "--rounds"],
-        &["strc", "run", "a.str", "--ways", "2"],
-        &["strc", "check"],
-        &["strc", "check", "a.str", "--rounds", "2"],
-        &["strc", "plan", "--main", "M"],
-        &["strc", "plan", "a.str", "b.str"],
-    ];
-    for words in lines {
+    for words in OTHERS {
         let fault = command(rt.alloc(), words).err();
         assert_eq!(rt; fault, Some(LineFault::Words), "at {words:?}");
         let text = usage_error(rt.alloc(), words)?;
@@ -86,16 +88,17 @@ fn other_words_are_not(rt: HostRuntime) -> Result<(), Fail> {
     Ok(())
 }
 
+const HELPFUL: [(&[&str], bool, &str); 5] = [
+    (&["strc", "--help"], true, "Usage: strc <COMMAND>"),
+    (&["strc", "run", "--help"], true, "--rounds <N>"),
+    (&["strc", "graph", "-h"], true, "Graphviz"),
+    (&["strc", "plna", "a.str"], false, "plan"),
+    (&["strc", "run", "a.str", "--round", "3"], false, "--rounds"),
+];
+
 #[test]
 fn help_is_no_mistake(rt: HostRuntime) -> Result<(), Fail> {
-    let lines: [(&[&str], bool, &str); 5] = [
-        (&["strc", "--help"], true, "Usage: strc <COMMAND>"),
-        (&["strc", "run", "--help"], true, "--rounds <N>"),
-        (&["strc", "graph", "-h"], true, "Graphviz"),
-        (&["strc", "plna", "a.str"], false, "plan"),
-        (&["strc", "run", "a.str", "--round", "3"], false, "--rounds"),
-    ];
-    for (words, help, part) in lines {
+    for (words, help, part) in HELPFUL {
         let fault = command(rt.alloc(), words).err();
         assert_eq!(rt; fault, Some(LineFault::Words), "at {words:?}");
         assert_eq!(rt; asks_for_help(rt.alloc(), words)?, help, "at {words:?}");

@@ -15,22 +15,47 @@ use crate::frame::Frame;
 use crate::state::State;
 use std::alloc::Global;
 use std::marker::Model;
+use std::sync::Arc;
 use strc_base::memory::NoMemory;
 use strc_machine::io::FiringIo;
-use strc_machine::node::{Node, copy_node};
+use strc_machine::node::Node;
 use strc_machine::port::{FiringLimits, FiringPort};
 use strc_machine::window::Window;
 use strc_machine::{linearize, machine};
 use strc_semantics::body::Body;
 use strc_semantics::fault::{Cause, Halt};
 use strc_semantics::word::Word;
-use strc_syntax::copies;
 use strc_syntax::tree::{FilterTree, RateKind, Stmt};
 use thiserror::Error;
 
-/// The code of a filter.
-#[derive(Drop)]
+/// The code of a filter. Its copies share what lowering made of the filter.
 pub struct Code {
+    lowered: Arc<Lowered>,
+}
+
+impl Drop for Code {
+    fn drop(self) {
+        let Code { lowered: _ } = self;
+    }
+}
+
+impl Model for Code {
+    ghost use Rattle.strc_syntax.specs.declared.tree.FilterTree.{FilterTree};
+
+    ghost Value = { FilterTree };
+
+    ghost use Rattle.strc_syntax.specs.contracts.tree.FilterTree as filter_tree;
+
+    ghost coded = { filter_tree.the_row.coded };
+
+    ghost use Rattle.std.specs.Arc.{arc_value};
+
+    ghost view = { λ c. arc_value c.lowered };
+}
+
+/// A filter's tree, its bodies' code, and how many slots its fields take, and all it runs with.
+#[derive(Drop)]
+struct Lowered {
     tree: FilterTree,
     start: Routine,
     prework: Option<Routine>,
@@ -39,7 +64,7 @@ pub struct Code {
     slots: usize,
 }
 
-impl Model for Code {
+impl Model for Lowered {
     ghost use Rattle.strc_syntax.specs.declared.tree.FilterTree.{FilterTree};
 
     ghost Value = { FilterTree };
@@ -104,12 +129,13 @@ impl Code {
 
     /// The code of a resolved tree and its parts.
     pub(crate) fn of_parts(
+        alloc: Global,
         tree: FilterTree,
         fields: usize,
         start: Routine,
         prework: Option<Routine>,
         work: Routine,
-    ) -> Code
+    ) -> Result<Code, NoMemory>
         requires fields { fields ≡ total (filters.sized_fields (filters.filter_of tree).members) }
         requires start { code_of start.code ≡ start_nodes (filters.filter_of tree) }
         requires prework { code_of (first_routine prework work).code
@@ -124,7 +150,7 @@ impl Code {
         requires work_limits { work.limits
             ≡ limits_of (filters.body_rates bodied.Work (filters.filter_of tree).members) }
         requires closed { IsClosedFilter (filters.filter_of tree) }
-        ensures { result ≡ tree }
+        ensures { IfOk result (λ code. code ≡ tree) }
     {
         let first = first_of(&prework, &work).code.slot_count();
         let slots = fields.max(
@@ -133,32 +159,35 @@ impl Code {
                 .slot_count()
                 .max(first.max(work.code.slot_count())),
         );
-        Code {
+        let lowered = Lowered {
             tree,
             start,
             prework,
             work,
             fields,
             slots,
-        }
-    }
-
-    /// An equal code.
-    pub fn copy(&self, alloc: Global) -> Result<Code, NoMemory>
-        ensures { IfOk result (λ copy. filters.filter_of copy ≡ filters.filter_of self.now) }
-    {
-        let prework = match &self.prework {
-            None => None,
-            Some(prework) => Some(copy_routine(alloc, prework)?),
         };
         Ok(Code {
-            tree: copy_filter(alloc, &self.tree)?,
-            start: copy_routine(alloc, &self.start)?,
-            prework,
-            work: copy_routine(alloc, &self.work)?,
-            fields: self.fields,
-            slots: self.slots,
+            lowered: Arc::new(alloc, lowered)?,
         })
+    }
+
+    /// An equal code, in a step and without memory of its own. NoMemory where there are 2^63 - 1
+    /// of them.
+    pub fn copy(&self) -> Result<Code, NoMemory>
+        ensures { IfOk result (λ copy. filters.filter_of copy ≡ filters.filter_of self.now) }
+    {
+        Ok(Code {
+            lowered: Arc::try_clone(&self.lowered)?,
+        })
+    }
+
+    /// What the copies share.
+    #[inline(always)]
+    fn lowered(&self) -> &Lowered
+        ensures { result.now ≡ self.now }
+    {
+        &self.lowered
     }
 
     /// The fields at 0, then their initialisers in order, and then `init`.
@@ -166,7 +195,8 @@ impl Code {
         ensures values { Starts (started (filters.filter_of self.now)) result }
         ensures state { IfOk result (λ state. IsStateOf (filters.filter_of self.now) state) }
     {
-        let Ok(mut slots) = Vec::from_elem(alloc, 0, self.slots) else {
+        let lowered = self.lowered();
+        let Ok(mut slots) = Vec::from_elem(alloc, 0, lowered.slots) else {
             return Err(StartError::NoMemory);
         };
         let mut io = FiringIo::new(alloc, Vec::new(alloc));
@@ -177,10 +207,10 @@ impl Code {
         };
         let nothing: &[i32] = &[];
         let port = FiringPort::new(limits, &nothing);
-        match machine::run(&self.start.flat, &mut slots, &mut io, &port) {
+        match machine::run(&lowered.start.flat, &mut slots, &mut io, &port) {
             Ok(()) => Ok(State {
                 slots,
-                fields: self.fields,
+                fields: lowered.fields,
             }),
             Err(halt) => Err(start_error(halt)),
         }
@@ -236,14 +266,14 @@ impl Code {
         ensures tree { result.now ≡ self.now }
         ensures known { IsClosedFilter (filters.filter_of self.now) }
     {
-        &self.tree
+        &self.lowered().tree
     }
 
     /// Whether there is a prework.
     pub fn has_prework(&self) -> bool
         ensures { result ≡ is_some (filters.prework_block (filters.filter_of self.now).members) }
     {
-        bodies::has_prework(&self.tree.members)
+        bodies::has_prework(&self.lowered().tree.members)
     }
 
     /// The statements of a body; without a prework each body is the work.
@@ -251,7 +281,7 @@ impl Code {
         ensures { block_view result.now ≡ filters.body_block body
             (filters.filter_of self.now).members }
     {
-        bodies::block_of(&self.tree.members, body)
+        bodies::block_of(&self.lowered().tree.members, body)
     }
 
     /// The rates of a body as they are declared.
@@ -263,7 +293,7 @@ impl Code {
         ensures peek { result.peek
             ≡ filters.peek_rate (filters.body_rates body (filters.filter_of self.now).members) }
     {
-        let rates = bodies::rates_of(&self.tree.members, body);
+        let rates = bodies::rates_of(&self.lowered().tree.members, body);
         DeclaredRates {
             push: bodies::rate_of(rates, RateKind::Push),
             pop: bodies::rate_of(rates, RateKind::Pop),
@@ -283,7 +313,7 @@ impl Code {
     pub fn prints(&self) -> bool
         ensures { result ≡ filters.filter_prints (filters.filter_of self.now) }
     {
-        let members = &self.tree.members;
+        let members = &self.lowered().tree.members;
         bodies::block_prints(bodies::block_of(members, Body::Work))
             || bodies::block_prints(bodies::block_of(members, Body::Prework))
     }
@@ -297,9 +327,10 @@ impl Code {
             ≡ limits_of (filters.body_rates body (filters.filter_of self.now).members) }
         ensures closed { IsClosedFilter (filters.filter_of self.now) }
     {
+        let lowered = self.lowered();
         match body {
-            Body::Prework => first_of(&self.prework, &self.work),
-            Body::Work => &self.work,
+            Body::Prework => first_of(&lowered.prework, &lowered.work),
+            Body::Work => &lowered.work,
         }
     }
 }
@@ -315,16 +346,6 @@ fn first_of<'a>(prework: &'a Option<Routine>, work: &'a Routine) -> &'a Routine
     }
 }
 
-/// An equal routine.
-fn copy_routine(alloc: Global, routine: &Routine) -> Result<Routine, NoMemory>
-    ensures code { IfOk result (λ copy. code_of copy.code ≡ code_of routine.now.code) }
-    ensures flat { IfOk result (λ copy. IsFlat copy.flat (code_of copy.code)) }
-    ensures limits { IfOk result (λ copy. copy.limits ≡ routine.now.limits) }
-{
-    let code = copy_node(alloc, &routine.code)?;
-    Routine::new(alloc, code, routine.limits)
-}
-
 /// What a halt means at the start.
 fn start_error(halt: Halt) -> StartError
     ensures { result ≡ start_error_of halt }
@@ -333,16 +354,4 @@ fn start_error(halt: Halt) -> StartError
         Halt::Fault(cause) => StartError::ConstFault { cause },
         Halt::NoMemory => StartError::NoMemory,
     }
-}
-
-/// An equal filter.
-fn copy_filter(alloc: Global, tree: &FilterTree) -> Result<FilterTree, NoMemory>
-    ensures { IfOk result (λ copy. filters.filter_of copy ≡ filters.filter_of tree.now) }
-{
-    let members = copies::copy_members(alloc, &tree.members)?;
-    Ok(FilterTree {
-        input: tree.input,
-        output: tree.output,
-        members,
-    })
 }

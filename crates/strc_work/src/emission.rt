@@ -39,9 +39,9 @@ pub fn emit_filter(alloc: Global, tree: FilterTree) -> Result<Code, NoMemory>
     let work = emit_routine(alloc, &mut names, Body::Work, &tree.members)?;
     if bodies::has_prework(&tree.members) {
         let prework = emit_routine(alloc, &mut names, Body::Prework, &tree.members)?;
-        return Ok(Code::of_parts(tree, fields, start, Some(prework), work));
+        return Code::of_parts(alloc, tree, fields, start, Some(prework), work);
     }
-    Ok(Code::of_parts(tree, fields, start, None, work))
+    Code::of_parts(alloc, tree, fields, start, None, work)
 }
 
 /// The fields with their cells.
