@@ -89,23 +89,26 @@ impl Read for Reader<'_> {
     }
 }
 
-/// How many ways of failing there are, and how many of them aren't told as they are to be; a line
-/// tells which.
+/// How many ways of failing there are, and how many of them aren't reported as they are to be; a
+/// line says which.
 pub(crate) fn run_devices(rt: &HostRuntime) -> io::Result<(usize, usize)> {
     let alloc = rt.alloc();
     let devices = [
-        ("a partial write goes on", goes_on(alloc)?),
-        ("a writer that fails", tells_of_writers(alloc, true)?),
+        (
+            "a partial write goes on",
+            goes_on_after_partial_writes(alloc)?,
+        ),
+        ("a writer that fails", reports_failed_writes(alloc, true)?),
         (
             "a writer that takes nothing",
-            tells_of_writers(alloc, false)?,
+            reports_failed_writes(alloc, false)?,
         ),
-        ("a text in pieces", reads_in_pieces(alloc)?),
-        ("a text without an end", stops_at_its_limit(alloc)?),
-        ("a text that fails", tells_of_texts(alloc)),
+        ("a text in pieces", reads_text_in_pieces(alloc)?),
+        ("a text without an end", stops_at_the_limit(alloc)?),
+        ("a text that fails", reports_failed_texts(alloc)),
         ("reads that are counted", counts_reads()),
-        ("input in pieces of any size", takes_pieces(alloc)?),
-        ("input that fails", tells_of_inputs(alloc)?),
+        ("input in pieces of any size", takes_input_in_pieces(alloc)?),
+        ("input that fails", reports_failed_inputs(alloc)?),
     ];
     let mut different: usize = 0;
     for (name, is_as_wanted) in devices {
@@ -117,7 +120,7 @@ pub(crate) fn run_devices(rt: &HostRuntime) -> io::Result<(usize, usize)> {
     Ok((devices.len(), different))
 }
 
-fn goes_on(alloc: Global) -> Result<bool, AllocError> {
+fn goes_on_after_partial_writes(alloc: Global) -> Result<bool, AllocError> {
     let nothing: &[u8] = &[];
     let mut input = Told::new(nothing);
     let mut output = told_writer(alloc, 3, 1000, true)?;
@@ -129,22 +132,22 @@ fn goes_on(alloc: Global) -> Result<bool, AllocError> {
 }
 
 /// After each number of calls.
-fn tells_of_writers(alloc: Global, fails: bool) -> Result<bool, AllocError> {
+fn reports_failed_writes(alloc: Global, fails: bool) -> Result<bool, AllocError> {
     for calls in 0..3 {
         let nothing: &[u8] = &[];
         let mut input = Told::new(nothing);
         let mut output = told_writer(alloc, 3, calls, fails)?;
         let text = MINIMAL.as_bytes();
         let outcome = execute(alloc, text, &rounds(5), &mut input, &mut output);
-        let is_told = outcome == Err(CliError::Write) && output.failed();
-        if !is_told || output.write(b"x").is_ok() || !output.failed() {
+        let is_reported = outcome == Err(CliError::Write) && output.failed();
+        if !is_reported || output.write(b"x").is_ok() || !output.failed() {
             return Ok(false);
         }
     }
     Ok(true)
 }
 
-fn reads_in_pieces(alloc: Global) -> Result<bool, AllocError> {
+fn reads_text_in_pieces(alloc: Global) -> Result<bool, AllocError> {
     let mut reader = Reader {
         rest: MINIMAL.as_bytes(),
         at_once: 7,
@@ -158,7 +161,7 @@ fn reads_in_pieces(alloc: Global) -> Result<bool, AllocError> {
 }
 
 /// One byte above the limit is read, and no more.
-fn stops_at_its_limit(alloc: Global) -> Result<bool, AllocError> {
+fn stops_at_the_limit(alloc: Global) -> Result<bool, AllocError> {
     let endless = vec![in alloc; b' '; 2000000]?;
     Ok(match read_text(alloc, &mut endless.as_slice()) {
         Ok(text) => text.len() == 1048577,
@@ -168,7 +171,7 @@ fn stops_at_its_limit(alloc: Global) -> Result<bool, AllocError> {
 }
 
 /// After each number of calls.
-fn tells_of_texts(alloc: Global) -> bool {
+fn reports_failed_texts(alloc: Global) -> bool {
     for calls_left in 0..4 {
         let mut reader = Reader {
             rest: MINIMAL.as_bytes(),
@@ -204,7 +207,7 @@ const ECHO: &str = "void->void pipeline Echo {
     add FileWriter<int>(\"out\");
 }";
 
-fn takes_pieces(alloc: Global) -> Result<bool, AllocError> {
+fn takes_input_in_pieces(alloc: Global) -> Result<bool, AllocError> {
     let all = Command::Run {
         rounds: None,
         main: None,
@@ -226,7 +229,7 @@ fn takes_pieces(alloc: Global) -> Result<bool, AllocError> {
 }
 
 /// After each number of calls. Nothing is written then.
-fn tells_of_inputs(alloc: Global) -> Result<bool, AllocError> {
+fn reports_failed_inputs(alloc: Global) -> Result<bool, AllocError> {
     for calls_left in 0..3 {
         let mut input = Told::new(Reader {
             rest: b"12 34 56",
@@ -236,9 +239,9 @@ fn tells_of_inputs(alloc: Global) -> Result<bool, AllocError> {
         let mut output = told_writer(alloc, 1000, 1000, true)?;
         let text = ECHO.as_bytes();
         let outcome = execute(alloc, text, &rounds(1), &mut input, &mut output);
-        let is_told = input.failed() && !output.failed();
+        let is_reported = input.failed() && !output.failed();
         let is_empty = output.into_device().taken.is_empty();
-        if outcome != Err(CliError::Read) || !is_told || !is_empty {
+        if outcome != Err(CliError::Read) || !is_reported || !is_empty {
             return Ok(false);
         }
     }

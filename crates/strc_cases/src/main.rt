@@ -105,7 +105,7 @@ fn case_names(rt: &HostRuntime) -> io::Result<Vec<String>> {
     Ok(names)
 }
 
-/// Whether a case is as its files say; a line tells the first difference. A file that can't be read
+/// Whether a case is as its files say; a line says the first difference. A file that can't be read
 /// is one, so that no case is passed over.
 fn is_as_wanted(rt: &HostRuntime, name: &str) -> io::Result<bool> {
     match compare(rt, name) {
@@ -129,7 +129,7 @@ fn compare(rt: &HostRuntime, name: &str) -> io::Result<bool> {
         return Err(io::Error::from(ErrorKind::OutOfMemory));
     }
     if found.output != wanted.output {
-        tell_lines(rt, name, &wanted.output, &found.output)?;
+        print_difference(rt, name, &wanted.output, &found.output)?;
         return Ok(false);
     }
     if found.status != wanted.status {
@@ -141,14 +141,14 @@ fn compare(rt: &HostRuntime, name: &str) -> io::Result<bool> {
     }
     // A case without a message says nothing of it.
     if !wanted.message.is_empty() && found.message != wanted.message {
-        tell_lines(rt, name, &wanted.message, &found.message)?;
+        print_difference(rt, name, &wanted.message, &found.message)?;
         return Ok(false);
     }
     Ok(true)
 }
 
 /// Prints the first line of one text that isn't the other's. A text that ends too soon has none.
-fn tell_lines(rt: &HostRuntime, name: &str, wanted: &[u8], found: &[u8]) -> io::Result<()> {
+fn print_difference(rt: &HostRuntime, name: &str, wanted: &[u8], found: &[u8]) -> io::Result<()> {
     let wanted = String::from_utf8_lossy(rt.alloc(), wanted)?;
     let found = String::from_utf8_lossy(rt.alloc(), found)?;
     let mut lines = found.split('\n');
