@@ -5,10 +5,10 @@ ghost use Rattle.std.specs.Prelude.{IsSome, Some, length, drop, take, slice_get}
 ghost use Rattle.strc_base.specs.Tables.{slot_in, IsUpdated};
 
 use crate::memory::NoMemory;
+use crate::name::Name;
 use std::alloc::Global;
 use std::collections::HashMap;
 use std::marker::Model;
-use strc_lex::token::Name;
 
 /// A name, and the number of the variable of this name that it shadows.
 #[derive(Drop)]

@@ -4,10 +4,10 @@ ghost use Rattle.std.specs.Prelude.{◌≡◌, ◌-◌, ◌<◌, suc, [], ◌∷
 ghost use Rattle.std.specs.Prelude.{take, slice_get};
 
 use crate::memory::NoMemory;
+use crate::name::Name;
 use crate::scope::Scope;
 use std::alloc::Global;
 use std::marker::Model;
-use strc_lex::token::Name;
 
 /// Names with a value each, as the types of variables, in the order in which they were declared,
 /// numbered from 0. Contracts see the list of the names with their values, the innermost first. A

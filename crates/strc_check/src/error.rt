@@ -3,7 +3,7 @@
 use crate::spelled::spelled;
 use std::alloc::{AllocError, AllocFailed};
 use strc_base::memory::NoMemory;
-use strc_lex::token::Name;
+use strc_base::name::Name;
 use strc_semantics::fault::Cause;
 use thiserror::Error;
 

@@ -13,7 +13,7 @@ use crate::typed_scope::TypedScope;
 use crate::types::{self, ValueType};
 use crate::writes;
 use std::alloc::Global;
-use strc_lex::token::Name;
+use strc_base::name::Name;
 use strc_syntax::tree::Expr;
 
 /// An expression, among these names of variables.

@@ -1,7 +1,7 @@
 // A name in a sentence.
 
 use std::fmt;
-use strc_lex::token::Name;
+use strc_base::name::Name;
 
 /// A name as it is in a text.
 #[derive(Drop)]

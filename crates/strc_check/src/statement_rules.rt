@@ -16,7 +16,7 @@ use crate::typed_scope::TypedScope;
 use crate::types::{self, ValueType};
 use crate::{expression_rules, type_rules, writes};
 use std::alloc::Global;
-use strc_lex::token::Name;
+use strc_base::name::Name;
 use strc_syntax::tree::{AssignOperator, Expr, Stmt, Variable, Variables};
 
 /// The statements of a body or of `init`, among the fields.

@@ -9,7 +9,7 @@ ghost use Rattle.strc_check.specs.Verdicts.{IsVerdict, typed_view};
 use crate::error::LowerError;
 use crate::types::{self, ValueType};
 use std::alloc::Global;
-use strc_lex::token::Name;
+use strc_base::name::Name;
 use strc_syntax::node;
 use strc_syntax::tree::{BinaryOperator, Expr, StepOperator, UnaryOperator};
 

@@ -8,7 +8,7 @@ use crate::context::Context;
 use crate::error::LowerError;
 use crate::typed_scope::TypedScope;
 use crate::types::{self, ValueType};
-use strc_lex::token::Name;
+use strc_base::name::Name;
 
 /// The type of a name that is written: that of its innermost variable. A constant isn't written.
 pub fn resolve_written(

@@ -14,8 +14,8 @@ use Rattle.strc_run.specs.Rounds.{plan_reads}
 use Rattle.strc_run.specs.TextRuns.{has_reader}
 use Rattle.strc_cli.specs.declared.answer.Answer.{Answer}
 use Rattle.strc_cli.specs.declared.answer.Answer.TheVariants as answer
-use Rattle.strc_cli.specs.declared.answer.Stop.{Stop}
-use Rattle.strc_cli.specs.declared.answer.Stop.TheVariants as stop
+use Rattle.strc_output.specs.declared.stop.Stop.{Stop}
+use Rattle.strc_output.specs.declared.stop.Stop.TheVariants as stop
 use Rattle.strc_command.specs.declared.line.Command.TheVariants as command
 use Rattle.strc_cli.specs.declared.input.ReadStop.{ReadStop}
 use Rattle.strc_cli.specs.declared.input.ReadStop.TheVariants as read

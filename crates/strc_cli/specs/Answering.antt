@@ -18,8 +18,8 @@ use Rattle.strc_cli.specs.declared.execute.CliError.{CliError}
 use Rattle.strc_cli.specs.declared.execute.CliError.TheVariants as error
 use Rattle.strc_cli.specs.declared.answer.Answer.{Answer}
 use Rattle.strc_cli.specs.declared.answer.Answer.TheVariants as answer
-use Rattle.strc_cli.specs.declared.answer.Stop.{Stop}
-use Rattle.strc_cli.specs.declared.answer.Stop.TheVariants as stop
+use Rattle.strc_output.specs.declared.stop.Stop.{Stop}
+use Rattle.strc_output.specs.declared.stop.Stop.TheVariants as stop
 use Rattle.strc_command.specs.Lines.{main_of}
 use Rattle.strc_command.specs.declared.line.Command.{Command}
 use Rattle.strc_command.specs.declared.line.Command.TheVariants as command

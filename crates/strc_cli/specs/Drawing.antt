@@ -5,8 +5,8 @@ use Rattle.strc_run.specs.Plans.{IsPlanOf}
 use Rattle.strc_run.specs.Refuses.{IsTrueOf}
 use Rattle.strc_cli.specs.declared.answer.Answer.{Answer}
 use Rattle.strc_cli.specs.declared.answer.Answer.TheVariants as answer
-use Rattle.strc_cli.specs.declared.answer.Stop.{Stop}
-use Rattle.strc_cli.specs.declared.answer.Stop.TheVariants as stop
+use Rattle.strc_output.specs.declared.stop.Stop.{Stop}
+use Rattle.strc_output.specs.declared.stop.Stop.TheVariants as stop
 use Rattle.strc_cli.specs.Answering.{HasPicture}
 
 -- the plan of this text is drawn, or the text is refused

@@ -11,8 +11,8 @@ use Rattle.strc_cli.specs.declared.execute.CliError.{CliError}
 use Rattle.strc_cli.specs.declared.execute.CliError.TheVariants as failure
 use Rattle.strc_cli.specs.declared.answer.Answer.{Answer}
 use Rattle.strc_cli.specs.declared.answer.Answer.TheVariants as answer
-use Rattle.strc_cli.specs.declared.answer.Stop.{Stop}
-use Rattle.strc_cli.specs.declared.answer.Stop.TheVariants as no_answer
+use Rattle.strc_output.specs.declared.stop.Stop.{Stop}
+use Rattle.strc_output.specs.declared.stop.Stop.TheVariants as no_answer
 use Rattle.strc_cli.specs.declared.input.ReadStop.{ReadStop}
 use Rattle.strc_cli.specs.declared.input.ReadStop.TheVariants as stop
 

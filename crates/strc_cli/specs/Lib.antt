@@ -2,5 +2,5 @@ pub mod Answering
 pub mod Drawing
 pub mod Executes
 pub mod Input
-pub mod Output
 pub mod Statuses
+pub use Rattle.strc_output.specs.Output

@@ -16,6 +16,7 @@ use crate::execute::CliError;
 use crate::input::{ReadStop, read_numbers};
 use std::alloc::{AllocError, Global};
 use strc_command::line::Command;
+use strc_output::stop::Stop;
 use strc_run::compile::{Plan, compile};
 use strc_run::laws::plans_answer_texts;
 use strc_run::options::Options;
@@ -33,17 +34,6 @@ pub(crate) enum Answer {
     Planned(Plan),
     /// The picture of its flat graph.
     Drawn(Vec<u8>),
-}
-
-/// Why there is no answer.
-#[derive(Drop)]
-pub(crate) enum Stop {
-    /// The text is refused.
-    Refused(Refusal),
-    /// The text is accepted, and a word of its input writes no number; its number, from 0.
-    BadInput { word: u64 },
-    /// The text is accepted, and isn't run.
-    NotRun(RunRefusal),
 }
 
 /// The answer to a command. A refusal of the text comes before the input is read, and one of the

@@ -4,8 +4,9 @@ ghost use Rattle.strc_stage.specs.Plans.{planning_of};
 ghost use Rattle.strc_run.specs.Plans as plans;
 ghost use Rattle.strc_cli.specs.Drawing.{IsDrawn};
 
-use crate::answer::{Answer, Stop};
+use crate::answer::Answer;
 use std::alloc::Global;
+use strc_output::stop::Stop;
 use strc_picture::picture::picture;
 use strc_run::compile::{Plan, stream_of};
 use strc_run::options::Options;

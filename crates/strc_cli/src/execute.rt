@@ -6,11 +6,12 @@ ghost use Rattle.strc_cli.specs.Statuses.{status_number};
 ghost use Rattle.strc_cli.specs.Executes as spec;
 ghost use Rattle.strc_cli.specs.Executes.{Executes, TellsAnswer, Writes, device_of};
 
-use crate::answer::{Answer, Stop, answer_to};
+use crate::answer::{Answer, answer_to};
 use crate::device::{Sink, Source};
-use crate::output::{check_text, outcome_text, plan_text, stop_text};
 use std::alloc::{AllocError, Global};
 use strc_command::line::Command;
+use strc_output::output::{check_text, outcome_text, plan_text, stop_text};
+use strc_output::stop::Stop;
 use strc_run::refusal::Refusal;
 use strc_run::run::{Outcome, RunRefusal};
 use thiserror::Error;

@@ -4,14 +4,16 @@ ghost use Rattle.std.specs.Prelude.{◌≡◌, ◌≢◌, ◌⊎◌, true, Err};
 ghost use Rattle.strc_cli.specs.Answering.{ReadsInput};
 ghost use Rattle.strc_cli.specs.Executes.{Executes, device_of};
 
-use crate::answer::{Answer, Stop, answer_to, main_name};
+use crate::answer::{Answer, answer_to, main_name};
 use crate::device::{Sink, Source};
+use crate::elaborator::Elaborator;
 use crate::execute::{CliError, Status, tell};
 use std::alloc::Global;
 use strc_base::memory::NoMemory;
 use strc_command::line::Command;
 use strc_messages::fault::{FaultSite, bad_input_message, fault_message, not_run_message};
 use strc_messages::refusal::refusal_message;
+use strc_output::stop::Stop;
 use strc_run::run::Outcome;
 
 /// How a call went, and what a person reads of it; no bytes where there is nothing to say.
@@ -73,7 +75,9 @@ fn explanation(
     answered: &Result<Answer, Stop>,
 ) -> Result<Vec<u8>, NoMemory> {
     match answered {
-        Err(Stop::Refused(refusal)) => refusal_message(alloc, file, text, main, refusal),
+        Err(Stop::Refused(refusal)) => {
+            refusal_message(alloc, &Elaborator, file, text, main, refusal)
+        }
         Err(Stop::BadInput { word }) => bad_input_message(alloc, *word),
         Err(Stop::NotRun(refusal)) => not_run_message(alloc, file, *refusal),
         Ok(
@@ -93,7 +97,7 @@ fn explanation(
                 round: *round,
                 cause: *cause,
             };
-            fault_message(alloc, file, text, main, site)
+            fault_message(alloc, &Elaborator, file, text, main, site)
         }
         Ok(_) => Ok(Vec::new(alloc)),
     }

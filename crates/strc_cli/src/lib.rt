@@ -6,19 +6,18 @@
 // of its rounds that is the answer of its stream's equations, the size of its graph, its plan, or a
 // refusal that holds.
 // Stands on strc_command, whose commands it carries out, on strc_run, which compiles and runs a
-// text, on strc_stage, whose plan it writes, on strc_input, which reads its input's numbers, on
-// strc_messages and strc_picture, and on strc_refusal, strc_outcome, strc_graph and strc_semantics,
-// of whose refusals, outcomes, nodes, words and faults it writes.
+// text, on strc_stage, whose plans it answers with, on strc_input, which reads its input's numbers,
+// on strc_output, which writes what it answers, and on strc_messages and strc_picture. To
+// strc_messages it hands in what strc_trial asks for, from strc_elab.
 #![tactic(auto)]
 
 mod answer;
 pub mod device;
 mod drawing;
+mod elaborator;
 pub mod execute;
 pub mod explain;
 mod input;
-mod output;
 pub mod program_text;
-mod text;
 
 pub use strc_command::{line, words};

@@ -1,8 +1,10 @@
 // The words of the command line.
 
 ghost use Rattle.std.specs.Prelude.{◌≡◌, ◌≢◌, ◌<◌, ◌≤◌, IfErr, IfOk, Ok, Err, [], false, length};
+ghost use Rattle.std.specs.Prelude.{◌++◌, ◌∷◌, IsOkAnd, map};
 ghost use Rattle.std.specs.Prelude.{option_map, string_bytes};
-ghost use Rattle.clap.specs.Words.{app_of, found_of, kind_of, rows_of, rule_of, subcommand_rows_of};
+ghost use Rattle.clap.specs.Words.{app_of, found_of, kind_of, new_app, rows_of, rule_of};
+ghost use Rattle.clap.specs.Words.{subcommand_rows_of, with_rule};
 ghost use Rattle.clap.specs.Walk.{texts};
 ghost use Rattle.clap.specs.declared.builder.command.Command.TheViews.{out-Command as fields_of};
 ghost use Rattle.strc_command.specs.Lines.{main_of};
@@ -51,18 +53,18 @@ pub fn command<'a>(alloc: Global, words: &'a [&'a str]) -> Result<Line, LineFaul
 
 /// What is wrong with words that `command` doesn't understand, and how the program is called.
 pub fn usage_error<'a>(alloc: Global, words: &'a [&'a str]) -> Result<String, AllocError> {
-    match parser(alloc)?.try_get_matches_from(words) {
-        Ok(_) => Ok(String::new(alloc)),
-        Err(error) => error.to_string(alloc),
+    match parser(alloc)?.try_get_matches_from(words).err() {
+        Some(error) => error.to_string(alloc),
+        None => Ok(String::new(alloc)),
     }
 }
 
 /// Whether words that `command` doesn't understand ask for help, so that what `usage_error` says of
 /// them is no error.
 pub fn asks_for_help<'a>(alloc: Global, words: &'a [&'a str]) -> Result<bool, AllocError> {
-    match parser(alloc)?.try_get_matches_from(words) {
-        Ok(_) => Ok(false),
-        Err(error) => Ok(!error.use_stderr()),
+    match parser(alloc)?.try_get_matches_from(words).err() {
+        Some(error) => Ok(!error.use_stderr()),
+        None => Ok(false),
     }
 }
 
@@ -77,13 +79,36 @@ pub fn asks_for_version(words: &[&str]) -> bool {
 fn parser<'a>(alloc: Global) -> Result<clap::Command<'a>, AllocError>
     ensures { IfOk result (λ parser. app_of parser ≡ strc_app) }
 {
+    let subcommands = subcommands(alloc)?;
     clap::Command::new(alloc, "strc")
         .about("A compiler of StreamIt programs")
         .subcommand_required(true)
-        .subcommand(run_command(alloc)?)?
-        .subcommand(check_command(alloc)?)?
-        .subcommand(plan_command(alloc)?)?
-        .subcommand(graph_command(alloc)?)
+        .subcommands(subcommands)
+}
+
+// The words of each subcommand.
+fn subcommands<'a>(alloc: Global) -> Result<Vec<clap::Command<'a>>, AllocError>
+    ensures { IfOk result (λ all. map app_of all.items
+        ≡ run_app ∷ check_app ∷ plan_app ∷ graph_app ∷ []) }
+{
+    let run = with_last(Ok(Vec::new(alloc)), run_command(alloc));
+    let check = with_last(run, check_command(alloc));
+    let plan = with_last(check, plan_command(alloc));
+    with_last(plan, graph_command(alloc))
+}
+
+// The items and one more, where there are both. For any type, so that what is dropped where one is
+// missing is no part of the callers.
+fn with_last<T: Drop>(
+    items: Result<Vec<T>, AllocError>,
+    last: Result<T, AllocError>,
+) -> Result<Vec<T>, AllocError>
+    ensures { IfOk result (λ longer. IsOkAnd items (λ before. IsOkAnd last (λ item.
+        longer.items ≡ before.items ++ item ∷ []))) }
+{
+    let mut items = items?;
+    items.push(last?)?;
+    Ok(items)
 }
 
 // The words `run FILE [--rounds N] [--main NAME]`.
@@ -91,9 +116,7 @@ fn run_command<'a>(alloc: Global) -> Result<clap::Command<'a>, AllocError>
     ensures app { IfOk result (λ run. app_of run ≡ run_app) }
     ensures local { IfOk result (λ run. (fields_of run).has_globals ≡ false) }
 {
-    clap::Command::new(alloc, "run")
-        .about("Runs a StreamIt program")
-        .arg(file_argument(alloc))?
+    file_command(alloc, "run", "Runs a StreamIt program")?
         .arg(rounds_option(alloc))?
         .arg(main_option(alloc))
 }
@@ -103,10 +126,7 @@ fn check_command<'a>(alloc: Global) -> Result<clap::Command<'a>, AllocError>
     ensures app { IfOk result (λ check. app_of check ≡ check_app) }
     ensures local { IfOk result (λ check. (fields_of check).has_globals ≡ false) }
 {
-    clap::Command::new(alloc, "check")
-        .about("Checks a StreamIt program")
-        .arg(file_argument(alloc))?
-        .arg(main_option(alloc))
+    main_command(alloc, "check", "Checks a StreamIt program")
 }
 
 // The words `plan FILE [--main NAME]`.
@@ -114,10 +134,8 @@ fn plan_command<'a>(alloc: Global) -> Result<clap::Command<'a>, AllocError>
     ensures app { IfOk result (λ plan. app_of plan ≡ plan_app) }
     ensures local { IfOk result (λ plan. (fields_of plan).has_globals ≡ false) }
 {
-    clap::Command::new(alloc, "plan")
-        .about("Tells how often each node of a StreamIt program fires")
-        .arg(file_argument(alloc))?
-        .arg(main_option(alloc))
+    let about = "Tells how often each node of a StreamIt program fires";
+    main_command(alloc, "plan", about)
 }
 
 // The words `graph FILE [--main NAME]`.
@@ -125,10 +143,36 @@ fn graph_command<'a>(alloc: Global) -> Result<clap::Command<'a>, AllocError>
     ensures app { IfOk result (λ graph. app_of graph ≡ graph_app) }
     ensures local { IfOk result (λ graph. (fields_of graph).has_globals ≡ false) }
 {
-    clap::Command::new(alloc, "graph")
-        .about("Draws the flat graph of a StreamIt program, for Graphviz")
-        .arg(file_argument(alloc))?
-        .arg(main_option(alloc))
+    let about = "Draws the flat graph of a StreamIt program, for Graphviz";
+    main_command(alloc, "graph", about)
+}
+
+// The words `NAME FILE [--main NAME]`.
+fn main_command<'a>(
+    alloc: Global,
+    name: &'a str,
+    about: &'a str,
+) -> Result<clap::Command<'a>, AllocError>
+    ensures app { IfOk result (λ command. app_of command
+        ≡ with_rule (with_rule (new_app name.entry.now) file_rule) main_rule) }
+    ensures local { IfOk result (λ command. (fields_of command).has_globals ≡ false) }
+{
+    file_command(alloc, name, about)?.arg(main_option(alloc))
+}
+
+// The words `NAME FILE`.
+fn file_command<'a>(
+    alloc: Global,
+    name: &'a str,
+    about: &'a str,
+) -> Result<clap::Command<'a>, AllocError>
+    ensures app { IfOk result (λ command. app_of command
+        ≡ with_rule (new_app name.entry.now) file_rule) }
+    ensures local { IfOk result (λ command. (fields_of command).has_globals ≡ false) }
+{
+    clap::Command::new(alloc, name)
+        .about(about)
+        .arg(file_argument(alloc))
 }
 
 fn file_argument<'a>(alloc: Global) -> Arg<'a>

@@ -2,8 +2,8 @@
 
 use indexmap::IndexMap;
 use std::alloc::Global;
+use strc_base::name::{Name, StringLiteral};
 use strc_check::constants::Constants;
-use strc_lex::token::{Name, StringLiteral};
 use strc_stream::stream::Stream;
 use strc_syntax::tree::{CompositeKind, Decl, ItemType, Member, Stmt, StreamType};
 

@@ -17,16 +17,17 @@ use crate::body::Body;
 use crate::progress::Progress;
 use crate::task::{Elaborated, Task, Text, Totals};
 use std::alloc::{AllocError, Global};
+use strc_base::name::{Name, StringLiteral};
+use strc_code::code::Code;
 use strc_graph::graph::NODE_LIMIT;
 use strc_graph::instance::Instance;
-use strc_lex::token::{Name, StringLiteral};
 use strc_scope::error::ElabError;
 use strc_scope::steps::at_declaration;
 use strc_scope::store::Store;
 use strc_scope::variables::Variables;
 use strc_stream::stream::Stream;
 use strc_syntax::tree::{CompositeKind, ItemType, Member, Stmt, StreamType};
-use strc_work::code::{Code, StartError};
+use strc_work::firing::{Fire, StartError};
 use strc_work::lowering::lower_parts;
 
 impl Totals {

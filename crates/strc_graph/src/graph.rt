@@ -6,7 +6,7 @@ ghost use Rattle.strc_graph.specs.NodeView.{node_view};
 
 use crate::instance::Instance;
 use std::marker::Model;
-use strc_lex::token::StringLiteral;
+use strc_base::name::StringLiteral;
 use strc_syntax::tree::ItemType;
 
 /// How many nodes a program may have, and so how many filters.

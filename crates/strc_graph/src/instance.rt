@@ -5,8 +5,8 @@ ghost use Rattle.strc_semantics.specs.Filters.{filter_of};
 
 use std::alloc::{AllocError, Global};
 use strc_base::memory::NoMemory;
-use strc_lex::token::Name;
-use strc_work::code::Code;
+use strc_base::name::Name;
+use strc_code::code::Code;
 
 /// A filter with its constants substituted.
 pub struct Instance {

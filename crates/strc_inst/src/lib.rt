@@ -4,9 +4,8 @@
 // Stands on strc_semantics, whose arithmetic and faults it has.
 #![tactic(auto)]
 
-pub mod condition;
+pub mod conditions;
 pub mod dispatch;
-pub mod inst;
 pub mod io;
 mod operation;
 pub mod port;

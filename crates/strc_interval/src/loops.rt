@@ -13,7 +13,7 @@ use crate::constant::constant;
 use crate::interval::{Interval, between, to_i32};
 use crate::interval_scope::IntervalScope;
 use crate::writes::{same_name, statement_writes};
-use strc_lex::token::Name;
+use strc_base::name::Name;
 use strc_syntax::tree::{
     AssignOperator, BinaryOperator, Expr, StepOperator, Stmt, Variable, VariableType,
 };

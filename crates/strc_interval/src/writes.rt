@@ -5,7 +5,7 @@ ghost use Rattle.std.specs.Option.{option_map};
 ghost use Rattle.strc_syntax.specs.View.{expr_view, variable_view, stmt_view, block_view};
 ghost use Rattle.strc_interval.specs.Loops as spec;
 
-use strc_lex::token::Name;
+use strc_base::name::Name;
 use strc_syntax::tree::{Expr, Stmt, Variable};
 
 /// Whether two names are the same.

@@ -2,7 +2,7 @@
 // Gives its tokens, each with its place, or the refusal of a text that is too long or has no token
 // list.
 // The theorem to rely on: `lex` answers Ok exactly with the tokens of the text.
-// Stands on no other crate of ours.
+// Stands on strc_base, whose names and strings tokens carry.
 #![tactic(auto)]
 
 mod characters;

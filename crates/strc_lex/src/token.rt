@@ -1,8 +1,7 @@
 // What a token is: a name, a number, a keyword, a punctuation mark or a string, and its place in
 // the text.
 
-use std::alloc::AllocError;
-use std::marker::Model;
+pub use strc_base::name::{Name, StringLiteral};
 
 /// A token and where it is in the text.
 #[derive(Debug)]
@@ -47,104 +46,6 @@ impl Drop for TokenKind {
             | TokenKind::Punctuation(_)
             | TokenKind::StringLiteral(_) => {}
         }
-    }
-}
-
-/// A name: a letter or `_`, then letters, digits and `_`. Contracts see it as the list of its
-/// bytes.
-#[derive(Debug)]
-pub struct Name {
-    bytes: Vec<u8>,
-}
-
-impl Drop for Name {
-    fn drop(self) {
-        let Name { bytes: _ } = self;
-    }
-}
-
-impl Model for Name {
-    ghost use Rattle.std.specs.Prelude.{List, ℕ};
-
-    ghost Value = { List ℕ };
-
-    ghost view = { λ n. n.bytes.items };
-}
-
-impl Name {
-    ghost use Rattle.std.specs.Prelude.{◌≡◌, IfOk, IsTrue, ◌↔◌};
-
-    /// The name that these bytes are. It takes no memory.
-    pub fn new(bytes: Vec<u8>) -> Name
-        ensures { result ≡ bytes.items }
-    {
-        Name { bytes }
-    }
-
-    /// The bytes of the name.
-    pub fn as_bytes(&self) -> &[u8]
-        ensures { result.now ≡ self.now }
-    {
-        self.bytes.as_slice()
-    }
-
-    /// An equal name.
-    pub fn copy(&self) -> Result<Name, AllocError>
-        ensures { IfOk result (λ name. name ≡ self.now) }
-    {
-        Ok(Name::new(self.bytes.clone()?))
-    }
-
-    /// Whether the two names are the same.
-    pub fn is(&self, other: &Name) -> bool
-        ensures { IsTrue result ↔ (self.now ≡ other.now) }
-    {
-        self.as_bytes() == other.as_bytes()
-    }
-}
-
-/// What a string has between its quotes. Contracts see it as the list of its bytes.
-#[derive(Debug)]
-pub struct StringLiteral {
-    bytes: Vec<u8>,
-}
-
-impl Drop for StringLiteral {
-    fn drop(self) {
-        let StringLiteral { bytes: _ } = self;
-    }
-}
-
-impl Model for StringLiteral {
-    ghost use Rattle.std.specs.Prelude.{List, ℕ};
-
-    ghost Value = { List ℕ };
-
-    ghost view = { λ t. t.bytes.items };
-}
-
-impl StringLiteral {
-    ghost use Rattle.std.specs.Prelude.{◌≡◌, IfOk};
-
-    /// The text that these bytes are. It takes no memory.
-    pub fn new(bytes: Vec<u8>) -> StringLiteral
-        ensures { result ≡ bytes.items }
-    {
-        StringLiteral { bytes }
-    }
-
-    /// The bytes of the text.
-    pub fn as_bytes(&self) -> &[u8]
-        ensures { result.now ≡ self.now }
-    {
-        &self.bytes
-    }
-
-    /// An equal text.
-    pub fn copy(&self) -> Result<StringLiteral, AllocError>
-        ensures { IfOk result (λ text. text ≡ self.now) }
-    {
-        Ok(StringLiteral::new(self.bytes.clone()?))
     }
 }
 

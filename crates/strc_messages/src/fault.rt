@@ -15,6 +15,8 @@ use strc_outcome::refusal::RunRefusal;
 use strc_semantics::fault::Cause;
 use strc_source::message::Message;
 use strc_source::source::Source;
+use strc_trial::elaborates::Elaborates;
+use strc_trial::trial::Trial;
 
 /// A firing that faulted.
 #[derive(Clone, Copy)]
@@ -29,11 +31,12 @@ pub struct FaultSite {
 
 /// What a person reads of a fault: the place of the filter in the file, and one sentence with the
 /// node's name, its firing and the round.
-pub fn fault_message(
+pub fn fault_message<'a, E: Elaborates>(
     alloc: Global,
-    file: &str,
-    text: &[u8],
-    main: Option<&str>,
+    elaborates: &'a E,
+    file: &'a str,
+    text: &'a [u8],
+    main: Option<&'a str>,
     site: FaultSite,
 ) -> Result<Vec<u8>, NoMemory>
     ensures { IfOk result (λ message. IsMessage file.now text.now message.items) }
@@ -48,20 +51,25 @@ pub fn fault_message(
         tokens: &tokens,
         main,
     };
-    let graph = graph_of(alloc, source);
-    write_fault(alloc, source, graph.as_ref(), site)
+    let trial = Trial {
+        alloc,
+        source,
+        elaborates,
+    };
+    let graph = graph_of(trial);
+    write_fault(trial, graph.as_ref(), site)
 }
 
-fn write_fault(
-    alloc: Global,
-    source: Source<'_>,
+fn write_fault<E: Elaborates>(
+    trial: Trial<'_, E>,
     graph: Option<&Graph>,
     site: FaultSite,
 ) -> Result<Vec<u8>, NoMemory>
     ensures { IfOk result (λ message.
-        IsMessage source.entry.file.now source.entry.text.now message.items) }
+        IsMessage trial.entry.source.file.now trial.entry.source.text.now message.items) }
 {
-    let place = place_of_node(alloc, source, graph, site.node as usize)?;
+    let (alloc, source) = (trial.alloc, trial.source);
+    let place = place_of_node(trial, graph, site.node as usize)?;
     let mut message = Message::new(alloc);
     push_node(&mut message, graph, site.node as usize)?;
     message.add(cause_words(site.cause))?;

@@ -3,8 +3,8 @@
 // mark, and where it helps a hint.
 // Stands on strc_source, which finds places and builds messages, on strc_trial, which finds the
 // statement that a refusal is about, on strc_nodes, which finds the nodes that it is about, on
-// strc_elab, strc_stream, strc_flatten and strc_graph, which make these of a text, and on
-// strc_refusal and strc_outcome, whose refusals and rounds it tells of.
+// strc_stream, strc_flatten and strc_graph, which make these of a text, and on strc_refusal and
+// strc_outcome, whose refusals and rounds it tells of. What elaborates a text is handed in.
 #![tactic(auto)]
 
 mod depth;

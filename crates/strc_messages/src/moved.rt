@@ -2,6 +2,7 @@
 
 use std::alloc::Global;
 use strc_base::memory::NoMemory;
+use strc_code::code::Code;
 use strc_graph::graph::{Graph, Node};
 use strc_lex::token::{Keyword, Punctuation, Token};
 use strc_peeks::peeks::body_peeks;
@@ -11,7 +12,6 @@ use strc_source::declarations::{extent_of, is_keyword, place_named};
 use strc_source::message::Extent;
 use strc_source::rows::{closing_of, is_mark};
 use strc_syntax::tree::ItemType;
-use strc_work::code::Code;
 
 /// The greatest rate.
 const MOST: i32 = 65_536;

@@ -2,32 +2,31 @@
 // another node has that one in the node's place.
 
 use crate::program::stream_of;
-use std::alloc::Global;
 use strc_base::memory::NoMemory;
 use strc_lex::lexer::lex;
 use strc_nodes::preorder::preorder_of;
 use strc_source::added::{Added, added_at};
 use strc_source::message::Extent;
-use strc_source::source::Source;
-use strc_trial::trial::{LONGEST, with_part};
+use strc_trial::elaborates::Elaborates;
+use strc_trial::trial::{LONGEST, Trial, with_part};
 
 /// How many statements are tried.
 const MOST: usize = 100;
 
 /// The statement that a node of this name comes from, where it can be known.
-pub(crate) fn origin_of(
-    alloc: Global,
-    source: Source<'_>,
+pub(crate) fn origin_of<E: Elaborates>(
+    trial: Trial<'_, E>,
     node: usize,
     name: &[u8],
 ) -> Result<Option<Extent>, NoMemory> {
+    let source = trial.source;
     if source.text.len() > LONGEST {
         return Ok(None);
     }
     let mut tried: usize = 0;
     for token in 0..source.tokens.len() {
         if let Some(added) = added_at(source.tokens, token, name) {
-            if tried < MOST && comes_from(alloc, source, node, added)? {
+            if tried < MOST && comes_from(trial, node, added)? {
                 return Ok(Some(added.statement));
             }
             tried = tried.saturating_add(1);
@@ -37,25 +36,18 @@ pub(crate) fn origin_of(
 }
 
 /// Whether a node comes from a statement.
-fn comes_from(
-    alloc: Global,
-    source: Source<'_>,
+fn comes_from<E: Elaborates>(
+    trial: Trial<'_, E>,
     node: usize,
     added: Added,
 ) -> Result<bool, NoMemory> {
-    let mut text = with_part(alloc, source.text, added.part, added.instead)?;
+    let mut text = with_part(trial.alloc, trial.source.text, added.part, added.instead)?;
     text.extend_from_slice(added.declared)?;
-    let Ok(tokens) = lex(alloc, &text) else {
+    let Ok(tokens) = lex(trial.alloc, &text) else {
         return Ok(false);
     };
-    let changed = Source {
-        file: source.file,
-        text: &text,
-        tokens: &tokens,
-        main: source.main,
-    };
-    match stream_of(alloc, changed) {
-        Some(stream) => Ok(preorder_of(alloc, &stream)?.is_sought(node)),
+    match stream_of(trial.with_text(&text, &tokens)) {
+        Some(stream) => Ok(preorder_of(trial.alloc, &stream)?.is_sought(node)),
         None => Ok(false),
     }
 }

@@ -14,22 +14,23 @@ use strc_source::declarations::{declaration_named, declaration_numbered, extent_
 use strc_source::message::{Extent, Message};
 use strc_source::place::place_of;
 use strc_source::source::Source;
+use strc_trial::elaborates::Elaborates;
 use strc_trial::faulting::main_candidate;
+use strc_trial::trial::Trial;
 
 /// The message, where the two parts are known.
-pub(crate) fn pair_message(
-    alloc: Global,
-    source: Source<'_>,
+pub(crate) fn pair_message<E: Elaborates>(
+    trial: Trial<'_, E>,
     refusal: &Refusal,
 ) -> Result<Option<Vec<u8>>, NoMemory>
     ensures { IfOk result (λ found. IfSome found (λ message.
-        IsMessage source.entry.file.now source.entry.text.now message.items)) }
+        IsMessage trial.entry.source.file.now trial.entry.source.text.now message.items)) }
 {
     match refusal {
-        Refusal::ManyMains => two_mains(alloc, source),
-        Refusal::TypeMismatch { stream } => two_of_a_name(alloc, source, *stream),
+        Refusal::ManyMains => two_mains(trial.alloc, trial.source),
+        Refusal::TypeMismatch { stream } => two_of_a_name(trial.alloc, trial.source, *stream),
         Refusal::TwoInputs | Refusal::TwoOutputs | Refusal::Disconnected => {
-            two_nodes(alloc, source, refusal)
+            two_nodes(trial, refusal)
         }
         _ => Ok(None),
     }
@@ -80,23 +81,23 @@ fn two_of_a_name(
 }
 
 /// Two nodes.
-fn two_nodes(
-    alloc: Global,
-    source: Source<'_>,
+fn two_nodes<E: Elaborates>(
+    trial: Trial<'_, E>,
     refusal: &Refusal,
 ) -> Result<Option<Vec<u8>>, NoMemory>
     ensures { IfOk result (λ found. IfSome found (λ message.
-        IsMessage source.entry.file.now source.entry.text.now message.items)) }
+        IsMessage trial.entry.source.file.now trial.entry.source.text.now message.items)) }
 {
-    let Some(stream) = stream_of(alloc, source) else {
+    let (alloc, source) = (trial.alloc, trial.source);
+    let Some(stream) = stream_of(trial) else {
         return Ok(None);
     };
     let order = preorder_of(alloc, &stream)?;
     let Some((first, second)) = pair_of(alloc, &order, refusal)? else {
         return Ok(None);
     };
-    let other = site(alloc, source, &order, first, second)?;
-    let place = site(alloc, source, &order, second, first)?;
+    let other = site(trial, &order, first, second)?;
+    let place = site(trial, &order, second, first)?;
     let mut message = Message::new(alloc);
     order.push_name(&mut message, second)?;
     message.add(joining_words(refusal))?;
@@ -141,9 +142,8 @@ fn first_two(order: &Preorder, printing: bool) -> Option<(usize, usize)> {
 
 /// Where a node prints, if it and the other one are declared filters that print; else the statement
 /// that it comes from.
-fn site(
-    alloc: Global,
-    source: Source<'_>,
+fn site<E: Elaborates>(
+    trial: Trial<'_, E>,
     order: &Preorder,
     node: usize,
     other: usize,
@@ -152,11 +152,11 @@ fn site(
         return Ok(None);
     };
     if seen.prints && other.prints && seen.name.as_slice() != other.name.as_slice() {
-        if let Some(token) = print_of(source.tokens, &seen.name) {
+        if let Some(token) = print_of(trial.source.tokens, &seen.name) {
             return Ok(Some(extent_of(token)));
         }
     }
-    origin_of(alloc, source, node, &seen.name)
+    origin_of(trial, node, &seen.name)
 }
 
 fn joining_words(refusal: &Refusal) -> &'static [u8] {

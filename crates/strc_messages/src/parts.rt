@@ -1,42 +1,39 @@
 // The part of a text that a refusal is about, and what is said of it beside the refusal's own
 // sentence.
 
-use std::alloc::{AllocError, Global};
+use std::alloc::AllocError;
 use strc_base::memory::NoMemory;
 use strc_lex::token::Keyword;
 use strc_refusal::refusal::Refusal;
 use strc_semantics::fault::Cause;
 use strc_source::message::{Extent, Message};
 use strc_source::source::Source;
+use strc_trial::elaborates::Elaborates;
 use strc_trial::faulting::{faulting_statement, limit_statement, main_stream};
 use strc_trial::statement::{About, Part, refused_statement, refused_use};
+use strc_trial::trial::Trial;
 use strc_trial::turns::endless_loop;
 use strc_trial::weights::refused_weights;
 
 /// The statement, or the use of a name, that a refusal is about, where it can be known.
-pub(crate) fn refused_part(
-    alloc: Global,
-    source: Source<'_>,
+pub(crate) fn refused_part<E: Elaborates>(
+    trial: Trial<'_, E>,
     refusal: &Refusal,
 ) -> Result<Option<Part>, NoMemory> {
     match refusal {
-        Refusal::UnknownName { name } => {
-            Ok(statement_part(refused_use(alloc, source, name.as_bytes())?))
-        }
+        Refusal::UnknownName { name } => Ok(statement_part(refused_use(trial, name.as_bytes())?)),
         Refusal::TypeMismatch { stream } | Refusal::BadArguments { stream } => {
-            refused_statement(alloc, source, *stream)
+            refused_statement(trial, *stream)
         }
-        Refusal::BadWeights { stream } => {
-            Ok(statement_part(refused_weights(alloc, source, *stream)?))
-        }
+        Refusal::BadWeights { stream } => Ok(statement_part(refused_weights(trial, *stream)?)),
         Refusal::ConstFault {
             cause: Cause::Turns,
-        } => Ok(part_or_main(source, endless_loop(alloc, source)?)),
+        } => Ok(part_or_main(trial.source, endless_loop(trial)?)),
         Refusal::ConstFault { cause } => {
-            Ok(part_or_main(source, faulting_statement(alloc, source, *cause)?))
+            Ok(part_or_main(trial.source, faulting_statement(trial, *cause)?))
         }
         Refusal::NodeLimit | Refusal::DepthLimit => {
-            Ok(part_or_main(source, limit_statement(alloc, source)?))
+            Ok(part_or_main(trial.source, limit_statement(trial)?))
         }
         _ => Ok(None),
     }

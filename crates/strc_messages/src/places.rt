@@ -3,7 +3,6 @@
 use crate::depth::deepest_token;
 use crate::moved::{moved_of, place_of_rate};
 use crate::origin::origin_of;
-use std::alloc::Global;
 use strc_base::memory::NoMemory;
 use strc_graph::graph::Graph;
 use strc_lex::token::Keyword;
@@ -14,42 +13,42 @@ use strc_source::declarations::{
 };
 use strc_source::message::Extent;
 use strc_source::source::Source;
+use strc_trial::elaborates::Elaborates;
+use strc_trial::trial::Trial;
 
 /// The part of the text that a refusal is about, where there is one; the graph is the program's,
 /// where it has one.
-pub(crate) fn place_of_refusal(
-    alloc: Global,
-    source: Source<'_>,
+pub(crate) fn place_of_refusal<E: Elaborates>(
+    trial: Trial<'_, E>,
     graph: Option<&Graph>,
     refusal: &Refusal,
 ) -> Result<Option<Extent>, NoMemory> {
     match refusal {
         Refusal::RateMismatch { node, .. } | Refusal::RateLimit { node } => {
-            rate_of_node(alloc, source, graph, *node, refusal)
+            rate_of_node(trial, graph, *node, refusal)
         }
         Refusal::RateUnknown { node } | Refusal::PeekOutside { node } => {
-            place_of_node(alloc, source, graph, *node)
+            place_of_node(trial, graph, *node)
         }
         Refusal::Inconsistent { channel } | Refusal::BufferLimit { channel } => {
-            place_of_channel(alloc, source, graph, *channel)
+            place_of_channel(trial, graph, *channel)
         }
-        Refusal::CountsTooLarge => place_of_large(alloc, source, graph),
-        Refusal::Nesting => deepest_token(alloc, source),
-        _ => Ok(place_in_text(source, refusal)),
+        Refusal::CountsTooLarge => place_of_large(trial, graph),
+        Refusal::Nesting => deepest_token(trial.alloc, trial.source),
+        _ => Ok(place_in_text(trial.source, refusal)),
     }
 }
 
 /// The end of the channel whose rates make the counts of a round too large: the one that moves more
 /// items a firing, where it has a place.
-fn place_of_large(
-    alloc: Global,
-    source: Source<'_>,
+fn place_of_large<E: Elaborates>(
+    trial: Trial<'_, E>,
     graph: Option<&Graph>,
 ) -> Result<Option<Extent>, NoMemory> {
     let Some(found) = graph else {
         return Ok(None);
     };
-    let Some(number) = large_channel(alloc, found)? else {
+    let Some(number) = large_channel(trial.alloc, found)? else {
         return Ok(None);
     };
     let (Some((from, to)), Some(channel)) = (ends_of(graph, number), found.channels().get(number))
@@ -60,9 +59,9 @@ fn place_of_large(
         Some((push, pop)) if pop > push => to,
         _ => from,
     };
-    match place_of_node(alloc, source, graph, node)? {
+    match place_of_node(trial, graph, node)? {
         Some(place) => Ok(Some(place)),
-        None => place_of_channel(alloc, source, graph, number),
+        None => place_of_channel(trial, graph, number),
     }
 }
 
@@ -87,37 +86,35 @@ fn place_in_text(source: Source<'_>, refusal: &Refusal) -> Option<Extent> {
 }
 
 /// The declaration of a node's filter, or else the statement that the node comes from.
-pub(crate) fn place_of_node(
-    alloc: Global,
-    source: Source<'_>,
+pub(crate) fn place_of_node<E: Elaborates>(
+    trial: Trial<'_, E>,
     graph: Option<&Graph>,
     node: usize,
 ) -> Result<Option<Extent>, NoMemory> {
-    match declaration_of(source, graph, node) {
+    match declaration_of(trial.source, graph, node) {
         Some(place) => Ok(Some(place)),
-        None => statement_of(alloc, source, graph, node),
+        None => statement_of(trial, graph, node),
     }
 }
 
 /// Where a node's filter declares the rate that a refusal is about, or else the node's place.
-fn rate_of_node(
-    alloc: Global,
-    source: Source<'_>,
+fn rate_of_node<E: Elaborates>(
+    trial: Trial<'_, E>,
     graph: Option<&Graph>,
     node: usize,
     refusal: &Refusal,
 ) -> Result<Option<Extent>, NoMemory> {
     if let Some(found) = graph {
         if node < found.nodes().len() {
-            if let Some(moved) = moved_of(alloc, found, refusal)? {
-                let place = place_of_rate(source.tokens, found.name(node), moved);
+            if let Some(moved) = moved_of(trial.alloc, found, refusal)? {
+                let place = place_of_rate(trial.source.tokens, found.name(node), moved);
                 if place.is_some() {
                     return Ok(place);
                 }
             }
         }
     }
-    place_of_node(alloc, source, graph, node)
+    place_of_node(trial, graph, node)
 }
 
 /// The declaration of a node's filter.
@@ -131,40 +128,36 @@ fn declaration_of(source: Source<'_>, graph: Option<&Graph>, node: usize) -> Opt
 }
 
 /// The statement that a node comes from, where its filter has no name or it is none.
-fn statement_of(
-    alloc: Global,
-    source: Source<'_>,
+fn statement_of<E: Elaborates>(
+    trial: Trial<'_, E>,
     graph: Option<&Graph>,
     node: usize,
 ) -> Result<Option<Extent>, NoMemory> {
     match graph {
-        Some(graph) if node < graph.nodes().len() => {
-            origin_of(alloc, source, node, graph.name(node))
-        }
+        Some(graph) if node < graph.nodes().len() => origin_of(trial, node, graph.name(node)),
         _ => Ok(None),
     }
 }
 
 /// The declaration of the filter at a channel's source, or else of that at its target, or the
 /// statement that one of them comes from.
-fn place_of_channel(
-    alloc: Global,
-    source: Source<'_>,
+fn place_of_channel<E: Elaborates>(
+    trial: Trial<'_, E>,
     graph: Option<&Graph>,
     channel: usize,
 ) -> Result<Option<Extent>, NoMemory> {
     let Some((from, to)) = ends_of(graph, channel) else {
         return Ok(None);
     };
-    if let Some(place) = declaration_of(source, graph, from) {
+    if let Some(place) = declaration_of(trial.source, graph, from) {
         return Ok(Some(place));
     }
-    if let Some(place) = declaration_of(source, graph, to) {
+    if let Some(place) = declaration_of(trial.source, graph, to) {
         return Ok(Some(place));
     }
-    match statement_of(alloc, source, graph, from)? {
+    match statement_of(trial, graph, from)? {
         Some(place) => Ok(Some(place)),
-        None => statement_of(alloc, source, graph, to),
+        None => statement_of(trial, graph, to),
     }
 }
 

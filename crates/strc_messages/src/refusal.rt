@@ -22,16 +22,19 @@ use strc_refusal::refusal::Refusal;
 use strc_source::expected::{Expected, expected_after};
 use strc_source::message::{Extent, Message};
 use strc_source::source::Source;
+use strc_trial::elaborates::Elaborates;
+use strc_trial::trial::Trial;
 
 /// What a person reads of a text's refusal: the place in the file, one sentence, the source line
 /// with a mark under the place, and where it helps a hint; a line feed ends the message.
 ///
 /// `main` is the main stream that was asked for.
-pub fn refusal_message(
+pub fn refusal_message<'a, E: Elaborates>(
     alloc: Global,
-    file: &str,
-    text: &[u8],
-    main: Option<&str>,
+    elaborates: &'a E,
+    file: &'a str,
+    text: &'a [u8],
+    main: Option<&'a str>,
     refusal: &Refusal,
 ) -> Result<Vec<u8>, NoMemory>
     ensures { IfOk result (λ message. IsMessage file.now text.now message.items) }
@@ -43,12 +46,17 @@ pub fn refusal_message(
         tokens: &tokens,
         main,
     };
+    let trial = Trial {
+        alloc,
+        source,
+        elaborates,
+    };
     let graph = if names_nodes(refusal) {
-        graph_of(alloc, source)
+        graph_of(trial)
     } else {
         None
     };
-    write_message(alloc, source, graph.as_ref(), refusal)
+    write_message(trial, graph.as_ref(), refusal)
 }
 
 /// The text's tokens; none where it has none.
@@ -74,22 +82,22 @@ fn names_nodes(refusal: &Refusal) -> bool {
     }
 }
 
-fn write_message(
-    alloc: Global,
-    source: Source<'_>,
+fn write_message<E: Elaborates>(
+    trial: Trial<'_, E>,
     graph: Option<&Graph>,
     refusal: &Refusal,
 ) -> Result<Vec<u8>, NoMemory>
     ensures { IfOk result (λ message.
-        IsMessage source.entry.file.now source.entry.text.now message.items) }
+        IsMessage trial.entry.source.file.now trial.entry.source.text.now message.items) }
 {
-    if let Some(message) = pair_message(alloc, source, refusal)? {
+    if let Some(message) = pair_message(trial, refusal)? {
         return Ok(message);
     }
-    let part = refused_part(alloc, source, refusal)?;
+    let (alloc, source) = (trial.alloc, trial.source);
+    let part = refused_part(trial, refusal)?;
     let place = match part {
         Some(part) => Some(part.place),
-        None => place_of_refusal(alloc, source, graph, refusal)?,
+        None => place_of_refusal(trial, graph, refusal)?,
     };
     let mut message = Message::new(alloc);
     if !push_part(&mut message, part)? {

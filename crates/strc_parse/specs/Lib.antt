@@ -2,3 +2,4 @@ pub mod Seen
 pub mod Readers
 pub mod Parts
 pub mod Texts
+pub mod Kept

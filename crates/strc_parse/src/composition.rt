@@ -12,9 +12,11 @@ ghost use Rattle.strc_parse.specs.Readers.{ReadsStatements};
 ghost use Rattle.strc_parse.specs.Parts as parts;
 
 use crate::control::StatementRules;
+use crate::kept::{followed, nested};
 use std::alloc::Global;
+use strc_base::name::Name;
 use strc_grammar::ReadError;
-use strc_lex::token::{Keyword, Name, Punctuation, Token, TokenKind};
+use strc_lex::token::{Keyword, Punctuation, Token, TokenKind};
 use strc_rules::argument::{arguments, empty_brackets};
 use strc_rules::expression::closed;
 use strc_rules::lookahead::{expect, expect_keyword, is_keyword, peek, tail, unexpected};
@@ -33,7 +35,7 @@ fn named_child<'t>(
 ) -> Result<Parsed<'t, Child>, ReadError>
     ensures { Gives (parsed child_view) result (spec.named_child limit name (kinds tokens.now)) }
 {
-    let given = arguments(alloc, limit, tokens)?.before(Punctuation::Semicolon)?;
+    let given = followed(Punctuation::Semicolon, arguments(alloc, limit, tokens))?;
     Ok(Parsed::new(Child::Named(name, given.value), given.height, given.rest))
 }
 
@@ -108,9 +110,8 @@ fn split(
     requires { 0 < depth }
     ensures { Gives (parsed composition_view) result (spec.split depth (kinds tokens.now)) }
 {
-    let splitter = splitter(alloc, depth - 1, tokens)?
-        .before(Punctuation::Semicolon)?
-        .raise(depth)?;
+    let splitter = splitter(alloc, depth - 1, tokens);
+    let splitter = nested(depth, followed(Punctuation::Semicolon, splitter))?;
     Ok(Parsed::new(
         Composition::Split(splitter.value),
         splitter.height,
@@ -124,9 +125,8 @@ fn join(alloc: Global, depth: usize, tokens: &[Token]) -> Result<Parsed<'_, Comp
     requires { 0 < depth }
     ensures { Gives (parsed composition_view) result (spec.join depth (kinds tokens.now)) }
 {
-    let weights = weights(alloc, depth - 1, tokens)?
-        .before(Punctuation::Semicolon)?
-        .raise(depth)?;
+    let weights = weights(alloc, depth - 1, tokens);
+    let weights = nested(depth, followed(Punctuation::Semicolon, weights))?;
     Ok(Parsed::new(
         Composition::Join(weights.value),
         weights.height,
@@ -286,7 +286,7 @@ impl<F: Fn(Global, usize, &[Token]) -> Result<Parsed<'_, Stmt>, ReadError>> Stat
         ensures { Gives (parsed composition_view) result (spec.child_for self.now.depth
             (spec.statement (self.now.depth - 1)) role (kinds tokens.now)) }
     {
-        let child = self.child(tokens)?.raise(self.depth)?;
+        let child = nested(self.depth, self.child(tokens))?;
         Ok(Parsed::new(
             Composition::Child(role, child.value),
             child.height,
@@ -331,7 +331,7 @@ impl<F: Fn(Global, usize, &[Token]) -> Result<Parsed<'_, Stmt>, ReadError>> Stat
         ensures { Gives (parsed stmt_view) result (spec.compose self.now.depth
             (spec.statement (self.now.depth - 1)) keyword (kinds tokens.now)) }
     {
-        let composition = self.composition(keyword, tokens)?.raise(self.depth)?;
+        let composition = nested(self.depth, self.composition(keyword, tokens))?;
         Ok(Parsed::new(
             Stmt::Compose(composition.value),
             composition.height,

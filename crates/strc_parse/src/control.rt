@@ -10,13 +10,13 @@ ghost use Rattle.strc_grammar.specs.Reading.{Gives};
 ghost use Rattle.strc_parse.specs.Readers.{ReadsStatements};
 ghost use Rattle.strc_parse.specs.Parts as parts;
 
+use crate::kept::{both, made, nested};
 use crate::simple::{ForHeading, argument, bracketed, ended, for_heading};
 use std::alloc::Global;
 use strc_grammar::{Fault, ReadError};
 use strc_lex::token::{Keyword, Punctuation, Token, TokenKind};
 use strc_rules::lookahead::{is_keyword, is_punctuation, peek, tail, unexpected};
 use strc_rules::parsed::Parsed;
-use strc_rules::part::{beside, raise};
 use strc_syntax::node::{block_of, for_of, if_else_of, if_of, while_of};
 use strc_syntax::tree::{Expr, Member, Stmt};
 
@@ -178,9 +178,9 @@ impl<F: Fn(Global, usize, &[Token]) -> Result<Parsed<'_, Stmt>, ReadError>> Stat
             (spec.branch self.now.depth (spec.statement (self.now.depth - 1)) (kinds tokens.now)) }
     {
         let read = bracketed(self.alloc, self.depth, tokens)?;
-        let (condition, chosen) = beside(read.value, self.below(read.rest))?;
-        let height = read.height.max(chosen.height);
-        self.after_branch(condition, chosen.value, height, chosen.rest)
+        let read = both(read.value, read.height, self.below(read.rest))?;
+        let (condition, chosen) = read.value;
+        self.after_branch(condition, chosen, read.height, read.rest)
     }
 
     /// What follows a branch, to which an `else` belongs that comes next.
@@ -202,9 +202,9 @@ impl<F: Fn(Global, usize, &[Token]) -> Result<Parsed<'_, Stmt>, ReadError>> Stat
         if is_keyword(Keyword::Else, tokens) {
             return self.other_branch(condition, chosen, height, tail(tokens));
         }
-        let (parts, height) = raise(self.depth, (condition, chosen), height)?;
-        let (condition, chosen) = parts;
-        Ok(Parsed::new(if_of(self.alloc, condition, chosen)?, height, tokens))
+        let read = Parsed::new((condition, chosen), height, tokens).raise(self.depth)?;
+        let (condition, chosen) = read.value;
+        made(if_of(self.alloc, condition, chosen), read.height, read.rest)
     }
 
     /// The branch after `else`, with the height of what is before it.
@@ -223,13 +223,11 @@ impl<F: Fn(Global, usize, &[Token]) -> Result<Parsed<'_, Stmt>, ReadError>> Stat
             (spec.other_branch self.now.depth (spec.statement (self.now.depth - 1))
             (expr_view condition) (stmt_view chosen) height (kinds tokens.now)) }
     {
-        let (before, other) = beside((condition, chosen), self.below(tokens))?;
-        let height = height.max(other.height);
-        let rest = other.rest;
-        let (parts, height) = raise(self.depth, (before, other.value), height)?;
-        let ((condition, chosen), other) = parts;
-        let made = if_else_of(self.alloc, condition, chosen, other)?;
-        Ok(Parsed::new(made, height, rest))
+        let read = both((condition, chosen), height, self.below(tokens));
+        let read = nested(self.depth, read)?;
+        let ((condition, chosen), other) = read.value;
+        let node = if_else_of(self.alloc, condition, chosen, other);
+        made(node, read.height, read.rest)
     }
 
     /// `while`: after the keyword.
@@ -243,12 +241,11 @@ impl<F: Fn(Global, usize, &[Token]) -> Result<Parsed<'_, Stmt>, ReadError>> Stat
             (kinds tokens.now)) }
     {
         let read = bracketed(self.alloc, self.depth, tokens)?;
-        let (condition, body) = beside(read.value, self.below(read.rest))?;
-        let height = read.height.max(body.height);
-        let rest = body.rest;
-        let (parts, height) = raise(self.depth, (condition, body.value), height)?;
-        let (condition, body) = parts;
-        Ok(Parsed::new(while_of(self.alloc, condition, body)?, height, rest))
+        let read = both(read.value, read.height, self.below(read.rest));
+        let read = nested(self.depth, read)?;
+        let (condition, body) = read.value;
+        let node = while_of(self.alloc, condition, body);
+        made(node, read.height, read.rest)
     }
 
     /// `for`: after the keyword.
@@ -262,18 +259,16 @@ impl<F: Fn(Global, usize, &[Token]) -> Result<Parsed<'_, Stmt>, ReadError>> Stat
             (kinds tokens.now)) }
     {
         let read = for_heading(self.alloc, self.depth, tokens)?;
-        let (heading, body) = beside(read.value, self.below(read.rest))?;
-        let height = read.height.max(body.height);
-        let rest = body.rest;
-        let (parts, height) = raise(self.depth, (heading, body.value), height)?;
-        let (heading, body) = parts;
+        let read = both(read.value, read.height, self.below(read.rest));
+        let read = nested(self.depth, read)?;
+        let (heading, body) = read.value;
         let ForHeading {
             first,
             condition,
             step,
         } = heading;
-        let made = for_of(self.alloc, first, condition, step, body)?;
-        Ok(Parsed::new(made, height, rest))
+        let node = for_of(self.alloc, first, condition, step, body);
+        made(node, read.height, read.rest)
     }
 
     /// A block as a statement: after its brace.
@@ -285,7 +280,7 @@ impl<F: Fn(Global, usize, &[Token]) -> Result<Parsed<'_, Stmt>, ReadError>> Stat
         ensures { Gives (parsed stmt_view) result
             (spec.block self.now.depth (spec.statement (self.now.depth - 1)) (kinds tokens.now)) }
     {
-        let body = self.statements(tokens)?.raise(self.depth)?;
+        let body = nested(self.depth, self.statements(tokens))?;
         Ok(Parsed::new(block_of(body.value), body.height, body.rest))
     }
 

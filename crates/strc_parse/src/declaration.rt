@@ -9,8 +9,9 @@ ghost use Rattle.strc_grammar.specs.Reading.{Gives};
 
 use crate::control::{members, statements};
 use std::alloc::Global;
+use strc_base::name::Name;
 use strc_grammar::{HEIGHT_LIMIT, ReadError};
-use strc_lex::token::{Keyword, Name, Punctuation, Token};
+use strc_lex::token::{Keyword, Punctuation, Token};
 use strc_rules::lookahead::{expect, is_keyword, name, tail, unexpected};
 use strc_rules::parameter::parameters;
 use strc_rules::parsed::Parsed;

@@ -9,6 +9,7 @@
 mod composition;
 mod control;
 mod declaration;
+mod kept;
 pub mod laws;
 mod member;
 mod program;

@@ -11,13 +11,13 @@ ghost use Rattle.strc_parse.specs.Readers.{ReadsStatements};
 ghost use Rattle.strc_parse.specs.Parts as parts;
 
 use crate::control::StatementRules;
+use crate::kept::{both, followed};
 use std::alloc::Global;
 use strc_grammar::ReadError;
 use strc_lex::token::{Keyword, Punctuation, Token, TokenKind};
 use strc_rules::expression::{LOWEST_PRECEDENCE, expression};
 use strc_rules::lookahead::{expect, is_punctuation, peek, tail, unexpected};
 use strc_rules::parsed::Parsed;
-use strc_rules::part::beside;
 use strc_rules::variable::declared;
 use strc_syntax::node::{init_of, prework_of, work_of};
 use strc_syntax::tree::{Expr, Member, RateKind, RateTree, Stmt};
@@ -89,7 +89,7 @@ fn rates(
 fn fields(alloc: Global, limit: usize, tokens: &[Token]) -> Result<Parsed<'_, Member>, ReadError>
     ensures { Gives (parsed member_view) result (spec.fields limit (kinds tokens.now)) }
 {
-    let declared = declared(alloc, limit, tokens)?.before(Punctuation::Semicolon)?;
+    let declared = followed(Punctuation::Semicolon, declared(alloc, limit, tokens))?;
     Ok(Parsed::new(
         Member::Fields(declared.value),
         declared.height,
@@ -140,9 +140,7 @@ impl<F: Fn(Global, usize, &[Token]) -> Result<Parsed<'_, Stmt>, ReadError>> Stat
             (kinds tokens.now)) }
     {
         let read = rates(self.alloc, self.depth - 1, tokens)?;
-        let (rates, block) = beside(read.value, self.braced(read.rest))?;
-        let height = read.height.max(block.height);
-        Ok(Parsed::new((rates, block.value), height, block.rest))
+        both(read.value, read.height, self.braced(read.rest))
     }
 
     /// `prework`: after the keyword.

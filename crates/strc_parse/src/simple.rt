@@ -9,15 +9,17 @@ ghost use Rattle.strc_parse.specs.Seen.{heading_view, after_first_view};
 ghost use Rattle.strc_grammar.specs.Reading as spec;
 ghost use Rattle.strc_grammar.specs.Reading.{Gives};
 
+use crate::kept::{both, followed, nested};
 use std::alloc::Global;
 use std::mem;
+use strc_base::name::Name;
 use strc_grammar::ReadError;
-use strc_lex::token::{Keyword, Name, Punctuation, Token, TokenKind};
+use strc_lex::token::{Keyword, Punctuation, Token, TokenKind};
 use strc_rules::expression::{LOWEST_PRECEDENCE, closed, expression};
 use strc_rules::lookahead::{expect, is_punctuation, peek, tail};
 use strc_rules::operator::assign_at;
 use strc_rules::parsed::Parsed;
-use strc_rules::part::{beside, raise};
+use strc_rules::part::raise;
 use strc_rules::variable::declared;
 use strc_syntax::tree::{AssignOperator, Expr, Stmt};
 
@@ -27,7 +29,7 @@ fn declare(alloc: Global, depth: usize, tokens: &[Token]) -> Result<Parsed<'_, S
     requires { 0 < depth }
     ensures { Gives (parsed stmt_view) result (spec.declare depth (kinds tokens.now)) }
 {
-    let declared = declared(alloc, depth - 1, tokens)?.raise(depth)?;
+    let declared = nested(depth, declared(alloc, depth - 1, tokens))?;
     Ok(Parsed::new(
         Stmt::Declare(declared.value),
         declared.height,
@@ -87,15 +89,12 @@ fn assign_element<'t>(
         (kinds tokens.now)) }
 {
     let value = expression(alloc, depth - 1, LOWEST_PRECEDENCE, tokens);
-    let (element, read) = beside((name, index), value)?;
-    let rest = read.rest;
-    let height = element_height.max(read.height);
-    let (parts, height) = raise(depth, (element, read.value), height)?;
-    let ((name, index), value) = parts;
+    let read = nested(depth, both((name, index), element_height, value))?;
+    let ((name, index), value) = read.value;
     Ok(Parsed::new(
         Stmt::AssignElement(name, index, operator, value),
-        height,
-        rest,
+        read.height,
+        read.rest,
     ))
 }
 
@@ -198,7 +197,7 @@ pub(crate) fn ended(
     requires { 0 < depth }
     ensures { Gives (parsed stmt_view) result (spec.ended depth (kinds tokens.now)) }
 {
-    part(alloc, depth, tokens)?.before(Punctuation::Semicolon)
+    followed(Punctuation::Semicolon, part(alloc, depth, tokens))
 }
 
 /// `(e)`, with the height of e.
@@ -225,9 +224,8 @@ pub(crate) fn argument(
     requires { 0 < depth }
     ensures { Gives (parsed expr_view) result (spec.argument depth (kinds tokens.now)) }
 {
-    bracketed(alloc, depth, tokens)?
-        .before(Punctuation::Semicolon)?
-        .raise(depth)
+    let read = bracketed(alloc, depth, tokens);
+    nested(depth, followed(Punctuation::Semicolon, read))
 }
 
 /// The condition of a `for`, if there is one, and its semicolon.
@@ -253,7 +251,8 @@ fn last_part(alloc: Global, depth: usize, tokens: &[Token]) -> Result<Parsed<'_,
     requires { 0 < depth }
     ensures { Gives (parsed stmt_view) result (spec.last_part depth (kinds tokens.now)) }
 {
-    optional(alloc, depth, Punctuation::CloseParen, tokens)?.before(Punctuation::CloseParen)
+    let read = optional(alloc, depth, Punctuation::CloseParen, tokens);
+    followed(Punctuation::CloseParen, read)
 }
 
 /// `condition; step)`, and the height of the higher.
@@ -267,9 +266,7 @@ fn after_first(
     ensures { Gives (parsed after_first_view) result (spec.after_first depth (kinds tokens.now)) }
 {
     let read = condition(alloc, depth, tokens)?;
-    let (condition, step) = beside(read.value, last_part(alloc, depth, read.rest))?;
-    let height = read.height.max(step.height);
-    Ok(Parsed::new((condition, step.value), height, step.rest))
+    both(read.value, read.height, last_part(alloc, depth, read.rest))
 }
 
 /// What is in the brackets of a `for`.
@@ -292,14 +289,13 @@ pub(crate) fn for_heading(
 {
     let opened = expect(Punctuation::OpenParen, tokens)?;
     let read = ended(alloc, depth, opened)?;
-    let (first, after) = beside(read.value, after_first(alloc, depth, read.rest))?;
-    let height = read.height.max(after.height);
-    let rest = after.rest;
-    let (condition, step) = after.value;
+    let after = after_first(alloc, depth, read.rest);
+    let read = both(read.value, read.height, after)?;
+    let (first, (condition, step)) = read.value;
     let heading = ForHeading {
         first,
         condition,
         step,
     };
-    Ok(Parsed::new(heading, height, rest))
+    Ok(Parsed::new(heading, read.height, read.rest))
 }

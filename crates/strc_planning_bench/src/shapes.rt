@@ -3,9 +3,9 @@
 use std::alloc::{AllocError, Global};
 use std::fmt;
 use std::fmt::{Display, Formatter, Write};
+use strc_base::name::StringLiteral;
 use strc_graph::condition::is_graph;
 use strc_graph::graph::{Channel, Graph, Node, Port, Splitter};
-use strc_lex::token::StringLiteral;
 
 /// What a graph looks like. Its first three nodes raise the rate: each node after them fires
 /// 1,000,000 times in a round.

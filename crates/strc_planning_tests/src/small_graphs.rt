@@ -5,9 +5,9 @@ use std::process::Abort;
 use strc_balance::balance::balance;
 use strc_balance::condition::can_balance;
 use strc_balance::error::BalanceError;
+use strc_base::name::StringLiteral;
 use strc_graph::condition::is_graph;
 use strc_graph::graph::{Channel, Fission, Graph, Node, Port, Splitter};
-use strc_lex::token::StringLiteral;
 
 /// What a node is. A port that no channel uses lets a node stand for a filter of any rates.
 #[derive(Clone, Copy)]

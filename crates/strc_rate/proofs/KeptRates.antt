@@ -17,7 +17,7 @@ use Rattle.strc_semantics.specs.Filters.{prework_block, prework_rates, body_bloc
 use Rattle.strc_semantics.specs.Filters.{push_rate, pop_rate, item_count, window_size}
 use Rattle.strc_semantics.specs.Closed.{AreClosed, IsClosedFilter}
 use Rattle.strc_semantics.specs.Firing.{Port, Store, stmts_done, no_traffic, port_of, store_at}
-use Rattle.strc_work.proofs.FilterRuns.{body_closed}
+use Rattle.strc_code.proofs.ClosedBodies.{body_closed}
 use Rattle.strc_rate.specs.declared.rates.RateError.{RateError}
 use Rattle.strc_rate.specs.declared.rates.RateError.TheVariants.{RateLimit, RateMismatch}
 use Rattle.strc_rate.specs.declared.rates.RateError.TheVariants.{PeekOutside}

@@ -12,11 +12,11 @@ ghost use Rattle.strc_rate.specs.Verdicts.{IsVerdict, body_view, rates_view};
 
 use std::alloc::{AllocError, AllocFailed, Global};
 use strc_base::memory::NoMemory;
+use strc_code::code::{Code, DeclaredRates};
 use strc_peeks::peeks::body_peeks;
 use strc_peeks::sight::{PeekBounds, is_closed};
 use strc_semantics::body::Body;
 use strc_syntax::tree::ItemType;
-use strc_work::code::{Code, DeclaredRates};
 use thiserror::Error;
 
 // The highest rate that may be declared.

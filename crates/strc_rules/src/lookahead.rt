@@ -9,8 +9,9 @@ ghost use Rattle.strc_rules.specs.Seen.{seen};
 ghost use Rattle.strc_grammar.specs.Reading as spec;
 ghost use Rattle.strc_grammar.specs.Reading.{Gives};
 
+use strc_base::name::{Name, StringLiteral};
 use strc_grammar::{Fault, ReadError};
-use strc_lex::token::{Keyword, Name, Punctuation, StringLiteral, Token, TokenKind};
+use strc_lex::token::{Keyword, Punctuation, Token, TokenKind};
 
 /// The kind of the first token.
 pub fn peek(tokens: &[Token]) -> Option<&TokenKind>

@@ -15,8 +15,9 @@ use crate::operator::step_after;
 use crate::parsed::Parsed;
 use crate::part::raise;
 use std::alloc::Global;
+use strc_base::name::Name;
 use strc_grammar::ReadError;
-use strc_lex::token::{Keyword, Name, Punctuation, Token, TokenKind};
+use strc_lex::token::{Keyword, Punctuation, Token, TokenKind};
 use strc_syntax::node::{group_of, peek_of, read_of, step_of, unary_of};
 use strc_syntax::tree::{Expr, StepOperator, UnaryOperator};
 

@@ -9,8 +9,9 @@ ghost use Rattle.strc_grammar.specs.Reading.{Gives};
 use crate::lookahead::{expect_keyword, is_punctuation, name, tail};
 use crate::part::before;
 use std::alloc::Global;
+use strc_base::name::Name;
 use strc_grammar::ReadError;
-use strc_lex::token::{Keyword, Name, Punctuation, Token};
+use strc_lex::token::{Keyword, Punctuation, Token};
 
 /// `int n`
 #[tactic(auto, unfolding(strc_grammar::specs::Reading::parameter))]

@@ -8,8 +8,9 @@ ghost use Rattle.strc_grammar.specs.Reading.{Gives};
 
 use crate::lookahead::{expect, expect_keyword, peek, tail, text, unexpected};
 use crate::part::before;
+use strc_base::name::StringLiteral;
 use strc_grammar::ReadError;
-use strc_lex::token::{Keyword, Punctuation, StringLiteral, Token, TokenKind};
+use strc_lex::token::{Keyword, Punctuation, Token, TokenKind};
 use strc_syntax::tree::{CompositeKind, ItemType, StreamType};
 
 #[tactic(auto, unfolding(strc_grammar::specs::Reading::item_type))]

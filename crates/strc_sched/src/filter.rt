@@ -11,12 +11,13 @@ ghost use Rattle.strc_sched.specs.Answers.{HasStepped};
 use crate::ring::{Ring, count_at, give_to, take_from, window_at};
 use std::alloc::Global;
 use strc_base::memory::NoMemory;
+use strc_code::code::Code;
 use strc_graph::rates::body_at;
 use strc_semantics::body::Body;
 use strc_semantics::fault::Halt;
 use strc_semantics::word::Word;
 use strc_syntax::tree::ItemType;
-use strc_work::code::{Code, StartError};
+use strc_work::firing::{Fire, StartError};
 use strc_work::frame::Frame;
 use strc_work::state::State;
 

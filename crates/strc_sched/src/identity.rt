@@ -6,9 +6,9 @@ ghost use Rattle.strc_syntax.specs.View.{block_view};
 ghost use Rattle.strc_semantics.specs.Filters.{filter_of, members_of};
 ghost use Rattle.strc_sched.specs.Identities.{IsIdentity, IsOnlyWork, pushes_popped};
 
+use strc_code::code::{Code, DeclaredRates};
 use strc_semantics::body::Body;
 use strc_syntax::tree::{Expr, ItemType, Member, Stmt};
-use strc_work::code::{Code, DeclaredRates};
 
 /// Whether a filter is known to keep nothing and to give each item that it takes: it is
 /// `work push 1 pop 1 { push(pop()); }`, with no other member.

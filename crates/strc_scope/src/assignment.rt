@@ -10,7 +10,7 @@ ghost use Rattle.strc_scope.specs.Simple.{IsSimple, IsPlain};
 
 use crate::evaluation::{place_of, value};
 use crate::store::Store;
-use strc_lex::token::Name;
+use strc_base::name::Name;
 use strc_semantics::evaluation::binary_value;
 use strc_semantics::fault::Cause;
 use strc_syntax::tree::{AssignOperator, BinaryOperator, Expr, Stmt};

@@ -8,9 +8,9 @@ ghost use Rattle.strc_scope.specs.Captures.{captured, unshadowed_one};
 use crate::variables::Variables;
 use std::alloc::Global;
 use strc_base::memory::NoMemory;
+use strc_base::name::Name;
 use strc_check::constants::Constants;
 use strc_check::types::ValueType;
-use strc_lex::token::Name;
 
 /// The numbers that can be seen at a place of a body, as constants: the variables' values at this
 /// moment, and the body's own constants, but for those that a variable shadows.

@@ -5,8 +5,8 @@ ghost use Rattle.strc_scope.specs.declared.error.ElabError.TheVariants as refuse
 
 use std::alloc::{AllocError, AllocFailed};
 use strc_base::memory::NoMemory;
+use strc_base::name::Name;
 use strc_check::spelled::spelled;
-use strc_lex::token::Name;
 use strc_semantics::fault::Cause;
 use thiserror::Error;
 

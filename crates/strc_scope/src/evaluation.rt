@@ -7,7 +7,7 @@ ghost use Rattle.strc_semantics.specs.Firing.{value_of, no_io, place_in, cells_n
 ghost use Rattle.strc_scope.specs.Saying.{store_of, Evaluates};
 
 use crate::store::Store;
-use strc_lex::token::Name;
+use strc_base::name::Name;
 use strc_semantics::arithmetic;
 use strc_semantics::evaluation::{binary_value, decides, is_true, unary_value};
 use strc_semantics::fault::Cause;

@@ -18,6 +18,7 @@ use crate::error::ElabError;
 use crate::evaluation;
 use crate::store::Store;
 use std::alloc::Global;
+use strc_base::name::Name;
 use strc_check::constants::Constants;
 use strc_check::context::init_context;
 use strc_check::error::LowerError;
@@ -25,7 +26,6 @@ use strc_check::expression_rules::{resolve_as, resolve_expr, resolve_initial};
 use strc_check::statement_rules::{resolve_assigned, resolve_element};
 use strc_check::type_rules::LENGTH_LIMIT;
 use strc_check::types::ValueType;
-use strc_lex::token::Name;
 use strc_semantics::fault::Cause;
 use strc_syntax::tree::{AssignOperator, Expr, Variable, VariableType, Variables};
 

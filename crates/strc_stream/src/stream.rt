@@ -1,8 +1,8 @@
 // A stream of instances: what a program's text becomes when its composite streams have run.
 
+use strc_base::name::StringLiteral;
 use strc_graph::graph::Splitter;
 use strc_graph::instance::Instance;
-use strc_lex::token::StringLiteral;
 
 /// A stream, with its constants substituted (StreamIt specification 2.1, "Streams").
 pub enum Stream {

@@ -12,7 +12,7 @@ use crate::tree::{
     UnaryOperator,
 };
 use std::alloc::{AllocError, Global};
-use strc_lex::token::Name;
+use strc_base::name::Name;
 
 /// `x`, or `x[i]`.
 pub fn read_of(alloc: Global, name: Name, index: Option<Expr>) -> Result<Expr, AllocError>

@@ -1,6 +1,6 @@
 // The syntax tree of a program. Brackets are nodes, so that a tree has one spelling.
 
-use strc_lex::token::{Name, StringLiteral};
+use strc_base::name::{Name, StringLiteral};
 
 /// A whole text: its declarations, in order.
 pub struct Program {

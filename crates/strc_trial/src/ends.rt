@@ -1,11 +1,11 @@
 // Why a composite stream is refused when its body has run: a part that it doesn't have, or a first
 // or a last child that doesn't fit its type.
 
+use crate::elaborates::Elaborates;
 use crate::faulting::statement_of;
 use crate::follow::{Follower, Found};
 use crate::statement::{About, Part};
-use crate::trial::{Answer, answer_to};
-use std::alloc::Global;
+use crate::trial::Answer;
 use strc_base::memory::NoMemory;
 use strc_lex::token::{Keyword, Token};
 use strc_source::declarations::is_keyword;
@@ -26,12 +26,12 @@ const OF_SPLITJOIN: [Keyword; 3] = [Keyword::Split, Keyword::Add, Keyword::Join]
 const OF_LOOP: [Keyword; 4] = [Keyword::Join, Keyword::Body, Keyword::Loop, Keyword::Split];
 
 /// What a stream is refused for whose body has run to its end.
-pub(crate) fn end_part(
-    follower: &mut Follower<'_>,
+pub(crate) fn end_part<E: Elaborates>(
+    follower: &mut Follower<'_, E>,
     braced: &Braced,
     found: Found,
 ) -> Result<Option<Part>, NoMemory> {
-    let source = follower.source;
+    let source = follower.trial.source;
     if let Some(keyword) = missing_part(source.tokens, &found) {
         return Ok(Some(Part {
             place: braced.original(found.level.area.head_place(source)),
@@ -94,25 +94,27 @@ fn has_part(tokens: &[Token], found: &Found, keyword: Keyword) -> bool {
 }
 
 /// Whether one more child before a token makes a stream's type fit.
-fn mends(
-    follower: &mut Follower<'_>,
+fn mends<E: Elaborates>(
+    follower: &mut Follower<'_, E>,
     found: &Found,
     token: usize,
     child: &[u8],
 ) -> Result<bool, NoMemory> {
-    let (alloc, source) = (follower.alloc, follower.source);
-    let text = found.level.text_with_part(alloc, source, token, child)?;
-    Ok(answer_to(alloc, source, &text)? != Answer::Mismatch)
+    let trial = follower.trial;
+    let text = found
+        .level
+        .text_with_part(trial.alloc, trial.source, token, child)?;
+    Ok(trial.answer_to(&text)? != Answer::Mismatch)
 }
 
 /// The first or the last statement of a body that adds a child.
-fn child_part(
-    follower: &mut Follower<'_>,
+fn child_part<E: Elaborates>(
+    follower: &mut Follower<'_, E>,
     braced: &Braced,
     found: Found,
     about: About,
 ) -> Result<Option<Part>, NoMemory> {
-    let source = follower.source;
+    let source = follower.trial.source;
     let child = follower.child_of(found, matches!(&about, About::First))?;
     match child {
         Some(child) => match statement_of(braced, source, &child) {

@@ -4,9 +4,9 @@
 ghost use Rattle.std.specs.Prelude.{IfOk, IfSome};
 ghost use Rattle.strc_source.specs.Messages.{IsWithin};
 
+use crate::elaborates::Elaborates;
 use crate::follow::{Follower, Found, closed_declaration, main_area};
-use crate::trial::LONGEST;
-use std::alloc::Global;
+use crate::trial::{LONGEST, Trial};
 use strc_base::memory::NoMemory;
 use strc_lex::lexer::lex;
 use strc_semantics::fault::Cause;
@@ -23,58 +23,51 @@ const MOST_OF_LARGE: usize = 120;
 
 /// The statement, the field or the header at which a program faults before it runs, where it can
 /// be known. Where the step or the condition of a loop faults it is the loop's header.
-pub fn faulting_statement(
-    alloc: Global,
-    source: Source<'_>,
+pub fn faulting_statement<E: Elaborates>(
+    trial: Trial<'_, E>,
     cause: Cause,
 ) -> Result<Option<Extent>, NoMemory>
     ensures { IfOk result (λ found. IfSome found (λ place.
-        IsWithin source.entry.text.now place)) }
+        IsWithin trial.entry.source.text.now place)) }
 {
-    last_statement(alloc, source, Some(cause), MOST)
+    last_statement(trial, Some(cause), MOST)
 }
 
 /// The statement at which a program has too many filters or too many levels, where it can be known;
 /// of streams that add themselves it is the first statement that adds one again.
-pub fn limit_statement(alloc: Global, source: Source<'_>) -> Result<Option<Extent>, NoMemory>
+pub fn limit_statement<E: Elaborates>(trial: Trial<'_, E>) -> Result<Option<Extent>, NoMemory>
     ensures { IfOk result (λ found. IfSome found (λ place.
-        IsWithin source.entry.text.now place)) }
+        IsWithin trial.entry.source.text.now place)) }
 {
-    last_statement(alloc, source, None, MOST_OF_LARGE)
+    last_statement(trial, None, MOST_OF_LARGE)
 }
 
-fn last_statement(
-    alloc: Global,
-    source: Source<'_>,
+fn last_statement<E: Elaborates>(
+    trial: Trial<'_, E>,
     cause: Option<Cause>,
     left: usize,
 ) -> Result<Option<Extent>, NoMemory>
     ensures { IfOk result (λ found. IfSome found (λ place.
-        IsWithin source.entry.text.now place)) }
+        IsWithin trial.entry.source.text.now place)) }
 {
+    let source = trial.source;
     if source.text.len() > LONGEST {
         return Ok(None);
     }
-    let braced = with_braces(alloc, source)?;
-    let Ok(tokens) = lex(alloc, &braced.text) else {
+    let braced = with_braces(trial.alloc, source)?;
+    let Ok(tokens) = lex(trial.alloc, &braced.text) else {
         return Ok(None);
     };
+    let changed = trial.with_text(&braced.text, &tokens);
     let mut follower = Follower {
-        alloc,
-        source: Source {
-            file: source.file,
-            text: &braced.text,
-            tokens: &tokens,
-            main: source.main,
-        },
+        trial: changed,
         wanted: None,
         recurs: cause.is_some(),
         cause,
         left,
     };
-    let changed = follower.source;
     match follower.follow()? {
-        Some(found) => Ok(within(source, statement_of(&braced, changed, &found))),
+        Some(found) => Ok(within(source, statement_of(&braced, changed.source, &found))),
         None => Ok(None),
     }
 }

@@ -2,9 +2,9 @@
 // adds. It is found by asking: a text that counts its steps is answered for the step of a number
 // where the program comes to it, and else as before.
 
+use crate::elaborates::Elaborates;
 use crate::search::SOUGHT_FIELD;
-use crate::trial::{Answer, answer_to};
-use std::alloc::Global;
+use crate::trial::{Answer, Trial};
 use strc_base::memory::NoMemory;
 use strc_lex::token::{Keyword, Punctuation};
 use strc_semantics::fault::Cause;
@@ -26,10 +26,9 @@ const COUNT_BITS: u32 = 22;
 
 /// What a search looks for, and how many texts it may try yet.
 #[derive(Drop)]
-pub(crate) struct Follower<'a> {
-    pub(crate) alloc: Global,
-    /// A text with braces round each part of a loop or an `if`.
-    pub(crate) source: Source<'a>,
+pub(crate) struct Follower<'a, E> {
+    /// Its source has braces round each part of a loop or an `if`.
+    pub(crate) trial: Trial<'a, E>,
     /// The declaration that the refusal names, if it names one.
     pub(crate) wanted: Option<Body>,
     /// Whether a stream that adds itself is followed.
@@ -47,20 +46,20 @@ pub(crate) struct Found {
     reached: Option<Reached>,
 }
 
-impl Follower<'_> {
+impl<E: Elaborates> Follower<'_, E> {
     /// The last place that the program comes to, in the innermost stream.
     pub(crate) fn follow(&mut self) -> Result<Option<Found>, NoMemory> {
-        let Some(area) = main_area(self.source) else {
+        let Some(area) = main_area(self.trial.source) else {
             return Ok(None);
         };
-        let level = Level::main(self.alloc, self.source, area)?;
+        let level = Level::main(self.trial.alloc, self.trial.source, area)?;
         let mut found = match self.last_in(level)? {
             Some(found) if found.token != area.close || self.is_wanted(area) => found,
             _ => return Ok(None),
         };
-        let mut entered: Vec<usize> = Vec::new(self.alloc);
+        let mut entered: Vec<usize> = Vec::new(self.trial.alloc);
         for _level in 0..MOST_LEVELS {
-            let Some(area) = area_of_child(self.source.tokens, found.token) else {
+            let Some(area) = area_of_child(self.trial.source.tokens, found.token) else {
                 break;
             };
             if !self.recurs && entered.iter().any(|open| *open == area.open) {
@@ -80,7 +79,9 @@ impl Follower<'_> {
         let Some(reached) = outer.reached else {
             return Ok(None);
         };
-        let level = outer.level.child(self.alloc, self.source, area, reached)?;
+        let level = outer
+            .level
+            .child(self.trial.alloc, self.trial.source, area, reached)?;
         match self.last_in(level)? {
             Some(found) if found.token == area.close && !self.is_wanted(area) => Ok(None),
             found => Ok(found),
@@ -97,7 +98,7 @@ impl Follower<'_> {
 
     /// The last place in a body that the program comes to.
     fn last_in(&mut self, level: Level) -> Result<Option<Found>, NoMemory> {
-        if level.area.is_filter(self.source.tokens) {
+        if level.area.is_filter(self.trial.source.tokens) {
             return self.last_in_filter(level);
         }
         let reached = self.last_step(&level)?;
@@ -109,8 +110,8 @@ impl Follower<'_> {
     fn last_in_filter(&mut self, level: Level) -> Result<Option<Found>, NoMemory> {
         let places = level
             .area
-            .steps(self.alloc, self.source.tokens, Which::Text)?;
-        let mut tokens: Vec<usize> = Vec::new(self.alloc);
+            .steps(self.trial.alloc, self.trial.source.tokens, Which::Text)?;
+        let mut tokens: Vec<usize> = Vec::new(self.trial.alloc);
         for place in &places {
             tokens.push(place.token)?;
         }
@@ -156,8 +157,9 @@ impl Follower<'_> {
     /// Whether a filter's text is looked at before a token.
     fn is_looked_at(&mut self, level: &Level, token: usize) -> Result<bool, NoMemory> {
         self.left = self.left.saturating_sub(1);
-        let text = level.text_with_part(self.alloc, self.source, token, SOUGHT_FIELD.text)?;
-        Ok(answer_to(self.alloc, self.source, &text)? == Answer::Sought)
+        let trial = self.trial;
+        let text = level.text_with_part(trial.alloc, trial.source, token, SOUGHT_FIELD.text)?;
+        Ok(trial.answer_to(&text)? == Answer::Sought)
     }
 
     /// The last step of a body; none where it has none, or where too many texts were tried.
@@ -240,7 +242,9 @@ impl Follower<'_> {
         found: Found,
         is_first: bool,
     ) -> Result<Option<Found>, NoMemory> {
-        let level = found.level.with_children(self.alloc, self.source.tokens)?;
+        let level = found
+            .level
+            .with_children(self.trial.alloc, self.trial.source.tokens)?;
         let reached = if is_first {
             self.step_of(&level, 1)?
         } else {
@@ -265,8 +269,8 @@ impl Follower<'_> {
             places,
             fault,
         };
-        let text = level.text_with(self.alloc, self.source, probe)?;
-        Ok(answer_to(self.alloc, self.source, &text)? == Answer::Fault(cause))
+        let text = level.text_with(self.trial.alloc, self.trial.source, probe)?;
+        Ok(self.trial.answer_to(&text)? == Answer::Fault(cause))
     }
 }
 

@@ -3,10 +3,12 @@
 // found by asking: the text with a probe in it is answered for the probe where the probe is
 // reached, and else as before.
 // Stands on strc_steps, which counts a program's steps, on strc_source, which knows where parts of
-// a text are, on strc_lex, strc_parse and strc_elab, which answer a text, and on strc_semantics,
-// whose faults it seeks.
+// a text are, on strc_lex and strc_parse, which read a text, and on strc_syntax, strc_stream,
+// strc_scope and strc_semantics, whose trees are elaborated, to streams, errors and faults. What
+// elaborates is handed in.
 #![tactic(auto)]
 
+pub mod elaborates;
 mod ends;
 pub mod faulting;
 mod follow;

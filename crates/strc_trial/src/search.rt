@@ -1,11 +1,10 @@
 // Where a program gets before it is refused. It is found by asking: a text with a probe in it, as a
 // name that isn't declared, is answered for the probe where that is reached, and else as before.
 
-use crate::trial::{Answer, OTHER, SOUGHT, answer_to, with_part};
-use std::alloc::Global;
+use crate::elaborates::Elaborates;
+use crate::trial::{Answer, OTHER, SOUGHT, Trial, with_part};
 use strc_base::memory::NoMemory;
 use strc_source::message::Extent;
-use strc_source::source::Source;
 
 /// What is put into a text, and how a program is answered that reaches it.
 #[derive(Clone, Copy)]
@@ -37,9 +36,8 @@ const OTHER_NAME: Probe = Probe {
 
 /// A search with two probes that are answered differently.
 #[derive(Drop)]
-pub(crate) struct Search<'a> {
-    alloc: Global,
-    pub(crate) source: Source<'a>,
+pub(crate) struct Search<'a, E> {
+    trial: Trial<'a, E>,
     first: Probe,
     second: Probe,
     /// Whether a probe is put in place of a token, and else before it.
@@ -48,12 +46,11 @@ pub(crate) struct Search<'a> {
     left: usize,
 }
 
-impl<'a> Search<'a> {
+impl<'a, E: Elaborates> Search<'a, E> {
     /// A search among statements and fields.
-    pub(crate) fn of_statements(alloc: Global, source: Source<'a>, left: usize) -> Search<'a> {
+    pub(crate) fn of_statements(trial: Trial<'a, E>, left: usize) -> Search<'a, E> {
         Search {
-            alloc,
-            source,
+            trial,
             first: SOUGHT_FIELD,
             second: OTHER_FIELD,
             replaces: false,
@@ -62,10 +59,9 @@ impl<'a> Search<'a> {
     }
 
     /// A search among uses of a name.
-    pub(crate) fn of_uses(alloc: Global, source: Source<'a>, left: usize) -> Search<'a> {
+    pub(crate) fn of_uses(trial: Trial<'a, E>, left: usize) -> Search<'a, E> {
         Search {
-            alloc,
-            source,
+            trial,
             first: SOUGHT_NAME,
             second: OTHER_NAME,
             replaces: true,
@@ -75,7 +71,7 @@ impl<'a> Search<'a> {
 
     /// The part of the text that a probe takes at a token.
     fn part(&self, token: usize) -> Extent {
-        let place = self.source.token_place(token);
+        let place = self.trial.source.token_place(token);
         Extent {
             at: place.at,
             length: if self.replaces { place.length } else { 0 },
@@ -97,9 +93,9 @@ impl<'a> Search<'a> {
             return Ok(false);
         }
         self.left = self.left.saturating_sub(1);
-        let probe = self.first;
-        let text = with_part(self.alloc, self.source.text, self.part(token), probe.text)?;
-        Ok(answer_to(self.alloc, self.source, &text)? == probe.answer)
+        let (trial, probe) = (self.trial, self.first);
+        let text = with_part(trial.alloc, trial.source.text, self.part(token), probe.text)?;
+        Ok(trial.answer_to(&text)? == probe.answer)
     }
 
     /// Whether, of two tokens at which these probes are reached, the early one is reached before
@@ -115,10 +111,11 @@ impl<'a> Search<'a> {
         } else {
             (late, early)
         };
-        let text = self.source.text;
-        let text = with_part(self.alloc, text, self.part(back.0), back.1.text)?;
-        let text = with_part(self.alloc, &text, self.part(front.0), front.1.text)?;
-        Ok(answer_to(self.alloc, self.source, &text)? == early.1.answer)
+        let trial = self.trial;
+        let text = trial.source.text;
+        let text = with_part(trial.alloc, text, self.part(back.0), back.1.text)?;
+        let text = with_part(trial.alloc, &text, self.part(front.0), front.1.text)?;
+        Ok(trial.answer_to(&text)? == early.1.answer)
     }
 
     /// Of two tokens at which the probe is reached, that at which it is reached last.

@@ -1,21 +1,20 @@
-// Which statement, and which
+// Which statement of a text its refusal is about, or which use of a name.
 
 ghost use Rattle.std.specs.Prelude.{IfOk, IfSome};
 ghost use Rattle.strc_source.specs.Messages.{IsWithin};
 
+use crate::elaborates::Elaborates;
 use crate::ends::{end_part, is_foreign};
 use crate::faulting::statement_of;
 use crate::follow::{Follower, Found};
 use crate::search::Search;
-use crate::trial::LONGEST;
-use std::alloc::Global;
+use crate::trial::{LONGEST, Trial};
 use strc_base::memory::NoMemory;
 use strc_lex::lexer::lex;
 use strc_lex::token::{Keyword, Token, TokenKind};
 use strc_source::declarations::{Body, body_of, is_name};
 use strc_source::message::Extent;
 use strc_source::rows::{can_begin, statement_at};
-use strc_source::source::Source;
 use strc_steps::braces::with_braces;
 
 /// At how many places of a filter it is tried.
@@ -48,17 +47,16 @@ pub enum About {
 }
 
 /// The statement of a declaration at which a program is refused, where it can be known.
-pub fn refused_statement(
-    alloc: Global,
-    source: Source<'_>,
+pub fn refused_statement<E: Elaborates>(
+    trial: Trial<'_, E>,
     declaration: usize,
 ) -> Result<Option<Part>, NoMemory>
     ensures { IfOk result (λ found. IfSome found (λ part.
-        IsWithin source.entry.text.now part.place)) }
+        IsWithin trial.entry.source.text.now part.place)) }
 {
-    match refused_part(alloc, source, declaration)? {
+    match refused_part(trial, declaration)? {
         Some(part) => Ok(Some(Part {
-            place: source.within(part.place),
+            place: trial.source.within(part.place),
             about: part.about,
         })),
         None => Ok(None),
@@ -66,11 +64,11 @@ pub fn refused_statement(
 }
 
 /// The same, by places as they are found.
-fn refused_part(
-    alloc: Global,
-    source: Source<'_>,
+fn refused_part<E: Elaborates>(
+    trial: Trial<'_, E>,
     declaration: usize,
 ) -> Result<Option<Part>, NoMemory> {
+    let source = trial.source;
     if source.text.len() > LONGEST {
         return Ok(None);
     }
@@ -78,9 +76,9 @@ fn refused_part(
         return Ok(None);
     };
     if !body.is_filter {
-        return refused_in_composite(alloc, source, declaration);
+        return refused_in_composite(trial, declaration);
     }
-    let Some(place) = last_reached(alloc, source, body)? else {
+    let Some(place) = last_reached(trial, body)? else {
         return Ok(None);
     };
     match statement_at(source.tokens, place, body.end) {
@@ -93,25 +91,18 @@ fn refused_part(
 }
 
 /// The same of a composite stream, which is followed from the main stream on.
-fn refused_in_composite(
-    alloc: Global,
-    source: Source<'_>,
+fn refused_in_composite<E: Elaborates>(
+    trial: Trial<'_, E>,
     declaration: usize,
 ) -> Result<Option<Part>, NoMemory> {
-    let braced = with_braces(alloc, source)?;
-    let Ok(tokens) = lex(alloc, &braced.text) else {
+    let braced = with_braces(trial.alloc, trial.source)?;
+    let Ok(tokens) = lex(trial.alloc, &braced.text) else {
         return Ok(None);
     };
-    let source = Source {
-        file: source.file,
-        text: &braced.text,
-        tokens: &tokens,
-        main: source.main,
-    };
+    let changed = trial.with_text(&braced.text, &tokens);
     let wanted = body_of(&tokens, declaration);
     let mut follower = Follower {
-        alloc,
-        source,
+        trial: changed,
         wanted,
         recurs: true,
         cause: None,
@@ -124,7 +115,7 @@ fn refused_in_composite(
     if found.token == found.level.area.close {
         return end_part(&mut follower, &braced, found);
     }
-    match statement_of(&braced, source, &found) {
+    match statement_of(&braced, changed.source, &found) {
         Some(place) => Ok(Some(Part {
             place,
             about: about_statement(&tokens, &found),
@@ -154,10 +145,10 @@ fn is_within(body: Option<Body>, token: usize) -> bool {
 }
 
 /// The last token of a filter before which a statement would be reached.
-fn last_reached(alloc: Global, source: Source<'_>, body: Body) -> Result<Option<usize>, NoMemory> {
-    let mut search = Search::of_statements(alloc, source, MOST);
+fn last_reached<E: Elaborates>(trial: Trial<'_, E>, body: Body) -> Result<Option<usize>, NoMemory> {
+    let mut search = Search::of_statements(trial, MOST);
     for place in (body.start..body.end).rev() {
-        if can_begin(source.tokens, place) && search.is_reached(place)? {
+        if can_begin(trial.source.tokens, place) && search.is_reached(place)? {
             return Ok(Some(place));
         }
     }
@@ -167,18 +158,18 @@ fn last_reached(alloc: Global, source: Source<'_>, body: Body) -> Result<Option<
 /// The use of a name for which a program is refused, where it can be known: with the sought name
 /// there, the program is refused for that. So it is at uses before it that are declared, and of all
 /// these it is reached last.
-pub fn refused_use(
-    alloc: Global,
-    source: Source<'_>,
+pub fn refused_use<E: Elaborates>(
+    trial: Trial<'_, E>,
     name: &[u8],
 ) -> Result<Option<Extent>, NoMemory>
     ensures { IfOk result (λ found. IfSome found (λ place.
-        IsWithin source.entry.text.now place)) }
+        IsWithin trial.entry.source.text.now place)) }
 {
+    let source = trial.source;
     if source.text.len() > LONGEST {
         return Ok(None);
     }
-    let mut search = Search::of_uses(alloc, source, MOST);
+    let mut search = Search::of_uses(trial, MOST);
     let mut found = None;
     for (place, token) in source.tokens.iter().enumerate() {
         if is_name(token, name) && search.is_reached(place)? {

@@ -2,13 +2,14 @@
 
 ghost use Rattle.std.specs.Prelude.{◌≡◌, ◌++◌, take, drop, IfOk};
 
-use std::alloc::Global;
+use crate::elaborates::Elaborates;
+use std::alloc::{AllocError, Global};
 use strc_base::memory::NoMemory;
-use strc_elab::elaborate::elaborate;
-use strc_elab::error::ElabError;
+use strc_base::name::Name;
 use strc_lex::lexer::lex;
-use strc_lex::token::Name;
+use strc_lex::token::Token;
 use strc_parse::parse;
+use strc_scope::error::ElabError;
 use strc_semantics::fault::Cause;
 use strc_source::message::Extent;
 use strc_source::source::Source;
@@ -38,25 +39,71 @@ pub(crate) enum Answer {
     Else,
 }
 
-/// How a text is answered.
-pub(crate) fn answer_to(
-    alloc: Global,
-    source: Source<'_>,
-    text: &[u8],
-) -> Result<Answer, NoMemory> {
-    let Ok(tokens) = lex(alloc, text) else {
-        return Ok(Answer::Else);
-    };
-    let Ok(program) = parse(alloc, &tokens) else {
-        return Ok(Answer::Else);
-    };
-    match elaborate(alloc, &program, source.main) {
-        Err(ElabError::UnknownName { name }) => Ok(answer_of_name(name.as_bytes())),
-        Err(ElabError::ConstFault { cause }) => Ok(Answer::Fault(cause)),
-        Err(ElabError::BadWeights { stream }) => Ok(Answer::BadWeights(stream)),
-        Err(ElabError::TypeMismatch { .. }) => Ok(Answer::Mismatch),
-        Err(ElabError::NoMemory) => Err(NoMemory),
-        _ => Ok(Answer::Else),
+/// What tries texts that differ from a program's in some parts.
+pub struct Trial<'a, E> {
+    pub alloc: Global,
+    /// The program's text.
+    pub source: Source<'a>,
+    pub elaborates: &'a E,
+}
+
+// A derived copy would want one of what elaborates.
+impl<'a, E> Clone for Trial<'a, E> {
+    fn clone(&self) -> Result<Self, AllocError> {
+        Ok(*self)
+    }
+}
+
+impl<'a, E> Copy for Trial<'a, E> {}
+
+impl<'a, E: Elaborates> Trial<'a, E> {
+    /// The same for another text in the place of the program's.
+    pub fn with_text(self, text: &'a [u8], tokens: &'a [Token]) -> Trial<'a, E> {
+        Trial {
+            alloc: self.alloc,
+            source: Source {
+                file: self.source.file,
+                text,
+                tokens,
+                main: self.source.main,
+            },
+            elaborates: self.elaborates,
+        }
+    }
+
+    /// How a text is answered.
+    pub(crate) fn answer_to(self, text: &[u8]) -> Result<Answer, NoMemory> {
+        let (alloc, main) = (self.alloc, self.source.main);
+        let Ok(tokens) = lex(alloc, text) else {
+            return Ok(Answer::Else);
+        };
+        let Ok(program) = parse(alloc, &tokens) else {
+            return Ok(Answer::Else);
+        };
+        match self.elaborates.elaborate(alloc, &program, main) {
+            Err(ElabError::UnknownName { name }) => Ok(answer_of_name(name.as_bytes())),
+            Err(ElabError::ConstFault { cause }) => Ok(Answer::Fault(cause)),
+            Err(ElabError::BadWeights { stream }) => Ok(Answer::BadWeights(stream)),
+            Err(ElabError::TypeMismatch { .. }) => Ok(Answer::Mismatch),
+            Err(ElabError::NoMemory) => Err(NoMemory),
+            _ => Ok(Answer::Else),
+        }
+    }
+
+    /// The name for which a text is refused, as one that isn't declared.
+    pub(crate) fn unknown_name(self, text: &[u8]) -> Result<Option<Name>, NoMemory> {
+        let (alloc, main) = (self.alloc, self.source.main);
+        let Ok(tokens) = lex(alloc, text) else {
+            return Ok(None);
+        };
+        let Ok(program) = parse(alloc, &tokens) else {
+            return Ok(None);
+        };
+        match self.elaborates.elaborate(alloc, &program, main) {
+            Err(ElabError::UnknownName { name }) => Ok(Some(name)),
+            Err(ElabError::NoMemory) => Err(NoMemory),
+            _ => Ok(None),
+        }
     }
 }
 
@@ -68,25 +115,6 @@ fn answer_of_name(name: &[u8]) -> Answer {
         Answer::Other
     } else {
         Answer::Else
-    }
-}
-
-/// The name for which a text is refused, as one that isn't declared.
-pub(crate) fn unknown_name(
-    alloc: Global,
-    source: Source<'_>,
-    text: &[u8],
-) -> Result<Option<Name>, NoMemory> {
-    let Ok(tokens) = lex(alloc, text) else {
-        return Ok(None);
-    };
-    let Ok(program) = parse(alloc, &tokens) else {
-        return Ok(None);
-    };
-    match elaborate(alloc, &program, source.main) {
-        Err(ElabError::UnknownName { name }) => Ok(Some(name)),
-        Err(ElabError::NoMemory) => Err(NoMemory),
-        _ => Ok(None),
     }
 }
 

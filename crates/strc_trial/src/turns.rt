@@ -4,7 +4,8 @@
 ghost use Rattle.std.specs.Prelude.{IfOk, IfSome};
 ghost use Rattle.strc_source.specs.Messages.{IsWithin};
 
-use crate::trial::{Answer, LONGEST, answer_to, unknown_name};
+use crate::elaborates::Elaborates;
+use crate::trial::{Answer, LONGEST, Trial};
 use std::alloc::Global;
 use strc_base::memory::NoMemory;
 use strc_lex::lexer::lex;
@@ -36,10 +37,11 @@ struct Loop {
 }
 
 /// The header of the loop that turns too often, where it can be known.
-pub fn endless_loop(alloc: Global, source: Source<'_>) -> Result<Option<Extent>, NoMemory>
+pub fn endless_loop<E: Elaborates>(trial: Trial<'_, E>) -> Result<Option<Extent>, NoMemory>
     ensures { IfOk result (λ found. IfSome found (λ place.
-        IsWithin source.entry.text.now place)) }
+        IsWithin trial.entry.source.text.now place)) }
 {
+    let (alloc, source) = (trial.alloc, trial.source);
     if source.text.len() > LONGEST {
         return Ok(None);
     }
@@ -47,14 +49,8 @@ pub fn endless_loop(alloc: Global, source: Source<'_>) -> Result<Option<Extent>,
     let Ok(tokens) = lex(alloc, &braced.text) else {
         return Ok(None);
     };
-    let changed = Source {
-        file: source.file,
-        text: &braced.text,
-        tokens: &tokens,
-        main: source.main,
-    };
     let loops = loops_of(alloc, &tokens)?;
-    match endless_header(alloc, changed, &loops)? {
+    match endless_header(trial.with_text(&braced.text, &tokens), &loops)? {
         Some(header) => {
             let row = row_of(&tokens, header, tokens.len());
             Ok(Some(source.within(braced.original(row))))
@@ -63,18 +59,17 @@ pub fn endless_loop(alloc: Global, source: Source<'_>) -> Result<Option<Extent>,
     }
 }
 
-fn endless_header(
-    alloc: Global,
-    source: Source<'_>,
+fn endless_header<E: Elaborates>(
+    trial: Trial<'_, E>,
     loops: &[Loop],
 ) -> Result<Option<usize>, NoMemory> {
     if let [only] = loops {
         return Ok(Some(only.header));
     }
-    if let Some(header) = endless_in_composite(alloc, source, loops)? {
+    if let Some(header) = endless_in_composite(trial, loops)? {
         return Ok(Some(header));
     }
-    endless_in_filter(alloc, source, loops)
+    endless_in_filter(trial, loops)
 }
 
 /// The loops that may turn before a program runs.
@@ -115,20 +110,19 @@ fn loop_of(tokens: &[Token], open: usize) -> Option<usize> {
 
 /// The loop of a composite stream in which one body makes most of the turns that are allowed. One
 /// text is tried, in which each loop asks for a name of its own then.
-fn endless_in_composite(
-    alloc: Global,
-    source: Source<'_>,
+fn endless_in_composite<E: Elaborates>(
+    trial: Trial<'_, E>,
     loops: &[Loop],
 ) -> Result<Option<usize>, NoMemory> {
     if loops.iter().all(|found| found.in_filter) {
         return Ok(None);
     }
-    let text = counting_text(alloc, source, loops, None)?;
-    let Some(name) = unknown_name(alloc, source, &text)? else {
+    let text = counting_text(trial.alloc, trial.source, loops, None)?;
+    let Some(name) = trial.unknown_name(&text)? else {
         return Ok(None);
     };
     for found in loops {
-        let mut wanted = Vec::new(alloc);
+        let mut wanted = Vec::new(trial.alloc);
         push_loop_name(&mut wanted, found.open)?;
         if name.as_bytes() == wanted.as_slice() {
             return Ok(Some(found.header));
@@ -138,17 +132,16 @@ fn endless_in_composite(
 }
 
 /// The loop of a filter's `init` that makes its millionth turn.
-fn endless_in_filter(
-    alloc: Global,
-    source: Source<'_>,
+fn endless_in_filter<E: Elaborates>(
+    trial: Trial<'_, E>,
     loops: &[Loop],
 ) -> Result<Option<usize>, NoMemory> {
     let mut tried: usize = 0;
     for found in loops {
         if found.in_filter && tried < MOST {
             tried += 1;
-            let text = counting_text(alloc, source, loops, Some(found.open))?;
-            if answer_to(alloc, source, &text)? == Answer::Fault(Cause::DivZero) {
+            let text = counting_text(trial.alloc, trial.source, loops, Some(found.open))?;
+            if trial.answer_to(&text)? == Answer::Fault(Cause::DivZero) {
                 return Ok(Some(found.header));
             }
         }

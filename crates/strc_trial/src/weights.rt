@@ -3,7 +3,8 @@
 ghost use Rattle.std.specs.Prelude.{IfOk, IfSome};
 ghost use Rattle.strc_source.specs.Messages.{IsWithin};
 
-use crate::trial::{Answer, LONGEST, answer_to, with_part};
+use crate::elaborates::Elaborates;
+use crate::trial::{Answer, LONGEST, Trial, with_part};
 use std::alloc::Global;
 use strc_base::memory::NoMemory;
 use strc_lex::token::{Keyword, Token, TokenKind};
@@ -16,14 +17,14 @@ use strc_source::source::Source;
 const MOST: usize = 50;
 
 /// The `split` or the `join` of a declaration whose weights aren't allowed, where it can be known.
-pub fn refused_weights(
-    alloc: Global,
-    source: Source<'_>,
+pub fn refused_weights<E: Elaborates>(
+    trial: Trial<'_, E>,
     declaration: usize,
 ) -> Result<Option<Extent>, NoMemory>
     ensures { IfOk result (λ found. IfSome found (λ place.
-        IsWithin source.entry.text.now place)) }
+        IsWithin trial.entry.source.text.now place)) }
 {
+    let source = trial.source;
     if source.text.len() > LONGEST {
         return Ok(None);
     }
@@ -34,8 +35,8 @@ pub fn refused_weights(
     for token in body.start..body.end {
         if tried < MOST && allowed_at(source.tokens, token).is_some() {
             tried += 1;
-            let text = with_allowed_but(alloc, source, body, token)?;
-            if answer_to(alloc, source, &text)? == Answer::BadWeights(declaration) {
+            let text = with_allowed_but(trial.alloc, source, body, token)?;
+            if trial.answer_to(&text)? == Answer::BadWeights(declaration) {
                 let row = row_of(source.tokens, token, body.end);
                 return Ok(Some(source.within(row)));
             }

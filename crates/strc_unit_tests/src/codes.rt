@@ -4,9 +4,11 @@ use crate::texts::code;
 use std::alloc::{AllocError, Global};
 use std::process::Abort;
 use std::test::Fail;
+use strc_code::code::Code;
 use strc_semantics::body::Body;
 use strc_semantics::fault::{Cause, Halt};
-use strc_work::code::Code;
+use strc_semantics::word::Word;
+use strc_work::firing::Fire;
 
 /// What a first firing of a body over a window pushes, or how it halts.
 fn fired(
@@ -19,10 +21,25 @@ fn fired(
     let mut state = code.start(alloc).expect(rt, "start");
     let mut frame = code.frame(alloc).expect(rt, "frame");
     let mut words = Vec::new(alloc);
-    match code.fire(which, &mut state, &mut frame, &window, &mut words) {
-        Ok(()) => Ok(Ok(Vec::from_slice(alloc, frame.pushes())?)),
+    let ended = code.fire(which, &mut state, &mut frame, &window, &mut words);
+    given(alloc, ended, frame.pushes())
+}
+
+// The pushes of a firing that ended so.
+fn given(
+    alloc: Global,
+    ended: Result<(), Halt>,
+    pushes: &[i32],
+) -> Result<Result<Vec<i32>, Halt>, AllocError> {
+    match ended {
+        Ok(()) => Ok(Ok(Vec::from_slice(alloc, pushes)?)),
         Err(halt) => Ok(Err(halt)),
     }
+}
+
+// A copy of the code of a text, which is dropped.
+fn copied(rt: &impl Abort, alloc: Global, text: &str) -> Result<Code, Fail> {
+    Ok(code(alloc, text)?.copy().expect(rt, "copy"))
 }
 
 /// The first item that a firing of a filter with these members pushes over a window.
@@ -77,11 +94,15 @@ fn codes_tell_their_declaration(rt: HostRuntime) -> Result<(), Fail> {
     let first = "prework push 2 { push(7); push(8); }";
     let then = "work push 1 pop 1 { push(-pop()); }";
     let text = format!(in alloc; "int->int filter F {{ {first} {then} }}")?;
-    let code = code(alloc, &text)?.copy().expect(&rt, "copy");
-    pushes_are(&rt, alloc, &code, Body::Prework, &[], &[7, 8])?;
-    pushes_are(&rt, alloc, &code, Body::Work, &[5], &[-5])?;
+    let code = copied(&rt, alloc, &text)?;
     tells_rates_and_blocks(&rt, &code);
-    Ok(())
+    bodies_push(&rt, alloc, &code)
+}
+
+// A firing of the prework pushes 7 and 8, and one of the work over 5 pushes its negative.
+fn bodies_push(rt: &impl Abort, alloc: Global, code: &Code) -> Result<(), Fail> {
+    pushes_are(rt, alloc, code, Body::Prework, &[], &[7, 8])?;
+    pushes_are(rt, alloc, code, Body::Work, &[5], &[-5])
 }
 
 // One firing of a body of a code pushes these items.
@@ -100,69 +121,89 @@ fn pushes_are(
 
 fn tells_rates_and_blocks(rt: &impl Abort, code: &Code) {
     assert!(rt; code.has_prework() && !code.prints());
-    assert_eq!(rt; code.rates(Body::Prework).push, 2);
-    assert_eq!(rt; code.rates(Body::Work).pop, 1);
-    assert_eq!(rt; code.rates(Body::Work).peek, 1);
-    assert_eq!(rt; code.block(Body::Prework).len(), 2);
-    assert_eq!(rt; code.window(Body::Prework), 0);
-    assert_eq!(rt; code.window(Body::Work), 1);
-    assert_eq!(rt; code.tree().members.len(), 2);
+    let prework = code.rates(Body::Prework);
+    let work = code.rates(Body::Work);
+    assert!(rt; prework.push == 2 && work.pop == 1 && work.peek == 1);
+    assert!(rt; code.window(Body::Prework) == 0 && code.window(Body::Work) == 1);
+    assert!(rt; code.block(Body::Prework).len() == 2 && code.tree().members.len() == 2);
 }
 
 #[test]
 fn fields_are_kept_and_words_are_printed(rt: HostRuntime) -> Result<(), Fail> {
     let alloc = rt.alloc();
     let text = "void->void filter F { int x = limit; work { print(x); x++; println(-x); } }";
-    let code = code(alloc, text)?.copy().expect(&rt, "copy");
+    let code = copied(&rt, alloc, text)?;
+    prints_in_both_bodies(&rt, alloc, &code);
+    Ok(())
+}
+
+// Without a prework each body is the work.
+fn prints_in_both_bodies(rt: &impl Abort, alloc: Global, code: &Code) {
     assert!(rt; code.prints() && !code.has_prework());
-    let mut state = code.start(alloc).expect(&rt, "start");
-    let mut frame = code.frame(alloc).expect(&rt, "frame");
+    let mut state = code.start(alloc).expect(rt, "start");
+    let mut frame = code.frame(alloc).expect(rt, "frame");
     let mut words = Vec::new(alloc);
     let window: &[i32] = &[];
-    // Without a prework each body is the work.
     let first = code.fire(Body::Prework, &mut state, &mut frame, &window, &mut words);
     let second = code.fire(Body::Work, &mut state, &mut frame, &window, &mut words);
-    assert_eq!(rt; (first, second), (Ok(()), Ok(())));
-    let expected = [(8, false), (-9, true), (9, false), (-10, true)];
-    let mut found = Vec::new(alloc);
-    for word in &words {
-        found.push((word.value, word.ends_line))?;
+    assert!(rt; first.is_ok() && second.is_ok());
+    words_are(
+        rt,
+        &words,
+        &[(8, false), (-9, true), (9, false), (-10, true)],
+    );
+}
+
+fn words_are(rt: &impl Abort, words: &[Word], want: &[(i32, bool)]) {
+    assert_eq!(rt; words.len(), want.len());
+    for (word, (value, ends_line)) in words.iter().zip(want) {
+        assert_eq!(rt; word.value, *value);
+        assert_eq!(rt; word.ends_line, *ends_line);
     }
-    assert_eq!(rt; found.as_slice(), expected.as_slice());
-    Ok(())
 }
 
 // The code of a text is copied and dropped, and the copy fired.
 fn copy_pushes(rt: &impl Abort, alloc: Global, text: &str, want: i32) -> Result<(), Fail> {
-    let copy = code(alloc, text)?.copy().expect(rt, "copy");
-    let pushes = fired(rt, alloc, &copy, Body::Work, &[])?.expect(rt, "a firing");
-    assert_eq!(rt; pushes.as_slice(), [want].as_slice());
-    Ok(())
+    let copy = copied(rt, alloc, text)?;
+    pushes_are(rt, alloc, &copy, Body::Work, &[], &[want])
+}
+
+const BEGIN: &str = "void->int filter F { work push 1 { int x; ";
+
+// Nearly a mebibyte of branches.
+fn branches(alloc: Global) -> Result<String, AllocError> {
+    let mut text = String::from_str(alloc, BEGIN)?;
+    for _ in 0..69895 {
+        text.push_str("x++;if(x>9)x=0;")?;
+    }
+    text.push_str("push(x); } }")?;
+    Ok(text)
+}
+
+// 300 locals.
+fn locals(alloc: Global) -> Result<String, AllocError> {
+    let mut text = String::from_str(alloc, BEGIN)?;
+    for i in 1..300u32 {
+        write!(text, "int x{i} = x + {i}; ")?;
+    }
+    text.push_str("push(x1 + x299); } }")?;
+    Ok(text)
+}
+
+// 20 arrays of the greatest length.
+fn arrays(alloc: Global) -> Result<String, AllocError> {
+    let mut text = String::from_str(alloc, BEGIN)?;
+    for i in 0..20u32 {
+        write!(text, "int[65536] t{i}; t{i}[65535 - {i}] = {i}; ")?;
+    }
+    text.push_str("push(t7[65528] + t19[65516]); } }")?;
+    Ok(text)
 }
 
 #[test]
 fn large_codes_are_copied(rt: HostRuntime) -> Result<(), Fail> {
     let alloc = rt.alloc();
-    let begin = "void->int filter F { work push 1 { int x; ";
-    // Nearly a mebibyte of branches, 300 locals, and 20 arrays of the greatest length.
-    let mut branches = String::from_str(alloc, begin)?;
-    for _ in 0..69895 {
-        branches.push_str("x++;if(x>9)x=0;")?;
-    }
-    branches.push_str("push(x); } }")?;
-    copy_pushes(&rt, alloc, &branches, 5)?;
-    let mut locals = String::from_str(alloc, begin)?;
-    for i in 1..300u32 {
-        let declaration = format!(in alloc; "int x{i} = x + {i}; ")?;
-        locals.push_str(&declaration)?;
-    }
-    locals.push_str("push(x1 + x299); } }")?;
-    copy_pushes(&rt, alloc, &locals, 300)?;
-    let mut arrays = String::from_str(alloc, begin)?;
-    for i in 0..20u32 {
-        let array = format!(in alloc; "int[65536] t{i}; t{i}[65535 - {i}] = {i}; ")?;
-        arrays.push_str(&array)?;
-    }
-    arrays.push_str("push(t7[65528] + t19[65516]); } }")?;
-    copy_pushes(&rt, alloc, &arrays, 26)
+    copy_pushes(&rt, alloc, &branches(alloc)?, 5)?;
+    copy_pushes(&rt, alloc, &locals(alloc)?, 300)?;
+    copy_pushes(&rt, alloc, &arrays(alloc)?, 26)
 }

@@ -4,10 +4,10 @@ use crate::texts::code;
 use std::alloc::{AllocError, Global};
 use std::process::Abort;
 use std::test::Fail;
+use strc_base::name::{Name, StringLiteral};
 use strc_flatten::flatten::flatten;
 use strc_graph::graph::{Graph, Port, Splitter};
 use strc_graph::instance::Instance;
-use strc_lex::token::{Name, StringLiteral};
 use strc_stream::stream::Stream;
 
 /// A stream of the only filter in a text, with a name or without one.
@@ -57,20 +57,34 @@ fn flat(rt: &impl Abort, alloc: Global, stream: Stream) -> Result<String, AllocE
     }
 }
 
+// The items and one more. For any type, so that what is dropped where there is none is no part of
+// the callers.
+fn with_last<T: Drop>(items: Vec<T>, last: Result<T, Fail>) -> Result<Vec<T>, Fail> {
+    let mut items = items;
+    items.push(last?)?;
+    Ok(items)
+}
+
+// A source, a pipeline of two, and an identity.
+fn row(alloc: Global) -> Result<Stream, Fail> {
+    let source = "void->int filter Source { int x; work push 1 { push(x++); } }";
+    let row = with_last(Vec::new(alloc), filter(alloc, Some("Source"), source))?;
+    let row = with_last(row, inner_row(alloc))?;
+    Ok(Stream::Pipeline(with_last(row, Ok(Stream::Identity))?))
+}
+
+fn inner_row(alloc: Global) -> Result<Stream, Fail> {
+    let teller = "int->int filter T { work pop 1 push 1 { print(1); push(pop()); } }";
+    let row = with_last(Vec::new(alloc), Ok(Stream::Identity))?;
+    let row = with_last(row, filter(alloc, Some("T"), teller))?;
+    Ok(Stream::Pipeline(row))
+}
+
 #[test]
 fn pipelines_are_rows(rt: HostRuntime) -> Result<(), Fail> {
     let alloc = rt.alloc();
-    let source = "void->int filter Source { int x; work push 1 { push(x++); } }";
-    let teller = "int->int filter T { work pop 1 push 1 { print(1); push(pop()); } }";
-    let mut inner = Vec::new(alloc);
-    inner.push(Stream::Identity)?;
-    inner.push(filter(alloc, Some("T"), teller)?)?;
-    let mut outer = Vec::new(alloc);
-    outer.push(filter(alloc, Some("Source"), source)?)?;
-    outer.push(Stream::Pipeline(inner))?;
-    outer.push(Stream::Identity)?;
     assert_eq!(rt;
-        flat(&rt, alloc, Stream::Pipeline(outer))?.as_str(),
+        flat(&rt, alloc, row(alloc)?)?.as_str(),
         "Source Identity T Identity 0.0-1.0:0 1.0-2.0:0 2.0-3.0:0 "
     );
     let printer = "int->void filter Printer { work pop 1 { println(pop()); } }";
@@ -88,20 +102,20 @@ fn between(alloc: Global, stream: Stream) -> Result<Stream, AllocError> {
     Ok(Stream::Pipeline(children))
 }
 
+// An identity, a filter that drops its items, and an identity.
+fn branches(alloc: Global) -> Result<Vec<Stream>, Fail> {
+    let text = "int->void filter Drop { work pop 1 { pop(); } }";
+    let branches = with_last(Vec::new(alloc), Ok(Stream::Identity))?;
+    let branches = with_last(branches, filter(alloc, Some("Drop"), text))?;
+    with_last(branches, Ok(Stream::Identity))
+}
+
 #[test]
 fn split_joins_stand_between_their_nodes(rt: HostRuntime) -> Result<(), Fail> {
     let alloc = rt.alloc();
-    let mut children = Vec::new(alloc);
-    children.push(Stream::Identity)?;
-    children.push(filter(
-        alloc,
-        Some("Drop"),
-        "int->void filter Drop { work pop 1 { pop(); } }",
-    )?)?;
-    children.push(Stream::Identity)?;
     let splitter = Splitter::Roundrobin(vec![in alloc; 2, 1, 1]?);
     let joiner = vec![in alloc; 2, 0, 1]?;
-    let stream = Stream::SplitJoin(Some(splitter), children, Some(joiner));
+    let stream = Stream::SplitJoin(Some(splitter), branches(alloc)?, Some(joiner));
     assert_eq!(rt;
         flat(&rt, alloc, between(alloc, stream)?)?.as_str(),
         "FileReader split Identity Drop Identity join FileWriter \

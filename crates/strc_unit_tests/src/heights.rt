@@ -37,6 +37,12 @@ type Row = (
     &'static str,
 );
 
+// Why a text is no tree, where it is none.
+fn failure(alloc: Global, text: &str) -> Result<Option<ParseError>, Fail> {
+    let tokens = lex(alloc, text.as_bytes())?;
+    Ok(parse(alloc, &tokens).err())
+}
+
 // Compares each row at its greatest number of levels, and at one less and one more.
 fn compare(
     rt: &impl Abort,
@@ -45,24 +51,33 @@ fn compare(
     rows: &[Row],
     end: &str,
 ) -> Result<(), Fail> {
-    for (front, level, most, inner, back) in rows {
-        let front = format!(in alloc; "{begin}{front}")?;
-        let back = format!(in alloc; "{back}{end}")?;
+    for row in rows {
+        let front = format!(in alloc; "{begin}{}", row.0)?;
         for times in [
-            usize::saturating_sub(*most, 1),
-            *most,
-            usize::saturating_add(*most, 1),
+            usize::saturating_sub(row.2, 1),
+            row.2,
+            usize::saturating_add(row.2, 1),
         ] {
-            let text = repeated(alloc, &front, *level, times, inner, &back)?;
-            let tokens = lex(alloc, text.as_bytes())?;
-            let want = (times > *most).then_some(ParseError::Nesting);
-            assert_eq!(rt;
-                parse(alloc, &tokens).err(),
-                want,
-                "{times} times at {front}"
-            );
+            compare_at(rt, alloc, times, &front, row, end)?;
         }
     }
+    Ok(())
+}
+
+// Compares a row, of which the text begins so, at this number of levels.
+fn compare_at(
+    rt: &impl Abort,
+    alloc: Global,
+    times: usize,
+    front: &str,
+    row: &Row,
+    end: &str,
+) -> Result<(), Fail> {
+    let (_, level, most, inner, back) = *row;
+    let mut text = repeated(alloc, front, level, times, inner, back)?;
+    text.push_str(end)?;
+    let want = (times > most).then_some(ParseError::Nesting);
+    assert_eq!(rt; failure(alloc, &text)?, want, "{times} times at {front}");
     Ok(())
 }
 

@@ -2,9 +2,10 @@
 
 use std::alloc::{AllocError, Global};
 use std::test::Fail;
+use strc_base::name::{Name, StringLiteral};
 use strc_lex::error::LexError;
 use strc_lex::lexer::{lex, one_token_list};
-use strc_lex::token::{Keyword, Name, Punctuation, StringLiteral, Token, TokenKind};
+use strc_lex::token::{Keyword, Punctuation, Token, TokenKind};
 
 // The tokens as they are in the text, with a blank between two.
 fn spaced(alloc: Global, text: &[u8], tokens: &[Token]) -> Result<Vec<u8>, AllocError> {

@@ -2,12 +2,12 @@
 
 use std::alloc::Global;
 use std::test::Fail;
+use strc_base::name::Name;
 use strc_check::constants::Constants;
+use strc_code::code::Code;
 use strc_lex::lexer::lex;
-use strc_lex::token::Name;
 use strc_parse::parse;
 use strc_syntax::tree::{Program, StreamTree};
-use strc_work::code::Code;
 use strc_work::lowering::lower;
 
 /// The tree of a text.

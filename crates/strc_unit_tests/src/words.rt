@@ -1,6 +1,7 @@
 // The forms of the command line.
 
 use std::alloc::{AllocError, Global};
+use std::process::Abort;
 use std::test::Fail;
 use strc_command::line::{Command, Line, LineFault};
 use strc_command::words::{asks_for_help, asks_for_version, command, usage_error};
@@ -77,12 +78,17 @@ const OTHERS: [&[&str]; 12] = [
     &["strc", "plan", "a.str", "b.str"],
 ];
 
+// Words that aren't understood, and what is said of them.
+fn refused<'a>(rt: &impl Abort, alloc: Global, words: &'a [&'a str]) -> Result<String, AllocError> {
+    let fault = command(alloc, words).err();
+    assert_eq!(rt; fault, Some(LineFault::Words), "at {words:?}");
+    usage_error(alloc, words)
+}
+
 #[test]
 fn other_words_are_not(rt: HostRuntime) -> Result<(), Fail> {
     for words in OTHERS {
-        let fault = command(rt.alloc(), words).err();
-        assert_eq!(rt; fault, Some(LineFault::Words), "at {words:?}");
-        let text = usage_error(rt.alloc(), words)?;
+        let text = refused(&rt, rt.alloc(), words)?;
         assert!(rt; !text.as_str().is_empty(), "at {words:?}");
     }
     Ok(())
@@ -99,10 +105,8 @@ const HELPFUL: [(&[&str], bool, &str); 5] = [
 #[test]
 fn help_is_no_mistake(rt: HostRuntime) -> Result<(), Fail> {
     for (words, help, part) in HELPFUL {
-        let fault = command(rt.alloc(), words).err();
-        assert_eq!(rt; fault, Some(LineFault::Words), "at {words:?}");
         assert_eq!(rt; asks_for_help(rt.alloc(), words)?, help, "at {words:?}");
-        let text = usage_error(rt.alloc(), words)?;
+        let text = refused(&rt, rt.alloc(), words)?;
         assert!(rt; text.as_str().contains(part), "at {words:?}: {text}");
     }
     Ok(())

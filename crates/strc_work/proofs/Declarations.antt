@@ -12,11 +12,11 @@ use Rattle.strc_semantics.specs.Scoping.{Scope, total, with_declared}
 use Rattle.strc_semantics.specs.Closed.{IsClosedInitial, FitsInitial, AreClosedVariables}
 use Rattle.strc_semantics.specs.Firing.{Port, Store, value_of, declared_in, initial_cells}
 use Rattle.strc_semantics.specs.Firing.{variables_declared}
-use Rattle.strc_machine.specs.Machine.{Machine, cleared, nodes_done, nodes_room}
-use Rattle.strc_work.specs.Lowering.{expr_nodes, initial_nodes, variables_nodes}
+use Rattle.strc_code.specs.Nodes.{Machine, cleared, nodes_done, nodes_room}
+use Rattle.strc_code.specs.Lowering.{expr_nodes, initial_nodes, variables_nodes}
 use Rattle.strc_work.proofs.Variables.{scope_of, at, HoldsFrom, Holds, Holds-same, Holds-set_above}
 use Rattle.strc_work.proofs.Related.{Related, then_related, map_related, nodes_done-before}
-use Rattle.strc_machine.proofs.Spelled.{nodes_room-before}
+use Rattle.strc_code.proofs.Spelled.{nodes_room-before}
 use Rattle.strc_work.proofs.Expressions.{Arrives, Ready, machine_at, expr_room}
 use Rattle.strc_work.proofs.ExpressionRuns.{expr_runs}
 use Rattle.strc_work.proofs.Reaching.{Reaches, empty_reaches, go_on}

@@ -11,21 +11,21 @@ use Rattle.strc_syntax.specs.declared.tree.StepOperator.{StepOperator}
 use Rattle.strc_syntax.specs.declared.tree.StepOperator.TheVariants as step
 use Rattle.strc_semantics.specs.declared.fault.Cause.{Cause}
 use Rattle.strc_semantics.specs.declared.fault.Cause.TheVariants.{Index}
-use Rattle.strc_inst.specs.declared.inst.Inst.TheVariants as act
+use Rattle.strc_code.specs.declared.inst.Inst.TheVariants as act
 use Rattle.strc_semantics.specs.Arithmetic.{wrapped}
 use Rattle.strc_semantics.specs.Scoping.{Scope, total, slot_of, size_of}
 use Rattle.strc_semantics.specs.Closed.{IsNamed, IsClosed}
 use Rattle.strc_semantics.specs.Firing.{Port, Store, cells_named, cell_in, with_cell, cell_set}
 use Rattle.strc_semantics.specs.Firing.{place_in, tested_place, place_of, value_stepped, step_value}
 use Rattle.strc_semantics.specs.Firing.{value_of}
-use Rattle.strc_machine.specs.Machine.{Machine, Act, before, slot_value, slot_written, inst_done}
-use Rattle.strc_machine.specs.Machine.{nodes_done, nodes_room}
-use Rattle.strc_work.specs.Lowering.{alias_slot, one, step_amount, step_result, element_step_nodes}
-use Rattle.strc_work.specs.Lowering.{operand_slot, operand_nodes}
+use Rattle.strc_code.specs.Nodes.{Machine, Act, before, slot_value, slot_written, inst_done}
+use Rattle.strc_code.specs.Nodes.{nodes_done, nodes_room}
+use Rattle.strc_code.specs.Lowering.{alias_slot, one, step_amount, step_result, element_step_nodes}
+use Rattle.strc_code.specs.Lowering.{operand_slot, operand_nodes}
 use Rattle.strc_work.proofs.Variables.{scope_of, Holds, Holds-set_above, Holds-with_cell}
 use Rattle.strc_work.proofs.Variables.{scope_of-with_cell}
 use Rattle.strc_work.proofs.Related.{Related, then_related, nodes_done-before, then_last}
-use Rattle.strc_machine.proofs.Spelled.{nodes_room-before}
+use Rattle.strc_code.proofs.Spelled.{nodes_room-before}
 use Rattle.strc_work.proofs.Expressions.{Arrives, IsInSlot, Ready, machine_at, Runs, named_slots}
 use Rattle.strc_work.proofs.Expressions.{named_size, named_cell, variable_runs, aliased_slot}
 use Rattle.strc_work.proofs.Expressions.{operand_runs}

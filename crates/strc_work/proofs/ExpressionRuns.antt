@@ -13,22 +13,22 @@ use Rattle.strc_syntax.specs.declared.tree.BinaryOperator.TheVariants as binary
 use Rattle.strc_syntax.specs.declared.tree.StepOperator.{StepOperator}
 use Rattle.strc_syntax.specs.declared.tree.StepOperator.TheVariants as step
 use Rattle.strc_semantics.specs.declared.fault.Cause.{Cause}
-use Rattle.strc_inst.specs.declared.inst.Inst.TheVariants as act
+use Rattle.strc_code.specs.declared.inst.Inst.TheVariants as act
 use Rattle.strc_semantics.specs.Arithmetic.{wrapped, truth, is_true, unary_value, binary_value}
 use Rattle.strc_semantics.specs.Scoping.{Scope, total, slot_of}
 use Rattle.strc_semantics.specs.Closed.{IsNamed, IsClosed}
 use Rattle.strc_semantics.specs.Firing.{Port, Store, Traffic, value_in, joined, value_of}
 use Rattle.strc_semantics.specs.Firing.{popped_from, peeked_from, assigned, with_cell}
-use Rattle.strc_machine.specs.Machine.{Machine, Nodes, End, Choice, before, slot_value}
-use Rattle.strc_machine.specs.Machine.{slot_written, inst_done, chosen_by, nodes_done, nodes_room}
-use Rattle.strc_machine.specs.Machine.{unary_done, binary_done}
-use Rattle.strc_work.specs.Lowering.{variable_slot, writes_no_variable, alias_slot, one, unary_step}
-use Rattle.strc_work.specs.Lowering.{binary_step, expr_nodes, operand_slot, operand_nodes}
+use Rattle.strc_code.specs.Nodes.{Machine, Nodes, End, Choice, before, slot_value}
+use Rattle.strc_code.specs.Nodes.{slot_written, inst_done, chosen_by, nodes_done, nodes_room}
+use Rattle.strc_code.specs.Nodes.{unary_done, binary_done}
+use Rattle.strc_code.specs.Lowering.{variable_slot, writes_no_variable, alias_slot, one, unary_step}
+use Rattle.strc_code.specs.Lowering.{binary_step, expr_nodes, operand_slot, operand_nodes}
 use Rattle.strc_work.proofs.Variables.{scope_of, at, Holds, Holds-set_above, Holds-assigned}
 use Rattle.strc_work.proofs.Variables.{scope_of-with_cell, same_slots}
 use Rattle.strc_work.proofs.Related.{Related, then_related, weaker_related, chosen_related}
 use Rattle.strc_work.proofs.Related.{nodes_done-before, then_end, then_last}
-use Rattle.strc_machine.proofs.Spelled.{nodes_room-before}
+use Rattle.strc_code.proofs.Spelled.{nodes_room-before}
 use Rattle.strc_work.proofs.Expressions.{Arrives, IsInSlot, Ready, machine_at, Runs, Strict}
 use Rattle.strc_work.proofs.Expressions.{by_operator, named_below, named_value, total-variables}
 use Rattle.strc_work.proofs.Expressions.{variable_runs, Keeps, keeps, aliased_slot, operand_runs}

@@ -14,22 +14,22 @@ use Rattle.strc_syntax.specs.declared.tree.BinaryOperator.TheVariants as binary
 use Rattle.strc_syntax.specs.declared.tree.StepOperator.{StepOperator}
 use Rattle.strc_syntax.specs.declared.tree.StepOperator.TheVariants as step
 use Rattle.strc_semantics.specs.declared.fault.Cause.{Cause}
-use Rattle.strc_inst.specs.declared.inst.Inst.TheVariants as act
+use Rattle.strc_code.specs.declared.inst.Inst.TheVariants as act
 use Rattle.strc_semantics.specs.Arithmetic.{unary_value, binary_value, is_true}
 use Rattle.strc_semantics.specs.Scoping.{Scope, total, slot_of, size_of}
 use Rattle.strc_semantics.specs.Closed.{IsNamed, IsClosed}
 use Rattle.strc_semantics.specs.Firing.{Port, Variables, Store, Traffic, cells_named, cell_in}
 use Rattle.strc_semantics.specs.Firing.{value_in, place_in, tested_place, place_of, joined}
 use Rattle.strc_semantics.specs.Firing.{value_of, popped_from, peeked_from}
-use Rattle.strc_machine.specs.Machine.{Machine, Nodes, End, Choice, before, nodes_done, inst_room}
-use Rattle.strc_machine.specs.Machine.{nodes_room}
-use Rattle.strc_work.specs.Lowering.{variable_slot, writes_no_variable, alias_slot, unless_there}
-use Rattle.strc_work.specs.Lowering.{one, unary_step, binary_step, step_nodes, element_step_nodes}
-use Rattle.strc_work.specs.Lowering.{binary_nodes, expr_nodes, operand_slot, operand_nodes}
+use Rattle.strc_code.specs.Nodes.{Machine, Nodes, End, Choice, before, nodes_done, inst_room}
+use Rattle.strc_code.specs.Nodes.{nodes_room}
+use Rattle.strc_code.specs.Lowering.{variable_slot, writes_no_variable, alias_slot, unless_there}
+use Rattle.strc_code.specs.Lowering.{one, unary_step, binary_step, step_nodes, element_step_nodes}
+use Rattle.strc_code.specs.Lowering.{binary_nodes, expr_nodes, operand_slot, operand_nodes}
 use Rattle.strc_work.proofs.Variables.{scope_of, at, Holds, Holds-set_above, slot_of-below}
 use Rattle.strc_work.proofs.Variables.{slot_of-value, size_of-some, size_of-is}
 use Rattle.strc_work.proofs.Related.{Related, weaker_related}
-use Rattle.strc_machine.proofs.Spelled.{nodes_room-before}
+use Rattle.strc_code.proofs.Spelled.{nodes_room-before}
 
 -- the machine is where the store is, with the value about to be written into a slot; the slots
 -- from `total names` up to `free` are kept

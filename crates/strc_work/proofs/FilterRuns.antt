@@ -2,7 +2,6 @@
 use Rattle.std.proofs.Common.{◌≡◌, ℕ, ◌+◌, ◌-◌, ◌<◌, ◌≤◌, ℤ, pos, List, [], ◌∷◌, ◌++◌, length, take}
 use Rattle.std.proofs.Common.{drop, reverse, replicate, Option, Some, None, Result, Ok, refl, sym}
 use Rattle.std.proofs.Common.{ap, ◌∙◌, subst, arith, append_assoc}
-use Rattle.std.specs.Prelude.{unwrap_or}
 use Rattle.std.proofs.lemmas.List.{reverse-append, append-nil, length-take-le, length-drop}
 use Rattle.std.proofs.lemmas.List.{get_or-take, get_or-drop, get_or-replicate, length-replicate}
 use Rattle.strc_base.specs.Results.{result_and_then}
@@ -10,22 +9,24 @@ use Rattle.strc_syntax.specs.Tree as tree
 use Rattle.strc_semantics.specs.declared.fault.Cause.{Cause}
 use Rattle.strc_semantics.specs.declared.body.Body.{Body}
 use Rattle.strc_semantics.specs.declared.body.Body.TheVariants as body
-use Rattle.strc_semantics.specs.Filters.{Filter, sized_all, sized_fields, work_block, prework_block}
+use Rattle.strc_semantics.specs.Filters.{Filter, sized_all, sized_fields}
 use Rattle.strc_semantics.specs.Filters.{body_block}
 use Rattle.strc_semantics.specs.Scoping.{Scope, cells_of, total, slot_of}
-use Rattle.strc_semantics.specs.Closed.{IsNamed, IsClosedInitial, AreClosedFields, AreClosed}
+use Rattle.strc_semantics.specs.Closed.{IsNamed, IsClosedInitial, AreClosedFields}
 use Rattle.strc_semantics.specs.Closed.{AreClosedMembers, IsClosedFilter}
 use Rattle.strc_semantics.specs.Firing.{Variables, Store, Traffic, value_of, assigned, block_left}
 use Rattle.strc_semantics.specs.Firing.{inside, stmts_done, bound_onto, no_traffic, store_at}
 use Rattle.strc_semantics.specs.Firing.{field_values, no_io, initial_given, fields_started}
 use Rattle.strc_semantics.specs.Firing.{members_started, inits_done, started, Fired, port_of, fired}
-use Rattle.strc_machine.specs.Machine.{Machine, nodes_done, nodes_room}
-use Rattle.strc_work.specs.Lowering.{stmts_nodes, field_scope, field_nodes, fields_nodes}
-use Rattle.strc_work.specs.Lowering.{initials_nodes, inits_nodes, start_nodes, body_nodes}
-use Rattle.strc_work.specs.Lowering.{slot_count}
+use Rattle.strc_code.specs.Nodes.{Machine, nodes_done, nodes_room}
+use Rattle.strc_code.specs.Lowering.{stmts_nodes, field_scope, field_nodes, fields_nodes}
+use Rattle.strc_code.specs.Lowering.{initials_nodes, inits_nodes, start_nodes, body_nodes}
+use Rattle.strc_code.specs.Lowering.{slot_count}
+use Rattle.strc_code.proofs.Totals.{total-reverse}
+use Rattle.strc_code.proofs.ClosedBodies.{body_closed}
 use Rattle.strc_work.proofs.Variables.{scope_of, at, Holds, values-Holds}
 use Rattle.strc_work.proofs.Related.{Related, then_related, map_related, nodes_done-before}
-use Rattle.strc_machine.proofs.Spelled.{nodes_room-before}
+use Rattle.strc_code.proofs.Spelled.{nodes_room-before}
 use Rattle.strc_work.proofs.Expressions.{Arrives, Ready, machine_at}
 use Rattle.strc_work.proofs.ExpressionRuns.{expr_runs}
 use Rattle.strc_work.proofs.Reaching.{Reaches, ReachesOn, empty_reaches, left_reaches, go_on}
@@ -143,16 +144,6 @@ inits_run (tree.Work rates block ∷ rest) names store slots closed ready room =
 abbrev HasCells : Scope → Type 0
 HasCells [] = Unit {0}
 HasCells (first ∷ rest) = (1 ≤ first.1) × HasCells rest
-
-total-append : (first rest : Scope) → total (first ++ rest) ≡ total first + total rest
-total-append [] rest = omega arith
-total-append (field ∷ fields) rest = omega (arith, total-append fields rest)
-
-pub total-reverse : (fields : Scope) → total (reverse fields) ≡ total fields
-total-reverse [] = refl
-total-reverse (field ∷ fields) =
-    ap total (reverse-append (field ∷ []) fields)
-    ∙ omega (arith, total-append (reverse fields) (field ∷ []), total-reverse fields)
 
 HasCells-append : (first rest : Scope) → HasCells first → HasCells rest → HasCells (first ++ rest)
 HasCells-append [] rest h h' = h'
@@ -290,39 +281,6 @@ start_runs filter size closed room =
     })))
 
 -- ---- a firing
-
-pub work_closed : (names : Scope) (ms : List tree.Member) → AreClosedMembers names ms
-    → AreClosed names (work_block ms)
-work_closed names [] h = tt
-work_closed names (tree.Fields kind variables ∷ rest) h = work_closed names rest h.1
-work_closed names (tree.Init block ∷ rest) h = work_closed names rest h.1
-work_closed names (tree.Prework rates block ∷ rest) h = work_closed names rest h.1
-work_closed names (tree.Work rates block ∷ rest) h = h.0
-
--- a block, where there is one
-abbrev IsClosedBlock : Scope → Option tree.Stmts → Type 0
-IsClosedBlock names None = Unit {0}
-IsClosedBlock names (Some block) = AreClosed names block
-
-prework_closed : (names : Scope) (ms : List tree.Member) → AreClosedMembers names ms
-    → IsClosedBlock names (prework_block ms)
-prework_closed names [] h = tt
-prework_closed names (tree.Fields kind variables ∷ rest) h = prework_closed names rest h.1
-prework_closed names (tree.Init block ∷ rest) h = prework_closed names rest h.1
-prework_closed names (tree.Prework rates block ∷ rest) h = h.0
-prework_closed names (tree.Work rates block ∷ rest) h = prework_closed names rest h.1
-
-either_closed : (names : Scope) (first : Option tree.Stmts) (other : tree.Stmts)
-    → IsClosedBlock names first → AreClosed names other → AreClosed names (unwrap_or first other)
-either_closed names None other h h' = h'
-either_closed names (Some block) other h h' = h
-
-pub body_closed : (body : Body) (names : Scope) (ms : List tree.Member) → AreClosedMembers names ms
-    → AreClosed names (body_block body ms)
-body_closed body.Prework names ms h =
-    either_closed names (prework_block ms) (work_block ms) (prework_closed names ms h)
-    (work_closed names ms h)
-body_closed body.Work names ms h = work_closed names ms h
 
 -- the code of each body fits into the slots
 body_fits : (filter : Filter) (body : Body) (size : ℕ) → slot_count filter ≤ size

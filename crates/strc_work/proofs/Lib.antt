@@ -1,4 +1,3 @@
-pub mod Layouts
 pub mod Variables
 pub mod Related
 pub mod Expressions
@@ -10,7 +9,5 @@ pub mod Declarations
 pub mod Assignments
 pub mod StatementRuns
 pub mod FilterRuns
-pub mod Emitted
-pub mod Prework
 pub mod Printing
 pub mod Answering

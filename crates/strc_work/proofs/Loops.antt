@@ -11,13 +11,13 @@ use Rattle.strc_semantics.specs.Scoping.{Scope, total}
 use Rattle.strc_semantics.specs.Closed.{IsClosed, IsClosedInitial}
 use Rattle.strc_semantics.specs.Firing.{Port, Store, Traffic, value_of, one_more_turn, turned}
 use Rattle.strc_semantics.specs.Firing.{turn_limit, looped, condition_value}
-use Rattle.strc_machine.specs.Machine.{Machine, Nodes, End, Choice, Loop, before, slot_value}
-use Rattle.strc_machine.specs.Machine.{turned_on, chosen_by, cycled, nodes_done, nodes_room}
-use Rattle.strc_work.specs.Lowering.{operand_slot, operand_nodes, condition_nodes, condition_slot}
+use Rattle.strc_code.specs.Nodes.{Machine, Nodes, End, Choice, Loop, before, slot_value}
+use Rattle.strc_code.specs.Nodes.{turned_on, chosen_by, cycled, nodes_done, nodes_room}
+use Rattle.strc_code.specs.Lowering.{operand_slot, operand_nodes, condition_nodes, condition_slot}
 use Rattle.strc_work.proofs.Variables.{scope_of, Holds-set_above}
 use Rattle.strc_work.proofs.Related.{Related, then_related, weaker_related, chosen_related}
 use Rattle.strc_work.proofs.Related.{nodes_done-before, then_end}
-use Rattle.strc_machine.proofs.Spelled.{nodes_room-before}
+use Rattle.strc_code.proofs.Spelled.{nodes_room-before}
 use Rattle.strc_work.proofs.Expressions.{IsInSlot, Ready, machine_at, operand_runs, total-variables}
 use Rattle.strc_work.proofs.ExpressionRuns.{expr_runs}
 use Rattle.strc_work.proofs.Reaching.{Reaches, in_slot_reaches}

@@ -11,29 +11,28 @@ use Rattle.strc_syntax.specs.declared.tree.AssignOperator.{AssignOperator}
 use Rattle.strc_syntax.specs.declared.tree.AssignOperator.TheVariants as assign
 use Rattle.strc_syntax.specs.declared.tree.StepOperator.{StepOperator}
 use Rattle.strc_syntax.specs.declared.tree.StepOperator.TheVariants as step
-use Rattle.strc_inst.specs.declared.inst.Inst.{Inst}
-use Rattle.strc_inst.specs.declared.inst.Inst.TheVariants as act
+use Rattle.strc_code.specs.declared.inst.Inst.{Inst}
+use Rattle.strc_code.specs.declared.inst.Inst.TheVariants as act
 use Rattle.strc_semantics.specs.declared.body.Body.{Body}
-use Rattle.strc_semantics.specs.declared.body.Body.TheVariants as body
 use Rattle.strc_semantics.specs.declared.fault.Halt.{Halt}
 use Rattle.strc_semantics.specs.declared.fault.Halt.TheVariants as halt
-use Rattle.strc_machine.specs.Running.{WantsOnlyWords}
-use Rattle.strc_semantics.specs.Filters.{Filter, stmt_prints, stmts_print, work_block, body_block}
+use Rattle.strc_inst.specs.Running.{WantsOnlyWords}
+use Rattle.strc_semantics.specs.Filters.{Filter, stmt_prints, stmts_print, body_block}
 use Rattle.strc_semantics.specs.Filters.{body_prints}
 use Rattle.strc_semantics.specs.Firing.{assigned_value}
 use Rattle.strc_semantics.specs.Scoping.{Scope, cells_of, total, slot_of, size_of, names_after}
-use Rattle.strc_machine.specs.Machine.{Nodes, End, Act, Choice, Loop, before, inst_prints}
-use Rattle.strc_machine.specs.Machine.{nodes_print}
-use Rattle.strc_work.specs.Lowering.{unless_there, variable_slot, alias_slot, writes_no_variable}
-use Rattle.strc_work.specs.Lowering.{one, unary_step, binary_step, step_nodes, element_step_nodes}
-use Rattle.strc_work.specs.Lowering.{binary_nodes, expr_nodes, operand_slot, operand_nodes}
-use Rattle.strc_work.specs.Lowering.{evaluation_nodes, used_nodes, compound_nodes, element_nodes}
-use Rattle.strc_work.specs.Lowering.{initial_nodes, variables_nodes, condition_nodes}
-use Rattle.strc_work.specs.Lowering.{condition_slot, stmt_nodes, stmts_nodes, body_nodes}
-use Rattle.strc_work.specs.Lowering.{field_scope}
+use Rattle.strc_code.specs.Nodes.{Nodes, End, Act, Choice, Loop, before, inst_prints}
+use Rattle.strc_code.specs.Nodes.{nodes_print}
+use Rattle.strc_code.specs.Lowering.{unless_there, variable_slot, alias_slot, writes_no_variable}
+use Rattle.strc_code.specs.Lowering.{one, unary_step, binary_step, step_nodes, element_step_nodes}
+use Rattle.strc_code.specs.Lowering.{binary_nodes, expr_nodes, operand_slot, operand_nodes}
+use Rattle.strc_code.specs.Lowering.{evaluation_nodes, used_nodes, compound_nodes, element_nodes}
+use Rattle.strc_code.specs.Lowering.{initial_nodes, variables_nodes, condition_nodes}
+use Rattle.strc_code.specs.Lowering.{condition_slot, stmt_nodes, stmts_nodes, body_nodes}
+use Rattle.strc_code.specs.Lowering.{field_scope}
 use Rattle.strc_semantics.specs.Closed.{IsClosedStmt, AreClosed, IsClosedFilter}
 use Rattle.strc_work.proofs.Expressions.{by_operator}
-use Rattle.strc_work.proofs.FilterRuns.{body_closed}
+use Rattle.strc_code.proofs.ClosedBodies.{body_closed}
 
 -- ---- truths
 

@@ -8,8 +8,8 @@ use Rattle.strc_semantics.specs.Scoping.{Scope, total, names_after}
 use Rattle.strc_semantics.specs.Closed.{IsClosedStmt, AreClosed}
 use Rattle.strc_semantics.specs.Firing.{Port, Variables, Store, block_left, inside, stmt_done}
 use Rattle.strc_semantics.specs.Firing.{stmts_done}
-use Rattle.strc_machine.specs.Machine.{Machine, Nodes, nodes_done, nodes_room}
-use Rattle.strc_work.specs.Lowering.{stmt_nodes, stmts_nodes}
+use Rattle.strc_code.specs.Nodes.{Machine, Nodes, nodes_done, nodes_room}
+use Rattle.strc_code.specs.Lowering.{stmt_nodes, stmts_nodes}
 use Rattle.strc_semantics.proofs.Growth.{IsBaseOf, base_of_itself, base_of_after, drop_inner}
 use Rattle.strc_work.proofs.Variables.{scope_of, Holds, Holds-drop, length-scope_of}
 use Rattle.strc_work.proofs.Related.{Related, weaker_related, map_related}

@@ -7,22 +7,22 @@ use Rattle.strc_base.specs.Results.{result_and_then}
 use Rattle.strc_syntax.specs.Tree as tree
 use Rattle.strc_syntax.specs.declared.tree.StepOperator.TheVariants as step
 use Rattle.strc_semantics.specs.declared.fault.Cause.{Cause}
-use Rattle.strc_inst.specs.declared.inst.Inst.{Inst}
-use Rattle.strc_inst.specs.declared.inst.Inst.TheVariants as act
+use Rattle.strc_code.specs.declared.inst.Inst.{Inst}
+use Rattle.strc_code.specs.declared.inst.Inst.TheVariants as act
 use Rattle.strc_semantics.specs.Scoping.{Scope, cells_of, total, slot_of, names_after}
 use Rattle.strc_semantics.specs.Closed.{IsClosed, IsClosedStmt}
 use Rattle.strc_semantics.specs.Firing.{Port, Store, Traffic, value_of, pushed_to, printed}
 use Rattle.strc_semantics.specs.Firing.{assigned, assigned_value, turn_limit, looped}
 use Rattle.strc_semantics.specs.Firing.{condition_value, inside, block_left, stmt_done, stmts_done}
-use Rattle.strc_machine.specs.Machine.{Machine, End, Choice, Loop, before, slot_value, inst_done}
-use Rattle.strc_machine.specs.Machine.{nodes_done, nodes_room}
-use Rattle.strc_work.specs.Lowering.{one, expr_nodes, operand_slot, operand_nodes, condition_nodes}
-use Rattle.strc_work.specs.Lowering.{condition_slot, stmt_nodes, stmts_nodes, used_nodes}
+use Rattle.strc_code.specs.Nodes.{Machine, End, Choice, Loop, before, slot_value, inst_done}
+use Rattle.strc_code.specs.Nodes.{nodes_done, nodes_room}
+use Rattle.strc_code.specs.Lowering.{one, expr_nodes, operand_slot, operand_nodes, condition_nodes}
+use Rattle.strc_code.specs.Lowering.{condition_slot, stmt_nodes, stmts_nodes, used_nodes}
 use Rattle.strc_semantics.proofs.Growth.{base_of_itself}
 use Rattle.strc_work.proofs.Variables.{scope_of, Holds, Holds-set_above}
 use Rattle.strc_work.proofs.Related.{Related, then_related, map_related, nodes_done-before}
 use Rattle.strc_work.proofs.Related.{then_last}
-use Rattle.strc_machine.proofs.Spelled.{nodes_room-before}
+use Rattle.strc_code.proofs.Spelled.{nodes_room-before}
 use Rattle.strc_work.proofs.Expressions.{Arrives, IsInSlot, Ready, machine_at, operand_runs}
 use Rattle.strc_work.proofs.ExpressionRuns.{expr_runs}
 use Rattle.strc_work.proofs.Reaching.{Reaches, ReachesOn, RunsStmt, RunsStmts, few, empty_reaches}

@@ -3,8 +3,8 @@ use Rattle.std.specs.Prelude.{◌≡◌, ℤ, List, ◌∷◌, ◌++◌, Result,
 use Rattle.strc_semantics.specs.declared.fault.Cause.{Cause}
 use Rattle.strc_semantics.specs.declared.fault.Halt.{Halt}
 use Rattle.strc_semantics.specs.declared.fault.Halt.TheVariants as halt
-use Rattle.strc_work.specs.declared.code.StartError.{StartError}
-use Rattle.strc_work.specs.declared.code.StartError.TheVariants as start
+use Rattle.strc_work.specs.declared.firing.StartError.{StartError}
+use Rattle.strc_work.specs.declared.firing.StartError.TheVariants as start
 use Rattle.strc_semantics.specs.declared.word.Word.{Word}
 use Rattle.strc_work.specs.Kept.{Kept}
 use Rattle.strc_semantics.specs.Firing.{Fired}

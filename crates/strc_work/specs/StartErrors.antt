@@ -1,8 +1,8 @@
 -- What a halt means at the start.
 use Rattle.strc_semantics.specs.declared.fault.Halt.{Halt}
 use Rattle.strc_semantics.specs.declared.fault.Halt.TheVariants as halt
-use Rattle.strc_work.specs.declared.code.StartError.{StartError}
-use Rattle.strc_work.specs.declared.code.StartError.TheVariants as start
+use Rattle.strc_work.specs.declared.firing.StartError.{StartError}
+use Rattle.strc_work.specs.declared.firing.StartError.TheVariants as start
 
 -- a fault of an initialiser is the start's, and so is out of memory
 abbrev pub start_error_of : Halt → StartError

@@ -1,0 +1,20 @@
+use Rattle.std.proofs.Common.{Some, ◌<◌, ◌+◌, ◌∷◌, length, drop, sym, ap, ◌∙◌, arith}
+use Rattle.strc_syntax.specs.View.{block_view, member_view}
+use Rattle.strc_semantics.specs.Filters.{prework_block, members_of}
+use Rattle.strc_syntax.proofs.Blocks.{member_view-Prework}
+use Rattle.strc_base.proofs.Lists.{map-drop}
+use Rattle.strc_code.proofs.bodies.prework_block.Goals as goal
+
+pub returns-in-Prework : goal.returns-in-Prework
+returns-in-Prework c =
+    let members = c.args.members.now in
+    let i = c.loop-member.member-index in
+    let lt : i < length members = omega arith in
+    let rest = members_of (drop (i + 1) members) in
+    ap (λ l. Some (block_view l)) c.deref.ensures.value
+    ∙ ap (λ m. prework_block (m ∷ rest)) (sym
+    (member_view-Prework c.in-Prework.field-0 c.in-Prework.block))
+    ∙ ap (λ m. prework_block (member_view m ∷ rest)) (sym c.in-Prework.is)
+    ∙ ap prework_block (sym (map-drop member_view members i c.member-item.result lt
+    c.member-item.is))
+    ∙ c.loop-member.invariant

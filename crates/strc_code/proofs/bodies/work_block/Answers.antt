@@ -1,0 +1,18 @@
+use Rattle.std.proofs.Common.{◌<◌, ◌+◌, ◌∷◌, length, drop, sym, ap, ◌∙◌, arith}
+use Rattle.strc_syntax.specs.View.{block_view, member_view}
+use Rattle.strc_semantics.specs.Filters.{work_block, members_of}
+use Rattle.strc_syntax.proofs.Blocks.{member_view-Work}
+use Rattle.strc_base.proofs.Lists.{map-drop}
+use Rattle.strc_code.proofs.bodies.work_block.Goals as goal
+
+pub returns-in-Work : goal.returns-in-Work
+returns-in-Work c =
+    let members = c.args.members.now in
+    let i = c.loop-member.member-index in
+    let lt : i < length members = omega arith in
+    let rest = members_of (drop (i + 1) members) in
+    ap block_view c.deref.ensures.value
+    ∙ ap (λ m. work_block (m ∷ rest)) (sym (member_view-Work c.in-Work.field-0 c.in-Work.block))
+    ∙ ap (λ m. work_block (member_view m ∷ rest)) (sym c.in-Work.is)
+    ∙ ap work_block (sym (map-drop member_view members i c.member-item.result lt c.member-item.is))
+    ∙ c.loop-member.invariant

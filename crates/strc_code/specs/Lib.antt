@@ -1,0 +1,10 @@
+pub mod Comparisons
+pub mod Superinstructions
+pub mod Machine
+pub mod Jumps
+pub mod Nodes
+pub mod Conditions
+pub mod Code
+pub mod Flat
+pub mod Lowering
+pub mod Lowered

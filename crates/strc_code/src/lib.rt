@@ -1,0 +1,14 @@
+// Takes the parts of lowered code: instructions, nodes, a filter's routines.
+// Gives the code of a filter as others hold it, and tells what it is made of.
+// The theorem to rely on: each routine of a `Code` is the code that its filter's tree is lowered
+// to, and its flat form does the same.
+// Stands on strc_semantics, whose filters its codes are, on strc_syntax, whose trees they keep, and
+// on strc_base.
+#![tactic(auto)]
+
+pub mod bodies;
+pub mod code;
+pub mod condition;
+pub mod inst;
+pub mod limits;
+pub mod node;

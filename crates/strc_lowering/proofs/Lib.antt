@@ -1,0 +1,6 @@
+pub mod Layouts
+pub mod Prework
+pub mod Emitted
+pub mod Built
+pub mod Flattening
+pub mod HalfBranches

@@ -1,0 +1,39 @@
+use Rattle.std.proofs.Common.{◌<◌, ◌+◌, length, drop, sym, ap, ◌∙◌, arith}
+use Rattle.std.proofs.Math.ListN.{drop_of_length-le}
+use Rattle.strc_syntax.specs.View.{stmt_view, block_view}
+use Rattle.strc_code.specs.Nodes.{before}
+use Rattle.strc_code.specs.Lowering.{stmts_nodes}
+use Rattle.strc_lowering.specs.Written.{written}
+use Rattle.strc_syntax.proofs.Blocks.{block_view-drop}
+use Rattle.strc_semantics.proofs.Growth.{base_of_after}
+use Rattle.strc_code.proofs.Nodes.{before_end}
+use Rattle.strc_lowering.proofs.Emitted.{stmts_nodes_more}
+use Rattle.strc_lowering.proofs.statement_code.emit_block.Goals as goal
+
+pub loop-statement-preserved : goal.loop-statement-preserved
+loop-statement-preserved c =
+    let items = c.args.block.now in
+    let i = c.loop-statement.statement-index in
+    let lt : i < length items = omega arith in
+    let x = c.statement-item.result in
+    let names = c.in_ok-emit_stmt.ensures.names in
+    let more = stmts_nodes_more c.loop-statement.names c.emit_stmt.new.names
+    (written c.loop-statement.code) (written c.emit_stmt.new.code) (stmt_view x)
+    (block_view (drop (i + 1) items)) c.in_ok-emit_stmt.ensures.code names in
+    record {
+      code = more ∙ ap (λ b. before (written c.loop-statement.code)
+          (stmts_nodes c.loop-statement.names b))
+          (sym (block_view-drop items i x lt c.statement-item.is))
+          ∙ c.loop-statement.invariant.code;
+      names = rw names (base_of_after c.args.names.now c.loop-statement.names
+          (stmt_view x) c.loop-statement.invariant.names);
+    }
+
+pub returns-clause-code : goal.returns-clause-code
+returns-clause-code c =
+    let items = c.args.block.now in
+    sym (before_end (written c.loop-statement.code))
+    ∙ ap (λ l. before (written c.loop-statement.code)
+    (stmts_nodes c.loop-statement.names (block_view l)))
+    (sym (drop_of_length-le items c.loop-statement-test.false))
+    ∙ c.loop-statement.invariant.code

@@ -1,0 +1,14 @@
+use Rattle.std.proofs.Common.{◌≡◌, drop}
+use Rattle.strc_syntax.specs.View.{block_view}
+use Rattle.strc_code.specs.Nodes.{before}
+use Rattle.strc_code.specs.Lowering.{stmts_nodes}
+use Rattle.strc_lowering.specs.Written.{written}
+use Rattle.strc_semantics.proofs.Growth.{IsBaseOf}
+use Rattle.strc_lowering.proofs.statement_code.emit_block.Given as goal
+
+abbrev pub invariant-loop-statement : goal.invariant-loop-statement
+invariant-loop-statement l = record {
+  code : before (written l.code) (stmts_nodes l.names (block_view (drop l.statement-index l.block)))
+      ≡ before (written l.initial.code) (stmts_nodes l.initial.names (block_view l.block));
+  names : IsBaseOf l.initial.names l.names;
+}

@@ -1,0 +1,371 @@
+// What is written: the words and the fault line, the lines of a check or a plan, or the line of a
+// refusal.
+
+ghost use Rattle.std.specs.Prelude.{◌≡◌, ◌++◌, IfOk, OnOk, decimal, length};
+ghost use Rattle.strc_graph.specs.NodeView.{node_names};
+ghost use Rattle.strc_output.specs.Output as spec;
+
+use crate::stop::Stop;
+use crate::text::{push_bytes, push_integer, push_number};
+use std::alloc::{AllocError, Global};
+use strc_graph::graph::Channel;
+use strc_outcome::outcome::{Outcome, Round};
+use strc_outcome::refusal::RunRefusal;
+use strc_refusal::refusal::Refusal;
+use strc_semantics::fault::Cause;
+use strc_semantics::word::Word;
+use strc_stage::plan::Plan;
+
+/// The text of a run's outcome.
+pub fn outcome_text(alloc: Global, outcome: &Outcome) -> Result<Vec<u8>, AllocError>
+    ensures { IfOk result (λ text. text.items ≡ spec.outcome_text outcome.now) }
+{
+    let mut text = Vec::new(alloc);
+    match outcome {
+        Outcome::Done(words) => push_words(&mut text, words)?,
+        Outcome::Fault {
+            node,
+            firing,
+            round,
+            cause,
+            words,
+        } => {
+            push_words(&mut text, words)?;
+            if leaves_line_open(words) {
+                push_bytes(&mut text, b"\n")?;
+            }
+            push_fault(&mut text, *node, *firing, *round, *cause)?;
+        }
+    }
+    Ok(text)
+}
+
+// Each word in decimal, and a line feed after those that end a line.
+fn push_words(text: &mut Vec<u8>, words: &[Word]) -> Result<(), AllocError>
+    ensures { OnOk result (text.new.items ≡ text.old.items ++ spec.words_text words.now) }
+{
+    for word in words {
+        push_integer(text, word.value)?;
+        if word.ends_line {
+            push_bytes(text, b"\n")?;
+        }
+    }
+    Ok(())
+}
+
+fn leaves_line_open(words: &[Word]) -> bool
+    ensures { result ≡ spec.leaves_open words.now }
+{
+    match words.last() {
+        Some(word) => !word.ends_line,
+        None => false,
+    }
+}
+
+// The line of a fault: its cause, the node, how often it had fired before, and when.
+fn push_fault(
+    text: &mut Vec<u8>,
+    node: u32,
+    firing: u64,
+    round: Round,
+    cause: Cause,
+) -> Result<(), AllocError>
+    ensures { OnOk result (text.new.items ≡ text.old.items
+        ++ spec.fault_line node firing round cause) }
+{
+    push_bytes(text, b"fault ")?;
+    push_bytes(text, cause_name(cause))?;
+    push_bytes(text, b" node ")?;
+    push_number(text, u64::from(node))?;
+    push_bytes(text, b" firing ")?;
+    push_number(text, firing)?;
+    push_round(text, round)?;
+    push_bytes(text, b"\n")
+}
+
+// When a firing faulted.
+fn push_round(text: &mut Vec<u8>, round: Round) -> Result<(), AllocError>
+    ensures { OnOk result (text.new.items ≡ text.old.items ++ spec.round_words round) }
+{
+    match round {
+        Round::Startup => push_bytes(text, b" startup"),
+        Round::At(number) => {
+            push_bytes(text, b" round ")?;
+            push_number(text, u64::from(number))
+        }
+    }
+}
+
+fn cause_name(cause: Cause) -> &'static [u8]
+    ensures { result.now ≡ spec.cause_name cause }
+{
+    match cause {
+        Cause::DivZero => b"DivZero",
+        Cause::Index => b"Index",
+        Cause::PeekRange => b"PeekRange",
+        Cause::Turns => b"Turns",
+    }
+}
+
+/// The line that tells how many nodes and channels there are.
+pub fn check_text(alloc: Global, nodes: usize, channels: usize) -> Result<Vec<u8>, AllocError>
+    ensures { IfOk result (λ text. text.items ≡ spec.check_line nodes channels) }
+{
+    let mut text = Vec::new(alloc);
+    push_bytes(&mut text, b"ok nodes ")?;
+    push_number(&mut text, nodes as u64)?;
+    push_bytes(&mut text, b" channels ")?;
+    push_number(&mut text, channels as u64)?;
+    push_bytes(&mut text, b"\n")?;
+    Ok(text)
+}
+
+/// The lines of a plan: one for each node, then one for each node's start-up, then one for each
+/// channel, in order of their numbers.
+pub fn plan_text(alloc: Global, plan: &Plan) -> Result<Vec<u8>, AllocError>
+    ensures { IfOk result (λ text. text.items ≡ spec.plan_text plan.now) }
+{
+    let mut text = Vec::new(alloc);
+    push_nodes(&mut text, plan)?;
+    push_starts(&mut text, plan.startup_counts().as_slice())?;
+    push_channels(&mut text, plan.graph().channels(), plan.sizes())?;
+    Ok(text)
+}
+
+// The lines of all nodes.
+fn push_nodes(text: &mut Vec<u8>, plan: &Plan) -> Result<(), AllocError>
+    ensures { OnOk result (text.new.items ≡ text.old.items
+        ++ spec.node_lines 0 (node_names plan.now.graph) plan.now.round_counts) }
+{
+    let graph = plan.graph();
+    let counts = plan.round_counts();
+    for node in 0..graph.nodes().len() {
+        push_node(text, node, graph.name(node), counts.at(node))?;
+    }
+    Ok(())
+}
+
+// The line of a node: its number, its name, and how often it fires in a round.
+fn push_node(text: &mut Vec<u8>, node: usize, name: &[u8], count: u32) -> Result<(), AllocError>
+    ensures { OnOk result (text.new.items ≡ text.old.items ++ spec.node_line node name.now count) }
+{
+    push_bytes(text, b"node ")?;
+    push_number(text, node as u64)?;
+    push_bytes(text, b" ")?;
+    push_bytes(text, name)?;
+    push_bytes(text, b" round ")?;
+    push_number(text, u64::from(count))?;
+    push_bytes(text, b"\n")
+}
+
+// The lines of the start-up of nodes that fire so often before the first round.
+fn push_starts(text: &mut Vec<u8>, counts: &[u32]) -> Result<(), AllocError>
+    ensures { OnOk result (text.new.items ≡ text.old.items ++ spec.start_lines 0 counts.now) }
+{
+    for node in 0..counts.len() {
+        push_start(text, node, counts[node])?;
+    }
+    Ok(())
+}
+
+// The line of a node's start-up: its number, and how often it fires before the first round.
+fn push_start(text: &mut Vec<u8>, node: usize, count: u32) -> Result<(), AllocError>
+    ensures { OnOk result (text.new.items ≡ text.old.items ++ spec.start_line node count) }
+{
+    push_bytes(text, b"start ")?;
+    push_number(text, node as u64)?;
+    push_bytes(text, b" ")?;
+    push_number(text, u64::from(count))?;
+    push_bytes(text, b"\n")
+}
+
+// The lines of all channels.
+fn push_channels(text: &mut Vec<u8>, channels: &[Channel], sizes: &[u32]) -> Result<(), AllocError>
+    requires { length sizes.now ≡ length channels.now }
+    ensures { OnOk result (text.new.items ≡ text.old.items
+        ++ spec.channel_lines 0 channels.now sizes.now) }
+{
+    for number in 0..channels.len() {
+        push_channel(text, number, &channels[number], sizes[number])?;
+    }
+    Ok(())
+}
+
+// The line of a channel: its number, the nodes at its ends, and the size of its buffer.
+fn push_channel(
+    text: &mut Vec<u8>,
+    number: usize,
+    channel: &Channel,
+    size: u32,
+) -> Result<(), AllocError>
+    ensures { OnOk result (text.new.items ≡ text.old.items
+        ++ spec.channel_line number channel.now.source.node channel.now.target.node size) }
+{
+    push_bytes(text, b"channel ")?;
+    push_number(text, number as u64)?;
+    push_bytes(text, b" from ")?;
+    push_number(text, u64::from(channel.source.node))?;
+    push_bytes(text, b" to ")?;
+    push_number(text, u64::from(channel.target.node))?;
+    push_bytes(text, b" size ")?;
+    push_number(text, u64::from(size))?;
+    push_bytes(text, b"\n")
+}
+
+/// The line that tells why there is no answer.
+pub fn stop_text(alloc: Global, stop: &Stop) -> Result<Vec<u8>, AllocError>
+    ensures { IfOk result (λ text. text.items ≡ spec.stop_line stop.now) }
+{
+    let mut text = Vec::new(alloc);
+    push_bytes(&mut text, b"refused ")?;
+    push_stop(&mut text, stop)?;
+    push_bytes(&mut text, b"\n")?;
+    Ok(text)
+}
+
+// Why there is no answer: a refusal of the text, of a word of its input, or of its run.
+fn push_stop(text: &mut Vec<u8>, stop: &Stop) -> Result<(), AllocError>
+    ensures { OnOk result (text.new.items ≡ text.old.items ++ spec.stop_words stop.now) }
+{
+    match stop {
+        Stop::Refused(refusal) => push_refusal(text, refusal),
+        Stop::BadInput { word } => push_field(text, b"S6 BadInput", b" word ", *word),
+        Stop::NotRun(refusal) => push_run_refusal(text, *refusal),
+    }
+}
+
+// The number and the name of a refusal, and its fields, each after its name.
+fn push_refusal(text: &mut Vec<u8>, refusal: &Refusal) -> Result<(), AllocError>
+    ensures { OnOk result (text.new.items ≡ text.old.items ++ spec.refusal_words refusal.now) }
+{
+    match refusal {
+        Refusal::Lex { at } => push_field(text, b"E1 Lex", b" at ", *at as u64),
+        Refusal::Parse { token } => push_field(text, b"E2 Parse", b" token ", *token as u64),
+        Refusal::TextTooLong => push_bytes(text, b"E3 TextTooLong"),
+        Refusal::UnknownName { name } => push_named(
+            text,
+            b"E4 UnknownName",
+            b" name ",
+            name.as_bytes(),
+        ),
+        Refusal::TypeMismatch { stream } => {
+            push_field(text, b"E5 TypeMismatch", b" stream ", *stream as u64)
+        }
+        Refusal::NoMain => push_bytes(text, b"E6 NoMain"),
+        Refusal::ManyMains => push_bytes(text, b"E7 ManyMains"),
+        Refusal::DepthLimit => push_bytes(text, b"E8 DepthLimit"),
+        Refusal::NodeLimit => push_bytes(text, b"E9 NodeLimit"),
+        Refusal::BadArguments { stream } => {
+            push_field(text, b"E10 BadArguments", b" stream ", *stream as u64)
+        }
+        Refusal::BadWeights { stream } => {
+            push_field(text, b"E11 BadWeights", b" stream ", *stream as u64)
+        }
+        Refusal::ConstFault { cause } => {
+            push_named(text, b"E12 ConstFault", b" cause ", cause_name(*cause))
+        }
+        Refusal::RateUnknown { node } => {
+            push_field(text, b"E13 RateUnknown", b" node ", *node as u64)
+        }
+        Refusal::RateMismatch {
+            node,
+            declared,
+            counted,
+        } => push_mismatch(
+            text,
+            *node as u64,
+            u64::from(*declared),
+            u64::from(*counted),
+        ),
+        Refusal::PeekOutside { node } => {
+            push_field(text, b"E15 PeekOutside", b" node ", *node as u64)
+        }
+        Refusal::RateLimit { node } => push_field(text, b"E16 RateLimit", b" node ", *node as u64),
+        Refusal::TwoInputs => push_bytes(text, b"E17 TwoInputs"),
+        Refusal::TwoOutputs => push_bytes(text, b"E18 TwoOutputs"),
+        Refusal::Disconnected => push_bytes(text, b"E19 Disconnected"),
+        Refusal::CountsTooLarge => push_bytes(text, b"E20 CountsTooLarge"),
+        Refusal::Inconsistent { channel } => {
+            push_field(text, b"E21 Inconsistent", b" channel ", *channel as u64)
+        }
+        Refusal::StartupUnbounded => push_bytes(text, b"E22 StartupUnbounded"),
+        Refusal::Deadlock { in_startup: true } => push_bytes(text, b"E23 Deadlock startup"),
+        Refusal::Deadlock { in_startup: false } => push_bytes(text, b"E23 Deadlock round"),
+        Refusal::BufferLimit { channel } => {
+            push_field(text, b"E24 BufferLimit", b" channel ", *channel as u64)
+        }
+        Refusal::NoMemory => push_bytes(text, b"E25 NoMemory"),
+        Refusal::Nesting => push_bytes(text, b"E26 Nesting"),
+    }
+}
+
+// A refusal with one number.
+fn push_field(
+    text: &mut Vec<u8>,
+    refusal: &[u8],
+    field: &[u8],
+    value: u64,
+) -> Result<(), AllocError>
+    ensures { OnOk result (text.new.items ≡ text.old.items
+        ++ (refusal.now ++ field.now ++ decimal value)) }
+{
+    push_bytes(text, refusal)?;
+    push_bytes(text, field)?;
+    push_number(text, value)
+}
+
+// A refusal with one name.
+fn push_named(
+    text: &mut Vec<u8>,
+    refusal: &[u8],
+    field: &[u8],
+    name: &[u8],
+) -> Result<(), AllocError>
+    ensures { OnOk result (text.new.items ≡ text.old.items
+        ++ (refusal.now ++ field.now ++ name.now)) }
+{
+    push_bytes(text, refusal)?;
+    push_bytes(text, field)?;
+    push_bytes(text, name)
+}
+
+// A declared rate that isn't the counted one.
+fn push_mismatch(
+    text: &mut Vec<u8>,
+    node: u64,
+    declared: u64,
+    counted: u64,
+) -> Result<(), AllocError>
+    ensures { OnOk result (text.new.items ≡ text.old.items
+        ++ spec.mismatch_words node declared counted) }
+{
+    push_bytes(text, b"E14 RateMismatch node ")?;
+    push_number(text, node)?;
+    push_bytes(text, b" declared ")?;
+    push_number(text, declared)?;
+    push_bytes(text, b" counted ")?;
+    push_number(text, counted)
+}
+
+// The number and the name of a refusal of a run, and its fields.
+fn push_run_refusal(text: &mut Vec<u8>, refusal: RunRefusal) -> Result<(), AllocError>
+    ensures { OnOk result (text.new.items ≡ text.old.items ++ spec.run_refusal_words refusal) }
+{
+    match refusal {
+        RunRefusal::InputShort { need, got } => push_short(text, need, got),
+        RunRefusal::BadWorkers => push_bytes(text, b"S2 BadWorkers"),
+        RunRefusal::NoMemory => push_bytes(text, b"S3 NoMemory"),
+        RunRefusal::NoWorker => push_bytes(text, b"S4 NoWorker"),
+        RunRefusal::RoundsNeeded => push_bytes(text, b"S5 RoundsNeeded"),
+    }
+}
+
+// An input that is shorter than what the rounds read.
+fn push_short(text: &mut Vec<u8>, need: u64, got: u64) -> Result<(), AllocError>
+    ensures { OnOk result (text.new.items ≡ text.old.items ++ spec.short_words need got) }
+{
+    push_bytes(text, b"S1 InputShort need ")?;
+    push_number(text, need)?;
+    push_bytes(text, b" got ")?;
+    push_number(text, got)
+}

@@ -1,0 +1,94 @@
+use Rattle.std.proofs.Common.{◌≡◌, ◌≤◌, ◌++◌, length, take, drop, sym, ap, ◌∙◌, subst, arith, rules}
+use Rattle.strc_work.specs.Kept.{Kept}
+use Rattle.strc_semantics.specs.Filters.{filter_of}
+use Rattle.strc_code.specs.Code.{code_of}
+use Rattle.strc_code.specs.Nodes.{nodes_print}
+use Rattle.strc_inst.specs.Running.{machine_of, port_within, fresh_io, Tells}
+use Rattle.strc_code.specs.Flat.{node_done}
+use Rattle.strc_machine.proofs.Runs.{wants_as}
+use Rattle.strc_code.specs.Lowering.{slot_count}
+use Rattle.strc_semantics.specs.Firing.{fired}
+use Rattle.strc_work.specs.Answers.{Fires}
+use Rattle.strc_work.proofs.Printing.{body_wants}
+use Rattle.strc_work.proofs.Answering.{fire_answer, given_back}
+use Rattle.strc_work.proofs.firing.fire_code.Goals as goal
+
+pub returns-clause-fired : goal.returns-clause-fired
+returns-clause-fired g c =
+    let tree = c.args.code.now in
+    let inside = c.state.inside in
+    let old = c.deref_mut.result.now in
+    let new = c.run-result.new.slots in
+    let old_is = c.deref_mut.ensures.value in
+    let kept = c.run-result.auto.slots in
+    let fields_are : c.args.state.now.fields ≡ take inside.fields old =
+    ap (λ (v : Kept). v.fields) (sym c.state.view_is) ∙ ap (take inside.fields) (sym old_is) in
+    let room_is : c.args.state.now.room ≡ length old =
+    ap (λ (v : Kept). v.room) (sym c.state.view_is) ∙ ap length (sym old_is) in
+    let closed = c.routine-routine.ensures.closed in
+    let within : inside.fields ≤ length old = omega (arith, c.state.invariant, ap length old_is) in
+    let enough : slot_count (filter_of tree) ≤ length old = omega (arith, c.requires.state.roomy) in
+    let back : take inside.slots.len (new ++ drop (length new) inside.slots.items) ≡ new =
+    given_back inside.slots.len new inside.slots.items
+    (omega (arith, inside.slots.ok.0, ap length old_is)) (omega (arith, ap length old_is)) in
+    let after = machine_of new c.run-result.new.io in
+    let limits = c.routine-routine.result.now.limits in
+    let window = g.W.Window.items c.args.window.now in
+    let words = c.args.words.now.items in
+    let io = fresh_io c.frame.inside.io.room words in
+    let ran : Tells (node_done (port_within limits window) c.routine-routine.result.now.flat
+    (machine_of old io)) c.run-result.result after = search rules in
+    let reported = subst (λ r. Tells r c.run-result.result after)
+    (c.routine-routine.ensures.flat.does (port_within limits window) (machine_of old io))
+    ran in
+    let answer = fire_answer tree c.args.body c.args.state.now.fields old inside.fields
+    c.frame.inside.io.room limits window words
+    (code_of c.routine-routine.result.now.code) c.run-result.result after closed
+    c.routine-routine.ensures.code fields_are c.requires.state.one_for_each within enough
+    c.routine-routine.ensures.limits (search rules) reported in
+    let given = subst (λ l. Fires (fired (filter_of tree) c.args.body c.args.state.now.fields
+    window) c.run-result.result (take inside.fields l) c.run-result.new.io.traffic.pushes
+    words c.run-result.new.io.traffic.words) (sym back) answer.fires in
+    search rules
+
+pub returns-clause-silent : goal.returns-clause-silent
+returns-clause-silent g c =
+    let tree = c.args.code.now in
+    let inside = c.state.inside in
+    let old = c.deref_mut.result.now in
+    let old_is = c.deref_mut.ensures.value in
+    let fields_are : c.args.state.now.fields ≡ take inside.fields old =
+    ap (λ (v : Kept). v.fields) (sym c.state.view_is) ∙ ap (take inside.fields) (sym old_is) in
+    let room_is : c.args.state.now.room ≡ length old =
+    ap (λ (v : Kept). v.room) (sym c.state.view_is) ∙ ap length (sym old_is) in
+    let within : inside.fields ≤ length old = omega (arith, c.state.invariant, ap length old_is) in
+    let enough : slot_count (filter_of tree) ≤ length old = omega (arith, c.requires.state.roomy) in
+    let after = machine_of c.run-result.new.slots c.run-result.new.io in
+    let limits = c.routine-routine.result.now.limits in
+    let window = g.W.Window.items c.args.window.now in
+    let words = c.args.words.now.items in
+    let io = fresh_io c.frame.inside.io.room words in
+    let ran : Tells (node_done (port_within limits window) c.routine-routine.result.now.flat
+    (machine_of old io)) c.run-result.result after = search rules in
+    let reported = subst (λ r. Tells r c.run-result.result after)
+    (c.routine-routine.ensures.flat.does (port_within limits window) (machine_of old io))
+    ran in
+    let answer = fire_answer tree c.args.body c.args.state.now.fields old inside.fields
+    c.frame.inside.io.room limits window words
+    (code_of c.routine-routine.result.now.code) c.run-result.result after
+    c.routine-routine.ensures.closed c.routine-routine.ensures.code fields_are
+    c.requires.state.one_for_each within enough c.routine-routine.ensures.limits (search rules)
+    reported in
+    let wants = answer.wants in
+    search rules
+
+pub returns-clause-memory : goal.returns-clause-memory
+returns-clause-memory g c =
+    let tree = c.args.code.now in
+    let closed = c.routine-routine.ensures.closed in
+    body_wants c.args.body (filter_of tree)
+    (code_of c.routine-routine.result.now.code) c.run-result.result closed
+    c.routine-routine.ensures.code
+    (wants_as (nodes_print (code_of c.routine-routine.result.now.flat))
+    (nodes_print (code_of c.routine-routine.result.now.code)) c.run-result.result
+    c.routine-routine.ensures.flat.prints c.run-result.ensures.memory)
