@@ -1,5 +1,5 @@
--- What the judgement says of a member, from what it says of its parts.
-use Rattle.std.proofs.Common.{◌≡◌, ℕ, List, map, Result, Ok, Vec, Global, sym, ap, ◌∙◌}
+-- What the judgement says of a member, from what it says of its parts, and what other members say.
+use Rattle.std.proofs.Common.{◌≡◌, ℕ, List, ◌∷◌, map, Result, Ok, Vec, Global, refl, sym, ap, ◌∙◌}
 use Rattle.std.specs.Prelude.{ℤ}
 use Rattle.strc_base.specs.Results.{result_and_then}
 use Rattle.strc_syntax.specs.Tree as tree
@@ -8,9 +8,11 @@ use Rattle.strc_syntax.specs.declared.tree.ItemType.{ItemType}
 use Rattle.strc_syntax.specs.declared.tree.RateTree.{RateTree}
 use Rattle.strc_syntax.specs.declared.tree.Stmt.{Stmt}
 use Rattle.strc_syntax.specs.declared.tree.Member.{Member, Init, Prework, Work}
+use Rattle.strc_syntax.specs.declared.tree.Member.TheVariants as member
+use Rattle.strc_syntax.specs.declared.tree.Variables.{Variables}
 use Rattle.strc_check.specs.declared.error.LowerError.{LowerError}
 use Rattle.strc_check.specs.Resolution as judged
-use Rattle.strc_check.specs.Typing.{TypedNames}
+use Rattle.strc_check.specs.Typing.{TypedNames, names_after_fields}
 use Rattle.strc_syntax.proofs.Blocks.{member_view-Init, member_view-Prework, member_view-Work}
 
 pub init_judged : (constants : List (List ℕ × ℤ)) (input output : ItemType) (fields : TypedNames)
@@ -71,3 +73,12 @@ main_work_judged constants input output fields before m rates block written item
     ∙ ap (judged.member_resolved constants input output fields before)
     (sym (member_view-Work rates block))
     ∙ ap (λ x. judged.member_resolved constants input output fields before (member_view x)) (sym is)
+
+-- a member that declares no field adds no name
+pub other_than_fields : (m : Member) (names : TypedNames) (rest : List tree.Member)
+    → ((declared : Variables) → m ≡ member.Fields declared → ⊥)
+    → names_after_fields names rest ≡ names_after_fields names (member_view m ∷ rest)
+other_than_fields (member.Fields declared) names rest other = absurd (other declared refl)
+other_than_fields (member.Init' shape block) names rest other = refl
+other_than_fields (member.Prework' rates shape block) names rest other = refl
+other_than_fields (member.Work' rates shape block) names rest other = refl

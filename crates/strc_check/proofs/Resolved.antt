@@ -1,6 +1,6 @@
 -- The judgement of a block or of members, from what is judged so far and what is left.
 use Rattle.std.proofs.Common.{◌≡◌, ℕ, List, [], ◌∷◌, ◌++◌, map, Result, Ok, Err, refl, sym, ap}
-use Rattle.std.proofs.Common.{◌∙◌}
+use Rattle.std.proofs.Common.{◌∙◌, ◌⊎◌, inl, inr, subst}
 use Rattle.strc_base.specs.Results.{result_and_then}
 use Rattle.strc_syntax.specs.Tree as tree
 use Rattle.strc_syntax.specs.View.{stmt_view, block_view}
@@ -9,7 +9,7 @@ use Rattle.strc_check.specs.declared.error.LowerError.{LowerError}
 use Rattle.strc_check.specs.declared.error.LowerError.TheVariants as refused
 use Rattle.strc_check.specs.Resolution as judged
 use Rattle.strc_check.specs.Typing.{TypedNames, names_after}
-use Rattle.strc_check.specs.Verdicts.{IsRefusal}
+use Rattle.strc_check.specs.Verdicts.{IsRefusal, IsVerdict}
 
 -- the statements of a list before others
 abbrev pub block_onto : List Stmt → tree.Stmts → tree.Stmts
@@ -59,6 +59,15 @@ refusal_same first second refused.TypeMismatch same h = sym same ∙ h
 refusal_same first second (refused.ConstFault cause) same h = sym same ∙ h
 refusal_same first second refused.NoMemory same h = h
 
+-- the refusal of what was to come next
+pub next_refused : {X A : Type 0} (view : X → A) (expected : Result A LowerError)
+    (next : Result X LowerError) (e : LowerError) → IsVerdict view expected next
+    → (e ≡ refused.NoMemory) ⊎ (next ≡ Err e) → IsRefusal expected e
+next_refused view expected next e verdict h = elim h [
+  | inl full ↦ subst (IsRefusal expected) (sym full) tt
+  | inr is ↦ subst (IsVerdict view expected) is verdict
+]
+
 -- the judgement of a list, after what is judged already
 abbrev pub list_after : {X A : Type 0} → (X → A) → List X → Result (List A) LowerError
     → Result (List A) LowerError
@@ -90,6 +99,17 @@ list_after_step view resolved y first left h =
     list_after_more view resolved y left
     ∙ ap (λ r. list_after view resolved (result_and_then r
     (λ first'. result_and_then left (λ rest'. Ok (first' ∷ rest'))))) (sym h)
+
+-- the refusal of an item is that of its list
+pub list_refused : {X A : Type 0} (view : X → A) (resolved : List X) (first : Result A LowerError)
+    (left : Result (List A) LowerError) (e : LowerError) → IsRefusal first e
+    → IsRefusal (list_after view resolved (result_and_then first
+    (λ first'. result_and_then left (λ rest'. Ok (first' ∷ rest'))))) e
+list_refused view resolved first left e h =
+    refusal_through
+    (result_and_then first (λ first'. result_and_then left (λ rest'. Ok (first' ∷ rest'))))
+    (λ rest'. Ok (map view resolved ++ rest')) e
+    (refusal_through first (λ first'. result_and_then left (λ rest'. Ok (first' ∷ rest'))) e h)
 
 -- the judgement of one more statement
 pub block_after_step : (context : judged.Context) (names names' : TypedNames) (outer : ℕ)

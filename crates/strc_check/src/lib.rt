@@ -9,6 +9,7 @@ pub mod constants;
 pub mod context;
 pub mod error;
 pub mod expression_rules;
+mod kept;
 mod parts;
 mod rates;
 pub mod resolution;

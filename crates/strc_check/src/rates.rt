@@ -7,6 +7,7 @@ ghost use Rattle.strc_check.specs.Verdicts.{IsVerdict, RateList};
 
 use crate::constants::Constants;
 use crate::error::LowerError;
+use crate::kept::push_next;
 use crate::typed_scope::TypedScope;
 use crate::types::ValueType;
 use crate::{context, expression_rules};
@@ -29,7 +30,8 @@ pub fn resolve_rates(
 {
     let mut resolved = Vec::new(alloc);
     for rate in rates {
-        resolved.push(resolve_rate(alloc, constants, fields, input, output, rate)?)?;
+        let next = resolve_rate(alloc, constants, fields, input, output, rate);
+        push_next(&mut resolved, next)?;
     }
     Ok(resolved)
 }

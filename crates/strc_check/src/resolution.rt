@@ -1,7 +1,9 @@
 // The rules on names and types of filters. A tree that keeps them is copied with its constants
 // substituted.
 
-ghost use Rattle.std.specs.Prelude.{◌≡◌, IfOk, OnOk, [], ◌∷◌, map};
+ghost use Rattle.std.specs.Prelude.{◌≡◌, IfOk, OnOk, Vec, [], ◌∷◌, map};
+ghost use Rattle.std.specs.declared.alloc.Global.{Global as Memory};
+ghost use Rattle.strc_syntax.specs.declared.tree.Member.{Member as MemberTree};
 ghost use Rattle.strc_syntax.specs.View.{variable_view, member_view, rate_view, block_view};
 ghost use Rattle.strc_semantics.specs.Filters.{filter_of, filter_parts, members_of};
 ghost use Rattle.strc_check.specs.Typing as typing;
@@ -11,6 +13,7 @@ ghost use Rattle.strc_check.specs.Verdicts.{IsVerdict, context_of, work_view, Va
 use crate::constants::Constants;
 use crate::context::{self, Context};
 use crate::error::LowerError;
+use crate::kept::push_next;
 use crate::typed_scope::TypedScope;
 use crate::types::{self, ValueType};
 use crate::{expression_rules, parts, rates, statement_rules, type_rules};
@@ -42,25 +45,34 @@ pub fn resolve_filter(
         return Err(LowerError::TypeMismatch);
     }
     let mut fields = typed_fields(alloc, members)?;
-    let mut before = Scope::new(alloc);
-    let mut resolved = Vec::new(alloc);
-    for member in members {
-        let member = resolve_member(
-            alloc,
-            input,
-            output,
-            constants,
-            &mut fields,
-            &mut before,
-            member,
-        )?;
-        resolved.push(member)?;
-    }
+    let members = resolve_members(alloc, input, output, constants, &mut fields, members)?;
     Ok(FilterTree {
         input,
         output,
-        members: resolved,
+        members,
     })
+}
+
+/// The members, in order of the text. They see all fields.
+fn resolve_members(
+    alloc: Global,
+    input: ItemType,
+    output: ItemType,
+    constants: &Constants,
+    fields: &mut TypedScope,
+    members: &[Member],
+) -> Result<Vec<Member>, LowerError>
+    ensures { IsVerdict (λ (resolved : Vec MemberTree Memory). members_of resolved.items)
+        (judged.members_resolved constants.now input output fields.old [] (members_of members.now))
+        result }
+{
+    let mut before = Scope::new(alloc);
+    let mut resolved = Vec::new(alloc);
+    for member in members {
+        let next = resolve_member(alloc, input, output, constants, fields, &mut before, member);
+        push_next(&mut resolved, next)?;
+    }
+    Ok(resolved)
 }
 
 /// The fields with their types.
@@ -163,7 +175,8 @@ fn resolve_fields(
 {
     let mut resolved = Vec::new(alloc);
     for variable in variables {
-        resolved.push(resolve_field(alloc, context, fields, before, kind, variable)?)?;
+        let next = resolve_field(alloc, context, fields, before, kind, variable);
+        push_next(&mut resolved, next)?;
     }
     Ok(resolved)
 }

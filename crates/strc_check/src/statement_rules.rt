@@ -1,6 +1,8 @@
 // The rules on names and types of statements.
 
 ghost use Rattle.std.specs.Prelude.{◌≡◌, ◌∷◌, OnOk, length, map};
+ghost use Rattle.std.specs.Option.{option_map};
+ghost use Rattle.strc_syntax.specs.Tree as tree;
 ghost use Rattle.strc_syntax.specs.View.{expr_view, type_view, variable_view, stmt_view};
 ghost use Rattle.strc_syntax.specs.View.{block_view};
 ghost use Rattle.strc_syntax.specs.declared.tree.Stmt.TheVariants as stmt;
@@ -12,14 +14,17 @@ ghost use Rattle.strc_check.specs.Verdicts.{IsVerdict, context_of, Statements, V
 
 use crate::context::Context;
 use crate::error::LowerError;
+use crate::kept::{accept_node, push_next};
 use crate::typed_scope::TypedScope;
 use crate::types::{self, ValueType};
 use crate::{expression_rules, type_rules, writes};
 use std::alloc::Global;
 use strc_base::name::Name;
+use strc_syntax::node;
 use strc_syntax::tree::{AssignOperator, Expr, Stmt, Variable, Variables};
 
-/// The statements of a body or of `init`, among the fields.
+/// The statements of a block in a scope of its own, among the names outside it.
+#[cycle(statement)]
 pub(crate) fn resolve_block(
     alloc: Global,
     context: &Context,
@@ -34,14 +39,15 @@ pub(crate) fn resolve_block(
     let start = names.len();
     let mut resolved = Vec::new(alloc);
     for inner in block {
-        resolved.push(resolve_stmt(alloc, context, names, start, inner)?)?;
+        let next = resolve_stmt(alloc, context, names, start, inner);
+        push_next(&mut resolved, next)?;
     }
     names.leave(start);
     Ok(resolved)
 }
 
 /// A statement, among the names that can be seen; those of its own block are from `start` on.
-#[tactic(auto, using(crate::proofs::TypedGrowth::drop_own, crate::proofs::TypedGrowth::drop_both))]
+#[cycle(statement)]
 pub(crate) fn resolve_stmt(
     alloc: Global,
     context: &Context,
@@ -59,13 +65,8 @@ pub(crate) fn resolve_stmt(
         Stmt::Empty => Ok(Stmt::Empty),
         Stmt::Compose(_) => Err(LowerError::TypeMismatch),
         Stmt::Block(body) => {
-            let inner_start = names.len();
-            let mut resolved = Vec::new(alloc);
-            for inner in body {
-                resolved.push(resolve_stmt(alloc, context, names, inner_start, inner)?)?;
-            }
-            names.leave(inner_start);
-            Ok(Stmt::Block(resolved))
+            let body = resolve_block(alloc, context, names, body)?;
+            Ok(Stmt::Block(body))
         }
         Stmt::Declare(declared) => resolve_declared(alloc, context, names, start, declared),
         Stmt::Evaluate(value) => {
@@ -78,45 +79,13 @@ pub(crate) fn resolve_stmt(
         Stmt::AssignElement(name, index, operator, value) => {
             resolve_element(alloc, context, names, name, index, *operator, value)
         }
-        Stmt::If(condition, chosen) => {
-            let condition = resolve_condition(alloc, context, names, condition)?;
-            let outside = names.len();
-            let chosen = resolve_stmt(alloc, context, names, outside, chosen)?;
-            names.leave(outside);
-            Ok(Stmt::If(condition, Box::new(alloc, chosen)?))
-        }
+        Stmt::If(condition, chosen) => resolve_if(alloc, context, names, condition, chosen),
         Stmt::IfElse(condition, chosen, other) => {
-            let condition = resolve_condition(alloc, context, names, condition)?;
-            let outside = names.len();
-            let chosen = resolve_stmt(alloc, context, names, outside, chosen)?;
-            names.leave(outside);
-            let other = resolve_stmt(alloc, context, names, outside, other)?;
-            names.leave(outside);
-            Ok(Stmt::IfElse(condition, Box::new(alloc, chosen)?, Box::new(alloc, other)?))
+            resolve_if_else(alloc, context, names, condition, chosen, other)
         }
-        Stmt::While(condition, body) => {
-            let condition = resolve_condition(alloc, context, names, condition)?;
-            let outside = names.len();
-            let body = resolve_stmt(alloc, context, names, outside, body)?;
-            names.leave(outside);
-            Ok(Stmt::While(condition, Box::new(alloc, body)?))
-        }
+        Stmt::While(condition, body) => resolve_while(alloc, context, names, condition, body),
         Stmt::For(first, condition, step, body) => {
-            let outside = names.len();
-            let first = Box::new(alloc, resolve_stmt(alloc, context, names, outside, first)?)?;
-            let condition = expression_rules::resolve_initial(
-                alloc,
-                context,
-                names,
-                ValueType::Boolean,
-                condition,
-            )?;
-            let inside = names.len();
-            let step = Box::new(alloc, resolve_stmt(alloc, context, names, inside, step)?)?;
-            names.leave(inside);
-            let body = Box::new(alloc, resolve_stmt(alloc, context, names, inside, body)?)?;
-            names.leave(outside);
-            Ok(Stmt::For(first, condition, step, body))
+            resolve_for(alloc, context, names, first, condition, step, body)
         }
         Stmt::Push(value) => {
             Ok(Stmt::Push(check_output(alloc, context, names, context.pushes, value)?))
@@ -128,6 +97,118 @@ pub(crate) fn resolve_stmt(
             Ok(Stmt::Println(check_output(alloc, context, names, context.prints, value)?))
         }
     }
+}
+
+/// A statement in a scope of its own, among the names outside it.
+#[cycle(statement)]
+#[tactic(auto, using(crate::proofs::TypedGrowth::drop_own))]
+fn resolve_inside(
+    alloc: Global,
+    context: &Context,
+    names: &mut TypedScope,
+    statement: &Stmt,
+) -> Result<Stmt, LowerError>
+    ensures verdict { IsVerdict stmt_view
+        (judged.stmt_resolved (context_of context.now) names.old (length names.old)
+        (stmt_view statement.now))
+        result }
+    ensures names { OnOk result (names.new ≡ names.old) }
+{
+    let start = names.len();
+    let resolved = resolve_stmt(alloc, context, names, start, statement);
+    names.leave(start);
+    resolved
+}
+
+/// A branch without another one.
+#[cycle(statement)]
+fn resolve_if(
+    alloc: Global,
+    context: &Context,
+    names: &mut TypedScope,
+    condition: &Expr,
+    chosen: &Stmt,
+) -> Result<Stmt, LowerError>
+    ensures verdict { IsVerdict stmt_view
+        (judged.stmt_resolved (context_of context.now) names.old (length names.old)
+        (tree.If (expr_view condition.now) (stmt_view chosen.now)))
+        result }
+    ensures names { OnOk result (names.new ≡ names.old) }
+{
+    let condition = resolve_condition(alloc, context, names, condition)?;
+    let chosen = resolve_inside(alloc, context, names, chosen)?;
+    accept_node(node::if_of(alloc, condition, chosen))
+}
+
+/// Two branches.
+#[cycle(statement)]
+fn resolve_if_else(
+    alloc: Global,
+    context: &Context,
+    names: &mut TypedScope,
+    condition: &Expr,
+    chosen: &Stmt,
+    other: &Stmt,
+) -> Result<Stmt, LowerError>
+    ensures verdict { IsVerdict stmt_view
+        (judged.stmt_resolved (context_of context.now) names.old (length names.old)
+        (tree.IfElse (expr_view condition.now) (stmt_view chosen.now) (stmt_view other.now)))
+        result }
+    ensures names { OnOk result (names.new ≡ names.old) }
+{
+    let condition = resolve_condition(alloc, context, names, condition)?;
+    let chosen = resolve_inside(alloc, context, names, chosen)?;
+    let other = resolve_inside(alloc, context, names, other)?;
+    accept_node(node::if_else_of(alloc, condition, chosen, other))
+}
+
+/// A loop with a condition alone.
+#[cycle(statement)]
+fn resolve_while(
+    alloc: Global,
+    context: &Context,
+    names: &mut TypedScope,
+    condition: &Expr,
+    body: &Stmt,
+) -> Result<Stmt, LowerError>
+    ensures verdict { IsVerdict stmt_view
+        (judged.stmt_resolved (context_of context.now) names.old (length names.old)
+        (tree.While (expr_view condition.now) (stmt_view body.now)))
+        result }
+    ensures names { OnOk result (names.new ≡ names.old) }
+{
+    let condition = resolve_condition(alloc, context, names, condition)?;
+    let body = resolve_inside(alloc, context, names, body)?;
+    accept_node(node::while_of(alloc, condition, body))
+}
+
+/// A loop with a heading, whose variables are seen up to the loop's end.
+#[cycle(statement)]
+#[tactic(auto, using(crate::proofs::TypedGrowth::drop_own))]
+fn resolve_for(
+    alloc: Global,
+    context: &Context,
+    names: &mut TypedScope,
+    first: &Stmt,
+    condition: &Option<Expr>,
+    step: &Stmt,
+    body: &Stmt,
+) -> Result<Stmt, LowerError>
+    ensures verdict { IsVerdict stmt_view
+        (judged.stmt_resolved (context_of context.now) names.old (length names.old)
+        (tree.For (stmt_view first.now) (option_map expr_view condition.now) (stmt_view step.now)
+        (stmt_view body.now)))
+        result }
+    ensures names { OnOk result (names.new ≡ names.old) }
+{
+    let outside = names.len();
+    let first = resolve_stmt(alloc, context, names, outside, first)?;
+    let kind = ValueType::Boolean;
+    let condition = expression_rules::resolve_initial(alloc, context, names, kind, condition)?;
+    let step = resolve_inside(alloc, context, names, step)?;
+    let body = resolve_inside(alloc, context, names, body)?;
+    names.leave(outside);
+    accept_node(node::for_of(alloc, first, condition, step, body))
 }
 
 /// A condition, whose value is a truth.
@@ -266,7 +347,8 @@ fn resolve_variables(
 {
     let mut resolved = Vec::new(alloc);
     for variable in variables {
-        resolved.push(resolve_variable(alloc, context, names, start, kind, variable)?)?;
+        let next = resolve_variable(alloc, context, names, start, kind, variable);
+        push_next(&mut resolved, next)?;
     }
     Ok(resolved)
 }

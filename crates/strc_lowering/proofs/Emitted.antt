@@ -1,6 +1,6 @@
 -- The code of operators and statements, piece by piece.
 use Rattle.std.proofs.Common.{◌≡◌, ℕ, ◌+◌, ◌-◌, Bool, true, false, cond, List, [], ◌∷◌, length}
-use Rattle.std.proofs.Common.{drop, reverse, Some, None, Result, Ok, Err, OnOk, refl, sym, ap, ◌∙◌}
+use Rattle.std.proofs.Common.{drop, Some, None, Result, Ok, Err, OnOk, refl, sym, ap, ◌∙◌}
 use Rattle.std.specs.Prelude.{unwrap_or}
 use Rattle.strc_syntax.specs.declared.tree.AssignOperator.{AssignOperator}
 use Rattle.strc_syntax.specs.declared.tree.AssignOperator.TheVariants as assign
@@ -16,10 +16,8 @@ use Rattle.strc_code.specs.Lowering.{operand_nodes, operand_slot, initial_nodes,
 use Rattle.strc_code.specs.Lowering.{field_nodes, fields_nodes, initials_nodes, inits_nodes}
 use Rattle.strc_code.specs.Lowering.{stmt_nodes, stmts_nodes, element_nodes, compound_nodes}
 use Rattle.strc_semantics.specs.Scoping.{Scope, names_after, total, slot_of, size_of}
-use Rattle.strc_code.proofs.Totals.{total-reverse}
 use Rattle.strc_semantics.proofs.Growth.{drop_inner, base_of_after, base_of_itself}
 use Rattle.strc_code.proofs.Nodes.{before_assoc, before_end}
-use Rattle.strc_lowering.proofs.Prework.{no_prework_block, no_prework_rates}
 
 -- the code of one more statement
 pub stmts_nodes_more : (names names' : Scope) (old new : Nodes) (first : tree.Stmt)
@@ -191,18 +189,11 @@ element_compound_nodes names name index assign.Divide plain value free e =
 element_compound_nodes names name index assign.Remainder plain value free e =
     let same : binary.Remainder ≡ plain = cc in rw (sym same) refl
 
--- the fields' cells together, in either order
-pub total_reverse : (fields : Scope) → total (reverse fields) ≡ total fields
-total_reverse fields = total-reverse fields
-
 pub on_ok : {T E : Type 0} (r : Result T E) (P Q : Type 0) → (P → Q) → OnOk r P → OnOk r Q
 on_ok (Ok x) P Q f h = f h
 on_ok (Err e) P Q f h = tt
 
--- the code of statements, of elements and of a filter's bodies
+-- the code of statements and of elements
 pub ruleset statements = (before_assoc, before_end, left_after)
 
 pub ruleset elements = (before_assoc, element_set_nodes, element_compound_nodes)
-
--- a filter without a prework, and the fields of any
-pub ruleset filters = (no_prework_block, no_prework_rates, total_reverse)

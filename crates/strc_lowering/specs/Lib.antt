@@ -1,4 +1,6 @@
 pub mod Layouts
 pub mod Emission
 pub mod Written
+pub mod Lines
+pub mod Parts
 pub use Rattle.strc_code.specs.Lowering

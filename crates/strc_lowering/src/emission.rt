@@ -12,6 +12,7 @@ ghost use Rattle.strc_code.specs.Flat.{IsFlat};
 ghost use Rattle.strc_code.specs.Lowering as spec;
 ghost use Rattle.strc_code.specs.Lowered as lowered;
 ghost use Rattle.strc_semantics.specs.Closed.{IsClosedFilter};
+ghost use Rattle.strc_lowering.specs.Parts.{AreParts, AreBodies, IsPrework};
 ghost use Rattle.strc_lowering.specs.Written.{written};
 
 use crate::builder::Builder;
@@ -28,21 +29,71 @@ use strc_code::limits::FiringLimits;
 use strc_semantics::body::Body;
 use strc_syntax::tree::{FilterTree, Member, Variable};
 
+/// What a filter's code is made of beside its tree.
+struct Parts {
+    fields: usize,
+    start: Routine,
+    prework: Option<Routine>,
+    work: Routine,
+}
+
 /// The code of a filter that keeps the rules.
-#[tactic(auto, using(crate::proofs::Emitted::filters))]
 pub fn emit_filter(alloc: Global, tree: FilterTree) -> Result<Code, NoMemory>
     requires { IsClosedFilter (filter_of tree) }
     ensures { IfOk result (λ code. code ≡ tree) }
 {
-    let mut names = field_layout(alloc, &tree.members)?;
+    let Parts {
+        fields,
+        start,
+        prework,
+        work,
+    } = emit_parts(alloc, &tree.members)?;
+    Code::of_parts(alloc, tree, fields, start, prework, work)
+}
+
+/// The parts of a filter's code.
+fn emit_parts(alloc: Global, members: &[Member]) -> Result<Parts, NoMemory>
+    ensures { IfOk result (λ parts. AreParts (members_of members.now) parts.fields parts.start
+        parts.prework parts.work) }
+{
+    let mut names = field_layout(alloc, members)?;
     let fields = names.total() as usize;
-    let start = emit_start(alloc, &mut names, &tree.members)?;
-    let work = emit_routine(alloc, &mut names, Body::Work, &tree.members)?;
-    if bodies::has_prework(&tree.members) {
-        let prework = emit_routine(alloc, &mut names, Body::Prework, &tree.members)?;
-        return Code::of_parts(alloc, tree, fields, start, Some(prework), work);
+    let start = emit_start(alloc, &mut names, members)?;
+    let (prework, work) = emit_bodies(alloc, &mut names, members)?;
+    Ok(Parts {
+        fields,
+        start,
+        prework,
+        work,
+    })
+}
+
+/// The code of `prework`, where there is one, and of `work`.
+fn emit_bodies(
+    alloc: Global,
+    names: &mut Layout,
+    members: &[Member],
+) -> Result<(Option<Routine>, Routine), NoMemory>
+    ensures { IfOk result (λ bodies. AreBodies names.old (members_of members.now) bodies.0
+        bodies.1) }
+{
+    let work = emit_routine(alloc, names, Body::Work, members)?;
+    let prework = emit_prework(alloc, names, members)?;
+    Ok((prework, work))
+}
+
+/// The code of `prework`, where there is one.
+fn emit_prework(
+    alloc: Global,
+    names: &mut Layout,
+    members: &[Member],
+) -> Result<Option<Routine>, NoMemory>
+    ensures { IfOk result (λ prework. IsPrework names.old (members_of members.now) prework) }
+{
+    if bodies::has_prework(members) {
+        return Ok(Some(emit_routine(alloc, names, Body::Prework, members)?));
     }
-    Code::of_parts(alloc, tree, fields, start, None, work)
+    Ok(None)
 }
 
 /// The fields with their cells.

@@ -1,13 +1,14 @@
 // The code of expressions.
 
-ghost use Rattle.std.specs.Prelude.{◌≡◌, ◌+◌, IfOk, OnOk};
+ghost use Rattle.std.specs.Prelude.{◌≡◌, ◌+◌, true, IfOk, OnOk};
 ghost use Rattle.strc_syntax.specs.Tree as tree;
 ghost use Rattle.strc_syntax.specs.View.{expr_view};
 ghost use Rattle.strc_semantics.specs.Scoping.{total, slot_of};
 ghost use Rattle.strc_code.specs.Nodes.{before};
 ghost use Rattle.strc_code.specs.Lowering as spec;
 ghost use Rattle.strc_lowering.specs.Written.{written};
-ghost use Rattle.strc_lowering.specs.Emission.{old_slot, old_nodes};
+ghost use Rattle.strc_lowering.specs.Emission.{operator_nodes, use_nodes, truth_nodes, old_slot};
+ghost use Rattle.strc_lowering.specs.Emission.{old_nodes};
 ghost use Rattle.strc_semantics.specs.Firing.{assigned_value};
 
 use crate::builder::Builder;
@@ -20,11 +21,19 @@ use strc_base::memory::NoMemory;
 use strc_base::name::Name;
 use strc_code::inst::Inst;
 use strc_semantics::arithmetic::truth;
-use strc_syntax::tree::{AssignOperator, BinaryOperator, Expr, StepOperator};
+use strc_syntax::tree::{AssignOperator, BinaryOperator, Expr, StepOperator, UnaryOperator};
+
+/// What is done with an operand.
+#[derive(Clone, Copy)]
+enum Use {
+    Peek,
+    Unary(UnaryOperator),
+    Load(Place),
+    Step(StepOperator, Place),
+}
 
 /// The code that puts an expression's value into a slot; the slots from `free` on are free.
 #[cycle(expression)]
-#[tactic(auto, using(strc_code::proofs::Nodes::joining))]
 pub fn emit_expr(
     code: &mut Builder,
     names: &Layout,
@@ -40,61 +49,153 @@ pub fn emit_expr(
         Expr::Truth(value) => code.put(Inst::Const(into, truth(*value))),
         Expr::Read(name) => code.put(Inst::Copy(into, names.slot_of(name))),
         Expr::Pop => code.put(Inst::Pop(into)),
-        Expr::Peek(index) => {
-            let from = emit_operand(code, names, index, true, free)?;
-            code.put(Inst::Peek(into, from))
-        }
+        Expr::Peek(index) => emit_use(code, names, Use::Peek, index, into, free),
         Expr::Group(inner) => emit_expr(code, names, inner, into, free),
         Expr::Unary(operator, operand) => {
-            let from = emit_operand(code, names, operand, true, free)?;
-            code.put(unary_step(*operator, into, from))
+            emit_use(code, names, Use::Unary(*operator), operand, into, free)
         }
         Expr::Step(operator, name) => emit_step(code, *operator, names.slot_of(name), into, free),
-        Expr::Binary(operator, left, right) => match operator {
-            // The right side is evaluated only where the left one leaves the value open.
-            BinaryOperator::LogicalOr => {
-                emit_expr(code, names, left, free, names.after(free)?)?;
-                let done = code.fresh();
-                let mut rhs = code.fresh();
-                emit_expr(&mut rhs, names, right, free, names.after(free)?)?;
-                code.put_choice(free, done, rhs)?;
-                code.put(Inst::Copy(into, free))
-            }
-            BinaryOperator::LogicalAnd => {
-                emit_expr(code, names, left, free, names.after(free)?)?;
-                let done = code.fresh();
-                let mut rhs = code.fresh();
-                emit_expr(&mut rhs, names, right, free, names.after(free)?)?;
-                code.put_choice(free, rhs, done)?;
-                code.put(Inst::Copy(into, free))
-            }
-            _ => {
-                let left = emit_operand(code, names, left, writes_no_variable(right), free)?;
-                let right = emit_operand(code, names, right, true, names.after(free)?)?;
-                code.put(binary_step(*operator, into, left, right))
-            }
-        },
+        Expr::Binary(operator, left, right) => {
+            emit_binary(code, names, *operator, left, right, into, free)
+        }
         Expr::Conditional(condition, chosen, other) => {
-            let slot = emit_operand(code, names, condition, true, free)?;
-            let mut first = code.fresh();
-            emit_expr(&mut first, names, chosen, into, free)?;
-            let mut second = code.fresh();
-            emit_expr(&mut second, names, other, into, free)?;
-            code.put_choice(slot, first, second)
+            emit_conditional(code, names, condition, chosen, other, into, free)
         }
         Expr::Element(name, index) => {
-            let index = emit_operand(code, names, index, true, free)?;
-            code.put(Inst::Load(into, names.slot_of(name), names.size_of(name), index))
+            let place = Place {
+                slot: names.slot_of(name),
+                cells: names.size_of(name),
+            };
+            emit_use(code, names, Use::Load(place), index, into, free)
         }
         Expr::StepElement(operator, name, index) => {
             let place = Place {
                 slot: names.slot_of(name),
                 cells: names.size_of(name),
             };
-            let index = emit_operand(code, names, index, true, free)?;
-            emit_element_step(code, *operator, place, index, into, names.after(free)?)
+            emit_use(code, names, Use::Step(*operator, place), index, into, free)
         }
     }
+}
+
+/// The code of an operand, and what is done with it.
+#[cycle(expression)]
+#[tactic(auto, using(strc_code::proofs::Nodes::before_assoc))]
+fn emit_use(
+    code: &mut Builder,
+    names: &Layout,
+    kind: Use,
+    operand: &Expr,
+    into: u32,
+    free: u32,
+) -> Result<(), NoMemory>
+    ensures { OnOk result (written code.new ≡ before (written code.old)
+        (before (spec.operand_nodes names.now true (expr_view operand.now) free)
+        (use_nodes kind (spec.operand_slot names.now true (expr_view operand.now) free) into
+        free))) }
+{
+    let from = emit_operand(code, names, operand, true, free)?;
+    emit_used(code, names, kind, from, into, free)
+}
+
+/// The code of an expression apart from other code, to be written beside it.
+#[cycle(expression)]
+fn emit_apart(names: &Layout, value: &Expr, into: u32, free: u32) -> Result<Builder, NoMemory>
+    ensures { IfOk result (λ apart. written apart
+        ≡ spec.expr_nodes names.now (expr_view value.now) into free) }
+{
+    let mut apart = Builder::new(names.allocator());
+    emit_expr(&mut apart, names, value, into, free)?;
+    Ok(apart)
+}
+
+/// The code of an operator between its operands.
+#[cycle(expression)]
+fn emit_binary(
+    code: &mut Builder,
+    names: &Layout,
+    operator: BinaryOperator,
+    left: &Expr,
+    right: &Expr,
+    into: u32,
+    free: u32,
+) -> Result<(), NoMemory>
+    ensures { OnOk result (written code.new ≡ before (written code.old)
+        (spec.expr_nodes names.now (tree.Binary operator (expr_view left.now)
+        (expr_view right.now)) into free)) }
+{
+    match operator {
+        BinaryOperator::LogicalOr => emit_logical(code, names, true, left, right, into, free),
+        BinaryOperator::LogicalAnd => emit_logical(code, names, false, left, right, into, free),
+        _ => emit_operator(code, names, operator, left, right, into, free),
+    }
+}
+
+/// The code of `||` and `&&`: the right side is evaluated only where the left one leaves the value
+/// open.
+#[cycle(expression)]
+#[tactic(auto, using(strc_code::proofs::Nodes::before_assoc))]
+fn emit_logical(
+    code: &mut Builder,
+    names: &Layout,
+    is_or: bool,
+    left: &Expr,
+    right: &Expr,
+    into: u32,
+    free: u32,
+) -> Result<(), NoMemory>
+    ensures { OnOk result (written code.new ≡ before (written code.old)
+        (before (spec.expr_nodes names.now (expr_view left.now) free (free + 1))
+        (truth_nodes is_or free (spec.expr_nodes names.now (expr_view right.now) free (free + 1))
+        into))) }
+{
+    let next = names.after(free)?;
+    emit_expr(code, names, left, free, next)?;
+    let rest = emit_apart(names, right, free, next)?;
+    code.put_truth(is_or, free, rest, into)
+}
+
+/// The code of an operator between its operands, where both are evaluated first.
+#[cycle(expression)]
+#[tactic(auto, using(strc_code::proofs::Nodes::before_assoc))]
+fn emit_operator(
+    code: &mut Builder,
+    names: &Layout,
+    operator: BinaryOperator,
+    left: &Expr,
+    right: &Expr,
+    into: u32,
+    free: u32,
+) -> Result<(), NoMemory>
+    ensures { OnOk result (written code.new ≡ before (written code.old)
+        (operator_nodes names.now operator (expr_view left.now) (expr_view right.now) into
+        free)) }
+{
+    let left = emit_operand(code, names, left, writes_no_variable(right), free)?;
+    let right = emit_operand(code, names, right, true, names.after(free)?)?;
+    code.put(binary_step(operator, into, left, right))
+}
+
+/// The code of an expression that is one of two by a condition.
+#[cycle(expression)]
+#[tactic(auto, using(strc_code::proofs::Nodes::before_assoc))]
+fn emit_conditional(
+    code: &mut Builder,
+    names: &Layout,
+    condition: &Expr,
+    chosen: &Expr,
+    other: &Expr,
+    into: u32,
+    free: u32,
+) -> Result<(), NoMemory>
+    ensures { OnOk result (written code.new ≡ before (written code.old)
+        (spec.expr_nodes names.now (tree.Conditional (expr_view condition.now)
+        (expr_view chosen.now) (expr_view other.now)) into free)) }
+{
+    let slot = emit_operand(code, names, condition, true, free)?;
+    let chosen = emit_apart(names, chosen, into, free)?;
+    let other = emit_apart(names, other, into, free)?;
+    code.put_choice(slot, chosen, other)
 }
 
 /// The code that puts an expression's value into a slot, and that slot. Where it `may_alias`, a
@@ -120,6 +221,28 @@ pub fn emit_operand(
     }
     emit_expr(code, names, value, free, names.after(free)?)?;
     Ok(free)
+}
+
+/// The code of what is done with an operand that is in a slot.
+fn emit_used(
+    code: &mut Builder,
+    names: &Layout,
+    kind: Use,
+    from: u32,
+    into: u32,
+    free: u32,
+) -> Result<(), NoMemory>
+    ensures { OnOk result (written code.new ≡ before (written code.old)
+        (use_nodes kind from into free)) }
+{
+    match kind {
+        Use::Peek => code.put(Inst::Peek(into, from)),
+        Use::Unary(operator) => code.put(unary_step(operator, into, from)),
+        Use::Load(place) => code.put(Inst::Load(into, place.slot, place.cells, from)),
+        Use::Step(operator, place) => {
+            emit_element_step(code, operator, place, from, into, names.after(free)?)
+        }
+    }
 }
 
 /// The code of `x++` and its like.

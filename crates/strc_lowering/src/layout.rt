@@ -51,6 +51,11 @@ impl Layout {
         }
     }
 
+    /// Where memory comes from.
+    pub fn allocator(&self) -> Global {
+        self.alloc
+    }
+
     /// How many variables can be seen.
     pub fn len(&self) -> usize
         ensures { result ≡ length self.now }

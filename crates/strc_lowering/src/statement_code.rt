@@ -1,11 +1,13 @@
 // The code of statements.
 
-ghost use Rattle.std.specs.Prelude.{◌≡◌, ◌+◌, ◌∷◌, IfOk, OnOk, map};
+ghost use Rattle.std.specs.Prelude.{◌≡◌, ◌+◌, true, ◌∷◌, Some, IfOk, OnOk, map};
 ghost use Rattle.std.specs.Option.{option_map};
 ghost use Rattle.strc_syntax.specs.View.{expr_view, variable_view, stmt_view, block_view};
-ghost use Rattle.strc_code.specs.Nodes.{before};
+ghost use Rattle.strc_syntax.specs.Tree as tree;
+ghost use Rattle.strc_code.specs.Nodes.{End, Choice, Loop, before};
 ghost use Rattle.strc_code.specs.Lowering as spec;
 ghost use Rattle.strc_semantics.specs.Scoping.{names_after, total, with_declared};
+ghost use Rattle.strc_lowering.specs.Emission.{output_step};
 ghost use Rattle.strc_lowering.specs.Written.{written};
 
 use crate::builder::Builder;
@@ -18,7 +20,16 @@ use strc_base::memory::NoMemory;
 use strc_code::inst::Inst;
 use strc_syntax::tree::{Expr, Stmt, Variable};
 
+/// Where a value goes.
+#[derive(Clone, Copy)]
+enum Output {
+    Push,
+    Print,
+    Println,
+}
+
 /// The code of a block of its own.
+#[cycle(statement)]
 pub fn emit_block(code: &mut Builder, names: &mut Layout, block: &[Stmt]) -> Result<(), NoMemory>
     ensures code { OnOk result (written code.new
         ≡ before (written code.old) (spec.stmts_nodes names.old (block_view block.now))) }
@@ -34,76 +45,81 @@ pub fn emit_block(code: &mut Builder, names: &mut Layout, block: &[Stmt]) -> Res
 
 /// The code of a statement.
 #[cycle(statement)]
-#[tactic(auto, using(crate::proofs::Emitted::statements))]
+#[tactic(auto, using(strc_code::proofs::Nodes::before_end))]
 fn emit_stmt(code: &mut Builder, names: &mut Layout, statement: &Stmt) -> Result<(), NoMemory>
     ensures code { OnOk result (written code.new
         ≡ before (written code.old) (spec.stmt_nodes names.old (stmt_view statement.now))) }
     ensures names { OnOk result (names.new ≡ names_after names.old (stmt_view statement.now)) }
 {
-    let start = names.len();
-    let free = names.total();
     match statement {
         Stmt::Empty | Stmt::Compose(_) => Ok(()),
-        Stmt::Block(body) => {
-            for inner in body {
-                emit_stmt(code, names, inner)?;
-            }
-            names.leave(start);
-            Ok(())
-        }
+        Stmt::Block(body) => emit_block(code, names, body),
         Stmt::Declare(declared) => {
             emit_variables(code, names, cells_of(&declared.kind), &declared.variables)
         }
-        Stmt::Evaluate(value) => emit_evaluation(code, names, value, free),
+        Stmt::Evaluate(value) => emit_evaluation(code, names, value, names.total()),
         Stmt::Assign(name, operator, value) => emit_assign(code, names, name, *operator, value),
         Stmt::AssignElement(name, index, operator, value) => {
             emit_assign_element(code, names, name, index, *operator, value)
         }
         Stmt::If(condition, chosen) => {
-            let slot = emit_operand(code, names, condition, true, free)?;
-            let mut first = code.fresh();
-            emit_inside(&mut first, names, chosen)?;
-            let second = code.fresh();
-            code.put_choice(slot, first, second)
+            let chosen = emit_apart(names, chosen)?;
+            let other = Builder::new(names.allocator());
+            emit_choice(code, names, condition, chosen, other)
         }
         Stmt::IfElse(condition, chosen, other) => {
-            let slot = emit_operand(code, names, condition, true, free)?;
-            let mut first = code.fresh();
-            emit_inside(&mut first, names, chosen)?;
-            let mut second = code.fresh();
-            emit_inside(&mut second, names, other)?;
-            code.put_choice(slot, first, second)
+            let chosen = emit_apart(names, chosen)?;
+            let other = emit_apart(names, other)?;
+            emit_choice(code, names, condition, chosen, other)
         }
         Stmt::While(condition, body) => {
-            let mut test = code.fresh();
-            let slot = emit_operand(&mut test, names, condition, true, free)?;
-            let mut turn = code.fresh();
-            emit_inside(&mut turn, names, body)?;
-            code.put_loop(test, slot, turn)
+            let turn = emit_apart(names, body)?;
+            emit_while(code, names, condition, turn)
         }
         Stmt::For(first, condition, step, body) => {
-            emit_stmt(code, names, first)?;
-            let mut test = code.fresh();
-            let slot = emit_condition(&mut test, names, condition)?;
-            let mut turn = code.fresh();
-            emit_inside(&mut turn, names, body)?;
-            emit_inside(&mut turn, names, step)?;
-            names.leave(start);
-            code.put_loop(test, slot, turn)
+            emit_for(code, names, first, condition, step, body)
         }
-        Stmt::Push(value) => {
-            let from = emit_operand(code, names, value, true, free)?;
-            code.put(Inst::Push(from))
-        }
-        Stmt::Print(value) => {
-            let from = emit_operand(code, names, value, true, free)?;
-            code.put(Inst::Print(from))
-        }
-        Stmt::Println(value) => {
-            let from = emit_operand(code, names, value, true, free)?;
-            code.put(Inst::Println(from))
-        }
+        Stmt::Push(value) => emit_output(code, names, Output::Push, value),
+        Stmt::Print(value) => emit_output(code, names, Output::Print, value),
+        Stmt::Println(value) => emit_output(code, names, Output::Println, value),
     }
+}
+
+/// The code of a `for`: its first statement is seen in all of it.
+#[cycle(statement)]
+#[tactic(auto, using(crate::proofs::Emitted::statements))]
+fn emit_for(
+    code: &mut Builder,
+    names: &mut Layout,
+    first: &Stmt,
+    condition: &Option<Expr>,
+    step: &Stmt,
+    body: &Stmt,
+) -> Result<(), NoMemory>
+    ensures code { OnOk result (written code.new ≡ before (written code.old)
+        (spec.stmt_nodes names.old (tree.For (stmt_view first.now)
+        (option_map expr_view condition.now) (stmt_view step.now) (stmt_view body.now)))) }
+    ensures names { OnOk result (names.new ≡ names.old) }
+{
+    let start = names.len();
+    emit_stmt(code, names, first)?;
+    let mut turn = emit_apart(names, body)?;
+    emit_inside(&mut turn, names, step)?;
+    emit_loop(code, names, condition, turn)?;
+    names.leave(start);
+    Ok(())
+}
+
+/// The code of a statement in a scope of its own, apart from other code, to be written beside it.
+#[cycle(statement)]
+fn emit_apart(names: &mut Layout, statement: &Stmt) -> Result<Builder, NoMemory>
+    ensures code { IfOk result (λ apart. written apart
+        ≡ spec.stmt_nodes names.old (stmt_view statement.now)) }
+    ensures names { OnOk result (names.new ≡ names.old) }
+{
+    let mut apart = Builder::new(names.allocator());
+    emit_inside(&mut apart, names, statement)?;
+    Ok(apart)
 }
 
 /// The code of a statement in a scope of its own.
@@ -118,6 +134,76 @@ fn emit_inside(code: &mut Builder, names: &mut Layout, statement: &Stmt) -> Resu
     emit_stmt(code, names, statement)?;
     names.leave(start);
     Ok(())
+}
+
+/// The code of one of two pieces of code by a condition.
+#[tactic(auto, using(strc_code::proofs::Nodes::before_assoc))]
+fn emit_choice(
+    code: &mut Builder,
+    names: &Layout,
+    condition: &Expr,
+    chosen: Builder,
+    other: Builder,
+) -> Result<(), NoMemory>
+    ensures { OnOk result (written code.new ≡ before (written code.old)
+        (before (spec.operand_nodes names.now true (expr_view condition.now) (total names.now))
+        (Choice (spec.operand_slot names.now true (expr_view condition.now) (total names.now))
+        (written chosen) (written other) End))) }
+{
+    let slot = emit_operand(code, names, condition, true, names.total())?;
+    code.put_choice(slot, chosen, other)
+}
+
+/// The code of a loop whose turns are known, with a condition.
+fn emit_while(
+    code: &mut Builder,
+    names: &Layout,
+    condition: &Expr,
+    turn: Builder,
+) -> Result<(), NoMemory>
+    ensures { OnOk result (written code.new ≡ before (written code.old)
+        (Loop (spec.condition_nodes names.now (Some (expr_view condition.now)))
+        (spec.condition_slot names.now (Some (expr_view condition.now))) (written turn) End)) }
+{
+    let mut test = Builder::new(names.allocator());
+    let slot = emit_operand(&mut test, names, condition, true, names.total())?;
+    code.put_loop(test, slot, turn)
+}
+
+/// The code of a loop whose turns are known, with a condition or without one.
+fn emit_loop(
+    code: &mut Builder,
+    names: &Layout,
+    condition: &Option<Expr>,
+    turn: Builder,
+) -> Result<(), NoMemory>
+    ensures { OnOk result (written code.new ≡ before (written code.old)
+        (Loop (spec.condition_nodes names.now (option_map expr_view condition.now))
+        (spec.condition_slot names.now (option_map expr_view condition.now))
+        (written turn) End)) }
+{
+    let mut test = Builder::new(names.allocator());
+    let slot = emit_condition(&mut test, names, condition)?;
+    code.put_loop(test, slot, turn)
+}
+
+/// The code that puts out an expression's value.
+#[tactic(auto, using(strc_code::proofs::Nodes::before_assoc))]
+fn emit_output(
+    code: &mut Builder,
+    names: &Layout,
+    output: Output,
+    value: &Expr,
+) -> Result<(), NoMemory>
+    ensures { OnOk result (written code.new ≡ before (written code.old)
+        (spec.used_nodes names.now (expr_view value.now) (output_step output))) }
+{
+    let from = emit_operand(code, names, value, true, names.total())?;
+    code.put(match output {
+        Output::Push => Inst::Push(from),
+        Output::Print => Inst::Print(from),
+        Output::Println => Inst::Println(from),
+    })
 }
 
 /// The code of a loop's condition, and the slot that is tested.

@@ -19,10 +19,10 @@ use strc_nodes::counts::large_channel;
 use strc_nodes::nodes::{push_channel, push_node};
 use strc_nodes::stuck::push_stuck_loop;
 use strc_refusal::refusal::Refusal;
-use strc_source::expected::{Expected, expected_after};
 use strc_source::message::{Extent, Message};
 use strc_source::source::Source;
 use strc_trial::elaborates::Elaborates;
+use strc_trial::expected::{Expected, expected_after};
 use strc_trial::trial::Trial;
 
 /// What a person reads of a text's refusal: the place in the file, one sentence, the source line

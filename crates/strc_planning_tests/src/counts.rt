@@ -1,134 +1,63 @@
 // The counts of small graphs, and which refusal there is.
 
-use crate::small_graphs::Kind::{Duplicate, Gather, Identity, Join, Reader, Split, Writer};
-use crate::small_graphs::{Case, Ends, answer, answer_of, graph_of};
+use crate::small_graphs::{answer_of, ends_of, graph_of, nodes_of, row_of};
 use std::test::Fail;
 use strc_graph::graph::Node;
 
-/// Two, three, four and five nodes in a row.
-const PAIR: [Ends; 1] = [(0, 0, 1, 0)];
-
-const ROW: [Ends; 3] = [(0, 0, 1, 0), (1, 0, 2, 0), (2, 0, 3, 0)];
-
-const LONG_ROW: [Ends; 4] = [(0, 0, 1, 0), (1, 0, 2, 0), (2, 0, 3, 0), (3, 0, 4, 0)];
-
-/// A source, a splitter, two nodes side by side, a joiner and a sink.
-const SPLIT_JOIN: [Ends; 6] = [
-    (0, 0, 1, 0),
-    (1, 0, 2, 0),
-    (1, 1, 3, 0),
-    (2, 0, 4, 0),
-    (3, 0, 4, 1),
-    (4, 0, 5, 0),
-];
-
-/// A source, a loop's joiner, body, splitter and loop, and a sink.
-const LOOP: [Ends; 6] = [
-    (0, 0, 1, 0),
-    (1, 0, 2, 0),
-    (2, 0, 3, 0),
-    (3, 0, 5, 0),
-    (3, 1, 4, 0),
-    (4, 0, 1, 1),
-];
-
-const TOO_LARGE: &str = "a node would fire too often in a round";
-
-const OUTSIDE: &str = "outside the condition";
-
-/// Nodes, channels and the answer.
-const CASES: [Case; 19] = [
-    (&[Reader, Join(1, 1), Split(1, 2), Writer], &ROW, "3 3 2 2 "),
-    // 1,000,000 is the limit.
-    (
-        &[Reader, Join(1, 999), Join(1, 999), Writer],
-        &ROW,
-        "1 1 1000 1000000 ",
-    ),
-    (
-        &[Reader, Join(1, 100), Join(1, 9900), Writer],
-        &ROW,
-        TOO_LARGE,
-    ),
-    // The count passes the limit and falls again.
-    (
-        &[
-            Reader,
-            Join(1, 1000),
-            Join(1, 999),
-            Identity,
-            Split(1, 1000999),
-        ],
-        &LONG_ROW,
-        TOO_LARGE,
-    ),
-    // 2,000,000 items, of which a firing takes 2,000.
-    (
-        &[Reader, Join(1, 999), Join(1, 1999), Split(1, 1999), Writer],
-        &LONG_ROW,
-        "1 1 1000 1000 1000 ",
-    ),
-    (
-        &[Reader, Split(2, 1), Identity, Identity, Join(2, 1), Writer],
-        &SPLIT_JOIN,
-        "3 1 2 1 1 3 ",
-    ),
-    (
-        &[Reader, Duplicate, Identity, Join(1, 1), Join(1, 1), Writer],
-        &SPLIT_JOIN,
-        "no counts balance channel 4",
-    ),
-    // Channel 4 isn't balanced either.
-    (
-        &[
-            Reader,
-            Duplicate,
-            Identity,
-            Join(1, 1),
-            Join(1, 1_000_000),
-            Writer,
-        ],
-        &SPLIT_JOIN,
-        TOO_LARGE,
-    ),
-    (
-        &[Reader, Join(1, 1), Identity, Split(1, 1), Identity, Writer],
-        &LOOP,
-        "1 1 2 1 1 1 ",
-    ),
-    (
-        &[Reader, Join(1, 2), Identity, Split(1, 1), Identity, Writer],
-        &LOOP,
-        "no counts balance channel 5",
-    ),
-    // Graphs that no text means: no nodes, and one without channels.
-    (&[], &[], ""),
-    (&[Identity], &[], "1 "),
-    // Two channels at one port, which agree, and which don't.
-    (&[Reader, Writer], &[(0, 0, 1, 0), (0, 0, 1, 0)], "1 1 "),
-    (
-        &[Reader, Join(1, 1), Writer],
-        &[(0, 0, 1, 0), (0, 0, 2, 0), (1, 0, 2, 0)],
-        "no counts balance channel 2",
-    ),
-    // A channel from a node to itself.
-    (&[Identity], &[(0, 0, 0, 0)], "1 "),
-    (
-        &[Join(1, 1)],
-        &[(0, 0, 0, 0)],
-        "no counts balance channel 0",
-    ),
-    // Nodes that aren't connected, a port without items, and a node that fires by rounds.
-    (&[Reader, Writer, Identity], &PAIR, OUTSIDE),
-    (&[Reader, Join(0, 1)], &PAIR, OUTSIDE),
-    (&[Reader, Gather], &PAIR, OUTSIDE),
-];
+/// A row a line: nodes, channels and the answer.
+const CASES: &str = "\
+reader join:1:1 split:1:2 writer|0.0-1.0 1.0-2.0 2.0-3.0=3 3 2 2
+# 1,000,000 is the limit.
+reader join:1:999 join:1:999 writer|0.0-1.0 1.0-2.0 2.0-3.0=1 1 1000 1000000
+reader join:1:100 join:1:9900 writer \
+    |0.0-1.0 1.0-2.0 2.0-3.0=a node would fire too often in a round
+# The count passes the limit and falls again.
+reader join:1:1000 join:1:999 identity split:1:1000999 \
+    |0.0-1.0 1.0-2.0 2.0-3.0 3.0-4.0=a node would fire too often in a round
+# 2,000,000 items, of which a firing takes 2,000.
+reader join:1:999 join:1:1999 split:1:1999 writer \
+    |0.0-1.0 1.0-2.0 2.0-3.0 3.0-4.0=1 1 1000 1000 1000
+reader split:2:1 identity identity join:2:1 writer \
+    |0.0-1.0 1.0-2.0 1.1-3.0 2.0-4.0 3.0-4.1 4.0-5.0=3 1 2 1 1 3
+reader duplicate identity join:1:1 join:1:1 writer \
+    |0.0-1.0 1.0-2.0 1.1-3.0 2.0-4.0 3.0-4.1 4.0-5.0=no counts balance channel 4
+# Channel 4 isn't balanced either.
+reader duplicate identity join:1:1 join:1:1000000 writer \
+    |0.0-1.0 1.0-2.0 1.1-3.0 2.0-4.0 3.0-4.1 4.0-5.0=a node would fire too often in a round
+reader join:1:1 identity split:1:1 identity writer \
+    |0.0-1.0 1.0-2.0 2.0-3.0 3.0-5.0 3.1-4.0 4.0-1.1=1 1 2 1 1 1
+reader join:1:2 identity split:1:1 identity writer \
+    |0.0-1.0 1.0-2.0 2.0-3.0 3.0-5.0 3.1-4.0 4.0-1.1=no counts balance channel 5
+# Graphs that no text means: no nodes, and one without channels.
+|=
+identity|=1
+# Two channels at one port, which agree, and which don't.
+reader writer|0.0-1.0 0.0-1.0=1 1
+reader join:1:1 writer|0.0-1.0 0.0-2.0 1.0-2.0=no counts balance channel 2
+# A channel from a node to itself.
+identity|0.0-0.0=1
+join:1:1|0.0-0.0=no counts balance channel 0
+# Nodes that aren't connected, a port without items, and a node that fires by rounds.
+reader writer identity|0.0-1.0=outside the condition
+reader join:0:1|0.0-1.0=outside the condition
+reader gather|0.0-1.0=outside the condition
+";
 
 #[test]
 fn small_graphs(rt: HostRuntime) -> Result<(), Fail> {
     let alloc = rt.alloc();
-    for (kinds, ends, expected) in CASES {
-        assert_eq!(rt; answer(&rt, alloc, kinds, ends)?.as_str(), expected);
+    for line in CASES.lines() {
+        let Some((graph, expected)) = row_of(line)? else {
+            continue;
+        };
+        let (nodes, ends) = graph.split_once("|").ok_or("no channels")?;
+        let (nodes, ends) = (nodes_of(alloc, nodes)?, ends_of(alloc, ends)?);
+        let graph = graph_of(&rt, alloc, nodes, &ends, 0)?;
+        assert_eq!(rt;
+            answer_of(alloc, &graph)?.as_str().trim_end(),
+            expected,
+            "{line}"
+        );
     }
     Ok(())
 }

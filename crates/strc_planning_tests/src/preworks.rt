@@ -2,7 +2,7 @@
 
 use crate::schedules::answer_of;
 use crate::small_graphs::Kind::{Identity, Join, Reader, Split, Writer};
-use crate::small_graphs::{Ends, graph_of, node_of};
+use crate::small_graphs::{ends_of, graph_of, node_of};
 use std::alloc::Global;
 use std::process::Abort;
 use std::test::Fail;
@@ -15,14 +15,7 @@ use strc_syntax::tree::StreamTree;
 use strc_work::lowering::lower;
 
 /// A source, a loop's joiner, body, splitter and loop, and a sink.
-const LOOP: [Ends; 6] = [
-    (0, 0, 1, 0),
-    (1, 0, 2, 0),
-    (2, 0, 3, 0),
-    (3, 0, 5, 0),
-    (3, 1, 4, 0),
-    (4, 0, 1, 1),
-];
+const LOOP: &str = "0.0-1.0 1.0-2.0 2.0-3.0 3.0-5.0 3.1-4.0 4.0-1.1";
 
 /// It hands items on, and its first firing takes one and gives two.
 const TAKES: &str = "int->int filter Body {
@@ -61,7 +54,7 @@ fn loop_answer(rt: &impl Abort, alloc: Global, body: &str, items: usize) -> Resu
     nodes.push(node_of(alloc, Split(1, 1))?)?;
     nodes.push(node_of(alloc, Identity)?)?;
     nodes.push(node_of(alloc, Writer)?)?;
-    let graph = graph_of(rt, alloc, nodes, &LOOP, items)?;
+    let graph = graph_of(rt, alloc, nodes, &ends_of(alloc, LOOP)?, items)?;
     Ok(answer_of(alloc, &graph)?)
 }
 

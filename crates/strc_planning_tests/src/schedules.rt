@@ -1,7 +1,6 @@
 // The orders of small graphs and the sizes of their buffers, and which refusal there is.
 
-use crate::small_graphs::Kind::{Duplicate, Identity, Join, Reader, Split, Writer};
-use crate::small_graphs::{Ends, Kind, graph_of, nodes_of, shown};
+use crate::small_graphs::{ends_of, graph_of, nodes_of, row_of, shown};
 use std::alloc::{AllocError, Global};
 use std::test::Fail;
 use strc_balance::balance::balance;
@@ -12,113 +11,33 @@ use strc_order::planning::schedule;
 use strc_order::unit::Unit;
 use strc_startup::startup::startup;
 
-/// Two and four nodes in a row.
-const PAIR: [Ends; 1] = [(0, 0, 1, 0)];
-
-const ROW: [Ends; 3] = [(0, 0, 1, 0), (1, 0, 2, 0), (2, 0, 3, 0)];
-
-/// A source, a splitter, two nodes side by side, a joiner and a sink.
-const SPLIT_JOIN: [Ends; 6] = [
-    (0, 0, 1, 0),
-    (1, 0, 2, 0),
-    (1, 1, 3, 0),
-    (2, 0, 4, 0),
-    (3, 0, 4, 1),
-    (4, 0, 5, 0),
-];
-
-/// A source, a loop's joiner, body, splitter and loop, and a sink.
-const LOOP: [Ends; 6] = [
-    (0, 0, 1, 0),
-    (1, 0, 2, 0),
-    (2, 0, 3, 0),
-    (3, 0, 5, 0),
-    (3, 1, 4, 0),
-    (4, 0, 1, 1),
-];
-
-/// Two nodes in a loop, and a sink.
-const CIRCLE: [Ends; 3] = [(0, 0, 1, 0), (0, 1, 2, 0), (1, 0, 0, 0)];
-
-/// Nodes, channels, the items on the last channel, and the answer: the units of a round, each with
-/// its turns and its node, and the sizes of the buffers.
-type Case = (&'static [Kind], &'static [Ends], usize, &'static str);
-
-const CASES: [Case; 14] = [
-    (
-        &[Reader, Join(1, 1), Split(1, 2), Writer],
-        &ROW,
-        0,
-        "3*0 3*1 2*2 2*3 : 3 6 2 ",
-    ),
-    (
-        &[Reader, Split(2, 1), Identity, Identity, Join(2, 1), Writer],
-        &SPLIT_JOIN,
-        0,
-        "3*0 1*1 2*2 1*3 1*4 3*5 : 3 2 1 2 1 3 ",
-    ),
-    (
-        &[Reader, Join(1, 1), Identity, Split(1, 1), Identity, Writer],
-        &LOOP,
-        1,
-        "1*0 1*1 2*2 1*3 1*4 1*5 : 1 2 2 1 1 1 ",
-    ),
-    (
-        &[Reader, Join(1, 1), Identity, Split(1, 1), Identity, Writer],
-        &LOOP,
-        0,
-        "no order of the firings of a round exists",
-    ),
-    // A loop with a single item fires once at a time, with two items twice.
-    (
-        &[Duplicate, Identity, Split(1, 2)],
-        &CIRCLE,
-        1,
-        "1*0 1*1 1*0 1*1 1*0 1*1 1*2 : 1 3 1 ",
-    ),
-    (
-        &[Duplicate, Identity, Split(1, 2)],
-        &CIRCLE,
-        2,
-        "2*0 2*1 1*0 1*1 1*2 : 2 3 2 ",
-    ),
-    (
-        &[Duplicate, Identity, Split(1, 2)],
-        &CIRCLE,
-        0,
-        "no order of the firings of a round exists",
-    ),
-    // Enqueued items count.
-    (&[Reader, Writer], &PAIR, 2, "1*0 1*1 : 3 "),
-    // Graphs that no text means: no channels, two at one port, and one from a node to itself.
-    (&[Identity], &[], 0, "1*0 : "),
-    (
-        &[Reader, Writer],
-        &[(0, 0, 1, 0), (0, 0, 1, 0)],
-        0,
-        "1*0 1*1 : 1 1 ",
-    ),
-    (&[Identity], &[(0, 0, 0, 0)], 1, "1*0 : 1 "),
-    (
-        &[Identity],
-        &[(0, 0, 0, 0)],
-        0,
-        "no order of the firings of a round exists",
-    ),
-    // 16,777,216 items are the limit.
-    (
-        &[Reader, Join(1, 16_777_215), Split(1, 16_777_215), Writer],
-        &ROW,
-        0,
-        "1*0 1*1 1*2 1*3 : 1 16777216 1 ",
-    ),
-    (
-        &[Reader, Join(1, 16_777_216), Split(1, 16_777_216), Writer],
-        &ROW,
-        0,
-        "too many items on channel 1",
-    ),
-];
+/// A row a line: nodes, channels, how many items are on the last channel, and the answer: the units
+/// of a round, each with its turns and its node, and the sizes of the buffers.
+const CASES: &str = "\
+reader join:1:1 split:1:2 writer|0.0-1.0 1.0-2.0 2.0-3.0|0=3*0 3*1 2*2 2*3 : 3 6 2
+reader split:2:1 identity identity join:2:1 writer \
+    |0.0-1.0 1.0-2.0 1.1-3.0 2.0-4.0 3.0-4.1 4.0-5.0|0=3*0 1*1 2*2 1*3 1*4 3*5 : 3 2 1 2 1 3
+reader join:1:1 identity split:1:1 identity writer \
+    |0.0-1.0 1.0-2.0 2.0-3.0 3.0-5.0 3.1-4.0 4.0-1.1|1=1*0 1*1 2*2 1*3 1*4 1*5 : 1 2 2 1 1 1
+reader join:1:1 identity split:1:1 identity writer \
+    |0.0-1.0 1.0-2.0 2.0-3.0 3.0-5.0 3.1-4.0 4.0-1.1|0=no order of the firings of a round exists
+# A loop with a single item fires once at a time, with two items twice.
+duplicate identity split:1:2|0.0-1.0 0.1-2.0 1.0-0.0|1=1*0 1*1 1*0 1*1 1*0 1*1 1*2 : 1 3 1
+duplicate identity split:1:2|0.0-1.0 0.1-2.0 1.0-0.0|2=2*0 2*1 1*0 1*1 1*2 : 2 3 2
+duplicate identity split:1:2|0.0-1.0 0.1-2.0 1.0-0.0|0=no order of the firings of a round exists
+# Enqueued items count.
+reader writer|0.0-1.0|2=1*0 1*1 : 3
+# Graphs that no text means: no channels, two at one port, and one from a node to itself.
+identity||0=1*0 :
+reader writer|0.0-1.0 0.0-1.0|0=1*0 1*1 : 1 1
+identity|0.0-0.0|1=1*0 : 1
+identity|0.0-0.0|0=no order of the firings of a round exists
+# 16,777,216 items are the limit.
+reader join:1:16777215 split:1:16777215 writer \
+    |0.0-1.0 1.0-2.0 2.0-3.0|0=1*0 1*1 1*2 1*3 : 1 16777216 1
+reader join:1:16777216 split:1:16777216 writer \
+    |0.0-1.0 1.0-2.0 2.0-3.0|0=too many items on channel 1
+";
 
 /// The schedule of a graph as a text, or why there is none.
 pub(crate) fn answer_of(alloc: Global, graph: &Graph) -> Result<String, AllocError> {
@@ -161,9 +80,20 @@ fn units_of(alloc: Global, units: &[Unit]) -> Result<String, AllocError> {
 #[test]
 fn schedules(rt: HostRuntime) -> Result<(), Fail> {
     let alloc = rt.alloc();
-    for (kinds, ends, items, expected) in CASES {
-        let graph = graph_of(&rt, alloc, nodes_of(alloc, kinds)?, ends, items)?;
-        assert_eq!(rt; answer_of(alloc, &graph)?.as_str(), expected);
+    for line in CASES.lines() {
+        let Some((given, expected)) = row_of(line)? else {
+            continue;
+        };
+        let (nodes, given) = given.split_once("|").ok_or("no channels")?;
+        let (ends, items) = given.split_once("|").ok_or("no items")?;
+        let (nodes, ends) = (nodes_of(alloc, nodes)?, ends_of(alloc, ends)?);
+        let items: Option<usize> = items.parse().ok();
+        let graph = graph_of(&rt, alloc, nodes, &ends, items.ok_or("no number of items")?)?;
+        assert_eq!(rt;
+            answer_of(alloc, &graph)?.as_str().trim_end(),
+            expected,
+            "{line}"
+        );
     }
     Ok(())
 }

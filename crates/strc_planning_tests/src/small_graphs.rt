@@ -1,7 +1,11 @@
-// Graphs by what their nodes are and what their channels join, and their counts as texts.
+// Graphs as texts: what their nodes are and what their channels join. And their counts as texts.
+//
+// The nodes of a graph are words, as `reader split:2:1 identity writer`; its channels are pairs of
+// ports, each by its node and its number, as `1.0-2.0`.
 
 use std::alloc::{AllocError, Global};
 use std::process::Abort;
+use std::test::Fail;
 use strc_balance::balance::balance;
 use strc_balance::condition::can_balance;
 use strc_balance::error::BalanceError;
@@ -26,9 +30,6 @@ pub(crate) enum Kind {
 
 /// The node and the port that a channel leaves, and the node and the port that it comes to.
 pub(crate) type Ends = (u32, u32, u32, u32);
-
-/// A graph's nodes and channels, and the answer.
-pub(crate) type Case = (&'static [Kind], &'static [Ends], &'static str);
 
 /// A node of this kind.
 pub(crate) fn node_of(alloc: Global, kind: Kind) -> Result<Node, AllocError> {
@@ -136,22 +137,93 @@ pub(crate) fn shown(alloc: Global, counts: &[u32]) -> Result<String, AllocError>
     Ok(text)
 }
 
-/// Nodes of these kinds.
-pub(crate) fn nodes_of(alloc: Global, kinds: &[Kind]) -> Result<Vec<Node>, AllocError> {
+/// A number in a text.
+fn number(text: Option<&str>) -> Option<u32> {
+    text?.parse().ok()
+}
+
+/// What a node is, by its word.
+fn kind_of(word: &str) -> Option<Kind> {
+    let mut parts = word.split(':');
+    let name = parts.next()?;
+    match number(parts.next()) {
+        Some(first) => dealing_kind(name, first, number(parts.next())?),
+        None => plain_kind(name),
+    }
+}
+
+fn dealing_kind(name: &str, first: u32, second: u32) -> Option<Kind> {
+    if name == "join" {
+        Some(Kind::Join(first, second))
+    } else if name == "split" {
+        Some(Kind::Split(first, second))
+    } else {
+        None
+    }
+}
+
+fn plain_kind(name: &str) -> Option<Kind> {
+    for (known, kind) in [
+        ("reader", Kind::Reader),
+        ("writer", Kind::Writer),
+        ("identity", Kind::Identity),
+        ("duplicate", Kind::Duplicate),
+        ("gather", Kind::Gather),
+    ] {
+        if name == known {
+            return Some(kind);
+        }
+    }
+    None
+}
+
+/// The two ports of a channel.
+fn pair_of(word: &str) -> Option<Ends> {
+    let (source, target) = word.split_once("-")?;
+    let (source, target) = (port_of(source)?, port_of(target)?);
+    Some((source.0, source.1, target.0, target.1))
+}
+
+/// A port by its node and its number.
+fn port_of(text: &str) -> Option<(u32, u32)> {
+    let (node, port) = text.split_once(".")?;
+    Some((number(Some(node))?, number(Some(port))?))
+}
+
+/// The nodes of a text.
+pub(crate) fn nodes_of(alloc: Global, text: &str) -> Result<Vec<Node>, Fail> {
     let mut nodes = Vec::new(alloc);
-    for kind in kinds {
-        nodes.push(node_of(alloc, *kind)?)?;
+    for word in text.split_whitespace() {
+        let kind = kind_of(word).ok_or("no node")?;
+        nodes.push(node_of(alloc, kind)?)?;
     }
     Ok(nodes)
 }
 
-/// The answer for the graph of these nodes and channels.
-pub(crate) fn answer(
-    rt: &impl Abort,
-    alloc: Global,
-    kinds: &[Kind],
-    ends: &[Ends],
-) -> Result<String, AllocError> {
-    let graph = graph_of(rt, alloc, nodes_of(alloc, kinds)?, ends, 0)?;
-    answer_of(alloc, &graph)
+/// The channels of a text.
+pub(crate) fn ends_of(alloc: Global, text: &str) -> Result<Vec<Ends>, Fail> {
+    let mut ends = Vec::new(alloc);
+    for word in text.split_whitespace() {
+        ends.push(pair_of(word).ok_or("no channel")?)?;
+    }
+    Ok(ends)
+}
+
+/// The items of a text.
+pub(crate) fn items_of(alloc: Global, text: &str) -> Result<Vec<i32>, Fail> {
+    let mut items = Vec::new(alloc);
+    for word in text.split_whitespace() {
+        let item: Option<i32> = word.parse().ok();
+        items.push(item.ok_or("no item")?)?;
+    }
+    Ok(items)
+}
+
+/// The parts of a row: what is given, up to ` = `, and the answer. None of a note, which begins
+/// with `#`.
+pub(crate) fn row_of(line: &str) -> Result<Option<(&str, &str)>, Fail> {
+    if line.starts_with("#") {
+        return Ok(None);
+    }
+    Ok(Some(line.split_once("=").ok_or("no answer")?))
 }

@@ -42,48 +42,58 @@ fn copied(rt: &impl Abort, alloc: Global, text: &str) -> Result<Code, Fail> {
     Ok(code(alloc, text)?.copy().expect(rt, "copy"))
 }
 
-/// The first item that a firing of a filter with these members pushes over a window.
+/// The first item that a firing of a filter with these members pushes over a window, as a text, or
+/// how the firing halts.
 fn first_push(
     rt: &impl Abort,
     alloc: Global,
     members: &str,
-    window: [i32; 3],
-) -> Result<Result<i32, Halt>, Fail> {
+    window: &[i32],
+) -> Result<String, Fail> {
     let text = format!(in alloc; "int->int filter F {{ {members} }}")?;
     let code = code(alloc, &text)?;
-    match fired(rt, alloc, &code, Body::Work, &window)? {
-        Ok(pushes) => Ok(Ok(pushes.first().copied().unwrap_or(0))),
-        Err(halt) => Ok(Err(halt)),
-    }
+    let shown = match fired(rt, alloc, &code, Body::Work, window)? {
+        Ok(pushes) => format!(in alloc; "{}", pushes.first().copied().unwrap_or(0))?,
+        Err(Halt::Fault(Cause::PeekRange)) => String::from_str(alloc, "outside")?,
+        Err(_) => String::from_str(alloc, "another halt")?,
+    };
+    Ok(shown)
 }
+
+/// The items of a text.
+fn items_of(alloc: Global, text: &str) -> Result<Vec<i32>, Fail> {
+    let mut items = Vec::new(alloc);
+    for word in text.split_whitespace() {
+        let item: Option<i32> = word.parse().ok();
+        items.push(item.ok_or("no item")?)?;
+    }
+    Ok(items)
+}
+
+// A row a line: the members, the window, and what is pushed. A peek is tested after its index.
+const FIRINGS: &str = "\
+work push 1 pop 3 { push(pop()); } over 10 20 30 => 10
+work push 1 pop 3 { push(pop() - pop()); } over 10 20 30 => -10
+work push 1 pop 0 { push(pop()); } over 10 20 30 => outside
+work push 1 pop 1 peek 3 { push(peek(pop())); } over 1 2 5 => 5
+work push 1 pop 1 peek 3 { push(peek(pop())); } over 0 2 5 => 2
+work push 1 pop 1 peek 3 { push(peek(pop())); } over 2 5 9 => outside
+work push 1 pop 1 peek 3 { push(peek(pop())); } over 9 2 5 => outside
+work push 1 pop 1 peek 3 { push(peek(pop())); } over -1 2 5 => outside
+work push 1 pop 1 peek 3 { push(peek(peek(0))); pop(); } over 1 2 5 => 2
+work push 1 pop 1 peek 3 { push(peek(peek(0))); pop(); } over 2 5 9 => 9
+work push 1 pop 1 peek 3 { push(peek(peek(0))); pop(); } over 5 9 9 => outside
+";
 
 #[test]
 fn items_are_taken_and_looked_at(rt: HostRuntime) -> Result<(), Fail> {
     let alloc = rt.alloc();
-    let ahead = "work push 1 pop 1 peek 3 { push(peek(pop())); }";
-    let twice = "work push 1 pop 1 peek 3 { push(peek(peek(0))); pop(); }";
-    let outside = Err(Halt::Fault(Cause::PeekRange));
-    let rows: [(&str, [i32; 3], Result<i32, Halt>); 11] = [
-        ("work push 1 pop 3 { push(pop()); }", [10, 20, 30], Ok(10)),
-        (
-            "work push 1 pop 3 { push(pop() - pop()); }",
-            [10, 20, 30],
-            Ok(-10),
-        ),
-        ("work push 1 pop 0 { push(pop()); }", [10, 20, 30], outside),
-        // A peek is tested after its index.
-        (ahead, [1, 2, 5], Ok(5)),
-        (ahead, [0, 2, 5], Ok(2)),
-        (ahead, [2, 5, 9], outside),
-        (ahead, [9, 2, 5], outside),
-        (ahead, [-1, 2, 5], outside),
-        (twice, [1, 2, 5], Ok(2)),
-        (twice, [2, 5, 9], Ok(9)),
-        (twice, [5, 9, 9], outside),
-    ];
-    for (members, window, want) in rows {
-        let found = first_push(&rt, alloc, members, window)?;
-        assert_eq!(rt; found, want, "{members}");
+    for row in FIRINGS.lines() {
+        let (given, want) = row.split_once(" => ").ok_or("a row without two parts")?;
+        let (members, window) = given.split_once(" over ").ok_or("a row without a window")?;
+        let window = items_of(alloc, window)?;
+        let found = first_push(&rt, alloc, members, &window)?;
+        assert_eq!(rt; found.as_str(), want, "{row}");
     }
     Ok(())
 }

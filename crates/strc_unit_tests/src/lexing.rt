@@ -21,41 +21,43 @@ fn spaced(alloc: Global, text: &[u8], tokens: &[Token]) -> Result<Vec<u8>, Alloc
     Ok(shown)
 }
 
-const SPACED: [(&str, &str); 29] = [
-    ("", ""),
-    (" \t\n\u{c}\r ", ""),
-    ("x+++y", "x ++ + y"),
-    ("a<<=b", "a << = b"),
-    ("workx work", "workx work"),
-    ("int->void", "int -> void"),
-    ("a/=b/c", "a /= b / c"),
-    ("0 10;_a1(", "0 10 ; _a1 ("),
-    ("a/b", "a / b"),
-    ("a/ /b", "a / / b"),
-    ("\"\"", "\"\""),
-    ("\"a b\"x", "\"a b\" x"),
-    ("x\"//\"\"/*\"", "x \"//\" \"/*\""),
-    ("a//b", "a"),
-    ("//", ""),
-    ("x //", "x"),
-    ("// to the end", ""),
-    ("x // one line\ny", "x y"),
-    ("//\n//\nx", "x"),
-    ("// a // b\nc", "c"),
-    ("// /*\nx // */", "x"),
-    ("/**/", ""),
-    ("a/**/b", "a b"),
-    ("/***/x", "x"),
-    ("/*/*/x", "x"),
-    ("/* /* */ x", "x"),
-    ("/* one\ntwo */ x", "x"),
-    ("/* // */ x", "x"),
-    ("a/* */ /* *//b", "a / b"),
-];
+// Each text, and after `|` its tokens with a blank between two.
+const SPACED: &str = "\
+    |@\
+    \x20\t\n\u{c}\r |@\
+    x+++y|x ++ + y@\
+    a<<=b|a << = b@\
+    workx work|workx work@\
+    int->void|int -> void@\
+    a/=b/c|a /= b / c@\
+    0 10;_a1(|0 10 ; _a1 (@\
+    a/b|a / b@\
+    a/ /b|a / / b@\
+    \"\"|\"\"@\
+    \"a b\"x|\"a b\" x@\
+    x\"//\"\"/*\"|x \"//\" \"/*\"@\
+    a//b|a@\
+    //|@\
+    x //|x@\
+    // to the end|@\
+    x // one line\ny|x y@\
+    //\n//\nx|x@\
+    // a // b\nc|c@\
+    // /*\nx // */|x@\
+    /**/|@\
+    a/**/b|a b@\
+    /***/x|x@\
+    /*/*/x|x@\
+    /* /* */ x|x@\
+    /* one\ntwo */ x|x@\
+    /* // */ x|x@\
+    a/* */ /* *//b|a / b\
+";
 
 #[test]
 fn takes_the_longest_token_and_passes_over_comments(rt: HostRuntime) -> Result<(), Fail> {
-    for (text, want) in SPACED {
+    for row in SPACED.split('@') {
+        let (text, want) = row.split_once('|').ok_or("a row without two parts")?;
         let tokens = lex(rt.alloc(), text.as_bytes())?;
         let shown = spaced(rt.alloc(), text.as_bytes(), tokens.as_slice())?;
         assert_eq!(rt; shown.as_slice(), want.as_bytes(), "at {text:?}");

@@ -15,80 +15,35 @@ fn rates_of(alloc: Global, bodies: &str) -> Result<Rates, Fail> {
     }
 }
 
-// Each: the rates of the work, its block, and `c` for each peek that is closed, `o` for others.
-const CLOSED: [(&str, &str, &str); 16] = [
-    (
-        "push 1 pop 1 peek 3",
-        "push(peek(0) + peek(2)); pop();",
-        "cc",
-    ),
-    ("push 1 pop 1", "push(peek(f)); pop();", "o"),
-    (
-        "push 1 pop 1",
-        "if (1 < 0) f = peek(9); else f = peek(f); push(peek(0)); pop();",
-        "coc",
-    ),
-    ("push 1 pop 1", "push(peek(peek(0))); pop();", "co"),
-    ("push 1 pop 1", "push(peek(1 / 0)); pop();", "o"),
-    (
-        "push 1 pop 4",
-        "f = 0; for (int i = 0; i < 4; i++) f += peek(i); \
-         for (int i = 0; i < 4; i++) pop(); push(f);",
-        "c",
-    ),
-    (
-        "push 2 pop 2 peek 3",
-        "for (int i = 0; i < 2; i++) { push(peek(1)); pop(); }",
-        "c",
-    ),
-    (
-        "push 2 pop 2",
-        "for (int i = 0; i < 2; i++) { push(peek(1)); pop(); }",
-        "o",
-    ),
-    ("push 1 pop 2 peek 3", "pop(); push(peek(1)); pop();", "c"),
-    (
-        "push 1 pop 1 peek 6",
-        "for (int i = 0; i < 3; i++) f = peek(2 * i + 1); push(pop());",
-        "c",
-    ),
-    (
-        "push 1 pop 1 peek 5",
-        "for (int i = 0; i < 3; i++) f = peek(2 * i + 1); push(pop());",
-        "o",
-    ),
-    (
-        "push 1 pop 1 peek 4",
-        "for (int i = 3; i >= 0; i--) f = peek(3 - i) + peek(-i + 3); push(pop());",
-        "cc",
-    ),
-    (
-        "push 1 pop 1 peek 9",
-        "for (int i = 0; i < 2; i++) { int i = f; f = peek(i); } push(pop());",
-        "o",
-    ),
-    (
-        "push 1 pop 1 peek 9",
-        "int i; for (i = 0; i < 2; i++) f = peek(i); push(peek(i)); pop();",
-        "co",
-    ),
-    (
-        "push 1 pop 1 peek 2",
-        "while (f > 0) f = peek(1); push(pop());",
-        "c",
-    ),
-    (
-        "push 1 pop 1 peek 9",
-        "for (int i = 0; i < 2; i++) for (int j = i; j < 2; j++) f = peek(i) + peek(j); \
-         push(pop());",
-        "co",
-    ),
-];
+// A row a line: the rates of the work and its block, and `c` for each peek that is closed, `o` for
+// others.
+const CLOSED: &str = "\
+push 1 pop 1 peek 3 { push(peek(0) + peek(2)); pop(); } => cc
+push 1 pop 1 { push(peek(f)); pop(); } => o
+push 1 pop 1 { if (1 < 0) f = peek(9); else f = peek(f); push(peek(0)); pop(); } => coc
+push 1 pop 1 { push(peek(peek(0))); pop(); } => co
+push 1 pop 1 { push(peek(1 / 0)); pop(); } => o
+push 1 pop 4 { f = 0; for (int i = 0; i < 4; i++) f += peek(i); \
+    for (int i = 0; i < 4; i++) pop(); push(f); } => c
+push 2 pop 2 peek 3 { for (int i = 0; i < 2; i++) { push(peek(1)); pop(); } } => c
+push 2 pop 2 { for (int i = 0; i < 2; i++) { push(peek(1)); pop(); } } => o
+push 1 pop 2 peek 3 { pop(); push(peek(1)); pop(); } => c
+push 1 pop 1 peek 6 { for (int i = 0; i < 3; i++) f = peek(2 * i + 1); push(pop()); } => c
+push 1 pop 1 peek 5 { for (int i = 0; i < 3; i++) f = peek(2 * i + 1); push(pop()); } => o
+push 1 pop 1 peek 4 { for (int i = 3; i >= 0; i--) f = peek(3 - i) + peek(-i + 3); \
+    push(pop()); } => cc
+push 1 pop 1 peek 9 { for (int i = 0; i < 2; i++) { int i = f; f = peek(i); } push(pop()); } => o
+push 1 pop 1 peek 9 { int i; for (i = 0; i < 2; i++) f = peek(i); push(peek(i)); pop(); } => co
+push 1 pop 1 peek 2 { while (f > 0) f = peek(1); push(pop()); } => c
+push 1 pop 1 peek 9 { for (int i = 0; i < 2; i++) for (int j = i; j < 2; j++) \
+    f = peek(i) + peek(j); push(pop()); } => co
+";
 
 #[test]
 fn peeks_are_closed_by_their_index(rt: HostRuntime) -> Result<(), Fail> {
-    for (rates, block, closed) in CLOSED {
-        let bodies = format!(in rt.alloc(); "work {rates} {{ {block} }}")?;
+    for row in CLOSED.lines() {
+        let (work, closed) = row.split_once(" => ").ok_or("a row without two parts")?;
+        let bodies = format!(in rt.alloc(); "work {work}")?;
         let rates = rates_of(rt.alloc(), &bodies)?;
         let mut reported = String::new(rt.alloc());
         for is_closed in &rates.work.closed {

@@ -133,43 +133,39 @@ fn shown(alloc: Global, statement: &str) -> Result<String, Fail> {
     Ok(out)
 }
 
-const STATEMENTS: [(&str, &str); 25] = [
-    ("add A;", "add A;"),
-    ("add A();", "add A();"),
-    ("body A(1);", "body A(1,);"),
-    ("loop A(1 + 2, x, 3);", "loop A(.,x,3,);"),
-    ("add Identity<int>;", "add Identity;"),
-    ("add Identity<int>();", "add Identity();"),
-    ("add FileReader<int>(\"in\");", "add FileReader in;"),
-    ("add FileWriter<int>(\"out\");", "add FileWriter out;"),
-    ("split duplicate;", "split duplicate;"),
-    ("split duplicate();", "split duplicate();"),
-    ("split roundrobin;", "split roundrobin;"),
-    ("split roundrobin();", "split roundrobin();"),
-    ("split roundrobin(1, n);", "split roundrobin(1,n,);"),
-    ("join roundrobin;", "join roundrobin;"),
-    ("join roundrobin();", "join roundrobin();"),
-    ("join roundrobin(2 * n);", "join roundrobin(.,);"),
-    ("enqueue 1;", "enqueue 1;"),
-    ("add pipeline { }", "add pipeline 0;"),
-    ("body splitjoin { add A; }", "body splitjoin 1;"),
-    ("loop feedbackloop { ; }", "loop feedbackloop 1;"),
-    (
-        "add int->void pipeline { add A; add B; }",
-        "add int->void pipeline 2;",
-    ),
-    ("add void->int splitjoin { }", "add void->int splitjoin 0;"),
-    (
-        "add int->int filter { int x; work { } }",
-        "add int->int filter 2;",
-    ),
-    ("add pipeline { } ;", "add pipeline 0;another statement;"),
-    ("if (b) add A; else add B;", "another statement;"),
-];
+// A row a line: statements, and what is shown of them.
+const STATEMENTS: &str = "\
+add A; => add A;
+add A(); => add A();
+body A(1); => body A(1,);
+loop A(1 + 2, x, 3); => loop A(.,x,3,);
+add Identity<int>; => add Identity;
+add Identity<int>(); => add Identity();
+add FileReader<int>(\"in\"); => add FileReader in;
+add FileWriter<int>(\"out\"); => add FileWriter out;
+split duplicate; => split duplicate;
+split duplicate(); => split duplicate();
+split roundrobin; => split roundrobin;
+split roundrobin(); => split roundrobin();
+split roundrobin(1, n); => split roundrobin(1,n,);
+join roundrobin; => join roundrobin;
+join roundrobin(); => join roundrobin();
+join roundrobin(2 * n); => join roundrobin(.,);
+enqueue 1; => enqueue 1;
+add pipeline { } => add pipeline 0;
+body splitjoin { add A; } => body splitjoin 1;
+loop feedbackloop { ; } => loop feedbackloop 1;
+add int->void pipeline { add A; add B; } => add int->void pipeline 2;
+add void->int splitjoin { } => add void->int splitjoin 0;
+add int->int filter { int x; work { } } => add int->int filter 2;
+add pipeline { } ; => add pipeline 0;another statement;
+if (b) add A; else add B; => another statement;
+";
 
 #[test]
 fn statements_of_composite_streams_have_their_parts(rt: HostRuntime) -> Result<(), Fail> {
-    for (text, want) in STATEMENTS {
+    for row in STATEMENTS.lines() {
+        let (text, want) = row.split_once(" => ").ok_or("a row without two parts")?;
         let found = shown(rt.alloc(), text)?;
         assert_eq!(rt; found.as_str(), want, "{text}");
     }

@@ -28,55 +28,56 @@ fn name_of(name: &Option<String>) -> &str {
     }
 }
 
-const UNDERSTOOD: [(&[&str], &str); 11] = [
-    (&["strc"], "run - 5 -"),
-    (&["strc", "run", "a.str"], "run a.str - -"),
-    (&["strc", "run", "a.str", "--rounds=0"], "run a.str 0 -"),
-    (&["strc", "run", "--main", "M", "a.str"], "run a.str - M"),
-    (
-        &[
-            "strc",
-            "run",
-            "--rounds",
-            "4294967295",
-            "a.str",
-            "--main",
-            "M",
-        ],
-        "run a.str 4294967295 M",
-    ),
-    (&["strc", "check", "a.str"], "check a.str -"),
-    (&["strc", "check", "a.str", "--main", "M"], "check a.str M"),
-    (&["strc", "plan", "a.str"], "plan a.str -"),
-    (&["strc", "plan", "--main=M", "a.str"], "plan a.str M"),
-    (&["strc", "graph", "a.str"], "graph a.str -"),
-    (&["strc", "graph", "a.str", "--main", "M"], "graph a.str M"),
-];
+// The words of a line, with a blank between two.
+fn words_of(alloc: Global, line: &str) -> Result<Vec<&str>, AllocError> {
+    let mut words = Vec::new(alloc);
+    for word in line.split(' ') {
+        words.push(word)?;
+    }
+    Ok(words)
+}
+
+// A row a line: the words, and what is asked for.
+const UNDERSTOOD: &str = "\
+strc => run - 5 -
+strc run a.str => run a.str - -
+strc run a.str --rounds=0 => run a.str 0 -
+strc run --main M a.str => run a.str - M
+strc run --rounds 4294967295 a.str --main M => run a.str 4294967295 M
+strc check a.str => check a.str -
+strc check a.str --main M => check a.str M
+strc plan a.str => plan a.str -
+strc plan --main=M a.str => plan a.str M
+strc graph a.str => graph a.str -
+strc graph a.str --main M => graph a.str M
+";
 
 #[test]
 fn each_form_is_understood(rt: HostRuntime) -> Result<(), Fail> {
-    for (words, wanted) in UNDERSTOOD {
-        let line = command(rt.alloc(), words)?;
+    for row in UNDERSTOOD.lines() {
+        let (text, wanted) = row.split_once(" => ").ok_or("a row without two parts")?;
+        let words = words_of(rt.alloc(), text)?;
+        let line = command(rt.alloc(), words.as_slice())?;
         let found = reported(rt.alloc(), &line)?;
-        assert_eq!(rt; found.as_str(), wanted, "at {words:?}");
+        assert_eq!(rt; found.as_str(), wanted, "at {text}");
     }
     Ok(())
 }
 
-const OTHERS: [&[&str]; 12] = [
-    &["strc", "go"],
-    &["strc", "run"],
-    &["strc", "run", "a.str", "b.str"],
-    &["strc", "run", "a.str", "--rounds", "4294967296"],
-    &["strc", "run", "a.str", "--rounds", "-1"],
-    &["strc", "run", "a.str", "--rounds", "many"],
-    &["strc", "run", "a.str", "--rounds"],
-    &["strc", "run", "a.str", "--ways", "2"],
-    &["strc", "check"],
-    &["strc", "check", "a.str", "--rounds", "2"],
-    &["strc", "plan", "--main", "M"],
-    &["strc", "plan", "a.str", "b.str"],
-];
+const OTHERS: &str = "\
+strc go
+strc run
+strc run a.str b.str
+strc run a.str --rounds 4294967296
+strc run a.str --rounds -1
+strc run a.str --rounds many
+strc run a.str --rounds
+strc run a.str --ways 2
+strc check
+strc check a.str --rounds 2
+strc plan --main M
+strc plan a.str b.str
+";
 
 // Words that aren't understood, and what is said of them.
 fn refused<'a>(rt: &impl Abort, alloc: Global, words: &'a [&'a str]) -> Result<String, AllocError> {
@@ -87,29 +88,43 @@ fn refused<'a>(rt: &impl Abort, alloc: Global, words: &'a [&'a str]) -> Result<S
 
 #[test]
 fn other_words_are_not(rt: HostRuntime) -> Result<(), Fail> {
-    for words in OTHERS {
-        let text = refused(&rt, rt.alloc(), words)?;
-        assert!(rt; !text.as_str().is_empty(), "at {words:?}");
+    for text in OTHERS.lines() {
+        let words = words_of(rt.alloc(), text)?;
+        let said = refused(&rt, rt.alloc(), words.as_slice())?;
+        assert!(rt; !said.as_str().is_empty(), "at {text}");
     }
     Ok(())
 }
 
-const HELPFUL: [(&[&str], bool, &str); 5] = [
-    (&["strc", "--help"], true, "Usage: strc <COMMAND>"),
-    (&["strc", "run", "--help"], true, "--rounds <N>"),
-    (&["strc", "graph", "-h"], true, "Graphviz"),
-    (&["strc", "plna", "a.str"], false, "plan"),
-    (&["strc", "run", "a.str", "--round", "3"], false, "--rounds"),
-];
+// Words that ask for help, and those that are a mistake; and a part of what is said of them.
+const HELPFUL: &str = "\
+strc --help => Usage: strc <COMMAND>
+strc run --help => --rounds <N>
+strc graph -h => Graphviz
+";
+
+const MISTAKEN: &str = "\
+strc plna a.str => plan
+strc run a.str --round 3 => --rounds
+";
+
+// Compares what is said of the words of each row, and whether they ask for help.
+fn compare(rt: &impl Abort, alloc: Global, rows: &str, help: bool) -> Result<(), Fail> {
+    for row in rows.lines() {
+        let (text, part) = row.split_once(" => ").ok_or("a row without two parts")?;
+        let words = words_of(alloc, text)?;
+        let words = words.as_slice();
+        assert_eq!(rt; asks_for_help(alloc, words)?, help, "at {text}");
+        let said = refused(rt, alloc, words)?;
+        assert!(rt; said.as_str().contains(part), "at {text}: {said}");
+    }
+    Ok(())
+}
 
 #[test]
 fn help_is_no_mistake(rt: HostRuntime) -> Result<(), Fail> {
-    for (words, help, part) in HELPFUL {
-        assert_eq!(rt; asks_for_help(rt.alloc(), words)?, help, "at {words:?}");
-        let text = refused(&rt, rt.alloc(), words)?;
-        assert!(rt; text.as_str().contains(part), "at {words:?}: {text}");
-    }
-    Ok(())
+    compare(&rt, rt.alloc(), HELPFUL, true)?;
+    compare(&rt, rt.alloc(), MISTAKEN, false)
 }
 
 #[test]

@@ -1,4 +1,5 @@
 use Rattle.std.proofs.Common.{◌<◌, ◌+◌, length, drop, sym, ap, ◌∙◌, arith}
+use Rattle.std.proofs.lemmas.Result.{on_ok_weaker}
 use Rattle.std.proofs.Math.ListN.{drop_of_length-le}
 use Rattle.strc_syntax.specs.View.{stmt_view, block_view}
 use Rattle.strc_code.specs.Nodes.{before}
@@ -10,34 +11,40 @@ use Rattle.strc_code.proofs.Nodes.{before_end}
 use Rattle.strc_lowering.proofs.Emitted.{stmts_nodes_more}
 use Rattle.strc_lowering.proofs.statement_code.+statement.Goals as goal
 
-pub emit_stmt-loop-inner-preserved : goal.emit_stmt-loop-inner-preserved
-emit_stmt-loop-inner-preserved t c =
-    let items = c.deref-inner-items.result.now in
-    let i = c.loop-inner.inner-index in
+pub emit_block-loop-statement-preserved : goal.emit_block-loop-statement-preserved
+emit_block-loop-statement-preserved t c =
+    let items = c.args.block.now in
+    let i = c.loop-statement.statement-index in
     let lt : i < length items = omega arith in
-    let x = c.inner-item.result in
-    let names = c.in_ok-emit_stmt-in-Block.ensures.names in
-    let more = stmts_nodes_more c.loop-inner.names c.emit_stmt.new.names (written c.loop-inner.code)
-    (written c.emit_stmt.new.code) (stmt_view x)
-    (block_view (drop (i + 1) items)) c.in_ok-emit_stmt-in-Block.ensures.code names in
+    let x = c.statement-item.result in
+    let names = c.in_ok-emit_stmt.ensures.names in
+    let more = stmts_nodes_more c.loop-statement.names c.emit_stmt.new.names
+    (written c.loop-statement.code) (written c.emit_stmt.new.code) (stmt_view x)
+    (block_view (drop (i + 1) items)) c.in_ok-emit_stmt.ensures.code names in
     record {
-      code = more ∙ ap (λ b. before (written c.loop-inner.code) (stmts_nodes c.loop-inner.names b))
-          (sym (block_view-drop items i x lt c.inner-item.is)) ∙ c.loop-inner.invariant.code;
-      names = rw names (base_of_after c.args.names.now c.loop-inner.names
-          (stmt_view x) c.loop-inner.invariant.names);
+      code = more ∙ ap (λ b. before (written c.loop-statement.code)
+          (stmts_nodes c.loop-statement.names b))
+          (sym (block_view-drop items i x lt c.statement-item.is))
+          ∙ c.loop-statement.invariant.code;
+      names = rw names (base_of_after c.args.names.now c.loop-statement.names
+          (stmt_view x) c.loop-statement.invariant.names);
     }
 
-pub emit_stmt-returns-after-loop-inner-clause-code :
-    goal.emit_stmt-returns-after-loop-inner-clause-code
-emit_stmt-returns-after-loop-inner-clause-code t c =
-    let items = c.deref-inner-items.result.now in
-    sym (before_end (written c.loop-inner.code))
-    ∙ ap (λ l. before (written c.loop-inner.code) (stmts_nodes c.loop-inner.names (block_view l)))
-    (sym (drop_of_length-le items c.loop-inner-test.false))
-    ∙ c.loop-inner.invariant.code
-    ∙ ap (λ l. before (written c.args.code.now) (stmts_nodes c.args.names.now (block_view l)))
-    c.deref-inner-items.ensures.value
-    ∙ sym (ap (λ s. before (written c.args.code.now) (stmt_nodes c.args.names.now s))
-    (stmt_view-Block c.in-Block.body))
-    ∙ ap (λ s. before (written c.args.code.now) (stmt_nodes c.args.names.now (stmt_view s)))
-    (sym c.in-Block.is)
+pub emit_block-returns-clause-code : goal.emit_block-returns-clause-code
+emit_block-returns-clause-code t c =
+    let items = c.args.block.now in
+    sym (before_end (written c.loop-statement.code))
+    ∙ ap (λ l. before (written c.loop-statement.code)
+    (stmts_nodes c.loop-statement.names (block_view l)))
+    (sym (drop_of_length-le items c.loop-statement-test.false))
+    ∙ c.loop-statement.invariant.code
+
+pub emit_stmt-returns-in-Block-clause-code : goal.emit_stmt-returns-in-Block-clause-code
+emit_stmt-returns-in-Block-clause-code t c =
+    let names = c.args.names.now in
+    let same =
+    ap (λ l. stmts_nodes names (block_view l)) c.deref.ensures.value
+    ∙ sym (ap (stmt_nodes names) (stmt_view-Block c.in-Block.body))
+    ∙ ap (λ s. stmt_nodes names (stmt_view s)) (sym c.in-Block.is) in
+    on_ok_weaker c.emit_block.result (λ h. h ∙ ap (before (written c.args.code.now)) same)
+    c.emit_block.ensures.code

@@ -1,4 +1,5 @@
-use Rattle.std.proofs.Common.{◌≡◌, drop}
+use Rattle.std.proofs.Common.{◌≡◌, ◌+◌, ◌*◌, max, drop}
+use Rattle.strc_syntax.proofs.tree.Stmt.TheLaws.{the_size}
 use Rattle.strc_syntax.specs.View.{block_view}
 use Rattle.strc_code.specs.Nodes.{before}
 use Rattle.strc_code.specs.Lowering.{stmts_nodes}
@@ -6,10 +7,25 @@ use Rattle.strc_lowering.specs.Written.{written}
 use Rattle.strc_semantics.proofs.Growth.{IsBaseOf}
 use Rattle.strc_lowering.proofs.statement_code.+statement.Given as goal
 
-abbrev pub invariant-emit_stmt-loop-inner : goal.invariant-emit_stmt-loop-inner
-invariant-emit_stmt-loop-inner l = record {
-  code : before (written l.code) (stmts_nodes l.names
-      (block_view (drop l.inner-index l.inner-items)))
-      ≡ before (written l.initial.code) (stmts_nodes l.initial.names (block_view l.inner-items));
+abbrev pub decreases-emit_stmt : goal.decreases-emit_stmt
+decreases-emit_stmt l = 4 * the_size l.statement.now
+
+abbrev pub decreases-emit_block : goal.decreases-emit_block
+decreases-emit_block l = 4 * goal.size-emit_block l + 1
+
+abbrev pub decreases-emit_inside : goal.decreases-emit_inside
+decreases-emit_inside l = 4 * the_size l.statement.now + 1
+
+abbrev pub decreases-emit_apart : goal.decreases-emit_apart
+decreases-emit_apart l = 4 * the_size l.statement.now + 2
+
+abbrev pub decreases-emit_for : goal.decreases-emit_for
+decreases-emit_for l =
+    4 * max (the_size l.first.now) (max (the_size l.step.now) (the_size l.body.now)) + 3
+
+abbrev pub invariant-emit_block-loop-statement : goal.invariant-emit_block-loop-statement
+invariant-emit_block-loop-statement l = record {
+  code : before (written l.code) (stmts_nodes l.names (block_view (drop l.statement-index l.block)))
+      ≡ before (written l.initial.code) (stmts_nodes l.initial.names (block_view l.block));
   names : IsBaseOf l.initial.names l.names;
 }

@@ -3,7 +3,7 @@ use Rattle.strc_syntax.specs.View.{member_view}
 use Rattle.strc_semantics.specs.Filters.{members_of}
 use Rattle.strc_check.specs.Resolution.{members_resolved}
 use Rattle.strc_check.proofs.Resolved.{list_after}
-use Rattle.strc_check.proofs.resolution.resolve_filter.Given as goal
+use Rattle.strc_check.proofs.resolution.resolve_members.Given as goal
 
 abbrev pub invariant-loop-member : goal.invariant-loop-member
 invariant-loop-member l = record {

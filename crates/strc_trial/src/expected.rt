@@ -1,14 +1,11 @@
 // What could be where a token can't.
 
+use crate::trial::LONGEST;
 use std::alloc::Global;
 use strc_base::memory::NoMemory;
 use strc_lex::lexer::lex;
 use strc_lex::token::{Keyword, Punctuation};
 use strc_parse::{ParseError, parse};
-
-/// The longest beginning of a text for which it is found out, in bytes: it takes a reading of it
-/// for each kind of token.
-const LONGEST: usize = 16_384;
 
 /// How many tokens are named.
 const NAMED: usize = 6;
@@ -69,7 +66,8 @@ pub struct Expected {
     pub tokens: Vec<&'static [u8]>,
 }
 
-/// What could be after a text's beginning, which has so many tokens.
+/// What could be after a text's beginning, which has so many tokens. It takes a reading of the
+/// beginning for each kind of token, so it isn't found out for one that is longer than a trial.
 pub fn expected_after(
     alloc: Global,
     beginning: &[u8],
@@ -78,11 +76,14 @@ pub fn expected_after(
     if beginning.len() > LONGEST {
         return Ok(None);
     }
-    let trial = Trial { beginning, count };
-    let statement = trial.can_follow(alloc, Keyword::While.text())?;
-    let expression = trial.can_follow(alloc, b"1")?;
-    let name = trial.can_follow(alloc, b"x")?;
-    let operator = trial.can_follow(alloc, Punctuation::Star.text())?;
+    let tried = Beginning {
+        text: beginning,
+        count,
+    };
+    let statement = tried.can_follow(alloc, Keyword::While.text())?;
+    let expression = tried.can_follow(alloc, b"1")?;
+    let name = tried.can_follow(alloc, b"x")?;
+    let operator = tried.can_follow(alloc, Punctuation::Star.text())?;
     let mut expected = Expected {
         statement,
         expression,
@@ -90,24 +91,24 @@ pub fn expected_after(
         operator,
         tokens: Vec::new(alloc),
     };
-    trial.add_keywords(alloc, &mut expected)?;
-    trial.add_punctuation(alloc, &mut expected)?;
+    tried.add_keywords(alloc, &mut expected)?;
+    tried.add_punctuation(alloc, &mut expected)?;
     Ok(Some(expected))
 }
 
 /// A beginning of a text, after which tokens are tried.
 #[derive(Clone, Copy)]
-struct Trial<'a> {
-    beginning: &'a [u8],
+struct Beginning<'a> {
+    text: &'a [u8],
     count: usize,
 }
 
-impl<'a> Trial<'a> {
+impl<'a> Beginning<'a> {
     /// Whether a token can be there: a text that goes on with it is refused at a later token, if
     /// at all.
     fn can_follow(self, alloc: Global, token: &[u8]) -> Result<bool, NoMemory> {
         let mut text = Vec::new(alloc);
-        text.extend_from_slice(self.beginning)?;
+        text.extend_from_slice(self.text)?;
         text.extend_from_slice(b" ")?;
         text.extend_from_slice(token)?;
         let Ok(tokens) = lex(alloc, &text) else {

@@ -1,0 +1,78 @@
+use Rattle.std.proofs.Common.{◌+◌, ◌<◌, [], ◌∷◌, ◌++◌, drop, length, sym, ap, ◌∙◌}
+use Rattle.std.proofs.Common.{arith}
+use Rattle.std.proofs.lemmas.Result.{err_from_is_err_and}
+use Rattle.strc_syntax.specs.View.{member_view}
+use Rattle.strc_semantics.specs.Filters.{members_of}
+use Rattle.strc_check.specs.Resolution as judged
+use Rattle.strc_base.proofs.Lists.{map-drop}
+use Rattle.strc_check.proofs.Resolved.{list_after, list_after_step, list_refused, next_refused}
+use Rattle.strc_check.proofs.Resolved.{refusal_same}
+use Rattle.strc_check.proofs.resolution.resolve_members.Goals as goal
+
+pub loop-member-preserved : goal.loop-member-preserved
+loop-member-preserved c =
+    let constants = c.args.constants.now in
+    let input = c.args.input in
+    let output = c.args.output in
+    let members = c.args.members.now in
+    let i = c.loop-member.member-index in
+    let x = c.member-item.result in
+    let within : i < length members = omega arith in
+    let y = c.in_ok-push_next.ensures.ok.0 in
+    let told = c.in_ok-push_next.ensures.ok.1 in
+    let rest = members_of (drop (i + 1) members) in
+    record {
+      left = ap (λ resolved. list_after member_view resolved
+          (judged.members_resolved constants input output c.resolve_member-next.new.fields
+          c.resolve_member-next.new.before rest)) c.in_ok-push_next.ensures.ok.2
+          ∙ ap (λ f. list_after member_view
+          (c.loop-member.resolved.items ++ y ∷ [])
+          (judged.members_resolved constants input output f c.resolve_member-next.new.before rest))
+          (rw told at c.resolve_member-next.ensures.fields)
+          ∙ ap (λ b. list_after member_view
+          (c.loop-member.resolved.items ++ y ∷ [])
+          (judged.members_resolved constants input output c.loop-member.fields b rest))
+          (rw told at c.resolve_member-next.ensures.before)
+          ∙ list_after_step member_view c.loop-member.resolved.items y
+          (judged.member_resolved constants input output c.loop-member.fields c.loop-member.before
+          (member_view x))
+          (judged.members_resolved constants input output c.loop-member.fields
+          (judged.fields_after c.loop-member.before (member_view x)) rest)
+          (rw told at c.resolve_member-next.ensures.verdict)
+          ∙ sym (ap (λ l. list_after member_view c.loop-member.resolved.items
+          (judged.members_resolved constants input output c.loop-member.fields
+          c.loop-member.before l)) (map-drop member_view members i x within c.member-item.is))
+          ∙ c.loop-member.invariant.left;
+      fields = (rw told at c.resolve_member-next.ensures.fields) ∙ c.loop-member.invariant.fields;
+    }
+
+pub returns-in_err-push_next : goal.returns-in_err-push_next
+returns-in_err-push_next c =
+    let constants = c.args.constants.now in
+    let input = c.args.input in
+    let output = c.args.output in
+    let members = c.args.members.now in
+    let i = c.loop-member.member-index in
+    let x = c.member-item.result in
+    let within : i < length members = omega arith in
+    let rest = members_of (drop (i + 1) members) in
+    let fields = c.loop-member.fields in
+    let before = c.loop-member.before in
+    let resolved = c.loop-member.resolved.items in
+    let e = c.in_err-push_next.field-0.0 in
+    let refusal = next_refused member_view
+    (judged.member_resolved constants input output fields before (member_view x))
+    c.resolve_member-next.result e c.resolve_member-next.ensures.verdict
+    c.in_err-push_next.ensures.err in
+    let p = err_from_is_err_and c.from_residual.result c.from_residual.ensures.1 in
+    let here = list_refused member_view resolved
+    (judged.member_resolved constants input output fields before (member_view x))
+    (judged.members_resolved constants input output fields
+    (judged.fields_after before (member_view x)) rest) e refusal in
+    let left = ap (λ l. list_after member_view resolved
+    (judged.members_resolved constants input output fields before l))
+    (sym (map-drop member_view members i x within c.member-item.is))
+    ∙ c.loop-member.invariant.left
+    ∙ ap (λ b. judged.members_resolved constants input output c.args.fields.now b
+    (members_of members)) c.new-before.ensures in
+    rw (p.1, p.2) (refusal_same _ _ e left here)

@@ -1,0 +1,11 @@
+use Rattle.strc_semantics.specs.Filters.{members_of}
+use Rattle.strc_lowering.proofs.Prework.{bodies_of}
+use Rattle.strc_lowering.proofs.emission.emit_bodies.Goals as goal
+
+pub returns : goal.returns
+returns c = bodies_of (members_of c.args.members.now) c.args.names.now c.emit_routine.new.names
+    c.in_ok-prework.prework c.in_ok-work.work c.in_ok-work.ensures.names (record {
+      code = c.in_ok-work.ensures.code;
+      flat = c.in_ok-work.ensures.flat;
+      limits = c.in_ok-work.ensures.limits;
+    }) c.in_ok-prework.ensures
