@@ -12,7 +12,7 @@ ghost use Rattle.strc_parse.specs.Readers.{ReadsStatements};
 ghost use Rattle.strc_parse.specs.Parts as parts;
 
 use crate::control::StatementRules;
-use crate::kept::{followed, nested};
+use crate::kept::{with_mark, with_node_height};
 use std::alloc::Global;
 use strc_base::name::Name;
 use strc_grammar::ReadError;
@@ -35,7 +35,7 @@ fn named_child<'t>(
 ) -> Result<Parsed<'t, Child>, ReadError>
     ensures { Gives (parsed child_view) result (spec.named_child limit name (kinds tokens.now)) }
 {
-    let given = followed(Punctuation::Semicolon, arguments(alloc, limit, tokens))?;
+    let given = with_mark(Punctuation::Semicolon, arguments(alloc, limit, tokens))?;
     Ok(Parsed::new(Child::Named(name, given.value), given.height, given.rest))
 }
 
@@ -111,7 +111,7 @@ fn split(
     ensures { Gives (parsed composition_view) result (spec.split depth (kinds tokens.now)) }
 {
     let splitter = splitter(alloc, depth - 1, tokens);
-    let splitter = nested(depth, followed(Punctuation::Semicolon, splitter))?;
+    let splitter = with_node_height(depth, with_mark(Punctuation::Semicolon, splitter))?;
     Ok(Parsed::new(
         Composition::Split(splitter.value),
         splitter.height,
@@ -126,7 +126,7 @@ fn join(alloc: Global, depth: usize, tokens: &[Token]) -> Result<Parsed<'_, Comp
     ensures { Gives (parsed composition_view) result (spec.join depth (kinds tokens.now)) }
 {
     let weights = weights(alloc, depth - 1, tokens);
-    let weights = nested(depth, followed(Punctuation::Semicolon, weights))?;
+    let weights = with_node_height(depth, with_mark(Punctuation::Semicolon, weights))?;
     Ok(Parsed::new(
         Composition::Join(weights.value),
         weights.height,
@@ -286,7 +286,7 @@ impl<F: Fn(Global, usize, &[Token]) -> Result<Parsed<'_, Stmt>, ReadError>> Stat
         ensures { Gives (parsed composition_view) result (spec.child_for self.now.depth
             (spec.statement (self.now.depth - 1)) role (kinds tokens.now)) }
     {
-        let child = nested(self.depth, self.child(tokens))?;
+        let child = with_node_height(self.depth, self.child(tokens))?;
         Ok(Parsed::new(
             Composition::Child(role, child.value),
             child.height,
@@ -331,7 +331,7 @@ impl<F: Fn(Global, usize, &[Token]) -> Result<Parsed<'_, Stmt>, ReadError>> Stat
         ensures { Gives (parsed stmt_view) result (spec.compose self.now.depth
             (spec.statement (self.now.depth - 1)) keyword (kinds tokens.now)) }
     {
-        let composition = nested(self.depth, self.composition(keyword, tokens))?;
+        let composition = with_node_height(self.depth, self.composition(keyword, tokens))?;
         Ok(Parsed::new(
             Stmt::Compose(composition.value),
             composition.height,

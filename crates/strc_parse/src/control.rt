@@ -10,7 +10,7 @@ ghost use Rattle.strc_grammar.specs.Reading.{Gives};
 ghost use Rattle.strc_parse.specs.Readers.{ReadsStatements};
 ghost use Rattle.strc_parse.specs.Parts as parts;
 
-use crate::kept::{both, made, nested};
+use crate::kept::{both, node_read, with_node_height};
 use crate::simple::{ForHeading, argument, bracketed, ended, for_heading};
 use std::alloc::Global;
 use strc_grammar::{Fault, ReadError};
@@ -204,7 +204,7 @@ impl<F: Fn(Global, usize, &[Token]) -> Result<Parsed<'_, Stmt>, ReadError>> Stat
         }
         let read = Parsed::new((condition, chosen), height, tokens).raise(self.depth)?;
         let (condition, chosen) = read.value;
-        made(if_of(self.alloc, condition, chosen), read.height, read.rest)
+        node_read(if_of(self.alloc, condition, chosen), read.height, read.rest)
     }
 
     /// The branch after `else`, with the height of what is before it.
@@ -224,10 +224,10 @@ impl<F: Fn(Global, usize, &[Token]) -> Result<Parsed<'_, Stmt>, ReadError>> Stat
             (expr_view condition) (stmt_view chosen) height (kinds tokens.now)) }
     {
         let read = both((condition, chosen), height, self.below(tokens));
-        let read = nested(self.depth, read)?;
+        let read = with_node_height(self.depth, read)?;
         let ((condition, chosen), other) = read.value;
         let node = if_else_of(self.alloc, condition, chosen, other);
-        made(node, read.height, read.rest)
+        node_read(node, read.height, read.rest)
     }
 
     /// `while`: after the keyword.
@@ -242,10 +242,10 @@ impl<F: Fn(Global, usize, &[Token]) -> Result<Parsed<'_, Stmt>, ReadError>> Stat
     {
         let read = bracketed(self.alloc, self.depth, tokens)?;
         let read = both(read.value, read.height, self.below(read.rest));
-        let read = nested(self.depth, read)?;
+        let read = with_node_height(self.depth, read)?;
         let (condition, body) = read.value;
         let node = while_of(self.alloc, condition, body);
-        made(node, read.height, read.rest)
+        node_read(node, read.height, read.rest)
     }
 
     /// `for`: after the keyword.
@@ -260,7 +260,7 @@ impl<F: Fn(Global, usize, &[Token]) -> Result<Parsed<'_, Stmt>, ReadError>> Stat
     {
         let read = for_heading(self.alloc, self.depth, tokens)?;
         let read = both(read.value, read.height, self.below(read.rest));
-        let read = nested(self.depth, read)?;
+        let read = with_node_height(self.depth, read)?;
         let (heading, body) = read.value;
         let ForHeading {
             first,
@@ -268,7 +268,7 @@ impl<F: Fn(Global, usize, &[Token]) -> Result<Parsed<'_, Stmt>, ReadError>> Stat
             step,
         } = heading;
         let node = for_of(self.alloc, first, condition, step, body);
-        made(node, read.height, read.rest)
+        node_read(node, read.height, read.rest)
     }
 
     /// A block as a statement: after its brace.
@@ -280,7 +280,7 @@ impl<F: Fn(Global, usize, &[Token]) -> Result<Parsed<'_, Stmt>, ReadError>> Stat
         ensures { Gives (parsed stmt_view) result
             (spec.block self.now.depth (spec.statement (self.now.depth - 1)) (kinds tokens.now)) }
     {
-        let body = nested(self.depth, self.statements(tokens))?;
+        let body = with_node_height(self.depth, self.statements(tokens))?;
         Ok(Parsed::new(block_of(body.value), body.height, body.rest))
     }
 

@@ -25,7 +25,7 @@ pub(crate) fn both<'t, A: Drop, B>(
 }
 
 /// What was read, with the height of the node that it becomes part of.
-pub(crate) fn nested<'t, T: Drop>(
+pub(crate) fn with_node_height<'t, T: Drop>(
     depth: usize,
     part: Result<Parsed<'t, T>, ReadError>,
 ) -> Result<Parsed<'t, T>, ReadError>
@@ -37,7 +37,7 @@ pub(crate) fn nested<'t, T: Drop>(
 }
 
 /// What was read, with the punctuation mark that has to follow it.
-pub(crate) fn followed<'t, T: Drop>(
+pub(crate) fn with_mark<'t, T: Drop>(
     wanted: Punctuation,
     part: Result<Parsed<'t, T>, ReadError>,
 ) -> Result<Parsed<'t, T>, ReadError>
@@ -49,7 +49,7 @@ pub(crate) fn followed<'t, T: Drop>(
 }
 
 /// A node, if there was memory for it, with its height and the tokens past it.
-pub(crate) fn made<'t, T>(
+pub(crate) fn node_read<'t, T>(
     node: Result<T, AllocError>,
     height: usize,
     rest: &'t [Token],

@@ -11,7 +11,7 @@ ghost use Rattle.strc_parse.specs.Readers.{ReadsStatements};
 ghost use Rattle.strc_parse.specs.Parts as parts;
 
 use crate::control::StatementRules;
-use crate::kept::{both, followed};
+use crate::kept::{both, with_mark};
 use std::alloc::Global;
 use strc_grammar::ReadError;
 use strc_lex::token::{Keyword, Punctuation, Token, TokenKind};
@@ -89,7 +89,7 @@ fn rates(
 fn fields(alloc: Global, limit: usize, tokens: &[Token]) -> Result<Parsed<'_, Member>, ReadError>
     ensures { Gives (parsed member_view) result (spec.fields limit (kinds tokens.now)) }
 {
-    let declared = followed(Punctuation::Semicolon, declared(alloc, limit, tokens))?;
+    let declared = with_mark(Punctuation::Semicolon, declared(alloc, limit, tokens))?;
     Ok(Parsed::new(
         Member::Fields(declared.value),
         declared.height,

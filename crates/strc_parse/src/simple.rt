@@ -9,7 +9,7 @@ ghost use Rattle.strc_parse.specs.Seen.{heading_view, after_first_view};
 ghost use Rattle.strc_grammar.specs.Reading as spec;
 ghost use Rattle.strc_grammar.specs.Reading.{Gives};
 
-use crate::kept::{both, followed, nested};
+use crate::kept::{both, with_mark, with_node_height};
 use std::alloc::Global;
 use std::mem;
 use strc_base::name::Name;
@@ -29,7 +29,7 @@ fn declare(alloc: Global, depth: usize, tokens: &[Token]) -> Result<Parsed<'_, S
     requires { 0 < depth }
     ensures { Gives (parsed stmt_view) result (spec.declare depth (kinds tokens.now)) }
 {
-    let declared = nested(depth, declared(alloc, depth - 1, tokens))?;
+    let declared = with_node_height(depth, declared(alloc, depth - 1, tokens))?;
     Ok(Parsed::new(
         Stmt::Declare(declared.value),
         declared.height,
@@ -89,7 +89,7 @@ fn assign_element<'t>(
         (kinds tokens.now)) }
 {
     let value = expression(alloc, depth - 1, LOWEST_PRECEDENCE, tokens);
-    let read = nested(depth, both((name, index), element_height, value))?;
+    let read = with_node_height(depth, both((name, index), element_height, value))?;
     let ((name, index), value) = read.value;
     Ok(Parsed::new(
         Stmt::AssignElement(name, index, operator, value),
@@ -197,7 +197,7 @@ pub(crate) fn ended(
     requires { 0 < depth }
     ensures { Gives (parsed stmt_view) result (spec.ended depth (kinds tokens.now)) }
 {
-    followed(Punctuation::Semicolon, part(alloc, depth, tokens))
+    with_mark(Punctuation::Semicolon, part(alloc, depth, tokens))
 }
 
 /// `(e)`, with the height of e.
@@ -225,7 +225,7 @@ pub(crate) fn argument(
     ensures { Gives (parsed expr_view) result (spec.argument depth (kinds tokens.now)) }
 {
     let read = bracketed(alloc, depth, tokens);
-    nested(depth, followed(Punctuation::Semicolon, read))
+    with_node_height(depth, with_mark(Punctuation::Semicolon, read))
 }
 
 /// The condition of a `for`, if there is one, and its semicolon.
@@ -252,7 +252,7 @@ fn last_part(alloc: Global, depth: usize, tokens: &[Token]) -> Result<Parsed<'_,
     ensures { Gives (parsed stmt_view) result (spec.last_part depth (kinds tokens.now)) }
 {
     let read = optional(alloc, depth, Punctuation::CloseParen, tokens);
-    followed(Punctuation::CloseParen, read)
+    with_mark(Punctuation::CloseParen, read)
 }
 
 /// `condition; step)`, and the height of the higher.

@@ -1,6 +1,6 @@
 use Rattle.std.proofs.Common.{inr}
 use Rattle.std.proofs.lemmas.Result.{err_from_is_err_and}
-use Rattle.strc_parse.proofs.kept.nested.Goals as goal
+use Rattle.strc_parse.proofs.kept.with_node_height.Goals as goal
 
 pub returns-in_err-height : goal.returns-in_err-height
 returns-in_err-height g c =
