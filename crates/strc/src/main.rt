@@ -9,10 +9,10 @@ use std::thread::Builder;
 use std::{env, thread};
 use strc_cli::device::Told;
 use strc_cli::execute::CliError;
-use strc_cli::explain::execute_explained;
 use strc_cli::program_text::{TextFault, read_text};
 use strc_command::line::{Line, LineFault};
 use strc_command::words::{VERSION, asks_for_help, asks_for_version, command, usage_error};
+use strc_explain::explain::execute_explained;
 
 // The exit statuses that no answer of `execute_explained` has.
 const DONE: u8 = 0;

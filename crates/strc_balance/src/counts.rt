@@ -6,7 +6,6 @@ ghost use Rattle.strc_balance.specs.Balance.{IsWithinLimit};
 use std::marker::Model;
 
 /// How often each node fires, by its number: at most 1,000,000 times. Contracts see a list.
-#[derive(Debug)]
 pub struct Counts {
     counts: Vec<u32>,
 }

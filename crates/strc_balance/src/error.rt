@@ -8,7 +8,7 @@ use std::error::Error;
 use std::fmt;
 
 /// Why a graph has no counts of a round. Channels are numbered from 0.
-#[derive(Clone, Copy, Debug, PartialEq, Eq)]
+#[derive(Clone, Copy, Debug)]
 pub enum BalanceError {
     /// A node would fire more than 1,000,000 times, or its count is a fraction of the first node's
     /// with a part above 1,000,000.

@@ -1,5 +1,1 @@
 pub mod Lists
-pub mod Tables
-pub mod Scopes
-pub mod Numbered
-pub mod ScopeMaps

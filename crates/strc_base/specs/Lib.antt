@@ -1,4 +1,2 @@
 pub mod Names
-pub mod Tables
-pub mod Scopes
 pub mod Results

@@ -57,7 +57,6 @@ impl Name {
 }
 
 /// What a string has between its quotes. Contracts see it as the list of its bytes.
-#[derive(Debug)]
 pub struct StringLiteral {
     bytes: Vec<u8>,
 }

@@ -6,7 +6,7 @@
 // Gives a line for each case that differs, and at the end how many do; and the same of devices that
 // fail or take little at a time.
 // There is no theorem here; the values are those of the language's rules.
-// Stands on strc_cli, whose `command` and `execute_explained` it calls.
+// Stands on strc_cli, whose `command` it calls, and on strc_explain, whose `execute_explained`.
 #![tactic(auto)]
 
 mod devices;
@@ -17,9 +17,9 @@ use std::process::ExitCode;
 use std::thread::Builder;
 use std::{fs, io, thread};
 use strc_cli::device::Told;
-use strc_cli::explain::execute_explained;
 use strc_command::line::{Command, LineFault};
 use strc_command::words::command;
+use strc_explain::explain::execute_explained;
 
 // The status of a command line that isn't understood, as of the program's.
 const WORDS: u8 = 1;

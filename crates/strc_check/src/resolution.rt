@@ -19,7 +19,7 @@ use crate::types::{self, ValueType};
 use crate::{expression_rules, parts, rates, statement_rules, type_rules};
 use std::alloc::Global;
 use strc_base::memory::NoMemory;
-use strc_base::scope::Scope;
+use strc_names::scope::Scope;
 use strc_syntax::tree::{FilterTree, ItemType, Member, RateTree, Stmt, Variable, Variables};
 
 /// A body with its constants substituted.

@@ -7,7 +7,7 @@ ghost use Rattle.strc_check.specs.Typing as typing;
 use strc_syntax::tree::VariableType;
 
 /// What a name stands for, and what a value is.
-#[derive(Clone, Copy, PartialEq, Eq)]
+#[derive(Clone, Copy)]
 pub enum ValueType {
     /// A number of 32 bits.
     Int,

@@ -1,9 +1,9 @@
 -- What is answered for a text, a command and an input, before anything is written.
 use Rattle.std.specs.Prelude.{◌≡◌, ℕ, ℤ, Bool, true, false, List, [], length, Option, Result, Ok}
-use Rattle.std.specs.Prelude.{Err, String, string_bytes, IfSome}
+use Rattle.std.specs.Prelude.{Err, String, string_bytes}
 use Rattle.std.specs.declared.alloc.Global.{Global}
 use Rattle.std.specs.Option.{option_map}
-use Rattle.strc_input.specs.Numbers.{ints}
+use Rattle.strc_input.specs.Input.{WritesNumbers}
 use Rattle.strc_outcome.specs.declared.outcome.Outcome.{Outcome}
 use Rattle.strc_outcome.specs.declared.refusal.RunRefusal.{RunRefusal}
 use Rattle.strc_stream.specs.Instances.{Stream}
@@ -23,11 +23,6 @@ use Rattle.strc_output.specs.declared.stop.Stop.TheVariants as stop
 use Rattle.strc_command.specs.Lines.{main_of}
 use Rattle.strc_command.specs.declared.line.Command.{Command}
 use Rattle.strc_command.specs.declared.line.Command.TheVariants as command
-
--- the bytes of the input, where they are known, write these numbers; or the word of this number
--- writes none
-abbrev pub WritesNumbers : (bytes : Option (List ℕ)) → Result (List ℤ) ℕ → Type 0
-WritesNumbers bytes numbers = IfSome bytes (λ all. ints all ≡ numbers)
 
 -- the input of a program that reads one is what the bytes write; that of another one is empty
 abbrev pub IsInput : (reads : Bool) → (bytes : Option (List ℕ)) → List ℤ → Type 0

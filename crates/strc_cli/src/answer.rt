@@ -10,12 +10,12 @@ ghost use Rattle.strc_command.specs.Lines.{main_of};
 ghost use Rattle.strc_cli.specs.Input as spec;
 ghost use Rattle.strc_cli.specs.Input.{IsInputOf, IsRunAnswer};
 
-use crate::device::Source;
 use crate::drawing::drawn;
 use crate::execute::CliError;
-use crate::input::{ReadStop, read_numbers};
 use std::alloc::{AllocError, Global};
 use strc_command::line::Command;
+use strc_input::device::Source;
+use strc_input::input::{ReadStop, read_numbers};
 use strc_output::stop::Stop;
 use strc_run::compile::{Plan, compile};
 use strc_run::laws::plans_answer_texts;
@@ -25,7 +25,7 @@ use strc_run::run::{Outcome, RunRefusal, reads_input, run};
 
 /// What a command asks of an accepted text.
 #[derive(Drop)]
-pub(crate) enum Answer {
+pub enum Answer {
     /// How its run ended.
     Ran(Outcome),
     /// How many nodes and channels its flat graph has.
@@ -38,7 +38,7 @@ pub(crate) enum Answer {
 
 /// The answer to a command. A refusal of the text comes before the input is read, and one of the
 /// input before one of the run. The input is read where the text is run and its graph has a reader.
-pub(crate) fn answer_to<I: Source>(
+pub fn answer_to<I: Source>(
     alloc: Global,
     text: &[u8],
     command: &Command,
@@ -143,7 +143,7 @@ fn options_of(alloc: Global, command: &Command) -> Result<Options, AllocError>
 }
 
 /// The main stream that a command names.
-pub(crate) fn main_name(command: &Command) -> Option<&str>
+pub fn main_name(command: &Command) -> Option<&str>
     ensures { option_map (λ name. name.now) result ≡ main_of command.now }
 {
     let main = match command {

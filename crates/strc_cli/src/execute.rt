@@ -7,9 +7,9 @@ ghost use Rattle.strc_cli.specs.Executes as spec;
 ghost use Rattle.strc_cli.specs.Executes.{Executes, TellsAnswer, Writes, device_of};
 
 use crate::answer::{Answer, answer_to};
-use crate::device::{Sink, Source};
 use std::alloc::{AllocError, Global};
 use strc_command::line::Command;
+use strc_input::device::{Sink, Source};
 use strc_output::output::{check_text, outcome_text, plan_text, stop_text};
 use strc_output::stop::Stop;
 use strc_run::refusal::Refusal;
@@ -17,7 +17,7 @@ use strc_run::run::{Outcome, RunRefusal};
 use thiserror::Error;
 
 /// How a call of `execute` went: what the program's exit status tells.
-#[derive(Clone, Copy, Debug, PartialEq, Eq)]
+#[derive(Clone, Copy, PartialEq, Eq)]
 pub enum Status {
     /// All rounds were run, or what was asked of the text was written.
     Done,
@@ -82,7 +82,7 @@ pub fn execute<I: Source, O: Sink>(
 }
 
 /// Writes what is reported of an answer.
-pub(crate) fn tell<O: Sink>(
+pub fn tell<O: Sink>(
     alloc: Global,
     answered: &Result<Answer, Stop>,
     output: &mut O,

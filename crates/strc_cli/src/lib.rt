@@ -7,17 +7,13 @@
 // refusal that holds.
 // Stands on strc_command, whose commands it carries out, on strc_run, which compiles and runs a
 // text, on strc_stage, whose plans it answers with, on strc_input, which reads its input's numbers,
-// on strc_output, which writes what it answers, and on strc_messages and strc_picture. To
-// strc_messages it hands in what strc_trial asks for, from strc_elab.
+// on strc_output, which writes what it answers, and on strc_picture.
 #![tactic(auto)]
 
-mod answer;
-pub mod device;
+pub mod answer;
 mod drawing;
-mod elaborator;
 pub mod execute;
-pub mod explain;
-mod input;
 pub mod program_text;
 
 pub use strc_command::{line, words};
+pub use strc_input::device;

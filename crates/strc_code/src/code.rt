@@ -80,8 +80,11 @@ pub struct Routine {
     pub limits: FiringLimits,
 }
 
+/// The greatest rate that may be declared.
+pub const RATE_LIMIT: i32 = 65536;
+
 /// Rates as they are declared; a missing one is 0, and a missing peek rate is the pop rate.
-#[derive(Clone, Copy, PartialEq, Eq)]
+#[derive(Clone, Copy)]
 pub struct DeclaredRates {
     pub push: i32,
     pub pop: i32,

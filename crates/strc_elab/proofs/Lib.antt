@@ -15,3 +15,4 @@ pub mod Totals
 pub mod Turns
 pub mod TypeRows
 pub mod Views
+pub mod Values

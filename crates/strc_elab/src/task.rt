@@ -19,7 +19,7 @@ pub(crate) enum Text<'a> {
 }
 
 /// How many turns all loops have made, and how many filters there are, so far.
-#[derive(Clone, Copy, PartialEq, Eq)]
+#[derive(Clone, Copy)]
 pub(crate) struct Totals {
     pub(crate) turns: u32,
     pub(crate) filters: u32,

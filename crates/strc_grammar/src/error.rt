@@ -46,7 +46,7 @@ pub enum Fault {
 }
 
 /// Why a rule stopped.
-#[derive(Clone, Copy, Debug, PartialEq, Eq)]
+#[derive(Clone, Copy)]
 pub enum ReadError {
     Memory,
     Fault(Fault),

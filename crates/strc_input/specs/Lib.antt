@@ -1,3 +1,4 @@
 pub mod Numbers
 pub mod Reading
 pub mod Answers
+pub mod Input

@@ -22,7 +22,7 @@ pub(crate) enum Word {
 }
 
 /// Why the input has no numbers. Words are numbered from 0.
-#[derive(Clone, Copy, Debug, PartialEq, Eq, Error)]
+#[derive(Clone, Copy, Debug, Error)]
 pub enum InputError {
     /// A word isn't a number of 32 bits: an optional `-` and decimal digits.
     #[error("word {word} of the input, counted from 0, isn't a number of 32 bits")]

@@ -7,7 +7,7 @@
 pub mod conditions;
 pub mod dispatch;
 pub mod io;
-mod operation;
+pub mod operation;
 pub mod port;
 pub mod slots;
 pub mod superinstructions;

@@ -4,7 +4,6 @@
 pub use strc_base::name::{Name, StringLiteral};
 
 /// A token and where it is in the text.
-#[derive(Debug)]
 pub struct Token {
     pub kind: TokenKind,
     pub span: Span,
@@ -19,14 +18,13 @@ impl Drop for Token {
 }
 
 /// The bytes from `start` up to `end`, `end` not included.
-#[derive(Clone, Copy, Debug, PartialEq, Eq)]
+#[derive(Clone, Copy)]
 pub struct Span {
     pub start: usize,
     pub end: usize,
 }
 
 /// What kind of token it is, with the name, the number or the text that it carries.
-#[derive(Debug)]
 pub enum TokenKind {
     Name(Name),
     /// 0 to 2147483647, or the minimum, for which 2147483648 is written.
@@ -50,7 +48,7 @@ impl Drop for TokenKind {
 }
 
 /// A keyword, named as it is written.
-#[derive(Clone, Copy, Debug, PartialEq, Eq)]
+#[derive(Clone, Copy, PartialEq, Eq)]
 pub enum Keyword {
     Filter,
     Pipeline,
@@ -96,7 +94,7 @@ pub enum Keyword {
 }
 
 /// A punctuation mark of one or two characters.
-#[derive(Clone, Copy, Debug, PartialEq, Eq)]
+#[derive(Clone, Copy)]
 pub enum Punctuation {
     /// `->`
     Arrow,

@@ -2,7 +2,7 @@
 
 use std::alloc::Global;
 use strc_base::memory::NoMemory;
-use strc_code::code::Code;
+use strc_code::code::{Code, RATE_LIMIT};
 use strc_graph::graph::{Graph, Node};
 use strc_lex::token::{Keyword, Punctuation, Token};
 use strc_peeks::peeks::body_peeks;
@@ -12,9 +12,6 @@ use strc_source::declarations::{extent_of, is_keyword, place_named};
 use strc_source::message::Extent;
 use strc_source::rows::{closing_of, is_mark};
 use strc_syntax::tree::ItemType;
-
-/// The greatest rate.
-const MOST: i32 = 65_536;
 
 /// A rate of a filter.
 #[derive(Clone, Copy)]
@@ -80,7 +77,7 @@ fn refused_rate(code: &Code) -> Option<Moved> {
             (Keyword::Peek, rates.peek, ItemType::Void),
         ] {
             let is_missing = declared == 0 && body == Body::Work && items == ItemType::Int;
-            if declared < 0 || declared > MOST || is_missing {
+            if declared < 0 || declared > RATE_LIMIT || is_missing {
                 return Some(Moved {
                     side,
                     declared,

@@ -1,9 +1,8 @@
 -- The buffers of two orders, channel by channel.
-use Rattle.std.proofs.Common.{◌≡◌, ◌∙◌, refl, sym, ap, ℕ, suc, ◌<◌, ◌≤◌, List, []}
+use Rattle.std.proofs.Common.{◌≡◌, ◌∙◌, refl, sym, ap, subst, ℕ, suc, ◌<◌, ◌≤◌, List, []}
 use Rattle.std.proofs.Common.{◌∷◌, length, map, get_or, replicate, slice_get, slice_index, Some}
 use Rattle.std.proofs.Common.{All}
-use Rattle.std.proofs.Common.{inl, inr, arith, Result, Err}
-use mathlib.Core.Path.{Path}
+use Rattle.std.proofs.Common.{inl, inr, arith}
 use mathlib.Core.Path.{fun_ext}
 use Rattle.std.proofs.lemmas.Bool.{cases_lt}
 use Rattle.std.proofs.lemmas.List.{get_or-replicate, get_or_past, length-replicate, length-map}
@@ -12,13 +11,13 @@ use Rattle.std.proofs.lemmas.Option.{same_Some, slice_get-get_or, slice_get_with
 use Rattle.strc_balance.specs.Balance.{count_at}
 use Rattle.strc_startup.specs.declared.channel_rates.ChannelRates.{ChannelRates}
 use Rattle.strc_order.specs.declared.unit as units
-use Rattle.strc_order.specs.declared.error.ScheduleError.{ScheduleError}
-use Rattle.strc_order.specs.declared.error.ScheduleError.TheVariants as refused
 use Rattle.strc_order.specs.Buffers.{peak_fill, buffer_size, size_limit}
 use Rattle.strc_order.specs.Firings.{Firings, none_fired, fill}
 use Rattle.strc_order.specs.Greedy.{firings_of}
 use Rattle.strc_order.specs.Order.{after}
-use Rattle.strc_order.specs.Peaks.{AreBelow, AreRaised}
+use Rattle.strc_order.specs.Network.{NetworkView, size_of}
+use Rattle.strc_order.specs.Peaks.{AreBelow, AreRaised, Raises}
+use Rattle.strc_order.specs.Schedules.{IsAfterStartup, AreBuffers}
 use Rattle.strc_order.proofs.Fills.{peak_first, peak_last}
 use Rattle.strc_order.proofs.Networks.{nothing}
 
@@ -108,7 +107,86 @@ module _ (channels : List ChannelRates) (startup round : List units.Unit.Unit) w
   pub peak_below : (rates : ChannelRates) → peak rates ≤ buffer_size now startup round rates
   peak_below rates = omega arith
 
--- an error that names a channel names no other one
-pub same_channel : {A : Type 0} (channel other : ℕ) → Path (Result A ScheduleError)
-    (Err (refused.BufferLimit channel)) (Err (refused.BufferLimit other)) → channel ≡ other
-same_channel channel other is = cc is
+-- the numbers of items before any firing
+module _ (network : NetworkView) (startup : List units.Unit.Unit) (counts enqueued : List ℕ)
+    (zero : count_at counts ≡ none_fired)
+    (there : enqueued ≡ map (λ rates. fill rates (count_at counts)) network.channels) where
+  pub enqueued_known : AreBelow network.channels (count_at counts) enqueued
+  enqueued_known number rates at =
+      let e = ap (λ l. slice_index l number) there
+      ∙ at_channel (λ own. fill own (count_at counts)) network.channels number rates at in
+      omega (arith, e)
+
+  pub after_startup : length counts ≡ size_of network → (later greatest : List ℕ)
+      → Raises network.channels (firings_of startup) counts enqueued later greatest
+      → IsAfterStartup network startup later greatest
+  after_startup each later greatest raises = record {
+    counted = raises.counted ∙ ap (λ k. after k (firings_of startup)) zero;
+    nodes = raises.nodes ∙ each;
+    greatest = greatest_is network.channels startup [] greatest
+        (raises.channel ∙ ap length there
+        ∙ length-map network.channels (λ rates. fill rates (count_at counts)))
+        (subst (λ l. AreRaised network.channels none_fired (firings_of startup) l greatest)
+        (there ∙ ap (λ k. map (λ rates. fill rates k) network.channels) zero)
+        (subst (λ k. AreRaised network.channels k (firings_of startup) enqueued greatest) zero
+        raises.peak));
+  }
+
+-- the numbers of items after start-up
+module _ (network : NetworkView) (startup round : List units.Unit.Unit) (counts greatest : List ℕ)
+    (is : IsAfterStartup network startup counts greatest) where
+  pub greatest_each : length greatest ≡ length network.channels
+  greatest_each = ap length is.greatest
+      ∙ length-map network.channels (peak network.channels startup round)
+
+  pub greatest_known : AreBelow network.channels (count_at counts) greatest
+  greatest_known number rates at =
+      let e = ap (λ l. slice_index l number) is.greatest
+      ∙ at_channel (peak network.channels startup round) network.channels number rates at in
+      let p = peak_last rates none_fired (firings_of startup) in
+      let k = ap (fill rates) is.counted in
+      omega (arith, e, p, k)
+
+  pub are_buffers : (last copy later sizes : List ℕ)
+      → last ≡ map (λ rates. fill rates (count_at counts)) network.channels → copy ≡ greatest
+      → Raises network.channels (firings_of round) counts copy later sizes
+      → AreBuffers network.channels startup round greatest last sizes
+  are_buffers last copy later sizes there copied raises = record {
+    greatest = is.greatest;
+    last = there ∙ ap (λ k. map (λ rates. fill rates k) network.channels) is.counted;
+    sizes = sizes_are network.channels startup round greatest sizes is.greatest
+        (raises.channel ∙ ap length copied ∙ greatest_each)
+        (subst (λ l. AreRaised network.channels (now network.channels startup round)
+        (firings_of round) l sizes) copied
+        (subst (λ k. AreRaised network.channels k (firings_of round) copy sizes) is.counted
+        raises.peak));
+  }
+
+-- buffers of which each is within the limit
+module _ (channels : List ChannelRates) (startup round : List units.Unit.Unit)
+    (greatest last sizes : List ℕ)
+    (are : AreBuffers channels startup round greatest last sizes) where
+  pub greatest_within : All (λ size. size ≤ size_limit) sizes
+      → All (λ size. size ≤ size_limit) greatest
+  greatest_within limit =
+      subst (All (λ size. size ≤ size_limit)) (sym are.greatest)
+      (all_lesser (peak channels startup round)
+      (buffer_size (now channels startup round) startup round) channels
+      (peak_below channels startup round)
+      (subst (All (λ size. size ≤ size_limit)) are.sizes limit))
+
+  pub last_within : All (λ size. size ≤ size_limit) sizes → All (λ size. size ≤ size_limit) last
+  last_within limit =
+      subst (All (λ size. size ≤ size_limit)) (sym are.last)
+      (all_lesser (λ rates. fill rates (now channels startup round))
+      (buffer_size (now channels startup round) startup round) channels
+      (last_below channels startup round)
+      (subst (All (λ size. size ≤ size_limit)) are.sizes limit))
+
+  pub same_buffers : (peaks ends limits : List ℕ) → peaks ≡ greatest → ends ≡ last
+      → limits ≡ sizes → AreBuffers channels startup round peaks ends limits
+  same_buffers peaks ends limits one two three = record {
+    greatest = one ∙ are.greatest;
+    last = two ∙ are.last;
+    sizes = three ∙ are.sizes;
+  }

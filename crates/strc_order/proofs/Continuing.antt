@@ -2,8 +2,8 @@
 use Rattle.std.proofs.Common.{◌≡◌, ◌∙◌, refl, sym, ap, subst, ℕ, zero, suc, ◌+◌, ◌*◌, ◌<◌}
 use Rattle.std.proofs.Common.{◌≤◌, max, List, [], ◌∷◌, ◌++◌, length, map, take, get_or, All, arith}
 use Rattle.std.proofs.Common.{slice_get, slice_index, Some, inl, inr, Result, Ok, Err}
-use Rattle.std.specs.Prelude.{IfOk, ◌^◌}
-use mathlib.Core.Path.{fun_ext}
+use Rattle.std.specs.Prelude.{IfOk, IfErr, Bool, ◌^◌}
+use mathlib.Core.Path.{Path, fun_ext}
 use Rattle.std.proofs.Common.{length-append}
 use Rattle.std.proofs.Math.ListN.{get_or-append}
 use Rattle.std.proofs.Math.Seq.{get_or-append_seam}
@@ -21,6 +21,9 @@ use Rattle.strc_order.specs.Firings.{Firings, none_fired, fired, fill}
 use Rattle.strc_order.specs.Peaks.{AreBelow, AreRaised}
 use Rattle.strc_order.specs.Rounds.{IsPastPrework}
 use Rattle.strc_order.specs.Sizing.{rates_on, all_rates_on, IsCovered, HasFills, PassesOn}
+use Rattle.strc_order.specs.Sizing.{HasNoSizes}
+use Rattle.strc_order.specs.declared.error.ScheduleError.{ScheduleError}
+use Rattle.strc_order.specs.declared.error.ScheduleError.TheVariants as refused
 use Rattle.strc_order.proofs.Fills.{peak_first}
 use Rattle.strc_order.proofs.Repeating.{supply_more, popped_more, pops_alike, rates_there}
 
@@ -173,6 +176,13 @@ pub record RaisedFirst (channels : List ChannelRates) (before peaks : List ℕ) 
         → slice_get channels number ≡ Some rates
         → slice_index peaks number ≡ max (slice_index before number) rates.enqueued
 
+pub raised_first_none : (channels : List ChannelRates) (before peaks : List ℕ) → peaks ≡ []
+    → RaisedFirst channels before peaks 0
+raised_first_none channels before peaks none = record {
+  each = ap length none;
+  raised = λ number rates less at. absurd (omega (arith, less));
+}
+
 pub raised_first_more : (channels : List ChannelRates) (before peaks : List ℕ) (i : ℕ)
     (rates : ChannelRates) (peak : ℕ) → slice_get channels i ≡ Some rates
     → peak ≡ max (slice_index before i) rates.enqueued
@@ -229,6 +239,20 @@ pub raised_if_ok : {A E : Type 0} (items : A → List ℕ) (result : Result A E)
 raised_if_ok items (Ok sizes) channels counts fills order before has raised =
     raised_on channels counts fills order before (items sizes) has raised
 raised_if_ok items (Err error) channels counts fills order before has raised = tt
+
+-- why there are no sizes
+module _ {A : Type 0} (result : Result A ScheduleError) (channels : List ChannelRates)
+    (counts : Firings) (order before : List ℕ)
+    (none : IfErr result (HasNoSizes channels counts order before)) where
+  pub why_limit : (channel : ℕ)
+      → Path (Result A ScheduleError) result (Err (refused.BufferLimit channel))
+      → PassesOn channels counts order before channel
+  why_limit channel is = subst (λ r. IfErr r (HasNoSizes channels counts order before)) is none
+
+  pub why_deadlock : (in_startup : Bool)
+      → ¬ (Path (Result A ScheduleError) result (Err (refused.Deadlock in_startup)))
+  why_deadlock in_startup is =
+      subst (λ r. IfErr r (HasNoSizes channels counts order before)) is none
 
 -- there are rates for each channel of a graph
 pub all_rates : (graph : GraphParts)

@@ -14,8 +14,8 @@ use Rattle.strc_order.specs.Firings.{Firings, fired, FindsWindows}
 use Rattle.strc_order.specs.Greedy.{IsNext, less_turns}
 use Rattle.strc_order.specs.Network.{NetworkView, IsNetwork, size_of}
 use Rattle.strc_order.specs.Progress.{count_bound, HasFirst, IsReady, ProgressView}
-use Rattle.strc_order.specs.Progress.{IsSound}
-use Rattle.strc_order.specs.Progress.{IsProgress, IsCompleteBut, EndsAt}
+use Rattle.strc_order.specs.Progress.{IsSound, IsStuck}
+use Rattle.strc_order.specs.Progress.{IsProgress, IsCompleteBut, EndsAt, FiresNext}
 use Rattle.strc_order.proofs.FiringCounts.{turns_same, turns_other, fired_none}
 use Rattle.strc_order.proofs.Exchange.{keeps_window, finds_later}
 use Rattle.strc_order.proofs.Networks.{listed_end, end_listed, contains_at, nothing}
@@ -309,6 +309,25 @@ module _ (network : NetworkView) (is : IsNetwork network) (progress : ProgressVi
         | inr apart ↦ other_ready other apart now (leads channels node other (length channels))
       ]
 
+  pub fires_next : (now : ProgressView) → now ≡ next → FiresNext network progress now turns node
+  fires_next now same =
+      let fires : FiresNext network progress next turns node = record {
+        there = in_network;
+        next = is_next;
+        counts = new_counts;
+        left = new_left;
+        sound = sound_fired;
+        pending = complete_fired;
+      } in
+      subst (λ v. FiresNext network progress v turns node) (sym same) fires
+
+-- where no node is ready, none can fire
+pub none_ready : (network : NetworkView) (progress : ProgressView) → IsProgress network progress
+    → ((node : ℕ) → has_number progress.ready node ≡ false)
+    → IsStuck network.channels (count_at progress.counts) (count_at progress.left)
+none_ready network progress is none node some finds =
+    true≢false (sym (is.complete node (some, finds)) ∙ none node)
+
 -- a node that is known to be ready is there
 pub ready_in_counts : (network : NetworkView) (progress : ProgressView) (node : ℕ)
     → IsProgress network progress → has_number progress.ready node ≡ true
@@ -322,6 +341,29 @@ pub ready_in_left : (network : NetworkView) (progress : ProgressView) (node : �
     → node < length progress.left
 ready_in_left network progress node all there =
     counted_within progress.left node (all.sound.ready node there).0
+
+pub ready_in_found : (network : NetworkView) (progress : ProgressView) (node : ℕ)
+    → IsProgress network progress → has_number progress.ready node ≡ true
+    → node < length progress.found
+ready_in_found network progress node all there =
+    let inside = counted_within progress.left node (all.sound.ready node there).0 in
+    omega (arith, inside, all.sound.found, all.sound.left)
+
+pub ready_in_network : (network : NetworkView) (progress : ProgressView) (node : ℕ)
+    → IsProgress network progress → has_number progress.ready node ≡ true
+    → node < size_of network
+ready_in_network network progress node all there =
+    let inside = counted_within progress.left node (all.sound.ready node there).0 in
+    omega (arith, inside, all.sound.left)
+
+-- with other nodes that are ready
+abbrev pub same_but : ProgressView → (ready : List ℕ) → ProgressView
+same_but progress ready = record {
+  counts = progress.counts;
+  left = progress.left;
+  found = progress.found;
+  ready = ready;
+}
 
 -- a view with these fields
 pub same_view : (view progress : ProgressView) (node turns : ℕ) (rest : List ℕ)

@@ -1,7 +1,9 @@
 -- The channels of a network by their numbers.
-use Rattle.std.proofs.Common.{◌≡◌, ◌∙◌, sym, ap, subst, ℕ, ◌<◌, List, length}
+use Rattle.std.proofs.Common.{◌≡◌, ◌∙◌, sym, ap, subst, ℕ, ◌+◌, ◌<◌, List, [], ◌∷◌, ◌++◌, length}
+use Rattle.std.proofs.Common.{take, inl, inr}
+use Rattle.std.proofs.lemmas.Bool.{cases_eq}
 use Rattle.std.proofs.Common.{map, get_or, slice_get, Some, All, Contains, arith, option_map}
-use Rattle.std.proofs.lemmas.List.{length-map, get_or-map}
+use Rattle.std.proofs.lemmas.List.{length-map, get_or-map, take_more, map-append}
 use Rattle.std.proofs.lemmas.List.Elements.{Contains-get_or}
 use Rattle.std.proofs.lemmas.Option.{same_Some, slice_get-get_or, slice_get-map, slice_get_within}
 use Rattle.strc_startup.specs.Grouping.{IsGrouping, places_at}
@@ -70,6 +72,44 @@ pub all_ends : (end : ChannelRates → ℕ) (channels : List ChannelRates) (size
 all_ends end channels size all k d within =
     let short : k < length channels = omega (arith, within, length-map channels end) in
     subst (λ n. n < size) (sym (get_or-map end channels k nothing d short)) (all k nothing short)
+
+-- the values of one more channel
+pub map_more : (value : ChannelRates → ℕ) (channels : List ChannelRates) (i : ℕ) (d : ChannelRates)
+    (items : List ℕ) → i < length channels → items ≡ map value (take i channels)
+    → items ++ value (get_or channels i d) ∷ [] ≡ map value (take (i + 1) channels)
+map_more value channels i d items within is =
+    ap (λ l. l ++ value (get_or channels i d) ∷ []) is
+    ∙ sym (ap (map value) (take_more channels i d within)
+    ∙ map-append value (take i channels) (get_or channels i d ∷ []))
+
+-- a window found on one more channel of a list
+pub has_more : (network : NetworkView) (numbers : List ℕ) (counts : Firings) (found : ℕ)
+    (within : found < length numbers) (rates : ChannelRates)
+    → slice_get network.channels (get_or numbers found 0) ≡ Some rates
+    → HasFirst network numbers counts found → HasWindow counts rates
+    → HasFirst network numbers counts (found + 1)
+has_more network numbers counts found within rates there first has other own its less at here =
+    elim (cases_eq other found) [
+      | inl same ↦
+          let e = same_Some (get_or numbers found 0) own
+          (sym (slice_get-get_or numbers found 0 within) ∙ ap (slice_get numbers) (sym same) ∙ at)
+          in
+          subst (HasWindow counts) (same_Some rates its (sym there
+          ∙ ap (slice_get network.channels) e ∙ here)) has
+      | inr apart ↦ first other own its (omega (arith, less, apart)) at here
+    ]
+
+-- and not found
+pub lacks_next : (network : NetworkView) (numbers : List ℕ) (counts : Firings) (found : ℕ)
+    (within : found < length numbers) (rates : ChannelRates)
+    → slice_get network.channels (get_or numbers found 0) ≡ Some rates → ¬ HasWindow counts rates
+    → (number : ℕ) (own : ChannelRates) → slice_get numbers found ≡ Some number
+    → slice_get network.channels number ≡ Some own → ¬ HasWindow counts own
+lacks_next network numbers counts found within rates there lacks number own at here has =
+    let e = same_Some (get_or numbers found 0) number
+    (sym (slice_get-get_or numbers found 0 within) ∙ at) in
+    lacks (subst (HasWindow counts) (same_Some own rates (sym here
+    ∙ ap (slice_get network.channels) (sym e) ∙ there)) has)
 
 module _ (network : NetworkView) (is : IsNetwork network) where
   -- a node finds its windows where it does on all channels that are listed there

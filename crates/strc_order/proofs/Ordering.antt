@@ -6,25 +6,27 @@ use Rattle.std.proofs.lemmas.List.Sums.{sum_by-cons}
 use Rattle.strc_balance.specs.Balance.{count_at}
 use Rattle.strc_order.specs.declared.unit as units
 use Rattle.strc_order.specs.Firings.{Firings, turns_of, fired}
-use Rattle.strc_order.specs.Greedy.{firings_of, less_turns, IsNext, IsGreedy, IsGreedyOrder}
+use Rattle.strc_order.specs.Greedy.{firings_of, less_turns, IsNext, IsGreedyOrder}
 use Rattle.strc_order.specs.Network.{NetworkView}
 use Rattle.strc_order.specs.Order.{firing_count, after, repeated, HasOrder}
-use Rattle.strc_order.specs.Progress.{ProgressView, IsProgress, IsStuck}
+use Rattle.strc_order.specs.Progress.{ProgressView, IsProgress, IsStuck, Begins, TakesUnit, Orders}
+use Rattle.strc_order.specs.Progress.{OrdersAll}
 use Rattle.strc_order.proofs.FiringCounts.{firing_count_append, firing_count_repeated, after_append}
-use Rattle.strc_order.proofs.FiringCounts.{after_repeated}
+use Rattle.strc_order.proofs.FiringCounts.{after_none, after_repeated}
 use Rattle.strc_order.proofs.FiringCounts.{turns_same, turns_other}
 use Rattle.std.proofs.lemmas.Bool.{cases_eq}
 use Rattle.strc_order.proofs.Exchange.{spent}
 use Rattle.strc_order.proofs.Greedily.{left_after, greedy_push, firings_push}
 
--- so far the units are a greedy order
-pub record Orders (network : NetworkView) (counts firings : Firings)
-    (order : List units.Unit.Unit) (progress : ProgressView) : Type 0 where
-  pub is_so : IsProgress network progress
-  pub greedy : IsGreedy network.channels counts firings order
-  pub done : count_at progress.counts ≡ after counts (firings_of order)
-  pub left : (node : ℕ)
-      → count_at progress.left node + firing_count (firings_of order) node ≡ firings node
+-- before any unit
+pub no_units : (network : NetworkView) (progress : ProgressView) → IsProgress network progress
+    → Orders network (count_at progress.counts) (count_at progress.left) [] progress
+no_units network progress is = record {
+  is_so = is;
+  greedy = tt;
+  done = sym (after_none (count_at progress.counts));
+  left = λ node. omega arith;
+}
 
 -- numbers that are nowhere greater and once less have a lesser sum
 pub sum_less : (before after : List ℕ) → length after ≡ length before
@@ -125,14 +127,50 @@ module _ (network : NetworkView) (counts firings : Firings) (order : List units.
           omega (arith, l, p, fires other, orders.left other, bounded other);
     }
 
-  pub fewer_left : (now : ProgressView) (turns node : ℕ)
-      → IsNext network.channels (count_at before.counts) (count_at before.left) turns node
-      → count_at now.left ≡ less_turns (count_at before.left) turns node
-      → IsProgress network now
+  -- one unit more was taken
+  pub one_taken : (now : ProgressView) (turns node : ℕ) (unit : units.Unit.Unit)
+      → unit.turns ≡ turns → unit.nodes.items ≡ node ∷ []
+      → TakesUnit network before now turns node
+      → Orders network counts firings (order ++ unit ∷ []) now
+  one_taken now turns node unit same single takes =
+      let its : TakesUnit network before now unit.turns node =
+      subst (λ t. TakesUnit network before now t node) (sym same) takes in
+      one_more_unit now unit node single its.next its.counts its.left its.progress
+
+  pub fewer_left : (now : ProgressView) (turns node : ℕ) → TakesUnit network before now turns node
       → sum_by (λ left. left) now.left < sum_by (λ left. left) before.left
-  fewer_left now turns node next left progress =
+  fewer_left now turns node takes =
       sum_less before.left now.left
-      (progress.sound.left ∙ sym orders.is_so.sound.left)
-      (λ other. let e = ap (λ f. f other) left in omega (arith, e)) node
-      (let e = ap (λ f. f node) left in
-      omega (arith, e, turns_same turns node node refl, next.some, next.within))
+      (takes.progress.sound.left ∙ sym orders.is_so.sound.left)
+      (λ other. let e = ap (λ f. f other) takes.left in omega (arith, e)) node
+      (let e = ap (λ f. f node) takes.left in
+      omega (arith, e, turns_same turns node node refl, takes.next.some, takes.next.within))
+
+-- where no node can fire, and all is as before
+pub all_ordered : (network : NetworkView) (start before now : ProgressView)
+    (order : List units.Unit.Unit)
+    → Orders network (count_at start.counts) (count_at start.left) order before
+    → IsStuck network.channels (count_at before.counts) (count_at before.left) → now ≡ before
+    → OrdersAll network start order now
+all_ordered network start before now order orders stuck same =
+    let all : OrdersAll network start order before = record { orders = orders; stuck = stuck } in
+    subst (OrdersAll network start order) (sym same) all
+
+module _ (network : NetworkView) (counts firings : List ℕ) (start now : ProgressView)
+    (order : List units.Unit.Unit) (begins : Begins network counts firings start)
+    (all : OrdersAll network start order now) where
+  -- where no firing is left, the units are the order
+  pub whole_order : ((node : ℕ) → count_at now.left node ≡ 0)
+      → IsGreedyOrder network.channels (count_at counts) (count_at firings) order
+  whole_order none =
+      subst (λ k. IsGreedyOrder network.channels k (count_at firings) order) begins.counts
+      (subst (λ l. IsGreedyOrder network.channels (count_at start.counts) l order) begins.left
+      (whole network (count_at start.counts) (count_at start.left) order now all.orders none))
+
+  -- and where an order exists, none is left
+  pub none_left : HasOrder network.channels (count_at counts) (count_at firings)
+      → (node : ℕ) → count_at now.left node ≡ 0
+  none_left some =
+      all_spent network (count_at start.counts) (count_at start.left) order now all.orders all.stuck
+      (subst (λ k. HasOrder network.channels k (count_at start.left)) (sym begins.counts)
+      (subst (HasOrder network.channels (count_at counts)) (sym begins.left) some))

@@ -5,7 +5,7 @@ use Rattle.std.proofs.Common.{[], ◌∷◌, ◌++◌, set, slice_get, slice_ind
 use Rattle.std.proofs.Common.{arith}
 use Rattle.std.proofs.lemmas.Bool.{cases_eq}
 use Rattle.std.proofs.lemmas.List.{get_or-set_same, get_or-set_other, length-set}
-use Rattle.std.proofs.lemmas.Option.{same_Some}
+use Rattle.std.proofs.lemmas.Option.{same_Some, slice_get-get_or}
 use Rattle.strc_startup.specs.Grouping.{places_at}
 use Rattle.strc_startup.specs.declared.channel_rates.ChannelRates.{ChannelRates}
 use Rattle.strc_order.specs.Firings.{Firings, fired, fill}
@@ -98,6 +98,17 @@ module _ (channels : List ChannelRates) (numbers : List ℕ) (counts : Firings)
     };
     served = serves;
   }
+
+-- all channels of the list
+pub all_touched : (channels : List ChannelRates) (numbers : List ℕ) (counts : Firings)
+    (before now : List ℕ) (places : ℕ) → length numbers ≤ places
+    → Touches channels numbers counts before now places
+    → (number : ℕ) (rates : ChannelRates) → Contains numbers number
+    → slice_get channels number ≡ Some rates → fill rates counts ≤ slice_index now number
+all_touched channels numbers counts before now places all touches number rates (place, less, same)
+    there =
+    touches.served place number rates (omega (arith, less, all))
+    (slice_get-get_or numbers place number less ∙ ap Some same) there
 
 -- all channels have their numbers of items that begin at the node that fired
 pub raised_turns : (network : NetworkView) (is : IsNetwork network) (counts : Firings)

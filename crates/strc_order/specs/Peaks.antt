@@ -1,5 +1,5 @@
 -- The greatest numbers of items on channels while an order fires.
-use Rattle.std.specs.Prelude.{◌≡◌, ℕ, ◌<◌, ◌≤◌, max, List, ◌∷◌, [], length, slice_get, slice_index}
+use Rattle.std.specs.Prelude.{◌≡◌, ℕ, ◌<◌, ◌≤◌, max, List, length, slice_get, slice_index}
 use Rattle.std.specs.Prelude.{Some, All}
 use Rattle.strc_balance.specs.Balance.{count_at}
 use Rattle.strc_startup.specs.declared.channel_rates.ChannelRates.{ChannelRates}
@@ -26,13 +26,6 @@ pub record AreTouched (channels : List ChannelRates) (counts : Firings) (before 
   pub grown : (number : ℕ) → slice_index before number ≤ slice_index now number
   pub within : (number : ℕ) (rates : ChannelRates) → slice_get channels number ≡ Some rates
       → slice_index now number ≤ max (slice_index before number) (fill rates counts)
-
--- a unit fires one node some times
-pub record IsTurns (size : ℕ) (unit : units.Unit.Unit) : Type 0 where
-  pub node : ℕ
-  pub single : unit.nodes.items ≡ node ∷ []
-  pub there : node < size
-  pub some : 0 < unit.turns
 
 -- the first of some sizes that is past the limit
 pub record IsFirstPast (sizes : List ℕ) (channel : ℕ) : Type 0 where

@@ -1,10 +1,18 @@
 -- Schedules: greedy orders, and the buffers that they need.
-use Rattle.std.specs.Prelude.{◌≡◌, ℕ, ◌<◌, ◌≤◌, List, map, length, slice_get, Some}
+use Rattle.std.specs.Prelude.{◌≡◌, ℕ, ◌<◌, ◌≤◌, Bool, true, false, List, map, length, All}
+use Rattle.std.specs.Prelude.{slice_get, Some}
+use Rattle.strc_balance.specs.Balance.{count_at}
 use Rattle.strc_startup.specs.declared.channel_rates.ChannelRates.{ChannelRates}
+use Rattle.strc_order.specs.declared.error.ScheduleError.{ScheduleError}
+use Rattle.strc_order.specs.declared.error.ScheduleError.TheVariants.{Deadlock, BufferLimit}
+use Rattle.strc_order.specs.declared.error.ScheduleError.TheVariants.{NoMemory}
 use Rattle.strc_order.specs.declared.unit as units
 use Rattle.strc_order.specs.Firings.{Firings, none_fired, fill}
 use Rattle.strc_order.specs.Greedy.{IsGreedyOrder, firings_of}
 use Rattle.strc_order.specs.Buffers.{peak_fill, buffer_size, size_limit}
+use Rattle.strc_order.specs.Network.{NetworkView, size_of}
+use Rattle.strc_order.specs.Order.{after, HasOrder}
+use Rattle.strc_order.specs.Peaks.{IsFirstPast}
 
 -- the orders of start-up and of a round, for each channel the greatest and the last numbers of
 -- items of start-up, and the size of its buffer
@@ -39,3 +47,52 @@ pub record PassesLimit (channels : List ChannelRates) (startup round : Firings) 
   pub lowest : (lower : ℕ) (rates : ChannelRates) → lower < channel
       → slice_get channels lower ≡ Some rates
       → buffer_size startup startup_units round_units rates ≤ size_limit
+
+-- why there is no greedy order: no order exists, or memory ran out
+abbrev pub HasNoOrder : List ChannelRates → (counts firings : Firings) → (in_startup : Bool)
+    → ScheduleError → Type 0
+HasNoOrder channels counts firings in_startup (Deadlock startup) =
+    (startup ≡ in_startup) × (¬ HasOrder channels counts firings)
+HasNoOrder channels counts firings in_startup (BufferLimit channel) = ⊥
+HasNoOrder channels counts firings in_startup NoMemory = Unit {0}
+
+-- how often nodes have fired after start-up, and the greatest numbers of items until then
+pub record IsAfterStartup (network : NetworkView) (startup : List units.Unit.Unit)
+    (counts peaks : List ℕ) : Type 0 where
+  pub counted : count_at counts ≡ after none_fired (firings_of startup)
+  pub nodes : length counts ≡ size_of network
+  pub greatest : peaks
+      ≡ map (λ rates. peak_fill rates none_fired (firings_of startup)) network.channels
+
+-- the greatest and the last numbers of items of start-up, and the sizes of all buffers
+pub record AreBuffers (channels : List ChannelRates) (startup round : List units.Unit.Unit)
+    (peaks fills limits : List ℕ) : Type 0 where
+  pub greatest : peaks ≡ map (λ rates. peak_fill rates none_fired (firings_of startup)) channels
+  pub last : fills ≡ map (λ rates. fill rates (after none_fired (firings_of startup))) channels
+  pub sizes : limits
+      ≡ map (buffer_size (after none_fired (firings_of startup)) startup round) channels
+
+-- why two orders have no buffers: one would pass the limit, or memory ran out
+abbrev pub HasNoBuffers : List ChannelRates → (startup round : List units.Unit.Unit)
+    → ScheduleError → Type 0
+HasNoBuffers channels startup round (Deadlock in_startup) = ⊥
+HasNoBuffers channels startup round (BufferLimit channel) = IsFirstPast
+    (map (buffer_size (after none_fired (firings_of startup)) startup round) channels) channel
+HasNoBuffers channels startup round NoMemory = Unit {0}
+
+-- a schedule has these orders and their buffers, of which each is within the limit
+pub record IsFitted (channels : List ChannelRates) (first later : List units.Unit.Unit)
+    (schedule : ScheduleParts) : Type 0 where
+  pub startup : schedule.startup ≡ first
+  pub round : schedule.round ≡ later
+  pub buffers : AreBuffers channels first later schedule.greatest schedule.last schedule.sizes
+  pub within : All (λ size. size ≤ size_limit) schedule.sizes
+
+-- why there is no schedule: an order is missing, a buffer would pass the limit, or memory ran out
+abbrev pub HasNoSchedule : List ChannelRates → (startup round : Firings) → ScheduleError → Type 0
+HasNoSchedule channels startup round (Deadlock true) = ¬ HasOrder channels none_fired startup
+HasNoSchedule channels startup round (Deadlock false) =
+    (¬ HasOrder channels startup round) × HasOrder channels none_fired startup
+HasNoSchedule channels startup round (BufferLimit channel) =
+    PassesLimit channels startup round channel
+HasNoSchedule channels startup round NoMemory = Unit {0}

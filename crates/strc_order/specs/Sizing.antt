@@ -3,6 +3,9 @@
 use Rattle.std.specs.Prelude.{◌≡◌, ℕ, ◌≤◌, List, [], ◌∷◌, All, map, length}
 use Rattle.strc_startup.specs.Startup.{popped, supply}
 use Rattle.strc_startup.specs.declared.channel_rates.ChannelRates.{ChannelRates}
+use Rattle.strc_order.specs.declared.error.ScheduleError.{ScheduleError}
+use Rattle.strc_order.specs.declared.error.ScheduleError.TheVariants.{Deadlock, BufferLimit}
+use Rattle.strc_order.specs.declared.error.ScheduleError.TheVariants.{NoMemory}
 use Rattle.strc_order.specs.Firings.{Firings, fill}
 use Rattle.strc_order.specs.Peaks.{AreRaised, IsFirstPast}
 use Rattle.strc_order.specs.Rounds.{IsPastPrework}
@@ -46,3 +49,11 @@ pub record PassesOn (channels : List ChannelRates) (counts : Firings) (order bef
   pub each : length sizes ≡ length channels
   pub raised : AreRaised channels counts order before sizes
   pub past : IsFirstPast sizes channel
+
+-- why there are no sizes: a channel passes the limit, or memory ran out
+abbrev pub HasNoSizes : List ChannelRates → Firings → (order before : List ℕ) → ScheduleError
+    → Type 0
+HasNoSizes channels counts order before (Deadlock in_startup) = ⊥
+HasNoSizes channels counts order before (BufferLimit channel) =
+    PassesOn channels counts order before channel
+HasNoSizes channels counts order before NoMemory = Unit {0}

@@ -1,22 +1,21 @@
 // The buffers that orders of start-up and of a round need.
 
-ghost use Rattle.std.specs.Prelude.{◌≡◌, ℕ, ◌+◌, ◌≤◌, All, IfOk, IfSome, IfNone, map, length};
-ghost use Rattle.std.specs.Prelude.{replicate, Bool, Err};
+ghost use Rattle.std.specs.Prelude.{◌≡◌, ℕ, ◌+◌, ◌≤◌, All, IfOk, IfErr, IfSome, IfNone, map};
+ghost use Rattle.std.specs.Prelude.{length, replicate};
 ghost use Rattle.strc_balance.specs.Balance.{count_at};
-ghost use Rattle.strc_order.specs.Buffers.{peak_fill, buffer_size, size_limit};
+ghost use Rattle.strc_order.specs.Buffers.{size_limit};
 ghost use Rattle.strc_order.specs.Firings as spec;
-ghost use Rattle.strc_order.specs.Firings.{none_fired};
 ghost use Rattle.strc_order.specs.Greedy.{firings_of};
 ghost use Rattle.strc_order.specs.Network.{size_of};
-ghost use Rattle.strc_order.specs.Order.{after, firing_count};
-ghost use Rattle.strc_order.specs.Peaks.{AreBelow, AreRaised, IsTurns, IsFirstPast};
+ghost use Rattle.strc_order.specs.Order.{firing_count};
+ghost use Rattle.strc_order.specs.Peaks.{HasNodes, IsFirstPast};
 ghost use Rattle.strc_order.specs.Progress.{AreCounts, count_bound};
-ghost use Rattle.strc_order.specs.declared.error.ScheduleError.TheVariants as refused;
+ghost use Rattle.strc_order.specs.Schedules.{AreBuffers, HasNoBuffers, IsAfterStartup};
 
 use crate::error::ScheduleError;
 use crate::limit::SIZE_LIMIT;
 use crate::network::Network;
-use crate::peaks::{fill, raise_peaks};
+use crate::peaks::{after_units, fill};
 use crate::unit::Unit;
 use std::alloc::{AllocError, Global};
 
@@ -29,6 +28,23 @@ pub(crate) struct Buffers {
     pub(crate) sizes: Vec<u32>,
 }
 
+/// The same numbers, which can be past the limit of sizes.
+struct Peaks {
+    greatest: Vec<u128>,
+    last: Vec<u128>,
+    sizes: Vec<u128>,
+}
+
+impl Drop for Peaks {
+    fn drop(self) {
+        let Peaks {
+            greatest: _,
+            last: _,
+            sizes: _,
+        } = self;
+    }
+}
+
 /// The buffers that these orders need.
 pub(crate) fn buffers_of(
     alloc: Global,
@@ -36,65 +52,60 @@ pub(crate) fn buffers_of(
     startup: &[Unit],
     round: &[Unit],
 ) -> Result<Buffers, ScheduleError>
-    requires startup { All (IsTurns (size_of network.now)) startup.now }
-    requires round { All (IsTurns (size_of network.now)) round.now }
+    requires startup { All (HasNodes (size_of network.now)) startup.now }
+    requires round { All (HasNodes (size_of network.now)) round.now }
     requires few { (node : ℕ) → firing_count (firings_of startup.now) node
         + firing_count (firings_of round.now) node ≤ count_bound }
-    ensures greatest { IfOk result (λ buffers. buffers.greatest.items
-        ≡ map (λ rates. peak_fill rates none_fired (firings_of startup.now))
-        network.now.channels) }
-    ensures last { IfOk result (λ buffers. buffers.last.items
-        ≡ map (λ rates. spec.fill rates (after none_fired (firings_of startup.now)))
-        network.now.channels) }
-    ensures sizes { IfOk result (λ buffers. buffers.sizes.items
-        ≡ map (buffer_size (after none_fired (firings_of startup.now)) startup.now round.now)
-        network.now.channels) }
+    ensures buffers { IfOk result (λ buffers. AreBuffers network.now.channels startup.now round.now
+        buffers.greatest.items buffers.last.items buffers.sizes.items) }
     ensures within { IfOk result (λ buffers. All (λ size. size ≤ size_limit) buffers.sizes.items) }
-    ensures limit { (channel : ℕ) → result ≡ Err (refused.BufferLimit channel) → IsFirstPast
-        (map (buffer_size (after none_fired (firings_of startup.now)) startup.now round.now)
-        network.now.channels) channel }
-    ensures error { (in_startup : Bool) → ¬ (result ≡ Err (refused.Deadlock in_startup)) }
+    ensures none { IfErr result (HasNoBuffers network.now.channels startup.now round.now) }
 {
-    let counts = zeros(alloc, network.size())?;
-    let enqueued = fills(alloc, network, &counts)?;
-    let (counts, greatest) = after_units(network, startup, counts, enqueued);
-    let last = fills(alloc, network, &counts)?;
-    let (_counts, sizes) = after_units(network, round, counts, copy_of(alloc, &greatest)?);
-    if let Some(channel) = first_past(&sizes) {
+    let peaks = peaks_of(alloc, network, startup, round)?;
+    if let Some(channel) = first_past(&peaks.sizes) {
         return Err(ScheduleError::BufferLimit { channel });
     }
-    Ok(Buffers {
-        greatest: narrowed(alloc, &greatest)?,
-        last: narrowed(alloc, &last)?,
-        sizes: narrowed(alloc, &sizes)?,
+    Ok(narrowed_peaks(alloc, &peaks)?)
+}
+
+/// The numbers of items while these orders fire.
+fn peaks_of(
+    alloc: Global,
+    network: &Network,
+    startup: &[Unit],
+    round: &[Unit],
+) -> Result<Peaks, AllocError>
+    requires startup { All (HasNodes (size_of network.now)) startup.now }
+    requires round { All (HasNodes (size_of network.now)) round.now }
+    requires few { (node : ℕ) → firing_count (firings_of startup.now) node
+        + firing_count (firings_of round.now) node ≤ count_bound }
+    ensures { IfOk result (λ peaks. AreBuffers network.now.channels startup.now round.now
+        peaks.greatest.items peaks.last.items peaks.sizes.items) }
+{
+    let (counts, greatest) = after_startup(alloc, network, startup)?;
+    let last = fills(alloc, network, &counts)?;
+    let (_counts, sizes) = after_units(network, round, counts, copy_of(alloc, &greatest)?);
+    Ok(Peaks {
+        greatest,
+        last,
+        sizes,
     })
 }
 
-/// The counts and the greatest numbers of items after units of one node.
-fn after_units(
+/// How often nodes have fired after an order of start-up, and the greatest numbers of items then.
+fn after_startup(
+    alloc: Global,
     network: &Network,
-    units: &[Unit],
-    counts: Vec<u32>,
-    peaks: Vec<u128>,
-) -> (Vec<u32>, Vec<u128>)
-    requires each { length counts.items ≡ size_of network.now }
-    requires peaks { length peaks.items ≡ length network.now.channels }
-    requires turns { All (IsTurns (size_of network.now)) units.now }
-    requires few { (node : ℕ) → count_at counts.items node
-        + firing_count (firings_of units.now) node
-        ≤ count_bound }
-    requires known { AreBelow network.now.channels (count_at counts.items) peaks.items }
-    ensures counts { count_at result.0.items
-        ≡ after (count_at counts.items) (firings_of units.now) }
-    ensures each { length result.0.items ≡ length counts.items }
-    ensures peaks { length result.1.items ≡ length peaks.items }
-    ensures raised { AreRaised network.now.channels (count_at counts.items) (firings_of units.now)
-        peaks.items result.1.items }
+    startup: &[Unit],
+) -> Result<(Vec<u32>, Vec<u128>), AllocError>
+    requires startup { All (HasNodes (size_of network.now)) startup.now }
+    requires few { (node : ℕ) → firing_count (firings_of startup.now) node ≤ count_bound }
+    ensures { IfOk result (λ state. IsAfterStartup network.now startup.now state.0.items
+        state.1.items) }
 {
-    let mut now = counts;
-    let mut raised = peaks;
-    raise_peaks(network, units, &mut now, &mut raised);
-    (now, raised)
+    let counts = zeros(alloc, network.size())?;
+    let enqueued = fills(alloc, network, &counts)?;
+    Ok(after_units(network, startup, counts, enqueued))
 }
 
 /// So many zeros.
@@ -122,7 +133,7 @@ fn fills(alloc: Global, network: &Network, counts: &[u32]) -> Result<Vec<u128>, 
 }
 
 /// The same numbers.
-pub(crate) fn copy_of<T: Copy + Drop>(alloc: Global, numbers: &[T]) -> Result<Vec<T>, AllocError>
+fn copy_of<T: Copy + Drop>(alloc: Global, numbers: &[T]) -> Result<Vec<T>, AllocError>
     ensures { IfOk result (λ copy. copy.items ≡ numbers.now) }
 {
     let mut copy = Vec::new(alloc);
@@ -144,6 +155,23 @@ pub(crate) fn first_past(sizes: &[u128]) -> Option<usize>
 }
 
 /// Numbers that are not past the limit of sizes.
+fn narrowed_peaks(alloc: Global, peaks: &Peaks) -> Result<Buffers, AllocError>
+    requires greatest { All (λ number. number ≤ size_limit) peaks.now.greatest.items }
+    requires last { All (λ number. number ≤ size_limit) peaks.now.last.items }
+    requires sizes { All (λ number. number ≤ size_limit) peaks.now.sizes.items }
+    ensures greatest { IfOk result (λ buffers. buffers.greatest.items
+        ≡ peaks.now.greatest.items) }
+    ensures last { IfOk result (λ buffers. buffers.last.items ≡ peaks.now.last.items) }
+    ensures sizes { IfOk result (λ buffers. buffers.sizes.items ≡ peaks.now.sizes.items) }
+{
+    Ok(Buffers {
+        greatest: narrowed(alloc, &peaks.greatest)?,
+        last: narrowed(alloc, &peaks.last)?,
+        sizes: narrowed(alloc, &peaks.sizes)?,
+    })
+}
+
+/// The same of one list.
 pub(crate) fn narrowed(alloc: Global, numbers: &[u128]) -> Result<Vec<u32>, AllocError>
     requires { All (λ number. number ≤ size_limit) numbers.now }
     ensures { IfOk result (λ narrowed. narrowed.items ≡ numbers.now) }

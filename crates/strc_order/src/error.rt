@@ -8,7 +8,7 @@ use std::error::Error;
 use std::fmt;
 
 /// Why a graph has no schedule. Channels are numbered from 0.
-#[derive(Clone, Copy, Debug, PartialEq, Eq)]
+#[derive(Clone, Copy, Debug)]
 pub enum ScheduleError {
     /// The firings of start-up, or those of a round, have no order in which each finds its windows.
     Deadlock { in_startup: bool },

@@ -6,7 +6,7 @@ ghost use Rattle.strc_balance.specs.Balance.{count_at};
 ghost use Rattle.strc_order.specs.Greedy.{IsGreedyOrder};
 ghost use Rattle.strc_order.specs.Network.{size_of};
 ghost use Rattle.strc_order.specs.Order.{HasOrder};
-ghost use Rattle.strc_order.specs.Progress.{count_bound};
+ghost use Rattle.strc_order.specs.Progress.{count_bound, IsProgress, OrdersAll};
 
 use crate::network::Network;
 use crate::progress::Progress;
@@ -18,28 +18,41 @@ use std::alloc::{AllocError, Global};
 pub(crate) fn greedy_order(
     alloc: Global,
     network: &Network,
-    counts: Vec<u32>,
-    firings: Vec<u32>,
+    counts: &[u32],
+    firings: &[u32],
 ) -> Result<Option<Vec<Unit>>, AllocError>
-    requires counts { length counts.items ≡ size_of network.now }
-    requires firings { length firings.items ≡ size_of network.now }
-    requires few { (node : ℕ) → count_at counts.items node + count_at firings.items node
+    requires counts { length counts.now ≤ size_of network.now }
+    requires firings { length firings.now ≤ size_of network.now }
+    requires few { (node : ℕ) → count_at counts.now node + count_at firings.now node
         ≤ count_bound }
     ensures greedy { IfOk result (λ order. IfSome order (λ units. IsGreedyOrder
-        network.now.channels (count_at counts.items) (count_at firings.items) units.items)) }
+        network.now.channels (count_at counts.now) (count_at firings.now) units.items)) }
     ensures none { IfOk result (λ order. IfNone order (¬ HasOrder network.now.channels
-        (count_at counts.items) (count_at firings.items))) }
+        (count_at counts.now) (count_at firings.now))) }
 {
-    let mut units = Vec::new(alloc);
     let mut progress = Progress::new(alloc, network, counts, firings)?;
-    while let Some((turns, node)) = progress.take_unit(network)? {
-        units.push(unit_of(alloc, turns, node)?)?;
-    }
+    let units = all_units(alloc, network, &mut progress)?;
     if progress.is_done() {
         Ok(Some(units))
     } else {
         Ok(None)
     }
+}
+
+/// Units until no node can fire.
+fn all_units(
+    alloc: Global,
+    network: &Network,
+    progress: &mut Progress,
+) -> Result<Vec<Unit>, AllocError>
+    requires { IsProgress network.now progress.old }
+    ensures { IfOk result (λ units. OrdersAll network.now progress.old units.items progress.new) }
+{
+    let mut units = Vec::new(alloc);
+    while let Some((turns, node)) = progress.take_unit(network)? {
+        units.push(unit_of(alloc, turns, node)?)?;
+    }
+    Ok(units)
 }
 
 /// So many firings of a node.

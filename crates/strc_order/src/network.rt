@@ -1,7 +1,7 @@
 // The channels of a graph, by number and by the nodes at their ends.
 
-ghost use Rattle.std.specs.Prelude.{◌≡◌, ℕ, ◌<◌, ◌≤◌, ◌^◌, length, slice_get, Some, All, IfOk};
-ghost use Rattle.strc_startup.specs.Grouping.{places_at};
+ghost use Rattle.std.specs.Prelude.{◌≡◌, ℕ, ◌<◌, ◌≤◌, ◌^◌, length, map, slice_get, Some, All, IfOk};
+ghost use Rattle.strc_startup.specs.Grouping.{places_at, IsGrouping};
 ghost use Rattle.strc_startup.specs.Waiting.{HasEnds, IsBounded};
 ghost use Rattle.strc_order.specs.Network.{size_of, IsNetwork};
 
@@ -15,11 +15,20 @@ use strc_startup::rates::{sources_of, targets_of};
 pub(crate) const NODE_LIMIT: usize = 1 << 32;
 
 /// The channels of a graph. Contracts see their rates and their numbers by node.
-#[derive(Drop)]
 pub(crate) struct Network {
     channels: Vec<ChannelRates>,
     incoming: Grouping,
     outgoing: Grouping,
+}
+
+impl Drop for Network {
+    fn drop(self) {
+        let Network {
+            channels: _,
+            incoming: _,
+            outgoing: _,
+        } = self;
+    }
 }
 
 impl Model for Network {
@@ -53,10 +62,8 @@ impl Network {
         ensures channels { IfOk result (λ network. network.channels ≡ channels.items) }
         ensures size { IfOk result (λ network. size_of network ≡ size) }
     {
-        let targets = targets_of(alloc, &channels)?;
-        let incoming = grouping_of(alloc, &targets, size)?;
-        let sources = sources_of(alloc, &channels)?;
-        let outgoing = grouping_of(alloc, &sources, size)?;
+        let incoming = incoming_of(alloc, &channels, size)?;
+        let outgoing = outgoing_of(alloc, &channels, size)?;
         Ok(Network {
             channels,
             incoming,
@@ -106,4 +113,34 @@ impl Network {
     {
         self.outgoing.at(node)
     }
+}
+
+/// For each of so many nodes the numbers of the channels that end there.
+fn incoming_of(
+    alloc: Global,
+    channels: &[ChannelRates],
+    size: usize,
+) -> Result<Grouping, AllocError>
+    requires { All (HasEnds size) channels.now }
+    ensures groups { IfOk result (λ groups. IsGrouping groups
+        (map (λ rates. rates.target) channels.now)) }
+    ensures size { IfOk result (λ groups. length groups ≡ size) }
+{
+    let targets = targets_of(alloc, channels)?;
+    grouping_of(alloc, &targets, size)
+}
+
+/// And of those that begin there.
+fn outgoing_of(
+    alloc: Global,
+    channels: &[ChannelRates],
+    size: usize,
+) -> Result<Grouping, AllocError>
+    requires { All (HasEnds size) channels.now }
+    ensures groups { IfOk result (λ groups. IsGrouping groups
+        (map (λ rates. rates.source) channels.now)) }
+    ensures size { IfOk result (λ groups. length groups ≡ size) }
+{
+    let sources = sources_of(alloc, channels)?;
+    grouping_of(alloc, &sources, size)
 }

@@ -9,8 +9,8 @@ ghost use Rattle.strc_order.specs.Firings as spec;
 ghost use Rattle.strc_order.specs.Firings.{fired};
 ghost use Rattle.strc_order.specs.Greedy.{firings_of};
 ghost use Rattle.strc_order.specs.Network.{size_of};
-ghost use Rattle.strc_order.specs.Order.{after, firing_count, repeated};
-ghost use Rattle.strc_order.specs.Peaks.{AreBelow, AreRaised, AreTouched, IsTurns};
+ghost use Rattle.strc_order.specs.Order.{firing_count, repeated};
+ghost use Rattle.strc_order.specs.Peaks.{AreBelow, AreRaised, AreTouched};
 ghost use Rattle.strc_order.specs.Peaks.{HasNodes, Raises};
 ghost use Rattle.strc_order.specs.Progress.{AreCounts, count_bound};
 
@@ -19,28 +19,31 @@ use crate::turns::{popped, supply};
 use crate::unit::Unit;
 use strc_startup::channel_rates::ChannelRates;
 
-/// Raises the greatest numbers of items to those while units of one node fire, and counts their
-/// firings.
-pub(crate) fn raise_peaks(network: &Network, units: &[Unit], counts: &mut [u32], peaks: &mut [u128])
-    requires each { length counts.old ≡ size_of network.now }
-    requires peaks { length peaks.old ≡ length network.now.channels }
-    requires turns { All (IsTurns (size_of network.now)) units.now }
-    requires few { (node : ℕ) → count_at counts.old node + firing_count (firings_of units.now) node
+/// How often nodes have fired after units, and the greatest numbers of items then.
+pub(crate) fn after_units(
+    network: &Network,
+    units: &[Unit],
+    counts: Vec<u32>,
+    peaks: Vec<u128>,
+) -> (Vec<u32>, Vec<u128>)
+    requires each { length counts.items ≡ size_of network.now }
+    requires peaks { length peaks.items ≡ length network.now.channels }
+    requires nodes { All (HasNodes (size_of network.now)) units.now }
+    requires few { (node : ℕ) → count_at counts.items node
+        + firing_count (firings_of units.now) node
         ≤ count_bound }
-    requires known { AreBelow network.now.channels (count_at counts.old) peaks.old }
-    ensures counts { count_at counts.new ≡ after (count_at counts.old) (firings_of units.now) }
-    ensures each { length counts.new ≡ length counts.old }
-    ensures peaks { length peaks.new ≡ length peaks.old }
-    ensures raised { AreRaised network.now.channels (count_at counts.old) (firings_of units.now)
-        peaks.old peaks.new }
+    requires known { AreBelow network.now.channels (count_at counts.items) peaks.items }
+    ensures { Raises network.now.channels (firings_of units.now) counts.items peaks.items
+        result.0.items result.1.items }
 {
-    for unit in units {
-        raise_by_turns(network, unit.nodes[0] as usize, unit.turns, counts, peaks);
-    }
+    let mut now = counts;
+    let mut raised = peaks;
+    raise_units(network, units, &mut now, &mut raised);
+    (now, raised)
 }
 
-/// The same of units of any nodes.
-pub(crate) fn raise_units(network: &Network, units: &[Unit], counts: &mut [u32], peaks: &mut [u128])
+/// Raises the greatest numbers of items to those while units fire, and counts their firings.
+fn raise_units(network: &Network, units: &[Unit], counts: &mut [u32], peaks: &mut [u128])
     requires each { length counts.old ≡ size_of network.now }
     requires peaks { length peaks.old ≡ length network.now.channels }
     requires nodes { All (HasNodes (size_of network.now)) units.now }

@@ -1,6 +1,6 @@
 // The schedule of a graph.
 
-ghost use Rattle.std.specs.Prelude.{◌≡◌, ℕ, ◌≤◌, true, false, All, Err, IfOk, length};
+ghost use Rattle.std.specs.Prelude.{◌≡◌, ℕ, ◌+◌, ◌≤◌, true, false, All, Err, IfOk, IfErr, length};
 ghost use Rattle.strc_balance.specs.Balance.{count_at, IsWithinLimit};
 ghost use Rattle.strc_balance.specs.Rates.{IsRated, equations_of};
 ghost use Rattle.strc_graph.specs.Connections.{IsConnected};
@@ -8,17 +8,21 @@ ghost use Rattle.strc_graph.specs.NodeView.{graph_view};
 ghost use Rattle.strc_startup.specs.Rates.{rates_of};
 ghost use Rattle.strc_order.specs.Buffers.{size_limit};
 ghost use Rattle.strc_order.specs.Firings.{none_fired};
+ghost use Rattle.strc_order.specs.Greedy.{firings_of, IsGreedyOrder};
 ghost use Rattle.strc_order.specs.Network.{size_of};
-ghost use Rattle.strc_order.specs.Order.{HasOrder};
-ghost use Rattle.strc_order.specs.Schedules.{IsSchedule, PassesLimit};
+ghost use Rattle.strc_order.specs.Order.{firing_count, HasOrder};
+ghost use Rattle.strc_order.specs.Peaks.{HasNodes};
+ghost use Rattle.strc_order.specs.Progress.{count_bound};
+ghost use Rattle.strc_order.specs.Schedules.{IsSchedule, PassesLimit, IsFitted, HasNoOrder};
+ghost use Rattle.strc_order.specs.Schedules.{HasNoBuffers, HasNoSchedule};
 ghost use Rattle.strc_order.specs.declared.error.ScheduleError.TheVariants as refused;
 
-use crate::buffers::{Buffers, buffers_of, zeros};
+use crate::buffers::{Buffers, buffers_of};
 use crate::error::ScheduleError;
 use crate::greedy::greedy_order;
 use crate::network::{NODE_LIMIT, Network};
-use crate::padding::padded;
 use crate::parts::Schedule;
+use crate::unit::Unit;
 use std::alloc::Global;
 use strc_balance::counts::Counts;
 use strc_graph::graph::Graph;
@@ -59,8 +63,25 @@ pub fn schedule(
     ensures limit { (channel : ℕ) → result ≡ Err (refused.BufferLimit channel) → PassesLimit
         (rates_of (graph_view graph.now)) (count_at startup.now) (count_at round.now) channel }
 {
-    let startup = startup.as_slice();
-    let round = round.as_slice();
+    schedule_of(alloc, graph, startup.as_slice(), round.as_slice())
+}
+
+/// The same of plain counts.
+fn schedule_of(
+    alloc: Global,
+    graph: &Graph,
+    startup: &[u32],
+    round: &[u32],
+) -> Result<Schedule, ScheduleError>
+    requires rated { All IsRated (equations_of (graph_view graph.now)) }
+    requires startup_within { IsWithinLimit startup.now }
+    requires round_within { IsWithinLimit round.now }
+    ensures schedule { IfOk result (IsSchedule (rates_of (graph_view graph.now))
+        (count_at startup.now) (count_at round.now)) }
+    ensures within { IfOk result (λ schedule. All (λ size. size ≤ size_limit) schedule.sizes) }
+    ensures none { IfErr result (HasNoSchedule (rates_of (graph_view graph.now))
+        (count_at startup.now) (count_at round.now)) }
+{
     let size = graph.nodes().len().max(startup.len()).max(round.len());
     if size > NODE_LIMIT {
         return Err(ScheduleError::NoMemory);
@@ -84,33 +105,55 @@ fn scheduled(
     ensures schedule { IfOk result (IsSchedule network.now.channels (count_at startup.now)
         (count_at round.now)) }
     ensures within { IfOk result (λ schedule. All (λ size. size ≤ size_limit) schedule.sizes) }
-    ensures startup { result ≡ Err (refused.Deadlock true) → ¬ HasOrder network.now.channels
-        none_fired (count_at startup.now) }
-    ensures round { result ≡ Err (refused.Deadlock false) → ¬ HasOrder network.now.channels
-        (count_at startup.now) (count_at round.now) }
-    ensures before { result ≡ Err (refused.Deadlock false) → HasOrder network.now.channels
-        none_fired (count_at startup.now) }
-    ensures limit { (channel : ℕ) → result ≡ Err (refused.BufferLimit channel) → PassesLimit
-        network.now.channels (count_at startup.now) (count_at round.now) channel }
+    ensures none { IfErr result (HasNoSchedule network.now.channels (count_at startup.now)
+        (count_at round.now)) }
 {
-    let size = network.size();
-    let before = zeros(alloc, size)?;
-    let first = greedy_order(alloc, network, before, padded(alloc, startup, size)?)?;
-    let Some(first) = first else {
-        return Err(ScheduleError::Deadlock { in_startup: true });
-    };
-    let before = padded(alloc, startup, size)?;
-    let later = greedy_order(alloc, network, before, padded(alloc, round, size)?)?;
-    let Some(later) = later else {
-        return Err(ScheduleError::Deadlock { in_startup: false });
-    };
+    let first = order_of(alloc, network, &[], startup, true)?;
+    let later = order_of(alloc, network, startup, round, false)?;
+    fitted(alloc, network, first, later)
+}
+
+/// The greedy order of so many firings, from these counts.
+fn order_of(
+    alloc: Global,
+    network: &Network,
+    counts: &[u32],
+    firings: &[u32],
+    in_startup: bool,
+) -> Result<Vec<Unit>, ScheduleError>
+    requires counts { length counts.now ≤ size_of network.now }
+    requires firings { length firings.now ≤ size_of network.now }
+    requires few { (node : ℕ) → count_at counts.now node + count_at firings.now node
+        ≤ count_bound }
+    ensures greedy { IfOk result (λ units. IsGreedyOrder network.now.channels
+        (count_at counts.now) (count_at firings.now) units.items) }
+    ensures none { IfErr result (HasNoOrder network.now.channels (count_at counts.now)
+        (count_at firings.now) in_startup) }
+{
+    match greedy_order(alloc, network, counts, firings)? {
+        Some(units) => Ok(units),
+        None => Err(ScheduleError::Deadlock { in_startup }),
+    }
+}
+
+/// A schedule of these orders, with their buffers.
+fn fitted(
+    alloc: Global,
+    network: &Network,
+    startup: Vec<Unit>,
+    round: Vec<Unit>,
+) -> Result<Schedule, ScheduleError>
+    requires startup { All (HasNodes (size_of network.now)) startup.items }
+    requires round { All (HasNodes (size_of network.now)) round.items }
+    requires few { (node : ℕ) → firing_count (firings_of startup.items) node
+        + firing_count (firings_of round.items) node ≤ count_bound }
+    ensures fitted { IfOk result (IsFitted network.now.channels startup.items round.items) }
+    ensures none { IfErr result (HasNoBuffers network.now.channels startup.items round.items) }
+{
     let Buffers {
         greatest,
         last,
         sizes,
-    } = match buffers_of(alloc, network, &first, &later) {
-        Ok(buffers) => buffers,
-        Err(error) => return Err(error),
-    };
-    Ok(Schedule::new(first, later, greatest, last, sizes))
+    } = buffers_of(alloc, network, &startup, &round)?;
+    Ok(Schedule::new(startup, round, greatest, last, sizes))
 }

@@ -1,19 +1,18 @@
 // How far an order has come.
 
-ghost use Rattle.std.specs.Prelude.{◌≡◌, ◌⊎◌, ℕ, true, ◌+◌, ◌-◌, ◌<◌, ◌≤◌, length, All};
+ghost use Rattle.std.specs.Prelude.{◌≡◌, ℕ, ◌+◌, ◌-◌, ◌<◌, ◌≤◌, length, All};
 ghost use Rattle.std.specs.Prelude.{slice_get, slice_set, Some, IfOk, OnOk, IfSome, IfNone};
 ghost use Rattle.std.specs.Prelude.{IsTrue, ◌↔◌};
 ghost use Rattle.strc_balance.specs.Balance.{count_at};
-ghost use Rattle.strc_balance.specs.NumberSets.{has_number};
-ghost use Rattle.strc_startup.specs.Grouping.{places_at};
 ghost use Rattle.strc_startup.specs.declared.channel_rates.ChannelRates.{ChannelRates};
-ghost use Rattle.strc_order.specs.Firings.{HasWindow, fired};
-ghost use Rattle.strc_order.specs.Greedy.{IsNext, less_turns};
+ghost use Rattle.strc_order.specs.Firings.{HasWindow};
 ghost use Rattle.strc_order.specs.Network.{size_of};
-ghost use Rattle.strc_order.specs.Progress.{count_bound, AreCounts, IsReady, IsStuck, HasFirst};
-ghost use Rattle.strc_order.specs.Progress.{IsSound, IsProgress, IsCompleteBut, EndsAt};
+ghost use Rattle.strc_order.specs.Progress.{count_bound, AreCounts, IsStuck, HasFirst, EndsAt};
+ghost use Rattle.strc_order.specs.Progress.{IsSound, IsProgress, IsCompleteBut, IsUnseen, Begins};
+ghost use Rattle.strc_order.specs.Progress.{LooksAt, Completes, FiresNext, TakesUnit};
 
 use crate::network::Network;
+use crate::padding::padded;
 use crate::turns::{has_window, turns_at};
 use std::alloc::{AllocError, Global};
 use std::marker::Model;
@@ -23,7 +22,6 @@ use strc_balance::number_set::NumberSet;
 ///
 /// A node is looked at again where a channel to it gets items. Then only the channels are looked at
 /// from the first on that had no window for it: no other firing takes a window away.
-#[derive(Drop)]
 pub(crate) struct Progress {
     /// How often each node has fired since the beginning.
     counts: Vec<u32>,
@@ -33,6 +31,17 @@ pub(crate) struct Progress {
     found: Vec<usize>,
     /// The nodes that have firings left and find their windows.
     ready: NumberSet,
+}
+
+impl Drop for Progress {
+    fn drop(self) {
+        let Progress {
+            counts: _,
+            left: _,
+            found: _,
+            ready: _,
+        } = self;
+    }
 }
 
 impl Model for Progress {
@@ -53,29 +62,48 @@ impl Progress {
     pub(crate) fn new(
         alloc: Global,
         network: &Network,
-        counts: Vec<u32>,
-        left: Vec<u32>,
+        counts: &[u32],
+        left: &[u32],
     ) -> Result<Progress, AllocError>
-        requires counts { length counts.items ≡ size_of network.now }
-        requires left { length left.items ≡ size_of network.now }
-        requires few { (node : ℕ) → count_at counts.items node + count_at left.items node
+        requires counts { length counts.now ≤ size_of network.now }
+        requires left { length left.now ≤ size_of network.now }
+        requires few { (node : ℕ) → count_at counts.now node + count_at left.now node
             ≤ count_bound }
-        ensures progress { IfOk result (IsProgress network.now) }
-        ensures counts { IfOk result (λ progress. progress.counts ≡ counts.items) }
-        ensures left { IfOk result (λ progress. progress.left ≡ left.items) }
+        ensures { IfOk result (Begins network.now counts.now left.now) }
     {
-        let mut found = Vec::new(alloc);
-        found.resize(network.size(), 0)?;
-        let mut progress = Progress {
-            counts,
-            left,
-            found,
-            ready: NumberSet::with_capacity(alloc, network.size())?,
-        };
-        for node in 0..network.size() {
-            progress.look_at(network, node)?;
-        }
+        let mut progress = Progress::unseen(alloc, network.size(), counts, left)?;
+        progress.look_at_all(network)?;
         Ok(progress)
+    }
+
+    /// The same before any node was looked at.
+    fn unseen(
+        alloc: Global,
+        size: usize,
+        counts: &[u32],
+        left: &[u32],
+    ) -> Result<Progress, AllocError>
+        requires counts { length counts.now ≤ size }
+        requires left { length left.now ≤ size }
+        ensures { IfOk result (IsUnseen size counts.now left.now) }
+    {
+        Ok(Progress {
+            counts: padded(alloc, counts, size)?,
+            left: padded(alloc, left, size)?,
+            found: Vec::from_elem(alloc, 0, size)?,
+            ready: NumberSet::with_capacity(alloc, size)?,
+        })
+    }
+
+    /// Looks at all nodes.
+    fn look_at_all(&mut self, network: &Network) -> Result<(), AllocError>
+        requires { IsSound network.now self.old }
+        ensures { OnOk result (Completes network.now self.old self.new) }
+    {
+        for node in 0..network.size() {
+            self.look_at(network, node)?;
+        }
+        Ok(())
     }
 
     /// Whether no firings are left.
@@ -90,35 +118,35 @@ impl Progress {
         true
     }
 
-    /// The counts, taken out.
-    pub(crate) fn into_counts(self) -> Vec<u32>
-        ensures { result.items ≡ self.counts }
-    {
-        let Progress { counts, .. } = self;
-        counts
-    }
-
     /// Fires the lowest node that can fire, as often as it can at once; None where none can.
     pub(crate) fn take_unit(&mut self, network: &Network) -> Result<Option<(u32, u32)>, AllocError>
         requires { IsProgress network.now self.old }
-        ensures progress { OnOk result (IsProgress network.now self.new) }
-        ensures next { IfOk result (λ taken. IfSome taken (λ unit. IsNext network.now.channels
-            (count_at self.old.counts) (count_at self.old.left) unit.0 unit.1)) }
-        ensures counts { IfOk result (λ taken. IfSome taken (λ unit. count_at self.new.counts
-            ≡ fired (count_at self.old.counts) unit.0 unit.1)) }
-        ensures left { IfOk result (λ taken. IfSome taken (λ unit. count_at self.new.left
-            ≡ less_turns (count_at self.old.left) unit.0 unit.1)) }
+        ensures next { IfOk result (λ taken. IfSome taken (λ unit.
+            TakesUnit network.now self.old self.new unit.0 unit.1)) }
         ensures stuck { IfOk result (λ taken. IfNone taken (IsStuck network.now.channels
-            (count_at self.old.counts) (count_at self.old.left)
-            × (self.new.counts ≡ self.old.counts) × (self.new.left ≡ self.old.left))) }
+            (count_at self.old.counts) (count_at self.old.left) × (self.new ≡ self.old))) }
+    {
+        let Some((turns, node)) = self.fire_lowest(network) else {
+            return Ok(None);
+        };
+        self.look_along(network, network.outgoing(node))?;
+        Ok(Some((turns, node as u32)))
+    }
+
+    /// The same, but for what becomes known of the nodes at which that node's channels end.
+    fn fire_lowest(&mut self, network: &Network) -> Option<(u32, usize)>
+        requires { IsProgress network.now self.old }
+        ensures next { IfSome result (λ unit.
+            FiresNext network.now self.old self.new unit.0 unit.1) }
+        ensures stuck { IfNone result (IsStuck network.now.channels
+            (count_at self.old.counts) (count_at self.old.left) × (self.new ≡ self.old)) }
     {
         let Some(node) = self.ready.take_lowest() else {
-            return Ok(None);
+            return None;
         };
         let turns = turns_at(network, node, &self.counts, self.left[node]);
         self.fire(node, turns);
-        self.look_along(network, network.outgoing(node))?;
-        Ok(Some((turns, node as u32)))
+        Some((turns, node))
     }
 
     /// So many more firings of a node, of whose channels nothing is known then.
@@ -145,9 +173,7 @@ impl Progress {
         requires sound { IsSound network.now self.old }
         requires complete { IsCompleteBut network.now self.old (EndsAt network.now numbers.now) }
         requires numbers { All (λ number. number < length network.now.channels) numbers.now }
-        ensures progress { OnOk result (IsProgress network.now self.new) }
-        ensures counts { OnOk result (self.new.counts ≡ self.old.counts) }
-        ensures left { OnOk result (self.new.left ≡ self.old.left) }
+        ensures { OnOk result (Completes network.now self.old self.new) }
     {
         for number in numbers {
             self.look_at(network, network.channel(*number).target)?;
@@ -159,13 +185,7 @@ impl Progress {
     fn look_at(&mut self, network: &Network, node: usize) -> Result<(), AllocError>
         requires sound { IsSound network.now self.old }
         requires node { node < size_of network.now }
-        ensures sound { OnOk result (IsSound network.now self.new) }
-        ensures counts { OnOk result (self.new.counts ≡ self.old.counts) }
-        ensures left { OnOk result (self.new.left ≡ self.old.left) }
-        ensures kept { OnOk result ((other : ℕ) → has_number self.old.ready other ≡ true
-            → has_number self.new.ready other ≡ true) }
-        ensures known { OnOk result (IsReady network.now.channels (count_at self.old.counts)
-            (count_at self.old.left) node → has_number self.new.ready node ≡ true) }
+        ensures { OnOk result (LooksAt network.now node self.old self.new) }
     {
         if self.left[node] == 0 {
             return Ok(());

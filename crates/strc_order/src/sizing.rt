@@ -1,7 +1,6 @@
 // The sizes of buffers while an order fires whose first firings are done.
 
-ghost use Rattle.std.specs.Prelude.{◌≡◌, ℕ, Bool, ◌+◌, ◌≤◌, All, Err, IfOk, [], length};
-ghost use Rattle.strc_balance.specs.Balance.{count_at};
+ghost use Rattle.std.specs.Prelude.{◌≡◌, ℕ, Bool, ◌≤◌, All, Err, IfOk, IfErr, [], length};
 ghost use Rattle.strc_balance.specs.Rates.{IsRated, equations_of};
 ghost use Rattle.strc_graph.specs.Connections.{IsConnected};
 ghost use Rattle.strc_graph.specs.NodeView.{graph_view};
@@ -11,15 +10,15 @@ ghost use Rattle.strc_order.specs.Firings.{Firings, none_fired};
 ghost use Rattle.strc_order.specs.Greedy.{firings_of};
 ghost use Rattle.strc_order.specs.Network.{size_of};
 ghost use Rattle.strc_order.specs.Order.{firing_count};
-ghost use Rattle.strc_order.specs.Peaks.{AreBelow, AreRaised, HasNodes};
+ghost use Rattle.strc_order.specs.Peaks.{AreRaised, HasNodes};
 ghost use Rattle.strc_order.specs.Progress.{count_bound};
-ghost use Rattle.strc_order.specs.Sizing.{rates_on, all_rates_on, HasFills, PassesOn};
+ghost use Rattle.strc_order.specs.Sizing.{rates_on, all_rates_on, HasFills, PassesOn, HasNoSizes};
 ghost use Rattle.strc_order.specs.declared.error.ScheduleError.TheVariants as refused;
 
 use crate::buffers::{first_past, narrowed, zeros};
 use crate::error::ScheduleError;
 use crate::network::Network;
-use crate::peaks::raise_units;
+use crate::peaks::after_units;
 use crate::unit::Unit;
 use std::alloc::{AllocError, Global};
 use strc_graph::graph::Graph;
@@ -60,19 +59,32 @@ pub fn sizes(
         channel }
     ensures error { (in_startup : Bool) → ¬ (result ≡ Err (refused.Deadlock in_startup)) }
 {
-    let channels = rates_from(alloc, channel_rates(alloc, graph)?, fill)?;
-    let network = Network::new(alloc, channels, graph.nodes().len())?;
+    let network = network_on(alloc, graph, fill)?;
     sizes_on(alloc, &network, before, round)
+}
+
+/// The network of channels that have so many items, where all firings are by `work`.
+fn network_on(alloc: Global, graph: &Graph, fill: &[u32]) -> Result<Network, AllocError>
+    requires rated { All IsRated (equations_of (graph_view graph.now)) }
+    requires connected { IsConnected (graph_view graph.now) }
+    requires fill { length fill.now ≡ length graph.now.channels }
+    ensures channels { IfOk result (λ network. network.channels
+        ≡ all_rates_on (rates_of (graph_view graph.now)) fill.now) }
+    ensures size { IfOk result (λ network. size_of network ≡ length graph.now.nodes) }
+{
+    let rates = channel_rates(alloc, graph)?;
+    let channels = rates_from(alloc, &rates, fill)?;
+    Network::new(alloc, channels, graph.nodes().len())
 }
 
 /// The rates of channels that have so many items, where all firings are by `work`.
 fn rates_from(
     alloc: Global,
-    channels: Vec<ChannelRates>,
+    channels: &[ChannelRates],
     fill: &[u32],
 ) -> Result<Vec<ChannelRates>, AllocError>
-    requires each { length fill.now ≡ length channels.items }
-    ensures { IfOk result (λ rates. rates.items ≡ all_rates_on channels.items fill.now) }
+    requires each { length fill.now ≡ length channels.now }
+    ensures { IfOk result (λ rates. rates.items ≡ all_rates_on channels.now fill.now) }
 {
     let mut rates = Vec::with_capacity(alloc, channels.len())?;
     for channel in 0..channels.len() {
@@ -113,36 +125,34 @@ fn sizes_on(
     ensures within { IfOk result (λ sizes. All (λ size. size ≤ size_limit) sizes.items) }
     ensures sizes { IfOk result (λ sizes. AreRaised network.now.channels none_fired
         (firings_of round.now) before.now sizes.items) }
-    ensures limit { (channel : ℕ) → result ≡ Err (refused.BufferLimit channel) → PassesOn
-        network.now.channels none_fired (firings_of round.now) before.now channel }
-    ensures error { (in_startup : Bool) → ¬ (result ≡ Err (refused.Deadlock in_startup)) }
+    ensures none { IfErr result (HasNoSizes network.now.channels none_fired (firings_of round.now)
+        before.now) }
+{
+    let peaks = peaks_on(alloc, network, before, round)?;
+    if let Some(channel) = first_past(&peaks) {
+        return Err(ScheduleError::BufferLimit { channel });
+    }
+    Ok(narrowed(alloc, &peaks)?)
+}
+
+/// The greatest numbers of items while units fire from the beginning.
+fn peaks_on(
+    alloc: Global,
+    network: &Network,
+    before: &[u32],
+    round: &[Unit],
+) -> Result<Vec<u128>, AllocError>
+    requires before { length before.now ≡ length network.now.channels }
+    requires nodes { All (HasNodes (size_of network.now)) round.now }
+    requires few { (node : ℕ) → firing_count (firings_of round.now) node ≤ count_bound }
+    ensures each { IfOk result (λ peaks. length peaks.items ≡ length network.now.channels) }
+    ensures raised { IfOk result (λ peaks. AreRaised network.now.channels none_fired
+        (firings_of round.now) before.now peaks.items) }
 {
     let counts = zeros(alloc, network.size())?;
     let peaks = peaks_from(alloc, network, before)?;
-    let sizes = peaks_after(network, round, counts, peaks);
-    if let Some(channel) = first_past(&sizes) {
-        return Err(ScheduleError::BufferLimit { channel });
-    }
-    Ok(narrowed(alloc, &sizes)?)
-}
-
-/// The greatest numbers of items after units.
-fn peaks_after(network: &Network, units: &[Unit], counts: Vec<u32>, peaks: Vec<u128>) -> Vec<u128>
-    requires each { length counts.items ≡ size_of network.now }
-    requires peaks { length peaks.items ≡ length network.now.channels }
-    requires nodes { All (HasNodes (size_of network.now)) units.now }
-    requires few { (node : ℕ) → count_at counts.items node
-        + firing_count (firings_of units.now) node
-        ≤ count_bound }
-    requires known { AreBelow network.now.channels (count_at counts.items) peaks.items }
-    ensures peaks { length result.items ≡ length peaks.items }
-    ensures raised { AreRaised network.now.channels (count_at counts.items) (firings_of units.now)
-        peaks.items result.items }
-{
-    let mut now = counts;
-    let mut raised = peaks;
-    raise_units(network, units, &mut now, &mut raised);
-    raised
+    let (_counts, raised) = after_units(network, round, counts, peaks);
+    Ok(raised)
 }
 
 /// For each channel the greater of a number and of its items before any firing.

@@ -6,7 +6,7 @@ ghost use Rattle.strc_startup.specs.Startup as startup;
 ghost use Rattle.strc_startup.specs.Waiting.{HasEnds, IsBounded};
 ghost use Rattle.strc_order.specs.Firings as spec;
 ghost use Rattle.strc_order.specs.Firings.{HasWindow, FindsWindows, fired};
-ghost use Rattle.strc_order.specs.Network.{size_of};
+ghost use Rattle.strc_order.specs.Network.{size_of, IsNetwork};
 ghost use Rattle.strc_order.specs.Progress.{AreCounts, count_bound};
 
 use crate::network::Network;
@@ -114,6 +114,7 @@ pub(crate) fn turns_at(network: &Network, node: usize, counts: &[u32], limit: u3
     requires each { length counts.now ≡ size_of network.now }
     requires few { AreCounts counts.now }
     requires room { count_at counts.now node + limit ≤ count_bound }
+    ensures network { IsNetwork network.now }
     ensures within { result ≤ limit }
     ensures finds { (earlier : ℕ) → earlier < result → FindsWindows network.now.channels
         (fired (count_at counts.now) earlier node) node }

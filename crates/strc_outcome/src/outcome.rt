@@ -20,7 +20,7 @@ pub enum Outcome {
 }
 
 /// When a firing took place.
-#[derive(Clone, Copy, Debug, PartialEq, Eq)]
+#[derive(Clone, Copy)]
 pub enum Round {
     /// Before the first round.
     Startup,

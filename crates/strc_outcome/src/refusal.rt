@@ -8,7 +8,7 @@ use std::error::Error;
 use std::fmt;
 
 /// Why there is no run.
-#[derive(Clone, Copy, Debug, PartialEq, Eq)]
+#[derive(Clone, Copy, Debug)]
 pub enum RunRefusal {
     /// The rounds read more items than the input has.
     InputShort { need: u64, got: u64 },

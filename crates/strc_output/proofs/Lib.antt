@@ -1,2 +1,3 @@
 pub mod PlanLines
+pub mod Pieces
 pub mod Pushing

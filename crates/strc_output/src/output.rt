@@ -6,7 +6,8 @@ ghost use Rattle.strc_graph.specs.NodeView.{node_names};
 ghost use Rattle.strc_output.specs.Output as spec;
 
 use crate::stop::Stop;
-use crate::text::{push_bytes, push_integer, push_number};
+use crate::text::Piece::{Bytes, Number};
+use crate::text::{push_bytes, push_integer, push_number, push_pieces};
 use std::alloc::{AllocError, Global};
 use strc_graph::graph::Channel;
 use strc_outcome::outcome::{Outcome, Round};
@@ -73,12 +74,17 @@ fn push_fault(
     ensures { OnOk result (text.new.items ≡ text.old.items
         ++ spec.fault_line node firing round cause) }
 {
-    push_bytes(text, b"fault ")?;
-    push_bytes(text, cause_name(cause))?;
-    push_bytes(text, b" node ")?;
-    push_number(text, u64::from(node))?;
-    push_bytes(text, b" firing ")?;
-    push_number(text, firing)?;
+    push_pieces(
+        text,
+        &[
+            Bytes(b"fault "),
+            Bytes(cause_name(cause)),
+            Bytes(b" node "),
+            Number(u64::from(node)),
+            Bytes(b" firing "),
+            Number(firing),
+        ],
+    )?;
     push_round(text, round)?;
     push_bytes(text, b"\n")
 }
@@ -89,10 +95,7 @@ fn push_round(text: &mut Vec<u8>, round: Round) -> Result<(), AllocError>
 {
     match round {
         Round::Startup => push_bytes(text, b" startup"),
-        Round::At(number) => {
-            push_bytes(text, b" round ")?;
-            push_number(text, u64::from(number))
-        }
+        Round::At(number) => push_pieces(text, &[Bytes(b" round "), Number(u64::from(number))]),
     }
 }
 
@@ -112,11 +115,16 @@ pub fn check_text(alloc: Global, nodes: usize, channels: usize) -> Result<Vec<u8
     ensures { IfOk result (λ text. text.items ≡ spec.check_line nodes channels) }
 {
     let mut text = Vec::new(alloc);
-    push_bytes(&mut text, b"ok nodes ")?;
-    push_number(&mut text, nodes as u64)?;
-    push_bytes(&mut text, b" channels ")?;
-    push_number(&mut text, channels as u64)?;
-    push_bytes(&mut text, b"\n")?;
+    push_pieces(
+        &mut text,
+        &[
+            Bytes(b"ok nodes "),
+            Number(nodes as u64),
+            Bytes(b" channels "),
+            Number(channels as u64),
+            Bytes(b"\n"),
+        ],
+    )?;
     Ok(text)
 }
 
@@ -149,13 +157,18 @@ fn push_nodes(text: &mut Vec<u8>, plan: &Plan) -> Result<(), AllocError>
 fn push_node(text: &mut Vec<u8>, node: usize, name: &[u8], count: u32) -> Result<(), AllocError>
     ensures { OnOk result (text.new.items ≡ text.old.items ++ spec.node_line node name.now count) }
 {
-    push_bytes(text, b"node ")?;
-    push_number(text, node as u64)?;
-    push_bytes(text, b" ")?;
-    push_bytes(text, name)?;
-    push_bytes(text, b" round ")?;
-    push_number(text, u64::from(count))?;
-    push_bytes(text, b"\n")
+    push_pieces(
+        text,
+        &[
+            Bytes(b"node "),
+            Number(node as u64),
+            Bytes(b" "),
+            Bytes(name),
+            Bytes(b" round "),
+            Number(u64::from(count)),
+            Bytes(b"\n"),
+        ],
+    )
 }
 
 // The lines of the start-up of nodes that fire so often before the first round.
@@ -172,11 +185,16 @@ fn push_starts(text: &mut Vec<u8>, counts: &[u32]) -> Result<(), AllocError>
 fn push_start(text: &mut Vec<u8>, node: usize, count: u32) -> Result<(), AllocError>
     ensures { OnOk result (text.new.items ≡ text.old.items ++ spec.start_line node count) }
 {
-    push_bytes(text, b"start ")?;
-    push_number(text, node as u64)?;
-    push_bytes(text, b" ")?;
-    push_number(text, u64::from(count))?;
-    push_bytes(text, b"\n")
+    push_pieces(
+        text,
+        &[
+            Bytes(b"start "),
+            Number(node as u64),
+            Bytes(b" "),
+            Number(u64::from(count)),
+            Bytes(b"\n"),
+        ],
+    )
 }
 
 // The lines of all channels.
@@ -201,15 +219,20 @@ fn push_channel(
     ensures { OnOk result (text.new.items ≡ text.old.items
         ++ spec.channel_line number channel.now.source.node channel.now.target.node size) }
 {
-    push_bytes(text, b"channel ")?;
-    push_number(text, number as u64)?;
-    push_bytes(text, b" from ")?;
-    push_number(text, u64::from(channel.source.node))?;
-    push_bytes(text, b" to ")?;
-    push_number(text, u64::from(channel.target.node))?;
-    push_bytes(text, b" size ")?;
-    push_number(text, u64::from(size))?;
-    push_bytes(text, b"\n")
+    push_pieces(
+        text,
+        &[
+            Bytes(b"channel "),
+            Number(number as u64),
+            Bytes(b" from "),
+            Number(u64::from(channel.source.node)),
+            Bytes(b" to "),
+            Number(u64::from(channel.target.node)),
+            Bytes(b" size "),
+            Number(u64::from(size)),
+            Bytes(b"\n"),
+        ],
+    )
 }
 
 /// The line that tells why there is no answer.
@@ -300,33 +323,29 @@ fn push_refusal(text: &mut Vec<u8>, refusal: &Refusal) -> Result<(), AllocError>
 }
 
 // A refusal with one number.
-fn push_field(
+fn push_field<'a>(
     text: &mut Vec<u8>,
-    refusal: &[u8],
-    field: &[u8],
+    refusal: &'a [u8],
+    field: &'a [u8],
     value: u64,
 ) -> Result<(), AllocError>
     ensures { OnOk result (text.new.items ≡ text.old.items
         ++ (refusal.now ++ field.now ++ decimal value)) }
 {
-    push_bytes(text, refusal)?;
-    push_bytes(text, field)?;
-    push_number(text, value)
+    push_pieces(text, &[Bytes(refusal), Bytes(field), Number(value)])
 }
 
 // A refusal with one name.
-fn push_named(
+fn push_named<'a>(
     text: &mut Vec<u8>,
-    refusal: &[u8],
-    field: &[u8],
-    name: &[u8],
+    refusal: &'a [u8],
+    field: &'a [u8],
+    name: &'a [u8],
 ) -> Result<(), AllocError>
     ensures { OnOk result (text.new.items ≡ text.old.items
         ++ (refusal.now ++ field.now ++ name.now)) }
 {
-    push_bytes(text, refusal)?;
-    push_bytes(text, field)?;
-    push_bytes(text, name)
+    push_pieces(text, &[Bytes(refusal), Bytes(field), Bytes(name)])
 }
 
 // A declared rate that isn't the counted one.

@@ -1,2 +1,3 @@
 pub mod RateViews
 pub mod Spelling
+pub mod Grown

@@ -1,11 +1,10 @@
 -- A text has one list of tokens, which spell one program.
-use Rattle.std.proofs.Common.{◌≡◌, ℕ, List, length, ap, ◌∙◌, sym, subst, arith}
+use Rattle.std.proofs.Common.{◌≡◌, ℕ, List, ap, ◌∙◌, sym, subst, arith}
 use Rattle.strc_lex.specs.declared.token.Token.{Token}
 use Rattle.strc_lex.proofs.Lexing.{lexes_only, stuck_lexes}
-use Rattle.strc_syntax.specs.Tree.{Declaration}
 use Rattle.strc_grammar.specs.Grammar.{Parses, kinds}
 use Rattle.strc_grammar.proofs.Exact.{unambiguous}
-use Rattle.strc_parse.specs.Texts.{HasTokens, Spells, SpellsOneProgram, SpelledTextsAreReadable}
+use Rattle.strc_parse.specs.Texts.{HasTokens, SpellsOneProgram, SpelledTextsAreReadable}
 
 same_tokens : (text : List ℕ) (one other : List Token) → HasTokens text one → HasTokens text other
     → one ≡ other

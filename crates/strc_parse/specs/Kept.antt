@@ -1,5 +1,6 @@
 -- What the steps past kept parts give.
-use Rattle.std.specs.Prelude.{◌≡◌, ◌⊎◌, ℕ, max, List, Result, Ok, Err}
+use Rattle.std.specs.Prelude.{◌≡◌, ◌⊎◌, ℕ, max, List, [], ◌∷◌, ◌++◌, Result, Ok, Err}
+use Rattle.std.specs.Global.{Vec}
 use Rattle.std.specs.Borrow.{Bor}
 use Rattle.std.specs.declared.alloc.AllocError.{AllocError}
 use Rattle.strc_lex.specs.declared.token.Token.{Token}
@@ -35,9 +36,51 @@ IsFollowed wanted part (Ok x) = (rest : Bor (List Token))
 IsFollowed {T = T} wanted part (Err e) = (part ≡ Err e)
     ⊎ ((read : Parsed T) × (part ≡ Ok read) × Fails e (expect wanted (kinds read.rest.now)))
 
--- the node, with its height and what follows it, unless memory ran out
-abbrev pub IsMade : {T : Type 0} → Result T AllocError → ℕ → Bor (List Token)
+-- the node that was made of the part, with the part's height
+abbrev pub IsNodeOf : {A T : Type 0} → (A → T → Type 0) → Result (Parsed A) ReadError
     → Result (Parsed T) ReadError → Type 0
-IsMade node height rest (Ok x) = (node ≡ Ok x.value) × (x.height ≡ height) × (x.rest ≡ rest)
-IsMade node height rest (Err e) = (e ≡ errors.Memory)
-    × ((failed : AllocError) × (node ≡ Err failed))
+IsNodeOf {A = A} makes part (Ok x) = (value : A) × makes value x.value
+    × (part ≡ Ok record { value = value; height = x.height; rest = x.rest })
+IsNodeOf makes part (Err e) = part ≡ Err e
+
+-- the leaf that was made of what was read
+abbrev pub IsLeafOf : {A T : Type 0} → (A → T → Type 0)
+    → Result (A × Bor (List Token)) ReadError → Result (Parsed T) ReadError → Type 0
+IsLeafOf {A = A} makes read (Ok x) = (value : A) × makes value x.value × (x.height ≡ 0)
+    × (read ≡ Ok (value, x.rest))
+IsLeafOf makes read (Err e) = read ≡ Err e
+
+-- the node of this height that was made, unless its height or memory stopped it
+abbrev pub IsNode : {T : Type 0} → (Result T AllocError → Type 0) → (depth height : ℕ)
+    → Bor (List Token) → Result (Parsed T) ReadError → Type 0
+IsNode makes depth height rest (Ok x) =
+    makes (Ok x.value) × (raised depth height ≡ Ok x.height) × (x.rest ≡ rest)
+IsNode makes depth height rest (Err e) = Fails e (raised depth height)
+    ⊎ ((e ≡ errors.Memory) × ((failed : AllocError) × makes (Err failed)))
+
+-- what comes of the last part, if that was read
+abbrev pub IsAfter : {A T : Type 0} → (Parsed A → Result (Parsed T) ReadError → Type 0)
+    → Result (Parsed A) ReadError → Result (Parsed T) ReadError → Type 0
+IsAfter then (Ok last) result = then last result
+IsAfter then (Err e) result = result ≡ Err e
+
+abbrev pub IsNodeOfTwo : {A B T : Type 0} → (A → B → Result T AllocError → Type 0) → ℕ
+    → Parsed A → Result (Parsed B) ReadError → Result (Parsed T) ReadError → Type 0
+IsNodeOfTwo makes depth first second result = IsAfter (λ second result.
+    IsNode (makes first.value second.value) depth (max first.height second.height) second.rest
+    result) second result
+
+abbrev pub IsNodeOfThree : {A B C T : Type 0} → (A → B → C → Result T AllocError → Type 0) → ℕ
+    → Parsed A → Parsed B → Result (Parsed C) ReadError → Result (Parsed T) ReadError → Type 0
+IsNodeOfThree makes depth first second third result = IsAfter (λ third result.
+    IsNode (makes first.value second.value third.value) depth
+    (max (max first.height second.height) third.height) third.rest result) third result
+
+-- the items with the next one, and the height of the highest, unless memory ran out
+abbrev pub IsGrown : {T : Type 0} → Parsed (Vec T) → Result (Parsed T) ReadError
+    → Result (Parsed (Vec T)) ReadError → Type 0
+IsGrown {T = T} so_far next (Ok x) = (item : Parsed T) × (next ≡ Ok item)
+    × (x.value.items ≡ so_far.value.items ++ item.value ∷ [])
+    × (x.height ≡ max so_far.height item.height) × (x.rest ≡ item.rest)
+IsGrown {T = T} so_far next (Err e) = (next ≡ Err e)
+    ⊎ ((e ≡ errors.Memory) × ((item : Parsed T) × (next ≡ Ok item)))

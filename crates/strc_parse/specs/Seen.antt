@@ -8,7 +8,6 @@ use Rattle.strc_lex.specs.declared.token.Token.{Token}
 use Rattle.strc_lex.specs.declared.token.TokenKind.{TokenKind}
 use Rattle.strc_syntax.specs.declared.tree.Expr.{Expr}
 use Rattle.strc_syntax.specs.declared.tree.Stmt.{Stmt}
-use Rattle.strc_parse.specs.declared.simple.ForHeading.{ForHeading}
 use denote.Enum.Bare.{sameb}
 use Rattle.strc_syntax.specs.declared.tree.RateKind.{RateKind}
 use Rattle.strc_syntax.specs.contracts.tree.RateKind.{the_type as rate_type}
@@ -20,8 +19,9 @@ use Rattle.strc_syntax.specs.View.{expr_view, stmt_view, rate_view, declaration_
 use Rattle.strc_grammar.specs.Grammar.{kinds}
 
 -- what is between the brackets of a `for`
-abbrev pub heading_view : ForHeading → tree.Stmt × Option tree.Expr × tree.Stmt
-heading_view h = (stmt_view h.first, option_map expr_view h.condition, stmt_view h.step)
+abbrev pub heading_view : Stmt × (Option Expr × Stmt)
+    → tree.Stmt × Option tree.Expr × tree.Stmt
+heading_view h = (stmt_view h.0, option_map expr_view h.1.0, stmt_view h.1.1)
 
 -- a block with its braces
 abbrev pub block_view : Vec Stmt → tree.Stmts

@@ -9,10 +9,9 @@ ghost use Rattle.strc_rules.specs.Seen.{parsed};
 ghost use Rattle.strc_grammar.specs.Streams as spec;
 ghost use Rattle.strc_grammar.specs.Reading.{Gives};
 ghost use Rattle.strc_parse.specs.Readers.{ReadsStatements};
-ghost use Rattle.strc_parse.specs.Parts as parts;
 
 use crate::control::StatementRules;
-use crate::kept::{with_mark, with_node_height};
+use crate::kept::{leaf_of, node_of, with_mark, with_node_height};
 use std::alloc::Global;
 use strc_base::name::Name;
 use strc_grammar::ReadError;
@@ -45,25 +44,8 @@ fn identity(tokens: &[Token]) -> Result<Parsed<'_, Child>, ReadError>
     ensures { Gives (parsed child_view) result (spec.identity (kinds tokens.now)) }
 {
     let opened = int_items(tokens)?;
-    let (brackets, rest) = empty_brackets(opened)?;
-    let rest = expect(Punctuation::Semicolon, rest)?;
-    Ok(Parsed::new(Child::Identity(brackets), 0, rest))
-}
-
-/// `FileReader`: after the keyword.
-fn file_reader(tokens: &[Token]) -> Result<Parsed<'_, Child>, ReadError>
-    ensures { Gives (parsed child_view) result (parts.file_reader (kinds tokens.now)) }
-{
-    let (text, rest) = file(tokens)?;
-    Ok(Parsed::new(Child::FileReader(text), 0, rest))
-}
-
-/// `FileWriter`: after the keyword.
-fn file_writer(tokens: &[Token]) -> Result<Parsed<'_, Child>, ReadError>
-    ensures { Gives (parsed child_view) result (parts.file_writer (kinds tokens.now)) }
-{
-    let (text, rest) = file(tokens)?;
-    Ok(Parsed::new(Child::FileWriter(text), 0, rest))
+    let brackets = leaf_of(empty_brackets(opened), Child::Identity);
+    with_mark(Punctuation::Semicolon, brackets)
 }
 
 /// `roundrobin(1, 2)`, and the height of the highest weight or 0.
@@ -111,12 +93,8 @@ fn split(
     ensures { Gives (parsed composition_view) result (spec.split depth (kinds tokens.now)) }
 {
     let splitter = splitter(alloc, depth - 1, tokens);
-    let splitter = with_node_height(depth, with_mark(Punctuation::Semicolon, splitter))?;
-    Ok(Parsed::new(
-        Composition::Split(splitter.value),
-        splitter.height,
-        splitter.rest,
-    ))
+    let splitter = with_mark(Punctuation::Semicolon, splitter);
+    node_of(with_node_height(depth, splitter), Composition::Split)
 }
 
 /// `join`: after the keyword.
@@ -126,12 +104,8 @@ fn join(alloc: Global, depth: usize, tokens: &[Token]) -> Result<Parsed<'_, Comp
     ensures { Gives (parsed composition_view) result (spec.join depth (kinds tokens.now)) }
 {
     let weights = weights(alloc, depth - 1, tokens);
-    let weights = with_node_height(depth, with_mark(Punctuation::Semicolon, weights))?;
-    Ok(Parsed::new(
-        Composition::Join(weights.value),
-        weights.height,
-        weights.rest,
-    ))
+    let weights = with_mark(Punctuation::Semicolon, weights);
+    node_of(with_node_height(depth, weights), Composition::Join)
 }
 
 /// `enqueue`: after the keyword.
@@ -144,8 +118,8 @@ fn enqueue(
     requires { 0 < depth }
     ensures { Gives (parsed composition_view) result (spec.enqueue depth (kinds tokens.now)) }
 {
-    let read = closed(alloc, depth - 1, Punctuation::Semicolon, tokens)?;
-    Ok(Parsed::new(Composition::Enqueue(read.value), read.height, read.rest))
+    let value = closed(alloc, depth - 1, Punctuation::Semicolon, tokens);
+    node_of(value, Composition::Enqueue)
 }
 
 // Children come with the height of their highest part, or 0.
@@ -247,8 +221,8 @@ impl<F: Fn(Global, usize, &[Token]) -> Result<Parsed<'_, Stmt>, ReadError>> Stat
     {
         match keyword {
             Keyword::Identity => identity(tail(tokens)),
-            Keyword::FileReader => file_reader(tail(tokens)),
-            Keyword::FileWriter => file_writer(tail(tokens)),
+            Keyword::FileReader => leaf_of(file(tail(tokens)), Child::FileReader),
+            Keyword::FileWriter => leaf_of(file(tail(tokens)), Child::FileWriter),
             Keyword::Int => self.typed_child(tokens),
             Keyword::Void => self.typed_child(tokens),
             _ => self.anonymous_composite(None, tokens),

@@ -1,21 +1,21 @@
 // Statements with others in them. The rules of a depth are made of the reader of the depth below,
 // which they take as a value, so that each is proved by itself.
 
-ghost use Rattle.std.specs.Prelude.{◌≡◌, ◌-◌, ◌<◌, map};
+ghost use Rattle.std.specs.Prelude.{◌≡◌, ◌-◌, ◌<◌, max, map};
 ghost use Rattle.strc_syntax.specs.View.{expr_view, stmt_view, member_view};
 ghost use Rattle.strc_grammar.specs.Grammar.{kinds};
 ghost use Rattle.strc_rules.specs.Seen.{parsed, parsed_all};
 ghost use Rattle.strc_grammar.specs.Streams as spec;
+ghost use Rattle.strc_grammar.specs.Reading as reading;
 ghost use Rattle.strc_grammar.specs.Reading.{Gives};
 ghost use Rattle.strc_parse.specs.Readers.{ReadsStatements};
-ghost use Rattle.strc_parse.specs.Parts as parts;
 
-use crate::kept::{both, node_read, with_node_height};
-use crate::simple::{ForHeading, argument, bracketed, ended, for_heading};
+use crate::kept::{node_of, node_of_three, node_of_two, with_next, with_node_height};
+use crate::simple::{argument, bracketed, ended, for_heading};
 use std::alloc::Global;
 use strc_grammar::{Fault, ReadError};
 use strc_lex::token::{Keyword, Punctuation, Token, TokenKind};
-use strc_rules::lookahead::{is_keyword, is_punctuation, peek, tail, unexpected};
+use strc_rules::lookahead::{is_keyword, is_punctuation, peek, raised, tail, unexpected};
 use strc_rules::parsed::Parsed;
 use strc_syntax::node::{block_of, for_of, if_else_of, if_of, while_of};
 use strc_syntax::tree::{Expr, Member, Stmt};
@@ -83,33 +83,6 @@ pub(crate) fn members(
     rules.members(tokens)
 }
 
-/// `push(e);`: after the keyword.
-fn push(alloc: Global, depth: usize, tokens: &[Token]) -> Result<Parsed<'_, Stmt>, ReadError>
-    requires { 0 < depth }
-    ensures { Gives (parsed stmt_view) result (parts.push depth (kinds tokens.now)) }
-{
-    let read = argument(alloc, depth, tokens)?;
-    Ok(Parsed::new(Stmt::Push(read.value), read.height, read.rest))
-}
-
-/// `print(e);`: after the keyword.
-fn print(alloc: Global, depth: usize, tokens: &[Token]) -> Result<Parsed<'_, Stmt>, ReadError>
-    requires { 0 < depth }
-    ensures { Gives (parsed stmt_view) result (parts.print depth (kinds tokens.now)) }
-{
-    let read = argument(alloc, depth, tokens)?;
-    Ok(Parsed::new(Stmt::Print(read.value), read.height, read.rest))
-}
-
-/// `println(e);`: after the keyword.
-fn println(alloc: Global, depth: usize, tokens: &[Token]) -> Result<Parsed<'_, Stmt>, ReadError>
-    requires { 0 < depth }
-    ensures { Gives (parsed stmt_view) result (parts.println depth (kinds tokens.now)) }
-{
-    let read = argument(alloc, depth, tokens)?;
-    Ok(Parsed::new(Stmt::Println(read.value), read.height, read.rest))
-}
-
 impl<F: Fn(Global, usize, &[Token]) -> Result<Parsed<'_, Stmt>, ReadError>> StatementRules<F> {
     /// A statement one depth below.
     fn below<'t>(&self, tokens: &'t [Token]) -> Result<Parsed<'t, Stmt>, ReadError>
@@ -155,15 +128,18 @@ impl<F: Fn(Global, usize, &[Token]) -> Result<Parsed<'_, Stmt>, ReadError>> Stat
             Keyword::If => self.branch(tail(tokens)),
             Keyword::While => self.while_loop(tail(tokens)),
             Keyword::For => self.for_loop(tail(tokens)),
-            Keyword::Push => push(self.alloc, self.depth, tail(tokens)),
-            Keyword::Print => print(self.alloc, self.depth, tail(tokens)),
-            Keyword::Println => println(self.alloc, self.depth, tail(tokens)),
-            Keyword::Add => self.compose(keyword, tokens),
-            Keyword::Body => self.compose(keyword, tokens),
-            Keyword::Loop => self.compose(keyword, tokens),
-            Keyword::Split => self.compose(keyword, tokens),
-            Keyword::Join => self.compose(keyword, tokens),
-            Keyword::Enqueue => self.compose(keyword, tokens),
+            Keyword::Push => node_of(argument(self.alloc, self.depth, tail(tokens)), Stmt::Push),
+            Keyword::Print => node_of(argument(self.alloc, self.depth, tail(tokens)), Stmt::Print),
+            Keyword::Println => node_of(
+                argument(self.alloc, self.depth, tail(tokens)),
+                Stmt::Println,
+            ),
+            Keyword::Add
+            | Keyword::Body
+            | Keyword::Loop
+            | Keyword::Split
+            | Keyword::Join
+            | Keyword::Enqueue => self.compose(keyword, tokens),
             _ => ended(self.alloc, self.depth, tokens),
         }
     }
@@ -177,57 +153,51 @@ impl<F: Fn(Global, usize, &[Token]) -> Result<Parsed<'_, Stmt>, ReadError>> Stat
         ensures { Gives (parsed stmt_view) result
             (spec.branch self.now.depth (spec.statement (self.now.depth - 1)) (kinds tokens.now)) }
     {
-        let read = bracketed(self.alloc, self.depth, tokens)?;
-        let read = both(read.value, read.height, self.below(read.rest))?;
-        let (condition, chosen) = read.value;
-        self.after_branch(condition, chosen, read.height, read.rest)
+        let condition = bracketed(self.alloc, self.depth, tokens)?;
+        let chosen = self.below(condition.rest)?;
+        self.after_branch(condition, chosen)
     }
 
     /// What follows a branch, to which an `else` belongs that comes next.
     #[tactic(auto, unfolding(strc_grammar::specs::Streams::after_branch))]
     fn after_branch<'t>(
         &self,
-        condition: Expr,
-        chosen: Stmt,
-        height: usize,
-        tokens: &'t [Token],
+        condition: Parsed<'t, Expr>,
+        chosen: Parsed<'t, Stmt>,
     ) -> Result<Parsed<'t, Stmt>, ReadError>
         requires deep { 0 < self.now.depth }
         requires reads { ReadsStatements (self.now.depth - 1)
             (F.pre self.now.reader) (F.post self.now.reader) }
         ensures { Gives (parsed stmt_view) result
             (spec.after_branch self.now.depth (spec.statement (self.now.depth - 1))
-            (expr_view condition) (stmt_view chosen) height (kinds tokens.now)) }
+            (expr_view condition.entry.value) (stmt_view chosen.entry.value)
+            (max condition.entry.height chosen.entry.height) (kinds chosen.entry.rest.now)) }
     {
-        if is_keyword(Keyword::Else, tokens) {
-            return self.other_branch(condition, chosen, height, tail(tokens));
+        if is_keyword(Keyword::Else, chosen.rest) {
+            self.other_branch(condition, chosen)
+        } else {
+            node_of_two(self.alloc, self.depth, condition, Ok(chosen), if_of)
         }
-        let read = Parsed::new((condition, chosen), height, tokens).raise(self.depth)?;
-        let (condition, chosen) = read.value;
-        node_read(if_of(self.alloc, condition, chosen), read.height, read.rest)
     }
 
-    /// The branch after `else`, with the height of what is before it.
+    /// The branch after the `else` that comes next, with what is before it.
     #[tactic(auto, unfolding(strc_grammar::specs::Streams::other_branch))]
     fn other_branch<'t>(
         &self,
-        condition: Expr,
-        chosen: Stmt,
-        height: usize,
-        tokens: &'t [Token],
+        condition: Parsed<'t, Expr>,
+        chosen: Parsed<'t, Stmt>,
     ) -> Result<Parsed<'t, Stmt>, ReadError>
         requires deep { 0 < self.now.depth }
         requires reads { ReadsStatements (self.now.depth - 1)
             (F.pre self.now.reader) (F.post self.now.reader) }
         ensures { Gives (parsed stmt_view) result
             (spec.other_branch self.now.depth (spec.statement (self.now.depth - 1))
-            (expr_view condition) (stmt_view chosen) height (kinds tokens.now)) }
+            (expr_view condition.entry.value) (stmt_view chosen.entry.value)
+            (max condition.entry.height chosen.entry.height)
+            (reading.tail (kinds chosen.entry.rest.now))) }
     {
-        let read = both((condition, chosen), height, self.below(tokens));
-        let read = with_node_height(self.depth, read)?;
-        let ((condition, chosen), other) = read.value;
-        let node = if_else_of(self.alloc, condition, chosen, other);
-        node_read(node, read.height, read.rest)
+        let other = self.below(tail(chosen.rest));
+        node_of_three(self.alloc, self.depth, condition, chosen, other, if_else_of)
     }
 
     /// `while`: after the keyword.
@@ -240,12 +210,9 @@ impl<F: Fn(Global, usize, &[Token]) -> Result<Parsed<'_, Stmt>, ReadError>> Stat
             (spec.while_loop self.now.depth (spec.statement (self.now.depth - 1))
             (kinds tokens.now)) }
     {
-        let read = bracketed(self.alloc, self.depth, tokens)?;
-        let read = both(read.value, read.height, self.below(read.rest));
-        let read = with_node_height(self.depth, read)?;
-        let (condition, body) = read.value;
-        let node = while_of(self.alloc, condition, body);
-        node_read(node, read.height, read.rest)
+        let condition = bracketed(self.alloc, self.depth, tokens)?;
+        let body = self.below(condition.rest);
+        node_of_two(self.alloc, self.depth, condition, body, while_of)
     }
 
     /// `for`: after the keyword.
@@ -258,17 +225,12 @@ impl<F: Fn(Global, usize, &[Token]) -> Result<Parsed<'_, Stmt>, ReadError>> Stat
             (spec.for_loop self.now.depth (spec.statement (self.now.depth - 1))
             (kinds tokens.now)) }
     {
-        let read = for_heading(self.alloc, self.depth, tokens)?;
-        let read = both(read.value, read.height, self.below(read.rest));
-        let read = with_node_height(self.depth, read)?;
-        let (heading, body) = read.value;
-        let ForHeading {
-            first,
-            condition,
-            step,
-        } = heading;
-        let node = for_of(self.alloc, first, condition, step, body);
-        node_read(node, read.height, read.rest)
+        let heading = for_heading(self.alloc, self.depth, tokens)?;
+        let body = self.below(heading.rest)?;
+        let height = raised(self.depth, heading.height.max(body.height))?;
+        let (first, (condition, step)) = heading.value;
+        let node = for_of(self.alloc, first, condition, step, body.value)?;
+        Ok(Parsed::new(node, height, body.rest))
     }
 
     /// A block as a statement: after its brace.
@@ -280,8 +242,10 @@ impl<F: Fn(Global, usize, &[Token]) -> Result<Parsed<'_, Stmt>, ReadError>> Stat
         ensures { Gives (parsed stmt_view) result
             (spec.block self.now.depth (spec.statement (self.now.depth - 1)) (kinds tokens.now)) }
     {
-        let body = with_node_height(self.depth, self.statements(tokens))?;
-        Ok(Parsed::new(block_of(body.value), body.height, body.rest))
+        node_of(
+            with_node_height(self.depth, self.statements(tokens)),
+            block_of,
+        )
     }
 
     /// Statements one depth below, up to the brace that closes them, and the height of the highest
@@ -297,18 +261,14 @@ impl<F: Fn(Global, usize, &[Token]) -> Result<Parsed<'_, Stmt>, ReadError>> Stat
         ensures { Gives (parsed_all stmt_view) result
             (spec.statements (spec.statement (self.now.depth - 1)) (kinds tokens.entry.now)) }
     {
-        let mut found = Vec::new(self.alloc);
-        let mut highest = 0;
-        let mut rest = tokens;
+        let mut read = Parsed::new(Vec::new(self.alloc), 0, tokens);
         for _turn in 0..tokens.len() {
-            if is_punctuation(Punctuation::CloseBrace, rest) {
-                return Ok(Parsed::new(found, highest, tail(rest)));
+            if is_punctuation(Punctuation::CloseBrace, read.rest) {
+                return Ok(Parsed::new(read.value, read.height, tail(read.rest)));
             }
-            let next = self.below(rest)?;
-            found.push(next.value)?;
-            highest = highest.max(next.height);
-            rest = next.rest;
+            let next = self.below(read.rest);
+            read = with_next(read, next)?;
         }
-        Err(unexpected(rest))
+        Err(unexpected(read.rest))
     }
 }

@@ -2,9 +2,10 @@
 // They are generic, so that what becomes of the parts is said and proved once, and not at each of
 // their types. They take a rule's result as it is, so that the rule above has fewer ways out.
 
-ghost use Rattle.strc_parse.specs.Kept.{IsBoth, IsNested, IsFollowed, IsMade};
+ghost use Rattle.strc_parse.specs.Kept.{IsBoth, IsNested, IsFollowed, IsGrown, IsNodeOf, IsLeafOf};
+ghost use Rattle.strc_parse.specs.Kept.{IsNodeOfTwo, IsNodeOfThree};
 
-use std::alloc::AllocError;
+use std::alloc::{AllocError, Global};
 use strc_grammar::ReadError;
 use strc_lex::token::{Punctuation, Token};
 use strc_rules::lookahead::{expect, raised};
@@ -48,13 +49,79 @@ pub(crate) fn with_mark<'t, T: Drop>(
     Ok(Parsed::new(part.value, part.height, rest))
 }
 
-/// A node, if there was memory for it, with its height and the tokens past it.
-pub(crate) fn node_read<'t, T>(
-    node: Result<T, AllocError>,
-    height: usize,
-    rest: &'t [Token],
+/// The node that this makes of a part, if that was read, with the part's height.
+pub(crate) fn node_of<'t, A, T, F: FnOnce(A) -> T>(
+    part: Result<Parsed<'t, A>, ReadError>,
+    make: F,
 ) -> Result<Parsed<'t, T>, ReadError>
-    ensures { IsMade node height rest.entry result }
+    requires { F.IsAlwaysCallable make }
+    ensures { IsNodeOf (F.post make) part.entry result }
 {
-    Ok(Parsed::new(node?, height, rest))
+    let part = part?;
+    Ok(Parsed::new(make(part.value), part.height, part.rest))
+}
+
+/// The leaf that this makes of what was read: the height of its parts is 0.
+pub(crate) fn leaf_of<'t, A, T, F: FnOnce(A) -> T>(
+    read: Result<(A, &'t [Token]), ReadError>,
+    make: F,
+) -> Result<Parsed<'t, T>, ReadError>
+    requires { F.IsAlwaysCallable make }
+    ensures { IsLeafOf (F.post make) read.entry result }
+{
+    let (value, rest) = read?;
+    Ok(Parsed::new(make(value), 0, rest))
+}
+
+/// The node that this makes of a part and of the next one, if that was read too.
+pub(crate) fn node_of_two<'t, A: Drop, B: Drop, T, F>(
+    alloc: Global,
+    depth: usize,
+    first: Parsed<'t, A>,
+    second: Result<Parsed<'t, B>, ReadError>,
+    make: F,
+) -> Result<Parsed<'t, T>, ReadError>
+where
+    F: FnOnce(Global, A, B) -> Result<T, AllocError>,
+    requires { F.IsAlwaysCallable make }
+    ensures { IsNodeOfTwo (F.post make alloc) depth first.entry second.entry result }
+{
+    let second = second?;
+    let height = raised(depth, first.height.max(second.height))?;
+    let node = make(alloc, first.value, second.value)?;
+    Ok(Parsed::new(node, height, second.rest))
+}
+
+/// The node that this makes of two parts and of the next one, if that was read too.
+pub(crate) fn node_of_three<'t, A: Drop, B: Drop, C: Drop, T, F>(
+    alloc: Global,
+    depth: usize,
+    first: Parsed<'t, A>,
+    second: Parsed<'t, B>,
+    third: Result<Parsed<'t, C>, ReadError>,
+    make: F,
+) -> Result<Parsed<'t, T>, ReadError>
+where
+    F: FnOnce(Global, A, B, C) -> Result<T, AllocError>,
+    requires { F.IsAlwaysCallable make }
+    ensures { IsNodeOfThree (F.post make alloc) depth first.entry second.entry third.entry result }
+{
+    let third = third?;
+    let height = first.height.max(second.height).max(third.height);
+    let height = raised(depth, height)?;
+    let node = make(alloc, first.value, second.value, third.value)?;
+    Ok(Parsed::new(node, height, third.rest))
+}
+
+/// The items so far and the next one, if that was read, with the height of the highest.
+pub(crate) fn with_next<'t, T: Drop>(
+    so_far: Parsed<'t, Vec<T>>,
+    next: Result<Parsed<'t, T>, ReadError>,
+) -> Result<Parsed<'t, Vec<T>>, ReadError>
+    ensures { IsGrown so_far.entry next.entry result }
+{
+    let next = next?;
+    let mut items = so_far.value;
+    items.push(next.value)?;
+    Ok(Parsed::new(items, so_far.height.max(next.height), next.rest))
 }

@@ -11,7 +11,7 @@ ghost use Rattle.strc_parse.specs.Readers.{ReadsStatements};
 ghost use Rattle.strc_parse.specs.Parts as parts;
 
 use crate::control::StatementRules;
-use crate::kept::{both, with_mark};
+use crate::kept::{both, with_mark, with_next};
 use std::alloc::Global;
 use strc_grammar::ReadError;
 use strc_lex::token::{Keyword, Punctuation, Token, TokenKind};
@@ -204,15 +204,11 @@ impl<F: Fn(Global, usize, &[Token]) -> Result<Parsed<'_, Stmt>, ReadError>> Stat
             (spec.members (self.now.depth - 1) (spec.statement (self.now.depth - 1))
             (kinds tokens.entry.now)) }
     {
-        let mut found = Vec::new(self.alloc);
-        let mut highest = 0;
-        let mut rest = tokens;
-        while !is_punctuation(Punctuation::CloseBrace, rest) {
-            let next = self.member(rest)?;
-            found.push(next.value)?;
-            highest = highest.max(next.height);
-            rest = next.rest;
+        let mut read = Parsed::new(Vec::new(self.alloc), 0, tokens);
+        while !is_punctuation(Punctuation::CloseBrace, read.rest) {
+            let next = self.member(read.rest);
+            read = with_next(read, next)?;
         }
-        Ok(Parsed::new(found, highest, tail(rest)))
+        Ok(Parsed::new(read.value, read.height, tail(read.rest)))
     }
 }

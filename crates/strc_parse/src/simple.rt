@@ -9,14 +9,14 @@ ghost use Rattle.strc_parse.specs.Seen.{heading_view, after_first_view};
 ghost use Rattle.strc_grammar.specs.Reading as spec;
 ghost use Rattle.strc_grammar.specs.Reading.{Gives};
 
-use crate::kept::{both, with_mark, with_node_height};
+use crate::kept::{both, node_of, with_mark, with_node_height};
 use std::alloc::Global;
 use std::mem;
 use strc_base::name::Name;
 use strc_grammar::ReadError;
 use strc_lex::token::{Keyword, Punctuation, Token, TokenKind};
 use strc_rules::expression::{LOWEST_PRECEDENCE, closed, expression};
-use strc_rules::lookahead::{expect, is_punctuation, peek, tail};
+use strc_rules::lookahead::{expect, is_punctuation, peek, raised, tail};
 use strc_rules::operator::assign_at;
 use strc_rules::parsed::Parsed;
 use strc_rules::part::raise;
@@ -29,12 +29,8 @@ fn declare(alloc: Global, depth: usize, tokens: &[Token]) -> Result<Parsed<'_, S
     requires { 0 < depth }
     ensures { Gives (parsed stmt_view) result (spec.declare depth (kinds tokens.now)) }
 {
-    let declared = with_node_height(depth, declared(alloc, depth - 1, tokens))?;
-    Ok(Parsed::new(
-        Stmt::Declare(declared.value),
-        declared.height,
-        declared.rest,
-    ))
+    let declared = declared(alloc, depth - 1, tokens);
+    node_of(with_node_height(depth, declared), Stmt::Declare)
 }
 
 /// An expression that was read, as a statement.
@@ -65,11 +61,13 @@ fn assign_to<'t>(
     ensures { Gives (parsed stmt_view) result
         (spec.assign_to depth name operator (kinds tokens.now)) }
 {
-    let read = expression(alloc, depth - 1, LOWEST_PRECEDENCE, tokens)?;
-    let rest = read.rest;
-    let (parts, height) = raise(depth, (name, read.value), read.height)?;
-    let (name, value) = parts;
-    Ok(Parsed::new(Stmt::Assign(name, operator, value), height, rest))
+    let value = expression(alloc, depth - 1, LOWEST_PRECEDENCE, tokens)?;
+    let height = raised(depth, value.height)?;
+    Ok(Parsed::new(
+        Stmt::Assign(name, operator, value.value),
+        height,
+        value.rest,
+    ))
 }
 
 /// `x[i] = e`: after the operator, with the height of the element.
@@ -88,13 +86,12 @@ fn assign_element<'t>(
         (spec.assign_element depth name (expr_view index) element_height operator
         (kinds tokens.now)) }
 {
-    let value = expression(alloc, depth - 1, LOWEST_PRECEDENCE, tokens);
-    let read = with_node_height(depth, both((name, index), element_height, value))?;
-    let ((name, index), value) = read.value;
+    let value = expression(alloc, depth - 1, LOWEST_PRECEDENCE, tokens)?;
+    let height = raised(depth, element_height.max(value.height))?;
     Ok(Parsed::new(
-        Stmt::AssignElement(name, index, operator, value),
-        read.height,
-        read.rest,
+        Stmt::AssignElement(name, index, operator, value.value),
+        height,
+        value.rest,
     ))
 }
 
@@ -269,13 +266,8 @@ fn after_first(
     both(read.value, read.height, last_part(alloc, depth, read.rest))
 }
 
-/// What is in the brackets of a `for`.
-#[derive(Drop)]
-pub(crate) struct ForHeading {
-    pub(crate) first: Stmt,
-    pub(crate) condition: Option<Expr>,
-    pub(crate) step: Stmt,
-}
+/// What is in the brackets of a `for`: the first part, and the condition with the step.
+pub(crate) type ForHeading = (Stmt, (Option<Expr>, Stmt));
 
 /// `(first; condition; step)`, and the height of the highest.
 #[tactic(auto, unfolding(strc_grammar::specs::Reading::for_heading))]
@@ -289,13 +281,9 @@ pub(crate) fn for_heading(
 {
     let opened = expect(Punctuation::OpenParen, tokens)?;
     let read = ended(alloc, depth, opened)?;
-    let after = after_first(alloc, depth, read.rest);
-    let read = both(read.value, read.height, after)?;
-    let (first, (condition, step)) = read.value;
-    let heading = ForHeading {
-        first,
-        condition,
-        step,
-    };
-    Ok(Parsed::new(heading, read.height, read.rest))
+    both(
+        read.value,
+        read.height,
+        after_first(alloc, depth, read.rest),
+    )
 }

@@ -2,13 +2,13 @@
 use Rattle.std.proofs.Common.{◌≡◌, ℕ, ◌+◌, List, [], ◌∷◌, Option, Some, None, refl, sym, ap, ◌∙◌}
 use Rattle.std.proofs.Common.{arith}
 use Rattle.strc_syntax.specs.Tree as tree
-use Rattle.strc_interval.specs.Loops.{Locals, locals_after, counted_loop}
+use Rattle.strc_interval.specs.Loops.{Locals, locals_after}
 use Rattle.strc_interval.specs.Intervals.{names_of}
 use Rattle.strc_interval.specs.Intervals.{Intervals, intervals_after}
 use Rattle.strc_interval.proofs.IntervalGrowth.{names_after}
 use Rattle.strc_peeks.specs.Counts.{Counts, saturated, no_items, sequence, stmt_counts}
 use Rattle.strc_peeks.specs.Counts.{stmts_counts}
-use Rattle.strc_peeks.specs.Counts.{option_counts, variables_counts, turns_counts}
+use Rattle.strc_peeks.specs.Counts.{option_counts, variables_counts}
 
 saturated_assoc : (a b c : ℕ) → saturated (saturated (a + b) + c)
     ≡ saturated (a + saturated (b + c))
@@ -127,18 +127,3 @@ variables_step so_far here next whole x rest all counted more is left =
     ∙ ap (λ h. sequence so_far (sequence h (variables_counts rest))) counted
     ∙ ap (λ b. sequence so_far (variables_counts b)) (sym is)
     ∙ left
-
--- a `for`, by its parts
-pub for_counts : (intervals inner : Intervals) (first step body : tree.Stmt)
-    (condition : Option tree.Expr) (begun turned : Option Counts)
-    → begun ≡ stmt_counts (names_of intervals) first → inner ≡ intervals_after intervals first
-    → turned ≡ turns_counts (counted_loop (names_of intervals) first condition step body)
-    (option_counts condition) (stmt_counts (names_of inner) step)
-    (stmt_counts (names_of inner) body)
-    → sequence begun turned ≡ stmt_counts (names_of intervals) (tree.For first condition step body)
-for_counts intervals inner first step body condition begun turned counted names turns =
-    ap (λ b. sequence b turned) counted
-    ∙ ap (sequence (stmt_counts (names_of intervals) first))
-    (turns ∙ ap (λ l. turns_counts (counted_loop (names_of intervals) first condition step body)
-    (option_counts condition) (stmt_counts l step) (stmt_counts l body))
-    (ap names_of names ∙ names_after intervals first))

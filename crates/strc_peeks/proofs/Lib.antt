@@ -1,5 +1,6 @@
 pub mod Scopes
 pub mod Counting
+pub mod Passing
 pub mod Sighting
 pub mod Unreaching
 pub mod Results

@@ -12,7 +12,6 @@ use Rattle.strc_interval.specs.Loops.{Loop, counted_loop}
 use Rattle.strc_interval.specs.declared.interval.Interval.{Interval}
 use Rattle.strc_interval.specs.Intervals.{Intervals, intervals_after, names_of, with_interval}
 use Rattle.strc_interval.specs.Intervals.{turns_interval, interval_of}
-use Rattle.strc_interval.proofs.IntervalGrowth.{drop_own, with_value_back, with_interval_is}
 use Rattle.strc_peeks.specs.Counts.{Counts, saturated, Need, need_of, expr_counts, option_counts}
 use Rattle.strc_peeks.specs.Counts.{stmt_counts}
 use Rattle.strc_peeks.specs.Entries.{peeks_of_expr, peeks_of_stmt}
@@ -273,12 +272,3 @@ names_of-with_value (first ∷ rest) name interval =
         (first ∷ with_value rest name interval)) ≡ first.0 ∷ names_of rest
     by_test true h = refl
     by_test false h = ap (λ l. first.0 ∷ l) h
-
--- a loop's variable has an interval in the turns, and its own after them
-pub ruleset turned = (
-  drop_own,
-  with_value_back,
-  with_interval_is,
-  names_of-with_value,
-  body_in_turns,
-)

@@ -11,14 +11,14 @@ use strc_syntax::tree::{BinaryOperator, Expr};
 pub const COUNT_LIMIT: u32 = 65537;
 
 /// So many items, each number saturated at 65,537.
-#[derive(Clone, Copy, PartialEq, Eq)]
+#[derive(Clone, Copy)]
 pub struct Counts {
     pub pushes: u32,
     pub pops: u32,
 }
 
 /// When an operator's right side is evaluated.
-#[derive(Clone, Copy, PartialEq, Eq)]
+#[derive(Clone, Copy)]
 pub(crate) enum Need {
     Always,
     Never,

@@ -8,6 +8,7 @@
 #![tactic(auto)]
 
 pub mod counts;
+mod expression_peeks;
 pub mod laws;
 pub mod peeks;
 pub mod sight;

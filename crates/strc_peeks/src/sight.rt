@@ -1,6 +1,7 @@
 // What a peek's text tells of the window.
 
-ghost use Rattle.std.specs.Prelude.{◌≡◌, ◌++◌, IfOk, OnOk, map};
+ghost use Rattle.std.specs.Prelude.{◌≡◌, ◌++◌, not, ◌&&◌, ◌||◌, pos, ◌+ℤ◌, IfOk, OnOk, map};
+ghost use Rattle.std.specs.Int.RustNames.{int_lt};
 ghost use Rattle.strc_peeks.specs.Counts.{Counts};
 ghost use Rattle.strc_peeks.specs.Peeks as spec;
 
@@ -11,7 +12,7 @@ use strc_interval::interval::Interval;
 
 /// Between how many items a firing has popped when it comes to a place of its text, saturated as
 /// counts are.
-#[derive(Clone, Copy, PartialEq, Eq)]
+#[derive(Clone, Copy)]
 pub(crate) struct PopInterval {
     pub low: u32,
     pub high: u32,
@@ -27,7 +28,7 @@ pub(crate) enum PeekSite {
 }
 
 /// What is known of a peek.
-#[derive(Clone, Copy, PartialEq, Eq)]
+#[derive(Clone, Copy)]
 pub enum PeekBounds {
     /// It stays within its window.
     Closed,
@@ -84,14 +85,29 @@ fn sight_at(window: u32, popped: PopInterval, index: Option<Interval>) -> PeekBo
     let Some(index) = index else {
         return PeekBounds::Open;
     };
-    let window = i64::from(window);
-    if !(index.low < 0) && i64::from(index.high) + i64::from(popped.high) < window {
+    if is_within(window, popped, index) {
         return PeekBounds::Closed;
     }
-    if index.high < 0 || !(i64::from(index.low) + i64::from(popped.low) < window) {
+    if is_outside(window, popped, index) {
         return PeekBounds::Outside;
     }
     PeekBounds::Open
+}
+
+/// Whether each index of an interval is within the window, however many items are popped.
+fn is_within(window: u32, popped: PopInterval, index: Interval) -> bool
+    ensures { result ≡ (not (int_lt index.low (pos 0))
+        && int_lt (index.high +ℤ pos popped.high) (pos window)) }
+{
+    !(index.low < 0) && i64::from(index.high) + i64::from(popped.high) < i64::from(window)
+}
+
+/// Whether no index of an interval is within the window, however many items are popped.
+fn is_outside(window: u32, popped: PopInterval, index: Interval) -> bool
+    ensures { result ≡ (int_lt index.high (pos 0)
+        || not (int_lt (index.low +ℤ pos popped.low) (pos window))) }
+{
+    index.high < 0 || !(i64::from(index.low) + i64::from(popped.low) < i64::from(window))
 }
 
 /// What is known of a peek before a window.

@@ -14,7 +14,7 @@ use Rattle.strc_peeks.specs.declared.sight.PeekBounds.{PeekBounds}
 use Rattle.strc_peeks.specs.declared.sight.PeekBounds.TheVariants.{Outside}
 use Rattle.strc_peeks.specs.Counts.{stmts_counts}
 use Rattle.strc_peeks.specs.Peeks.{is_closed, body_sights}
-use Rattle.strc_rate.specs.declared.rates.TheConstants.{RATE_LIMIT}
+use Rattle.strc_code.specs.declared.code.TheConstants.{RATE_LIMIT}
 use Rattle.strc_rate.specs.declared.rates.RateError.{RateError}
 use Rattle.strc_rate.specs.declared.rates.RateError.TheVariants.{RateLimit, RateUnknown}
 use Rattle.strc_rate.specs.declared.rates.RateError.TheVariants.{RateMismatch, PeekOutside}

@@ -12,18 +12,15 @@ ghost use Rattle.strc_rate.specs.Verdicts.{IsVerdict, body_view, rates_view};
 
 use std::alloc::{AllocError, AllocFailed, Global};
 use strc_base::memory::NoMemory;
-use strc_code::code::{Code, DeclaredRates};
+use strc_code::code::{Code, DeclaredRates, RATE_LIMIT};
 use strc_peeks::peeks::body_peeks;
 use strc_peeks::sight::{PeekBounds, is_closed};
 use strc_semantics::body::Body;
 use strc_syntax::tree::ItemType;
 use thiserror::Error;
 
-// The highest rate that may be declared.
-const RATE_LIMIT: i32 = 65536;
-
 /// What a firing of a body pushes and pops, and what is known of its peeks.
-#[derive(Debug, Drop)]
+#[derive(Drop)]
 pub struct BodyRates {
     /// How many items each firing pushes.
     pub push: u32,
@@ -37,7 +34,7 @@ pub struct BodyRates {
 }
 
 /// The rates of a filter.
-#[derive(Debug, Drop)]
+#[derive(Drop)]
 pub struct Rates {
     /// Those of the prework, where there is one.
     pub prework: Option<BodyRates>,
@@ -45,7 +42,7 @@ pub struct Rates {
 }
 
 /// Why a filter's rates aren't accepted.
-#[derive(Clone, Copy, Debug, PartialEq, Eq, Error)]
+#[derive(Clone, Copy, Debug, Error)]
 pub enum RateError {
     /// A rate is below 0 or above 65,536, or a work has rate 0 on a side with items.
     #[error("a rate isn't from 0 to 65536, or it is 0 on a side of the work that has items")]

@@ -7,6 +7,7 @@ ghost use Rattle.strc_refusal.specs.declared.refusal.Refusal.TheVariants.{NoMemo
 
 use crate::sentence::when;
 use std::alloc::{AllocError, AllocFailed};
+use std::fmt;
 use strc_balance::error::BalanceError;
 use strc_base::memory;
 use strc_base::name::Name;
@@ -18,7 +19,7 @@ use strc_startup::error::StartupError;
 use thiserror::Error;
 
 /// Why a text is refused. Bytes, tokens, declarations, nodes and channels are numbered from 0.
-#[derive(Debug, Drop, Error)]
+#[derive(Drop, Error)]
 pub enum Refusal {
     /// No token begins at this byte.
     #[error("no token begins at byte {at}, counted from 0")]
@@ -132,6 +133,13 @@ pub enum Refusal {
     /// A statement or an expression is nested deeper than 256.
     #[error("a statement or an expression is nested deeper than 256")]
     Nesting,
+}
+
+/// Its sentence.
+impl fmt::Debug for Refusal {
+    fn fmt<W: fmt::Write>(&self, f: &mut fmt::Formatter<W>) -> fmt::Result {
+        fmt::Display::fmt(self, f)
+    }
 }
 
 impl From<ElabError> for Refusal {

@@ -5,7 +5,7 @@ ghost use Rattle.std.specs.Option.{option_map};
 ghost use Rattle.strc_run.specs.Plans.{main_of};
 
 /// How a text is to be compiled.
-#[derive(Debug, Drop)]
+#[derive(Drop)]
 pub struct Options {
     /// The name of the main stream; without one it is the only declaration that can be it.
     pub main: Option<String>,

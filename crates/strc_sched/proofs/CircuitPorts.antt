@@ -1,5 +1,6 @@
 -- The ports at which a graph's channels begin and end.
-use Rattle.std.proofs.Common.{◌∙◌, sym}
+use Rattle.std.proofs.Common.{◌∙◌, sym, ◌+◌, ◌++◌, length, take, get_or}
+use Rattle.std.proofs.lemmas.List.{take_more, map-append}
 use Rattle.std.proofs.Common.{◌≡◌, refl, ap, ℕ, zero, suc, ◌<◌, List, [], ◌∷◌, map, arith}
 use Rattle.std.specs.Prelude.{All, Option, Some, None, slice_get}
 use Rattle.std.specs.Option.{option_map_or}
@@ -12,6 +13,16 @@ use Rattle.strc_graph.specs.declared.graph.Port.{Port}
 use Rattle.strc_admissible.specs.Wiring.{HasPort, IsWired, PortRings}
 use Rattle.strc_sched.specs.Blocks.{AreAllApart}
 use Rattle.strc_sched.specs.Circuits.{IsBetween, source_of, target_of}
+
+-- the values of one more item
+pub map_more : {A B : Type 0} (value : A → B) (all : List A) (i : ℕ) (one : A) (items : List B)
+    → i < length all → one ≡ get_or all i one → items ≡ map value (take i all)
+    → items ++ value one ∷ [] ≡ map value (take (i + 1) all)
+map_more value all i one items within here is =
+    ap (λ l. l ++ value one ∷ []) is
+    ∙ ap (λ x. map value (take i all) ++ value x ∷ []) here
+    ∙ sym (ap (map value) (take_more all i one within)
+    ∙ map-append value (take i all) (get_or all i one ∷ []))
 
 -- a port of a node by its number
 port_there : (ports : NodeCode → ℕ) (nodes : List Node) (node port : ℕ)

@@ -2,7 +2,7 @@
 use Rattle.std.proofs.Common.{◌≡◌, refl, sym, ap, ◌∙◌, subst, ℕ}
 use Rattle.std.proofs.Common.{suc, ◌+◌, ◌-◌, ◌<◌, ◌≤◌, List}
 use Rattle.std.proofs.Common.{length, take, arith, add-one, Result, Ok, Err}
-use Rattle.std.specs.Prelude.{IfOk}
+use Rattle.std.specs.Prelude.{IfOk, IfErr}
 use Rattle.std.proofs.Math.Seq.{take-append_seam}
 use Rattle.std.proofs.lemmas.Option.{slice_get_within, get_or_from_slice_get}
 use Rattle.strc_semantics.specs.declared.fault.Cause.{Cause}
@@ -22,6 +22,7 @@ use Rattle.strc_sched.specs.declared.machine.Stop.TheVariants as stop
 use Rattle.strc_outcome.specs.declared.outcome.Outcome.{Outcome}
 use Rattle.strc_outcome.specs.declared.outcome.Round.TheVariants as round
 use Rattle.strc_outcome.specs.declared.refusal.RunRefusal.{RunRefusal}
+use Rattle.strc_outcome.specs.declared.refusal.RunRefusal.TheVariants as refused
 
 module _ (circuit : CircuitView) (order : List ℕ) (rounds now_round : ℕ) (left : now_round < rounds)
     (now : MachineView) where
@@ -90,6 +91,12 @@ pub outcome_so : (result : Result Outcome RunRefusal) (P Q : Outcome → Type 0)
     → ((outcome : Outcome) → P outcome → Q outcome) → IfOk result Q
 outcome_so (Ok outcome) P Q h so = so outcome h
 outcome_so (Err refusal) P Q h so = tt
+
+-- where only memory runs out
+pub memory_so : (result : Result Outcome RunRefusal) (P : RunRefusal → Type 0)
+    → IfErr result (λ refusal. refusal ≡ refused.NoMemory) → P refused.NoMemory → IfErr result P
+memory_so (Ok outcome) P is holds = tt
+memory_so (Err refusal) P is holds = subst P (sym is) holds
 
 -- the names in each filter are known
 pub closed_known : (graph : Graph) → AreClosed graph.nodes → AreKnown graph

@@ -1,8 +1,8 @@
 -- Items that pass from ring to ring, port by port.
-use Rattle.std.proofs.Common.{◌≡◌, refl, sym, ap, ◌∙◌, ℕ, zero, suc, ◌+◌, ◌<◌, ℤ, Bool, true}
-use Rattle.std.proofs.Common.{false, List, [], ◌∷◌, length, get_or, drop, arith, add-one}
+use Rattle.std.proofs.Common.{◌≡◌, refl, sym, ap, ◌∙◌, ℕ, zero, suc, ◌+◌, ◌<◌, ◌≤◌, ℤ, Bool}
+use Rattle.std.proofs.Common.{true, false, List, [], ◌∷◌, length, get_or, drop, arith, add-one}
 use Rattle.std.specs.Prelude.{Option, Some, None, ◌&&◌, nat_le, if◌then◌else◌}
-use Rattle.std.proofs.lemmas.List.{length-set}
+use Rattle.std.proofs.lemmas.List.{length-set, drop_all}
 use Rattle.strc_admissible.specs.Rings.{Ring, at_port, items_at, taken, given, moved, dealt_out}
 use Rattle.strc_admissible.specs.Rings.{copied_out, gathered_in}
 use Rattle.strc_admissible.specs.Steps.{finds_weights}
@@ -100,6 +100,13 @@ gathers_next weights inputs to port d before now next h less is = record {
   each = ap length is ∙ length-moved (at_port inputs port) to (get_or weights port d) now
       ∙ h.each;
 }
+
+pub gathers_all : (weights : List ℕ) (inputs : List (Option ℕ)) (to : Option ℕ) (port : ℕ)
+    (before now : List Ring) → length weights ≤ port
+    → GathersIn weights inputs to port before now → now ≡ gathered_in weights inputs to 0 before
+gathers_all weights inputs to port before now all h =
+    sym (ap (λ (l : List ℕ). gathered_in l inputs to port now) (drop_all port weights all))
+    ∙ h.rest
 
 pub record CopiesOut (carried : List Bool) (outputs : List (Option ℕ)) (items : List ℤ) (port : ℕ)
     (before now : List Ring) : Type 0 where

@@ -7,7 +7,9 @@ use Rattle.strc_semantics.specs.declared.word.Word.{Word}
 use Rattle.strc_graph.specs.Graphs.{NodeCode, Graph}
 use Rattle.strc_graph.specs.FlatGraphs.{IsProgram}
 use Rattle.strc_order.specs.Schedules.{ScheduleParts}
-use Rattle.strc_admissible.specs.Laws.{counts_at}
+use Rattle.strc_admissible.specs.Circuits.{IsFirst}
+use Rattle.strc_admissible.specs.Laws.{counts_at, startup_order, round_order}
+use Rattle.strc_admissible.specs.Machine.{CircuitView, MachineView, whole_run}
 use Rattle.strc_admissible.specs.Machine.{Ending, Ended, FaultedAtFirst, FaultedIn}
 use Rattle.strc_admissible.specs.Planned.{items_read}
 use Rattle.strc_admissible.specs.RingAnswer.{IsAnswered}
@@ -15,6 +17,7 @@ use Rattle.strc_outcome.specs.declared.outcome.Outcome.{Outcome}
 use Rattle.strc_outcome.specs.declared.outcome.Outcome.TheVariants as outcome
 use Rattle.strc_outcome.specs.declared.outcome.Round.{Round}
 use Rattle.strc_outcome.specs.declared.outcome.Round.TheVariants as round
+use Rattle.strc_sched.specs.Actors.{AreClosed}
 use Rattle.strc_sched.specs.declared.machine.Stop.{Stop}
 use Rattle.strc_sched.specs.declared.machine.Stop.TheVariants as stop
 use Rattle.strc_outcome.specs.declared.refusal.RunRefusal.{RunRefusal}
@@ -60,3 +63,12 @@ IsStopped (stop.Fault node firing cause) when before result =
     (words : Vec Word Global) × (result ≡ outcome.Fault node firing when cause words)
     × (words.items ≡ before)
 IsStopped stop.NoMemory when before result = ⊥
+
+-- an outcome tells of start-up and so many rounds of a circuit from its first machine on
+pub record ReportsRun (graph : Graph) (circuit : CircuitView) (schedule : ScheduleParts)
+    (rounds : ℕ) (outcome : Outcome) : Type 0 where
+  pub machine : MachineView
+  pub first : IsFirst graph schedule.sizes machine
+  pub known : AreClosed graph.nodes
+  pub reported : IsEnding outcome (whole_run circuit (startup_order schedule)
+      (round_order schedule) rounds machine)

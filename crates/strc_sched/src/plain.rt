@@ -1,13 +1,16 @@
 // A run on one thread.
 
-ghost use Rattle.std.specs.Prelude.{◌≡◌, ◌≤◌, take, length, IfOk, IfErr};
+ghost use Rattle.std.specs.Prelude.{◌≡◌, ◌≤◌, take, true, length, IfOk, IfErr};
 ghost use Rattle.strc_graph.specs.NodeView.{graph_view};
 ghost use Rattle.strc_order.specs.Greedy.{firings_of};
+ghost use Rattle.strc_admissible.specs.Circuits.{IsCircuit};
 ghost use Rattle.strc_admissible.specs.Machine as spec;
 ghost use Rattle.strc_admissible.specs.Planned.{IsPlanned};
+ghost use Rattle.strc_sched.specs.Actors.{AreStartable};
+ghost use Rattle.strc_sched.specs.Blocks.{AreAllApart};
 ghost use Rattle.strc_sched.specs.Circuits.{circuit_view};
 ghost use Rattle.strc_sched.specs.Plain.{AnswersGraph, IsEnding, IsPlainRefusal, IsStopped};
-ghost use Rattle.strc_sched.specs.Plain.{need_of};
+ghost use Rattle.strc_sched.specs.Plain.{need_of, ReportsRun};
 ghost use Rattle.strc_sched.specs.Running.{IsMachine, machine_view};
 ghost use Rattle.strc_sched.specs.Batches.{AreBatches};
 ghost use Rattle.strc_outcome.specs.declared.refusal.RunRefusal.TheVariants as refused;
@@ -55,16 +58,36 @@ pub fn run_plain(
     let Ok(circuit) = Circuit::new(alloc, graph, input) else {
         return Err(RunRefusal::NoMemory);
     };
-    let Ok(startup) = Order::new(alloc, &circuit, schedule.startup()) else {
+    run_circuit(alloc, graph, &circuit, schedule, rounds)
+}
+
+/// The same, over the circuit of the graph.
+fn run_circuit(
+    alloc: Global,
+    graph: &Graph,
+    circuit: &Circuit,
+    schedule: &Schedule,
+    rounds: u32,
+) -> Result<Outcome, RunRefusal>
+    requires circuit { IsCircuit (graph_view graph.now) (circuit_view circuit.now) }
+    requires inputs { length circuit.now.inputs ≡ length circuit.now.nodes.now }
+    requires outputs { length circuit.now.outputs ≡ length circuit.now.nodes.now }
+    requires apart { circuit.now.apart ≡ true → AreAllApart circuit.now.inputs circuit.now.outputs }
+    requires starts { AreStartable (graph_view graph.now).nodes }
+    ensures reported { IfOk result (ReportsRun (graph_view graph.now) (circuit_view circuit.now)
+        schedule.now rounds) }
+    ensures memory { IfErr result (λ refusal. refusal ≡ refused.NoMemory) }
+{
+    let Ok(startup) = Order::new(alloc, circuit, schedule.startup()) else {
         return Err(RunRefusal::NoMemory);
     };
-    let Ok(round) = Order::new(alloc, &circuit, schedule.round()) else {
+    let Ok(round) = Order::new(alloc, circuit, schedule.round()) else {
         return Err(RunRefusal::NoMemory);
     };
-    let Ok(machine) = Machine::new(alloc, graph, &circuit, schedule.sizes()) else {
+    let Ok(machine) = Machine::new(alloc, graph, circuit, schedule.sizes()) else {
         return Err(RunRefusal::NoMemory);
     };
-    run_orders(machine, &circuit, &startup, &round, rounds)
+    run_orders(machine, circuit, &startup, &round, rounds)
 }
 
 /// Start-up and so many rounds, in these orders.

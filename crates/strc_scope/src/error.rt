@@ -4,6 +4,7 @@ ghost use Rattle.std.specs.Prelude.{◌≡◌};
 ghost use Rattle.strc_scope.specs.declared.error.ElabError.TheVariants as refused;
 
 use std::alloc::{AllocError, AllocFailed};
+use std::fmt;
 use strc_base::memory::NoMemory;
 use strc_base::name::Name;
 use strc_check::spelled::spelled;
@@ -11,7 +12,7 @@ use strc_semantics::fault::Cause;
 use thiserror::Error;
 
 /// Why a program has no stream, or a stream no graph. Declarations are numbered from 0.
-#[derive(Debug, Drop, Error)]
+#[derive(Drop, Error)]
 pub enum ElabError {
     /// A variable or a stream that isn't declared.
     #[error("{text} isn't declared", text = spelled(.name))]
@@ -55,6 +56,13 @@ pub enum ElabError {
     /// Memory was refused.
     #[error("out of memory")]
     NoMemory,
+}
+
+/// Its sentence.
+impl fmt::Debug for ElabError {
+    fn fmt<W: fmt::Write>(&self, f: &mut fmt::Formatter<W>) -> fmt::Result {
+        fmt::Display::fmt(self, f)
+    }
 }
 
 impl From<NoMemory> for ElabError {

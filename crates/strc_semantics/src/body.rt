@@ -1,7 +1,7 @@
 // The bodies of a filter.
 
 /// Which of a filter's bodies is fired.
-#[derive(Clone, Copy, PartialEq, Eq)]
+#[derive(Clone, Copy)]
 pub enum Body {
     /// The body of the first firing; where there is none, the work.
     Prework,

@@ -39,7 +39,7 @@ impl fmt::Display for Cause {
 impl error::Error for Cause {}
 
 /// Why a firing stopped.
-#[derive(Clone, Copy, Debug, PartialEq, Eq, Error)]
+#[derive(Clone, Copy, Debug, Error)]
 pub enum Halt {
     /// The program is at fault.
     #[error("a firing faults: {0}")]

@@ -6,7 +6,7 @@ ghost use Rattle.strc_source.specs.Places.{IsPlace};
 use memchr::{memchr, memchr_iter, memrchr};
 
 /// A place in a text: both numbers count from 1, columns in bytes.
-#[derive(Clone, Copy, Debug, PartialEq, Eq)]
+#[derive(Clone, Copy)]
 pub struct Place {
     pub line: usize,
     pub column: usize,

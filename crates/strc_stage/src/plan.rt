@@ -50,7 +50,7 @@ impl Model for Plan {
 }
 
 /// Where a node of the graph after fission comes from.
-#[derive(Clone, Copy, Debug, PartialEq, Eq)]
+#[derive(Clone, Copy)]
 pub struct Origin {
     /// The node of the graph before fission whose firings it does.
     pub node: u32,

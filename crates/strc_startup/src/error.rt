@@ -8,7 +8,7 @@ use std::error::Error;
 use std::fmt;
 
 /// Why a graph has no start-up counts.
-#[derive(Clone, Copy, Debug, PartialEq, Eq)]
+#[derive(Clone, Copy, Debug)]
 pub enum StartupError {
     /// No counts within 1,000,000 prime the graph.
     Unbounded,

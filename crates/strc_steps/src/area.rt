@@ -28,7 +28,7 @@ pub struct Area {
 }
 
 /// Which places of a body are steps.
-#[derive(Clone, Copy, PartialEq, Eq)]
+#[derive(Clone, Copy)]
 pub enum Which {
     /// Where something is run before the program runs.
     Run,

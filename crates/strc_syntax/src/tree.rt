@@ -22,7 +22,7 @@ pub enum StreamTree {
 }
 
 /// What flows on a stream's input or output: numbers, or nothing.
-#[derive(Clone, Copy, PartialEq, Eq)]
+#[derive(Clone, Copy)]
 pub enum ItemType {
     Int,
     Void,
@@ -55,7 +55,7 @@ pub struct RateTree {
 }
 
 /// Which rate it is.
-#[derive(Clone, Copy, PartialEq, Eq)]
+#[derive(Clone, Copy)]
 pub enum RateKind {
     Push,
     Pop,
@@ -70,14 +70,14 @@ pub struct CompositeTree {
 }
 
 /// What a stream takes and what it gives: `int->void`.
-#[derive(Clone, Copy, PartialEq, Eq)]
+#[derive(Clone, Copy)]
 pub struct StreamType {
     pub input: ItemType,
     pub output: ItemType,
 }
 
 /// How a composite stream puts its children together.
-#[derive(Clone, Copy, PartialEq, Eq)]
+#[derive(Clone, Copy)]
 pub enum CompositeKind {
     Pipeline,
     Splitjoin,
@@ -155,7 +155,7 @@ pub enum Composition {
 }
 
 /// What a child is for.
-#[derive(Clone, Copy, PartialEq, Eq)]
+#[derive(Clone, Copy)]
 pub enum Role {
     /// `add`
     Add,
@@ -183,7 +183,7 @@ pub enum Child {
 }
 
 /// Whether an empty pair of brackets is written.
-#[derive(Clone, Copy, PartialEq, Eq)]
+#[derive(Clone, Copy)]
 pub enum Brackets {
     Written,
     Missing,
@@ -226,7 +226,7 @@ pub enum Expr {
 }
 
 /// How an assignment changes its variable.
-#[derive(Clone, Copy, PartialEq, Eq)]
+#[derive(Clone, Copy)]
 pub enum AssignOperator {
     /// `=`
     Set,
@@ -243,7 +243,7 @@ pub enum AssignOperator {
 }
 
 /// An operator before its operand.
-#[derive(Clone, Copy, PartialEq, Eq)]
+#[derive(Clone, Copy)]
 pub enum UnaryOperator {
     /// `-`
     Negate,
@@ -254,7 +254,7 @@ pub enum UnaryOperator {
 }
 
 /// A step of a variable by one.
-#[derive(Clone, Copy, PartialEq, Eq)]
+#[derive(Clone, Copy)]
 pub enum StepOperator {
     /// `++x`, with the new value
     IncrementFirst,
@@ -267,7 +267,7 @@ pub enum StepOperator {
 }
 
 /// An operator between its operands, from the lowest precedence to the highest.
-#[derive(Clone, Copy, PartialEq, Eq)]
+#[derive(Clone, Copy)]
 pub enum BinaryOperator {
     /// `||`
     LogicalOr,

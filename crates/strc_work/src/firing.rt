@@ -24,7 +24,7 @@ use strc_semantics::word::Word;
 use thiserror::Error;
 
 /// Why a filter can't start.
-#[derive(Clone, Copy, Debug, PartialEq, Eq, Error)]
+#[derive(Clone, Copy, Debug, Error)]
 pub enum StartError {
     /// An initialiser faults, or `init` does.
     #[error("an initialiser or init faults: {cause}")]

@@ -26,17 +26,17 @@ loop-variable-preserved c =
     c.variable-item.is in
     let so_far = c.loop-variable.counts in
     let here = c.in_ok-passed.passed in
+    let passed = c.in_ok-passed.ensures in
     let invariant = c.loop-variable.invariant in
     let names = c.in_ok-declare.ensures in
     record {
       counted = variables_step so_far here c.sequence-counts.result _ x rest _
-          c.in_ok-passed.ensures.counts c.sequence-counts.ensures next invariant.counted;
+          passed.counted c.sequence-counts.ensures next invariant.counted;
       runnable = runnable_step so_far here c.sequence-counts.result c.sequence-counts.ensures;
       reported = variables_seen c.loop-variable.sites.items
           c.check_peeks_in_option.new.sites.items _ c.loop-variable.names
           c.declare.new.self c.loop-variable.here c.advance-here.result here x rest _
-          c.in_ok-passed.ensures.counts names c.advance-here.ensures c.in_ok-passed.ensures.sites
-          next invariant.reported;
+          passed.counted names c.advance-here.ensures passed.reported next invariant.reported;
       names = ap (λ r. with_unknown r rest) names
           ∙ ap (with_unknown c.loop-variable.names) (sym next) ∙ invariant.names;
     }

@@ -1,16 +1,71 @@
-use Rattle.std.proofs.Common.{◌∙◌, ap, subst, map, length, arith, ◌≤◌}
+use Rattle.std.proofs.Common.{◌∙◌, sym, ap, map, length, arith, ◌≤◌}
+use Rattle.std.proofs.lemmas.List.{length-map}
 use Rattle.strc_graph.specs.NodeView.{graph_view, node_view}
-use Rattle.strc_order.specs.Greedy.{firings_of}
-use Rattle.strc_admissible.specs.Circuits.{IsFirst}
 use Rattle.strc_admissible.specs.Laws.{counts_at, startup_order, round_order}
 use Rattle.strc_admissible.specs.Machine.{whole_run}
 use Rattle.strc_admissible.specs.Planned.{items_read}
 use Rattle.strc_admissible.proofs.RingRuns.{ring_runs}
 use Rattle.strc_sched.specs.Circuits.{circuit_view}
-use Rattle.strc_sched.specs.Plain.{AnswersGraph, IsEnding}
-use Rattle.strc_sched.specs.Running.{machine_view}
-use Rattle.strc_sched.proofs.Endings.{closed_known, outcome_so}
+use Rattle.strc_sched.specs.Plain.{AnswersGraph, IsPlainRefusal, ReportsRun, need_of}
+use Rattle.strc_sched.proofs.Endings.{closed_known, outcome_so, memory_so}
 use Rattle.strc_sched.proofs.plain.run_plain.Goals as goal
+
+pub returns-in_default-clause-refused : goal.returns-in_default-clause-refused
+returns-in_default-clause-refused c =
+    let graph = graph_view c.args.graph.now in
+    let schedule = c.args.schedule.now in
+    let need = c.items_needed-need.ensures
+    ∙ ap (λ nodes. items_read (map node_view nodes) (counts_at schedule c.args.rounds))
+    c.nodes.ensures in
+    let enough = c.if-got-need.false in
+    let supplied : need_of graph schedule c.args.rounds ≤ length c.args.input.now =
+    omega (arith, need, enough) in
+    supplied
+
+pub run_circuit-requires-clause-circuit : goal.run_circuit-requires-clause-circuit
+run_circuit-requires-clause-circuit c = c.in-Ok.ensures.circuit
+
+pub run_circuit-requires-clause-inputs : goal.run_circuit-requires-clause-inputs
+run_circuit-requires-clause-inputs c =
+    c.in-Ok.ensures.circuit.input_nodes ∙ length-map c.args.graph.now.nodes node_view
+    ∙ sym (ap length c.in-Ok.ensures.nodes)
+
+pub run_circuit-requires-clause-outputs : goal.run_circuit-requires-clause-outputs
+run_circuit-requires-clause-outputs c =
+    c.in-Ok.ensures.circuit.output_nodes ∙ length-map c.args.graph.now.nodes node_view
+    ∙ sym (ap length c.in-Ok.ensures.nodes)
+
+pub run_circuit-requires-clause-apart : goal.run_circuit-requires-clause-apart
+run_circuit-requires-clause-apart c = c.in-Ok.ensures.apart
+
+pub returns-clause-enough : goal.returns-clause-enough
+returns-clause-enough c =
+    let graph = graph_view c.args.graph.now in
+    let schedule = c.args.schedule.now in
+    let need = c.items_needed-need.ensures
+    ∙ ap (λ nodes. items_read (map node_view nodes) (counts_at schedule c.args.rounds))
+    c.nodes.ensures in
+    let enough = c.if-got-need.false in
+    let supplied : need_of graph schedule c.args.rounds ≤ length c.args.input.now =
+    omega (arith, need, enough) in
+    outcome_so c.run_circuit.result
+    (ReportsRun graph (circuit_view c.in-Ok.circuit) schedule c.args.rounds)
+    (λ outcome. need_of graph schedule c.args.rounds ≤ length c.args.input.now)
+    c.run_circuit.ensures.reported (λ outcome reports. supplied)
+
+pub returns-clause-refused : goal.returns-clause-refused
+returns-clause-refused c =
+    let graph = graph_view c.args.graph.now in
+    let schedule = c.args.schedule.now in
+    let need = c.items_needed-need.ensures
+    ∙ ap (λ nodes. items_read (map node_view nodes) (counts_at schedule c.args.rounds))
+    c.nodes.ensures in
+    let enough = c.if-got-need.false in
+    let supplied : need_of graph schedule c.args.rounds ≤ length c.args.input.now =
+    omega (arith, need, enough) in
+    memory_so c.run_circuit.result
+    (IsPlainRefusal (need_of graph schedule c.args.rounds) (length c.args.input.now))
+    c.run_circuit.ensures.memory supplied
 
 pub returns-clause-answer : goal.returns-clause-answer
 returns-clause-answer c =
@@ -18,26 +73,18 @@ returns-clause-answer c =
     let schedule = c.args.schedule.now in
     let rounds = c.args.rounds in
     let circuit = circuit_view c.in-Ok.circuit in
-    let machine = machine_view c.in-Ok-new-3.machine in
     let need = c.items_needed-need.ensures
     ∙ ap (λ nodes. items_read (map node_view nodes) (counts_at schedule rounds)) c.nodes.ensures in
     let enough = c.if-got-need.false in
     let supplied : items_read graph.nodes (counts_at schedule rounds)
     ≤ length c.args.input.now = omega (arith, need, enough) in
-    let startup = ap firings_of (c.in-Ok-new.ensures.units ∙ c.startup.ensures) in
-    let round = ap firings_of (c.in-Ok-new-2.ensures.units ∙ c.round.ensures) in
-    outcome_so c.run_orders.result _ (AnswersGraph graph schedule c.args.input.now rounds)
-    c.run_orders.ensures.ending
-    (λ outcome reported tree program. record {
-      ending = whole_run circuit (startup_order schedule) (round_order schedule) rounds machine;
-      answered = ring_runs tree graph schedule c.args.input.now rounds circuit machine program
-          c.requires.planned (closed_known graph c.in-Ok-new-3.ensures.known) c.ranges.rounds.fits
-          supplied c.in-Ok.ensures.circuit c.in-Ok.ensures.input
-          (subst (λ sizes. IsFirst graph sizes machine) c.sizes.ensures
-          c.in-Ok-new-3.ensures.first);
-      reported =
-          subst (λ order. IsEnding outcome (whole_run circuit order (round_order schedule) rounds
-          machine)) startup
-          (subst (λ order. IsEnding outcome (whole_run circuit
-          (firings_of c.in-Ok-new.startup.units.now) order rounds machine)) round reported);
+    outcome_so c.run_circuit.result (ReportsRun graph circuit schedule rounds)
+    (AnswersGraph graph schedule c.args.input.now rounds) c.run_circuit.ensures.reported
+    (λ outcome reports tree program. record {
+      ending = whole_run circuit (startup_order schedule) (round_order schedule) rounds
+          reports.machine;
+      answered = ring_runs tree graph schedule c.args.input.now rounds circuit reports.machine
+          program c.requires.planned (closed_known graph reports.known) c.ranges.rounds.fits
+          supplied c.in-Ok.ensures.circuit c.in-Ok.ensures.input reports.first;
+      reported = reports.reported;
     })

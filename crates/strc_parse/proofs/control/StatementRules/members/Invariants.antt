@@ -6,11 +6,11 @@ use Rattle.strc_grammar.specs.Streams.{members, member, statement}
 use Rattle.strc_rules.proofs.Loops.{Going}
 use Rattle.strc_parse.proofs.control.StatementRules.members.Given as goal
 
-abbrev pub invariant-loop-rest : goal.invariant-loop-rest
-invariant-loop-rest g l =
+abbrev pub invariant-loop-next : goal.invariant-loop-next
+invariant-loop-next g l =
     Going brace (one_taller (member (l.self.depth - 1) (statement (l.self.depth - 1))))
     (members (l.self.depth - 1) (statement (l.self.depth - 1)) (kinds l.fn.tokens))
-    (map member_view l.found.items, l.highest) (kinds l.rest)
+    (map member_view l.read.value.items, l.read.height) (kinds l.read.rest.now)
 
-abbrev pub decreases-loop-rest : goal.decreases-loop-rest
-decreases-loop-rest g l = length (kinds l.rest)
+abbrev pub decreases-loop-next : goal.decreases-loop-next
+decreases-loop-next g l = length (kinds l.read.rest.now)

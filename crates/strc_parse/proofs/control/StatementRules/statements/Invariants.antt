@@ -9,4 +9,4 @@ abbrev pub invariant-loop-turn : goal.invariant-loop-turn
 invariant-loop-turn g l =
     statements (statement (l.self.depth - 1)) (kinds l.fn.tokens)
     ≡ repeated brace (one_taller (statement (l.self.depth - 1))) (l._turn-end - l._turn)
-    (map stmt_view l.found.items, l.highest) (kinds l.rest)
+    (map stmt_view l.read.value.items, l.read.height) (kinds l.read.rest.now)

@@ -1,14 +1,16 @@
 use Rattle.std.proofs.Common.{◌≡◌, ◌∙◌, refl, sym, ap, subst, ℕ, ◌<◌, ◌+◌, ◌-◌, ◌^◌, min}
-use Rattle.std.proofs.Common.{List, length, get_or, set, arith, Ok}
+use Rattle.std.proofs.Common.{List, [], ◌∷◌, length, get_or, set, arith, Ok}
 use Rattle.std.proofs.lemmas.Grind.{get_or_default_zero}
-use Rattle.std.proofs.lemmas.List.{with_items_is}
+use Rattle.std.proofs.lemmas.List.{with_items_is, length-set, length-map}
 use Rattle.std.proofs.lemmas.Option.{slice_get-get_or}
 use Rattle.std.specs.declared.alloc.AllocError.{AllocError}
 use Rattle.strc_graph.specs.Graphs as graphs
-use Rattle.strc_admissible.specs.Machine.{Went}
+use Rattle.strc_graph.specs.NodeView.{node_view}
+use Rattle.strc_order.specs.Order.{repeated}
+use Rattle.strc_admissible.specs.Machine.{Went, order_run}
 use Rattle.strc_sched.specs.Blocks.{HasPassed, PassesOn}
 use Rattle.strc_sched.specs.Circuits.{circuit_view}
-use Rattle.strc_sched.specs.Running.{machine_view}
+use Rattle.strc_sched.specs.Running.{machine_view, HasGone, HoldRings}
 use Rattle.strc_sched.proofs.Done.{machine_after, more_refl, nothing_kept}
 use Rattle.strc_sched.proofs.machine.Machine.fire_batch.Goals as goal
 
@@ -56,6 +58,72 @@ returns-in-Ok-true-clause-gone c =
           (sym rings),
       more_refl before.words,
     )
+
+pub pass_at_once-requires-clause-batch : goal.pass_at_once-requires-clause-batch
+pass_at_once-requires-clause-batch c = c.requires.batch
+
+pub pass_at_once-requires-clause-inputs : goal.pass_at_once-requires-clause-inputs
+pass_at_once-requires-clause-inputs c =
+    subst (λ n. HoldRings n c.args.circuit.now.inputs) (sym (ap length c.deref_mut.ensures.value))
+    c.requires.machine.inputs
+
+pub pass_at_once-requires-clause-outputs : goal.pass_at_once-requires-clause-outputs
+pass_at_once-requires-clause-outputs c =
+    subst (λ n. HoldRings n c.args.circuit.now.outputs) (sym (ap length c.deref_mut.ensures.value))
+    c.requires.machine.outputs
+
+pub pass_at_once-requires-clause-input_nodes : goal.pass_at_once-requires-clause-input_nodes
+pass_at_once-requires-clause-input_nodes c =
+    c.requires.machine.input_nodes ∙ length-map c.args.circuit.now.nodes.now node_view
+
+pub pass_at_once-requires-clause-output_nodes : goal.pass_at_once-requires-clause-output_nodes
+pass_at_once-requires-clause-output_nodes c =
+    c.requires.machine.output_nodes ∙ length-map c.args.circuit.now.nodes.now node_view
+
+pub returns-in-Ok-true-clause-machine : goal.returns-in-Ok-true-clause-machine
+returns-in-Ok-true-clause-machine c =
+    let before = c.args.self.now in
+    let left = with_items_is before.rings c.pass_at_once.new.rings
+    (c.pass_at_once.ensures.rings ∙ ap length c.deref_mut.ensures.value ∙ sym before.rings.ok.0) in
+    machine_after (circuit_view c.args.circuit.now) before _ c.requires.machine
+    c.requires.machine.actors
+    (length-set before.fired.items c.args.batch.now.node c.saturating_add.result)
+    (ap length left ∙ c.pass_at_once.ensures.rings ∙ ap length c.deref_mut.ensures.value)
+
+pub fire_alone-requires-clause-machine : goal.fire_alone-requires-clause-machine
+fire_alone-requires-clause-machine c =
+    let rings = c.args.self.now.rings in
+    let left = with_items_is rings c.pass_at_once.new.rings
+    (c.pass_at_once.ensures.rings ∙ ap length c.deref_mut.ensures.value ∙ sym rings.ok.0) in
+    machine_after (circuit_view c.args.circuit.now) c.args.self.now _ c.requires.machine
+    c.requires.machine.actors refl
+    (ap length left ∙ c.pass_at_once.ensures.rings ∙ ap length c.deref_mut.ensures.value)
+
+pub fire_alone-requires-clause-batch : goal.fire_alone-requires-clause-batch
+fire_alone-requires-clause-batch c = c.requires.batch
+
+pub returns-in-Ok-false-clause-machine : goal.returns-in-Ok-false-clause-machine
+returns-in-Ok-false-clause-machine c = c.fire_alone.ensures.machine
+
+pub returns-in-Ok-false-clause-gone : goal.returns-in-Ok-false-clause-gone
+returns-in-Ok-false-clause-gone c =
+    let circuit = circuit_view c.args.circuit.now in
+    let before = machine_view c.args.self.now in
+    let node = c.args.batch.now.node in
+    let turns = c.args.batch.now.turns in
+    let rings = c.args.self.now.rings in
+    let left = with_items_is rings c.pass_at_once.new.rings
+    (c.pass_at_once.ensures.rings ∙ ap length c.deref_mut.ensures.value ∙ sym rings.ok.0) in
+    let passed = subst (λ all. HasPassed {E = AllocError}
+    circuit node turns (Ok all) c.deref_mut.result.now c.pass_at_once.new.rings)
+    c.in-Ok-false.field-0-test c.in-Ok-false.ensures.passed in
+    subst (λ l. HasGone (order_run circuit (repeated turns (node ∷ [])) (record {
+      fields = before.fields;
+      fired = before.fired;
+      rings = l;
+      words = before.words;
+    })) c.fire_alone.result before.words (machine_view c.fire_alone.new.self))
+    (left ∙ passed ∙ c.deref_mut.ensures.value) c.fire_alone.ensures.gone
 
 pub returns-in-Err-clause-machine : goal.returns-in-Err-clause-machine
 returns-in-Err-clause-machine c =

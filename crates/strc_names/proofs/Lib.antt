@@ -1,0 +1,4 @@
+pub mod Tables
+pub mod Scopes
+pub mod Numbered
+pub mod ScopeMaps

@@ -1,0 +1,34 @@
+use Rattle.std.proofs.Common.{◌∙◌, ap, subst}
+use Rattle.strc_graph.specs.NodeView.{graph_view}
+use Rattle.strc_order.specs.Greedy.{firings_of}
+use Rattle.strc_admissible.specs.Circuits.{IsFirst}
+use Rattle.strc_admissible.specs.Laws.{round_order}
+use Rattle.strc_admissible.specs.Machine.{whole_run}
+use Rattle.strc_sched.specs.Circuits.{circuit_view}
+use Rattle.strc_sched.specs.Plain.{IsEnding, ReportsRun}
+use Rattle.strc_sched.specs.Running.{machine_view}
+use Rattle.strc_sched.proofs.Endings.{outcome_so}
+use Rattle.strc_sched.proofs.plain.run_circuit.Goals as goal
+
+pub returns-clause-reported : goal.returns-clause-reported
+returns-clause-reported c =
+    let graph = graph_view c.args.graph.now in
+    let schedule = c.args.schedule.now in
+    let rounds = c.args.rounds in
+    let circuit = circuit_view c.args.circuit.now in
+    let machine = machine_view c.in-Ok-new-2.machine in
+    let startup = ap firings_of (c.in-Ok.ensures.units ∙ c.startup.ensures) in
+    let round = ap firings_of (c.in-Ok-new.ensures.units ∙ c.round.ensures) in
+    outcome_so c.run_orders.result _ (ReportsRun graph circuit schedule rounds)
+    c.run_orders.ensures.ending
+    (λ outcome reported. record {
+      machine = machine;
+      first = subst (λ sizes. IsFirst graph sizes machine) c.sizes.ensures
+          c.in-Ok-new-2.ensures.first;
+      known = c.in-Ok-new-2.ensures.known;
+      reported =
+          subst (λ order. IsEnding outcome (whole_run circuit order (round_order schedule) rounds
+          machine)) startup
+          (subst (λ order. IsEnding outcome (whole_run circuit
+          (firings_of c.in-Ok.startup.units.now) order rounds machine)) round reported);
+    })
