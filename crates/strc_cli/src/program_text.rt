@@ -7,10 +7,11 @@ ghost use Rattle.strc_lex.specs.Text.{text_limit};
 use std::alloc::Global;
 use std::io;
 use std::io::{ErrorKind, Read};
+use strc_lex::lexer::TEXT_LIMIT;
 use thiserror::Error;
 
 // A text of more bytes than a program may have is read no further.
-const MOST_BYTES: u64 = 1048577;
+const MOST_BYTES: u64 = TEXT_LIMIT as u64 + 1;
 
 /// Why a text could not be read.
 #[derive(Drop, Debug, Error)]
