@@ -14,7 +14,7 @@ use Rattle.strc_dataflow.proofs.Invariant.{counted_grows, raised_here}
 use Rattle.strc_dataflow.proofs.WholeRun.{counted-firing_count}
 
 -- The total of a rate that repeats.
-total_repeats : (rate : ℕ → ℕ → ℕ) (port from : ℕ)
+pub total_repeats : (rate : ℕ → ℕ → ℕ) (port from : ℕ)
     → ((firing : ℕ) → from ≤ firing → rate firing port ≡ rate from port) → (n : ℕ) → from ≤ n
     → (more : ℕ) → total rate (n + more) port ≡ total rate n port + more * rate from port
 unfolding total

@@ -16,7 +16,7 @@ use Rattle.strc_dataflow.proofs.Queued.{all_same}
 
 module _ {Code State Cause Word : Type 0} (meaning : Meaning Code State Cause Word) where
   -- an idle port never had an item taken
-  none_taken : (code : Code) (port n : ℕ) → IsIdle meaning code port
+  pub none_taken : (code : Code) (port n : ℕ) → IsIdle meaning code port
       → total (meaning.popped code) n port ≡ 0
   unfolding total
   none_taken code port zero idle = refl
@@ -79,7 +79,7 @@ module _ {Code State Cause Word : Type 0} (meaning : Meaning Code State Cause Wo
         (meaning.fire code run.fired run.state w)) (windows_same run.fired)
     if_same run Option.None false = refl
 
-    advance_same : (run : Run State Cause Word)
+    pub advance_same : (run : Run State Cause Word)
         → advance meaning code xs run ≡ advance meaning code ys run
     unfolding advance
     advance_same run = if_same run run.fault (finds meaning code run.fired xs)

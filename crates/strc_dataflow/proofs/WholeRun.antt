@@ -171,12 +171,12 @@ module _ {Code State Cause Word : Type 0}
     unfolding counts_after
     more_rounds q j h node = omega (arith, mul-le-mul_right (round node) h)
 
-    after_startup : counted (λ node. 0) startup_order ≡ counts_after startup round 0
+    pub after_startup : counted (λ node. 0) startup_order ≡ counts_after startup round 0
     unfolding counts_after
     after_startup = fun_ext (λ node. omega
         (arith, counted-firing_count startup_order (λ v. 0) node, schedule.startup_counts node))
 
-    after_round : (q : ℕ) → counted (counts_after startup round q) round_order
+    pub after_round : (q : ℕ) → counted (counts_after startup round q) round_order
         ≡ counts_after startup round (suc q)
     unfolding counts_after
     after_round q = fun_ext (λ node. omega (
@@ -186,18 +186,18 @@ module _ {Code State Cause Word : Type 0}
     ))
 
     -- The machine's runs after q rounds are what every later solution says of them.
-    record IsAt (q : ℕ) (now : ℕ → Run State Cause Word) : Type 0 where
-      agrees : (j : ℕ) → q ≤ j → j ≤ k → now
+    pub record IsAt (q : ℕ) (now : ℕ → Run State Cause Word) : Type 0 where
+      pub agrees : (j : ℕ) → q ≤ j → j ≤ k → now
           ≡ runs_at meaning graph (counts_after startup round q) (inputs j)
-      exact : (j : ℕ) → q ≤ j → j ≤ k → IsExact meaning graph input (counts_after startup round q)
-          (inputs j)
-      faultless : (j : ℕ) → j ≤ q → IsFaultless (after j)
+      pub exact : (j : ℕ) → q ≤ j → j ≤ k → IsExact meaning graph input
+          (counts_after startup round q) (inputs j)
+      pub faultless : (j : ℕ) → j ≤ q → IsFaultless (after j)
 
     abbrev IsSureAnswer : Outcome Cause Word → Type 0
     IsSureAnswer outcome = IsAnswerOf after startup round startup_order round_order k outcome
         × IsSure after startup round startup_order round_order k outcome
 
-    round_tells : (q : ℕ) (now : ℕ → Run State Cause Word) → q < k → IsAt q now → (j : ℕ)
+    pub round_tells : (q : ℕ) (now : ℕ → Run State Cause Word) → q < k → IsAt q now → (j : ℕ)
         → (below : q < j) → (within : j ≤ k)
         → Tells meaning graph input keeps (inputs j) (counts_after startup round j)
         (solves j within) (counts_after startup round q) round_order
@@ -209,7 +209,7 @@ module _ {Code State Cause Word : Type 0}
         (at.exact j (omega arith) within) (schedule.round_finds q more)
         (λ node. rw (after_round q) (more_rounds (suc q) j below node)))
 
-    next_at : (q : ℕ) (now next : ℕ → Run State Cause Word) → q < k → IsAt q now
+    pub next_at : (q : ℕ) (now next : ℕ → Run State Cause Word) → q < k → IsAt q now
         → ((j : ℕ) → (below : q < j) → (within : j ≤ k)
         → Tells meaning graph input keeps (inputs j) (counts_after startup round j)
         (solves j within) (counts_after startup round q) round_order (Went next))
@@ -280,7 +280,7 @@ module _ {Code State Cause Word : Type 0}
     unfolding runs_at runs initial_run
     first_exact j = record { fired = λ node. refl; faultless = λ node. refl }
 
-    startup_tells : (j : ℕ) → (within : j ≤ k)
+    pub startup_tells : (j : ℕ) → (within : j ≤ k)
         → Tells meaning graph input keeps (inputs j) (counts_after startup round j)
         (solves j within) (λ node. 0) startup_order
         (go meaning graph input startup_order (at_first meaning graph))

@@ -1,0 +1,10 @@
+pub mod Cut
+pub mod Staging
+pub mod Stages
+pub mod Parcels
+pub mod Workers
+pub mod Rewired
+pub mod Groups
+pub mod Ranges
+pub mod StageLaws
+pub mod StageRows
