@@ -1,0 +1,12 @@
+pub mod Same
+pub mod Fused
+pub mod FusedUnits
+pub mod Split
+pub mod Blocks
+pub mod Counted
+pub mod Runs
+pub mod Starting
+pub mod SplitOrder
+pub mod Pieces
+pub mod RoundRows
+pub mod PieceBlocks
