@@ -1,0 +1,10 @@
+pub mod Actors
+pub mod States
+pub mod Events
+pub mod Invariants
+pub mod Endings
+pub mod Parts
+pub mod Moves
+pub mod Laws
+pub mod Driving
+pub mod Rows
