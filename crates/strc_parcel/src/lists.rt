@@ -1,0 +1,40 @@
+// Lists whose memory stays.
+
+ghost use Rattle.std.specs.Prelude.{◌≡◌, ◌+◌, ◌≤◌, ◌++◌, ◌∷◌, [], map, length, replicate};
+ghost use Rattle.std.specs.Prelude.{vec_len, MatchResult};
+ghost use Rattle.std.specs.Vec.{vec_items, vec_capacity};
+
+use std::alloc::AllocError;
+use strc_semantics::word::Word;
+
+/// Appends items to a list that has room for them.
+pub(crate) fn append_within(list: &mut Vec<i32>, items: &[i32])
+    requires { vec_len list.old + length items.now ≤ vec_capacity list.old }
+    ensures items { list.new.items ≡ list.old.items ++ items.now }
+    ensures capacity { vec_capacity list.new ≡ vec_capacity list.old }
+{
+    for item in items {
+        list.push_reserved(*item);
+    }
+}
+
+/// Appends a word, unless memory is refused.
+pub(crate) fn add_word(words: &mut Vec<Word>, word: Word) -> Result<(), AllocError>
+    ensures { MatchResult result (λ _. words.new.items ≡ words.old.items ++ word ∷ [])
+        (λ _. words.new.items ≡ words.old.items) }
+{
+    match words.push(word) {
+        Ok(()) => Ok(()),
+        Err(_) => Err(AllocError),
+    }
+}
+
+/// Empties each of these lists.
+pub(crate) fn clear_all<T: Drop>(lists: &mut Vec<Vec<T>>)
+    ensures items { map vec_items lists.new.items ≡ replicate (vec_len lists.old) [] }
+    ensures capacity { map vec_capacity lists.new.items ≡ map vec_capacity lists.old.items }
+{
+    for list in lists.iter_mut() {
+        list.clear();
+    }
+}

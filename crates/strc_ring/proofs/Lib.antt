@@ -1,0 +1,5 @@
+pub mod Iterating
+pub mod Chains
+pub mod Joins
+pub mod Threads
+pub mod Cores

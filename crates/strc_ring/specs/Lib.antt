@@ -1,0 +1,4 @@
+pub mod States
+pub mod Cores
+pub mod Seats
+pub mod Children

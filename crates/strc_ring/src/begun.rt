@@ -1,0 +1,18 @@
+// What a worker's thread promises.
+
+use crate::shapes::Seat;
+use std::snapshot::Snapshot;
+use std::thread::{Promise, PromisedHandle};
+use strc_worker::{Actor, Worked};
+
+/// The work on the seat that the worker began with.
+#[derive(Drop)]
+pub struct Begun<S: Actor>(pub Snapshot<Seat<S>>);
+
+impl<S: Actor> Promise<Worked<S>> for Begun<S> {
+    ghost use Rattle.strc_ring.specs.Seats.{DidSeat};
+
+    ghost kept_by = { λ p w. DidSeat S.does p.0.value w };
+}
+
+pub type Child<S> = PromisedHandle<Worked<S>, Begun<S>>;
