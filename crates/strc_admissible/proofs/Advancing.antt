@@ -3,9 +3,9 @@ use Rattle.std.proofs.Common.{◌≡◌, refl, sym, ap, ◌∙◌, ℕ, suc, ◌
 use Rattle.std.proofs.Common.{ℤ, Bool, true, false, cond, eqb, List, [], ◌++◌, length, drop, Option}
 use Rattle.std.proofs.Common.{Some, slice_get, slice_index, slice_index_or, inl, inr, arith}
 use Rattle.std.specs.Prelude.{slice_set, if◌then◌else◌}
-use Rattle.std.proofs.Common.{eqb-true, get_or}
+use Rattle.std.proofs.Common.{eqb-true}
 use Rattle.std.proofs.lemmas.Bool.{cases_eq, ne_eqb, eq-eqb, eqb-false, lt-ltb}
-use Rattle.std.proofs.lemmas.Option.{same_Some, slice_get-get_or}
+use Rattle.std.proofs.lemmas.Option.{same_Some}
 use Rattle.std.proofs.lemmas.List.{append-nil, get_or-set_same, get_or-set_other, length-set}
 use Rattle.std.proofs.lemmas.List.{drop-drop}
 use Rattle.strc_semantics.specs.declared.fault.Cause.{Cause}
@@ -16,19 +16,18 @@ use Rattle.strc_dataflow.specs.Machine.{put}
 use Rattle.strc_dataflow.specs.Node.{ByPort, Fired.Fires}
 use Rattle.strc_dataflow.specs.Queues.{added, moved}
 use Rattle.strc_dataflow.specs.Streams.{Stream, flat}
-use Rattle.strc_graph.specs.Graphs.{NodeCode, FileReader, Graph, gives_words}
+use Rattle.strc_graph.specs.Graphs.{NodeCode, FileReader, Graph}
 use Rattle.strc_graph.specs.FlatGraphs.{IsProgram}
 use Rattle.strc_graph.specs.Meaning.{node_meaning}
 use Rattle.strc_graph.specs.Rates.{pops_at}
 use Rattle.strc_admissible.specs.Circuits.{IsCircuit}
 use Rattle.strc_admissible.specs.Fits.{Queues, FitNow}
-use Rattle.strc_admissible.specs.Machine.{CircuitView, MachineView, one_more}
+use Rattle.strc_admissible.specs.Machine.{CircuitView, MachineView, one_more, words_at}
+use Rattle.strc_admissible.specs.Machine.{more_words}
 use Rattle.strc_admissible.specs.Rings.{Ring}
-use Rattle.strc_admissible.specs.RingAnswer.{words_below}
 use Rattle.strc_admissible.specs.Wiring.{ports_at}
 use Rattle.strc_admissible.proofs.Changes.{Moves}
 use Rattle.strc_admissible.proofs.Simulation.{Simulates, ring_holds}
-use Rattle.strc_admissible.proofs.WordsBelow.{words_same, words_one, one_passes_test}
 
 -- what has been put is there, and what was elsewhere still is
 
@@ -60,7 +59,7 @@ next_machine machine node fields rings words = record {
   fields = slice_set machine.fields node fields;
   fired = slice_set machine.fired node (one_more (slice_index machine.fired node));
   rings = rings;
-  words = machine.words ++ words;
+  words = more_words machine.words node words;
 }
 
 module _ (tree : Stream NodeCode) (graph : Graph) (program : IsProgram tree graph)
@@ -88,8 +87,7 @@ module _ (tree : Stream NodeCode) (graph : Graph) (program : IsProgram tree grap
   count = length graph.nodes
 
   module _ (fields : List ℤ) (pushes : ByPort) (words : List Word) (after : List Ring)
-      (moves : Moves inputs outputs (pops_at code firing) pushes machine.rings after)
-      (quiet : gives_words code ≡ false → words ≡ []) where
+      (moves : Moves inputs outputs (pops_at code firing) pushes machine.rings after) where
     abbrev run : Run (List ℤ) Cause Word
     run = after_firing node_meaning code (now.runs node) (Fires fields pushes words)
 
@@ -186,69 +184,21 @@ module _ (tree : Stream NodeCode) (graph : Graph) (program : IsProgram tree grap
 
     -- ---- words
 
-    abbrev old_words : ℕ → List Word
-    old_words other = (now.runs other).words
-
-    abbrev new_words : ℕ → List Word
-    new_words other = (next.runs other).words
-
-    words_here : new_words node ≡ old_words node ++ words
+    next_words : (other : ℕ) → other < count → words_at later.words other ≡ (next.runs other).words
     unfolding after_firing
-    words_here = ap (λ (own : Run (List ℤ) Cause Word). own.words) (run_here node refl)
-
-    words_other : (other : ℕ) → (other ≡ node → ⊥) → new_words other ≡ old_words other
-    words_other other differs =
-        ap (λ (own : Run (List ℤ) Cause Word). own.words) (run_other other differs)
-
-    next_silent : (other : ℕ) (own : NodeCode) → slice_get graph.nodes other ≡ Some own
-        → gives_words own ≡ false → new_words other ≡ []
-    next_silent other own listed silent = elim (cases_eq other node) [
+    next_words other less = elim (cases_eq other node) [
       | inl same ↦
-          let mine : code ≡ own = same_Some code own
-          (sym there ∙ ap (slice_get graph.nodes) (sym same) ∙ listed) in
-          ap new_words same ∙ words_here
-          ∙ ap (λ (l : List Word). l ++ words) (ap old_words (sym same)
-          ∙ simulates.silent other own listed silent)
-          ∙ quiet (ap gives_words mine ∙ silent)
-      | inr differs ↦ words_other other differs ∙ simulates.silent other own listed silent
+          ap (words_at later.words) same
+          ∙ get_or-set_same machine.words node (words_at machine.words node ++ words) []
+          (omega (arith, within, simulates.each_words))
+          ∙ ap (λ (l : List Word). l ++ words) (simulates.words node within)
+          ∙ sym (ap (λ (own : Run (List ℤ) Cause Word). own.words) (run_here other same))
+      | inr differs ↦
+          get_or-set_other machine.words node other (words_at machine.words node ++ words) []
+          differs
+          ∙ simulates.words other less
+          ∙ sym (ap (λ (own : Run (List ℤ) Cause Word). own.words) (run_other other differs))
     ]
-
-    others_silent : gives_words code ≡ true → (other : ℕ) → other < count
-        → (other ≡ node → ⊥) → old_words other ≡ []
-    others_silent prints other less differs =
-        let own = get_or graph.nodes other code in
-        let listed = slice_get-get_or graph.nodes other code less in
-        by_code own listed (gives_words own) refl
-      where
-        by_code : (own : NodeCode) → slice_get graph.nodes other ≡ Some own → (test : Bool)
-            → gives_words own ≡ test → old_words other ≡ []
-        by_code own listed true e =
-            absurd (differs (one_passes_test gives_words graph.nodes program.one_output other node
-            own code listed there e prints))
-        by_code own listed false e = simulates.silent other own listed e
-
-    next_words : (prints : Bool) → gives_words code ≡ prints
-        → machine.words ++ words ≡ words_below count new_words
-    next_words true e =
-        ap (λ (l : List Word). l ++ words) (simulates.words
-        ∙ words_one count node old_words within (others_silent e))
-        ∙ sym words_here
-        ∙ sym (words_one count node new_words within
-        (λ other less differs. words_other other differs ∙ others_silent e other less differs))
-    next_words false e =
-        ap (λ (l : List Word). machine.words ++ l) (quiet e)
-        ∙ append-nil machine.words
-        ∙ simulates.words
-        ∙ words_same count old_words new_words (λ other less. same other)
-      where
-        same : (other : ℕ) → old_words other ≡ new_words other
-        same other = elim (cases_eq other node) [
-          | inl here ↦
-              sym (ap new_words here ∙ words_here
-              ∙ ap (λ (l : List Word). old_words node ++ l) (quiet e)
-              ∙ append-nil (old_words node) ∙ ap old_words (sym here))
-          | inr differs ↦ sym (words_other other differs)
-        ]
 
     -- ---- both machines
 
@@ -265,6 +215,7 @@ module _ (tree : Stream NodeCode) (graph : Graph) (program : IsProgram tree grap
           after moves number channel listed now firing (slice_index sizes number) refl
           (simulates.rings number channel listed) (fit.items number channel listed);
       reads = next_reads;
-      words = next_words (gives_words code) refl;
-      silent = next_silent;
+      each_words = length-set machine.words node (words_at machine.words node ++ words)
+          ∙ simulates.each_words;
+      words = next_words;
     }

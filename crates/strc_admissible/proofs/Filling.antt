@@ -48,7 +48,7 @@ number_bound startup round rounds first each few =
 
 module _ (graph : Graph) (schedule : ScheduleParts) (planned : IsPlanned graph schedule) where
   -- a node that is past the end doesn't fire
-  run_nodes : (rounds : ℕ) → AreNodes graph (run_order graph schedule planned rounds)
+  pub run_nodes : (rounds : ℕ) → AreNodes graph (run_order graph schedule planned rounds)
   run_nodes rounds node some =
       elim (cases_lt node (length graph.nodes)) [
         | inl within ↦ within
@@ -78,7 +78,7 @@ module _ (graph : Graph) (schedule : ScheduleParts) (planned : IsPlanned graph s
           firing_count_run graph schedule planned rounds node,
         )
 
-    generic_run : orders.IsOrder node_meaning (flat tree) input (λ node. 0)
+    pub generic_run : orders.IsOrder node_meaning (flat tree) input (λ node. 0)
         (run_order graph schedule planned rounds)
     generic_run =
         generic_order tree graph input program planned.unfissioned none_fired

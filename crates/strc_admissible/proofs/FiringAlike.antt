@@ -1,6 +1,6 @@
 -- A firing over rings comes to what the firing over queues comes to.
 use Rattle.std.proofs.Common.{◌≡◌, refl, sym, ap, ◌∙◌, subst, ℕ, ◌<◌}
-use Rattle.std.proofs.Common.{ℤ, Bool, true, false, List, [], length, Option}
+use Rattle.std.proofs.Common.{ℤ, Bool, true, false, List, length, Option}
 use Rattle.std.proofs.Common.{Some, slice_get, slice_index}
 use Rattle.strc_semantics.specs.declared.fault.Cause.{Cause}
 use Rattle.strc_semantics.specs.declared.word.Word.{Word}
@@ -11,11 +11,10 @@ use Rattle.strc_dataflow.specs.Queues.{FifoProgress, FifoProgress.FifoWent}
 use Rattle.strc_dataflow.specs.Queues.{FifoProgress.FifoStopped, holds, fronts}
 use Rattle.strc_dataflow.specs.Queues.{fifo_after, fifo_if, fifo_fire}
 use Rattle.strc_dataflow.specs.Streams.{Stream, flat}
-use Rattle.strc_graph.specs.Graphs.{NodeCode, Graph, gives_words}
+use Rattle.strc_graph.specs.Graphs.{NodeCode, Graph}
 use Rattle.strc_graph.specs.FlatGraphs.{IsProgram}
 use Rattle.strc_graph.specs.Meaning.{node_meaning, node_fired}
 use Rattle.strc_graph.specs.Rates.{fires_by_rounds, pops_at}
-use Rattle.strc_graph.proofs.Quiet.{node_quiet}
 use Rattle.strc_admissible.specs.Circuits.{IsCircuit}
 use Rattle.strc_admissible.specs.Fits.{Queues, FitNow, FitThen}
 use Rattle.strc_admissible.specs.Machine as machines
@@ -95,7 +94,7 @@ module _ (tree : Stream NodeCode) (graph : Graph) (program : IsProgram tree grap
     empty = idle_empty tree graph program circuit is node code there;
   }
 
-  step_matches : fires_by_rounds code ≡ false
+  pub step_matches : fires_by_rounds code ≡ false
       → Matches inputs outputs (pops_at code firing) machine.rings
       (finds_in code firing (now.queues node))
       (node_fired code firing state (sees_of code firing (now.queues node)))
@@ -110,7 +109,7 @@ module _ (tree : Stream NodeCode) (graph : Graph) (program : IsProgram tree grap
       simulates.reads node reads.0 (there ∙ ap Some reads.1)))
 
   -- a firing that finds its windows or doesn't
-  abbrev found_progress : Bool → generic.Fired (List ℤ) Cause Word
+  abbrev pub found_progress : Bool → generic.Fired (List ℤ) Cause Word
       → FifoProgress (List ℤ) Cause Word
   found_progress true fired = fifo_after node_meaning (flat tree) now node fired
   found_progress false fired = FifoWent now
@@ -122,7 +121,7 @@ module _ (tree : Stream NodeCode) (graph : Graph) (program : IsProgram tree grap
   progress_is true = refl
   progress_is false = refl
 
-  fire_is : fifo_fire node_meaning (flat tree) now node
+  pub fire_is : fifo_fire node_meaning (flat tree) now node
       ≡ found_progress (finds_in code firing (now.queues node))
       (node_fired code firing state (sees_of code firing (now.queues node)))
   unfolding fifo_fire holds fronts
@@ -133,14 +132,11 @@ module _ (tree : Stream NodeCode) (graph : Graph) (program : IsProgram tree grap
 
   found_alike : (found : Bool) (fired : generic.Fired (List ℤ) Cause Word) (step : Step)
       → Matches inputs outputs (pops_at code firing) machine.rings found fired step
-      → ((fields : List ℤ) (pushes : ByPort) (words : List Word) → fired ≡ Fires fields pushes words
-      → gives_words code ≡ false → words ≡ [])
       → FitThen (FitNow graph.channels sizes) (found_progress found fired)
       → IsAlike graph sizes input (found_progress found fired) (after_step machine node step)
   unfolding fifo_after
-  found_alike false fired steps.Stays matches quiet fit = simulates
-  found_alike true (Fires fields pushes words) (steps.Goes own after printed) matches quiet fit =
-      let silent = quiet fields pushes words refl in
+  found_alike false fired steps.Stays matches fit = simulates
+  found_alike true (Fires fields pushes words) (steps.Goes own after printed) matches fit =
       subst (λ (l : List ℤ). Simulates graph sizes input
       (next_queues tree now node fields pushes words)
       (next_machine machine node l after printed)) (sym matches.0)
@@ -149,11 +145,11 @@ module _ (tree : Stream NodeCode) (graph : Graph) (program : IsProgram tree grap
       (next_machine machine node fields after l)) (sym matches.1)
       (next_simulates tree graph program circuit is sizes input now machine simulates node within
       there
-      fields pushes words after matches.2 silent fit))
-  found_alike true (Faults cause) (steps.Faults own) matches quiet fit =
+      fields pushes words after matches.2 fit))
+  found_alike true (Faults cause) (steps.Faults own) matches fit =
       ap (λ (n : ℕ). stop_of n cause) (sym (simulates.fired node within))
       ∙ ap (stop_of (slice_index machine.fired node)) (sym matches)
-  found_alike found fired step matches quiet fit = absurd matches
+  found_alike found fired step matches fit = absurd matches
 
   pub fire_alike : fires_by_rounds code ≡ false
       → FitThen (FitNow graph.channels sizes) (fifo_fire node_meaning (flat tree) now node)
@@ -165,6 +161,4 @@ module _ (tree : Stream NodeCode) (graph : Graph) (program : IsProgram tree grap
       (found_alike (finds_in code firing (now.queues node))
       (node_fired code firing state (sees_of code firing (now.queues node)))
       (next_step circuit machine node) (step_matches alone)
-      (λ fields pushes words fires silent. node_quiet code firing state
-      (sees_of code firing (now.queues node)) fields pushes words silent fires)
       (subst (FitThen (FitNow graph.channels sizes)) fire_is fit))

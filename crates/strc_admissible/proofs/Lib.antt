@@ -18,9 +18,11 @@ pub mod NodeSteps
 pub mod Outside
 pub mod Apart
 pub mod Ends
-pub mod WordsBelow
 pub mod Simulation
 pub mod Advancing
 pub mod FiringAlike
 pub mod RunAlike
 pub mod RingRuns
+pub mod Found
+pub mod StepRoom
+pub mod RingRoom

@@ -12,7 +12,7 @@ use Rattle.strc_order.specs.Rounds.{rounds_on}
 use Rattle.strc_order.specs.Schedules.{ScheduleParts}
 use Rattle.strc_order.proofs.Buffering.{at_channel}
 use Rattle.strc_order.proofs.Fills.{peak_first, peak_last, peak_append}
-use Rattle.strc_order.proofs.Repeating.{no_overflow}
+use Rattle.strc_order.proofs.Repeating.{no_buffer_overflows}
 use Rattle.strc_order.proofs.FiringCounts.{after_none, after_cons, firing_count_append}
 use Rattle.strc_admissible.specs.Planned.{IsPlanned}
 use Rattle.strc_admissible.specs.Laws.{startup_order, round_order}
@@ -98,7 +98,7 @@ module _ (graph : Graph) (schedule : ScheduleParts) (planned : IsPlanned graph s
     round_peak : (q : ℕ) → peak_fill rates (after_rounds q) (round_order schedule)
         ≤ slice_index schedule.sizes number
     round_peak q =
-        no_overflow (rates_of graph) (at_startup graph schedule planned)
+        no_buffer_overflows (rates_of graph) (at_startup graph schedule planned)
         (in_round graph schedule planned) schedule planned.schedule
         (past_prework graph schedule planned) (balances graph schedule planned) q number rates there
 

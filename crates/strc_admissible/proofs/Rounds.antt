@@ -19,7 +19,6 @@ use Rattle.strc_order.specs.Firings.{Firings, none_fired}
 use Rattle.strc_order.specs.Order.{firing_count, IsOrder}
 use Rattle.strc_order.specs.Rounds.{rounds_on, RoundBalances, IsPastPrework}
 use Rattle.strc_order.specs.Schedules.{ScheduleParts}
-use Rattle.strc_order.proofs.Deciding.{is_an_order}
 use Rattle.strc_order.proofs.Repeating.{order_repeats}
 use Rattle.strc_order.proofs.PastPrework.{all_past_prework}
 use Rattle.strc_admissible.specs.Planned.{IsPlanned, items_read}
@@ -87,16 +86,13 @@ module _ (graph : Graph) (schedule : ScheduleParts) (planned : IsPlanned graph s
       planned.least_round.balances.balanced
 
   pub startup_finds : IsOrder (rates_of graph) none_fired (startup_order schedule)
-  startup_finds =
-      is_an_order (rates_of graph) none_fired at_startup schedule.startup
-      planned.schedule.startup_order
+  startup_finds = planned.schedule.startup_order.order
 
   pub round_finds : (q : ℕ) → IsOrder (rates_of graph) (rounds_on at_startup q in_round)
       (round_order schedule)
   round_finds q =
       order_repeats (rates_of graph) at_startup in_round q (round_order schedule) past_prework
-      balances
-      (is_an_order (rates_of graph) at_startup in_round schedule.round planned.schedule.round_order)
+      balances planned.schedule.round_order.order
 
   pub startup_nodes : AreNodes graph (startup_order schedule)
   startup_nodes node some =

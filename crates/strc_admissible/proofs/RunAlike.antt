@@ -27,8 +27,8 @@ use Rattle.strc_admissible.specs.Fits.{Queues, FitNow, FitThen, Fit}
 use Rattle.strc_admissible.specs.Machine as machines
 use Rattle.strc_admissible.specs.Machine.{CircuitView, MachineView, next_step, after_step}
 use Rattle.strc_admissible.specs.Machine.{then_go, order_run, after_round, rounds_run}
-use Rattle.strc_admissible.specs.Machine.{after_startup, whole_run}
-use Rattle.strc_admissible.specs.RingAnswer.{words_below, Tells}
+use Rattle.strc_admissible.specs.Machine.{after_startup, whole_run, words_at}
+use Rattle.strc_admissible.specs.RingAnswer.{AreWordsOf, Tells}
 use Rattle.strc_admissible.proofs.Changes.{extended_all}
 use Rattle.strc_admissible.proofs.Codes.{code_is}
 use Rattle.strc_admissible.proofs.Ends.{source_is}
@@ -36,7 +36,6 @@ use Rattle.strc_admissible.proofs.FiringAlike.{IsAlike, fire_alike}
 use Rattle.strc_admissible.proofs.Orders.{AreNodes}
 use Rattle.strc_admissible.proofs.Splitting.{fit_now, fit_split}
 use Rattle.strc_admissible.proofs.Simulation.{Simulates}
-use Rattle.strc_admissible.proofs.WordsBelow.{words_none}
 
 module _ (tree : Stream NodeCode) (graph : Graph) (program : IsProgram tree graph)
     (each : (node : ℕ) (code : NodeCode) → slice_get graph.nodes node ≡ Some code
@@ -55,7 +54,7 @@ module _ (tree : Stream NodeCode) (graph : Graph) (program : IsProgram tree grap
   abbrev Alike : FifoProgress (List ℤ) Cause Word → machines.Progress → Type 0
   Alike = IsAlike graph sizes input
 
-  node_there : (node : ℕ) → node < count
+  pub node_there : (node : ℕ) → node < count
       → slice_get graph.nodes node ≡ Some ((flat tree).code node)
   node_there node within =
       let there = slice_get-get_or graph.nodes node Identity within in
@@ -64,7 +63,7 @@ module _ (tree : Stream NodeCode) (graph : Graph) (program : IsProgram tree grap
 
   -- ---- an order
 
-  then_fits : (order : List ℕ) (progress : FifoProgress (List ℤ) Cause Word)
+  pub then_fits : (order : List ℕ) (progress : FifoProgress (List ℤ) Cause Word)
       → FitThen (FitsFor order) progress → FitThen (FitNow graph.channels sizes) progress
   then_fits order (FifoWent next) fit =
       fit_now (flat tree) graph.channels sizes order next fit
@@ -108,8 +107,8 @@ module _ (tree : Stream NodeCode) (graph : Graph) (program : IsProgram tree grap
     rounds_left = fifo_rounds node_meaning (flat tree) input round
 
     round_tells : (left q : ℕ) (progress : FifoProgress (List ℤ) Cause Word)
-        (own : machines.Progress) (words : ℕ → List Word) (printed : List Word)
-        → printed ≡ words_below count words
+        (own : machines.Progress) (words : ℕ → List Word) (given : List (List Word))
+        → AreWordsOf count words given
         → Alike progress own → FitThen (FitsFor (repeated left round)) progress
         → ((now : Queues) (machine : MachineView) → FitsFor (repeated left round) now
         → Simulates graph sizes input now machine
@@ -118,15 +117,15 @@ module _ (tree : Stream NodeCode) (graph : Graph) (program : IsProgram tree grap
         → Tells count
         (fifo_round_outcome node_meaning (flat tree) input round q words progress
         (rounds_left left (suc q)))
-        (after_round q printed (rounds_run circuit round left (suc q)) own)
+        (after_round q given (rounds_run circuit round left (suc q)) own)
     unfolding fifo_round_outcome
-    round_tells left q (FifoWent next) (machines.Went machine) words printed same alike fit later =
+    round_tells left q (FifoWent next) (machines.Went machine) words given same alike fit later =
         later next machine fit alike
-    round_tells left q (FifoStopped stop) (machines.Stopped node firing cause) words printed same
+    round_tells left q (FifoStopped stop) (machines.Stopped node firing cause) words given same
         alike fit later = (refl, alike, same)
-    round_tells left q (FifoWent next) (machines.Stopped node firing cause) words printed same
+    round_tells left q (FifoWent next) (machines.Stopped node firing cause) words given same
         alike fit later = absurd alike
-    round_tells left q (FifoStopped stop) (machines.Went machine) words printed same alike fit later
+    round_tells left q (FifoStopped stop) (machines.Went machine) words given same alike fit later
         = absurd alike
 
     rounds_alike : (left q : ℕ) (now : Queues) (machine : MachineView)
@@ -156,7 +155,7 @@ module _ (tree : Stream NodeCode) (graph : Graph) (program : IsProgram tree grap
         absurd alike
     startup_tells rounds (FifoStopped stop) (machines.Went machine) alike fit = absurd alike
 
-    first_simulates : (machine : MachineView) → IsFirst graph sizes machine
+    pub first_simulates : (machine : MachineView) → IsFirst graph sizes machine
         → FitNow graph.channels sizes (fifo_at_first node_meaning (flat tree) input)
         → Simulates graph sizes input (fifo_at_first node_meaning (flat tree) input) machine
     unfolding fifo_at_first initial_run arrived items_of
@@ -188,8 +187,11 @@ module _ (tree : Stream NodeCode) (graph : Graph) (program : IsProgram tree grap
           ap (λ (source : Source). arrived input
           (λ v. initial_run node_meaning ((flat tree).code v))
           source) (program.inputs node text reader);
-      words = first.words ∙ sym (words_none count (λ node. []) (λ node less. refl));
-      silent = λ node code listed silent. refl;
+      each_words = ap (λ (l : List (List Word)). length l) first.words
+          ∙ length-replicate count [];
+      words = λ node less.
+          ap (λ (l : List (List Word)). words_at l node) first.words
+          ∙ get_or-replicate count node [] [] less;
     }
 
     -- from the machine before any firing, both end alike

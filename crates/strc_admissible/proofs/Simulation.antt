@@ -9,7 +9,7 @@ use Rattle.strc_dataflow.specs.Node.{ByPort}
 use Rattle.strc_dataflow.specs.Queues.{added, moved}
 use Rattle.strc_dataflow.specs.Streams.{Stream, flat}
 use Rattle.strc_graph.specs.declared.graph.Port.{Port as End}
-use Rattle.strc_graph.specs.Graphs.{NodeCode, FileReader, Channel, Graph, gives_words}
+use Rattle.strc_graph.specs.Graphs.{NodeCode, FileReader, Channel, Graph}
 use Rattle.strc_graph.specs.FlatGraphs.{IsProgram}
 use Rattle.strc_graph.specs.Meaning.{node_meaning}
 use Rattle.strc_graph.specs.Rates.{pops_at}
@@ -17,14 +17,15 @@ use Rattle.strc_admissible.specs.Circuits.{IsCircuit}
 use Rattle.strc_admissible.specs.Fits.{Queues}
 use Rattle.strc_admissible.specs.Machine.{CircuitView, MachineView}
 use Rattle.strc_admissible.specs.Rings.{Ring, ring_at, at_port, shortened, extended}
-use Rattle.strc_admissible.specs.RingAnswer.{words_below}
+use Rattle.strc_admissible.specs.RingAnswer.{AreWordsOf}
+use Rattle.strc_admissible.specs.RingRoom.{items_taken, items_pushed}
 use Rattle.strc_admissible.specs.Wiring.{ports_at}
 use Rattle.strc_admissible.proofs.Changes.{Moves, extended_none, extended_all}
 use Rattle.strc_admissible.proofs.Ends.{origin_is, apart, input_channel, output_channel}
 use Rattle.strc_admissible.proofs.Ends.{target_ring, source_ring}
 
 -- each ring holds the queue of its channel and has its room; the program's input is read as far as
--- its reader has fired; and the words are those of all nodes
+-- its reader has fired; and each node has its words
 pub record Simulates (graph : Graph) (sizes : List ℕ) (input : List ℤ) (now : Queues)
     (machine : MachineView) : Type 0 where
   pub each_fields : length machine.fields ≡ length graph.nodes
@@ -39,20 +40,11 @@ pub record Simulates (graph : Graph) (sizes : List ℕ) (input : List ℤ) (now 
       ≡ buffer (now.queues channel.target.node channel.target.port) (slice_index sizes number)
   pub reads : (node : ℕ) (text : List ℕ) → slice_get graph.nodes node ≡ Some (FileReader text)
       → now.queues node 0 ≡ drop (now.runs node).fired input
-  pub words : machine.words ≡ words_below (length graph.nodes) (λ node. (now.runs node).words)
-  pub silent : (node : ℕ) (code : NodeCode) → slice_get graph.nodes node ≡ Some code
-      → gives_words code ≡ false → (now.runs node).words ≡ []
+  pub each_words : length machine.words ≡ length graph.nodes
+  pub words : AreWordsOf (length graph.nodes) (λ node. (now.runs node).words) machine.words
 
 module _ (tree : Stream NodeCode) (graph : Graph) (program : IsProgram tree graph)
     (circuit : CircuitView) (is : IsCircuit graph circuit) where
-  -- what a firing of a node takes from a channel and gives to it
-  abbrev took : (node : ℕ) → (pops : ℕ → ℕ) → Channel → ℕ
-  took node pops channel = cond (eqb channel.target.node node) (pops channel.target.port) 0
-
-  abbrev gave : (node : ℕ) → ByPort → Channel → List ℤ
-  gave node pushes channel =
-      cond (eqb channel.source.node node) (pushes channel.source.port) []
-
   module _ (node : ℕ) (pops : ℕ → ℕ) (pushes : ByPort) (rings after : List Ring)
       (moves : Moves (ports_at circuit.inputs node) (ports_at circuit.outputs node) pops pushes
       rings after)
@@ -109,15 +101,15 @@ module _ (tree : Stream NodeCode) (graph : Graph) (program : IsProgram tree grap
           ∙ sym (extended_none ring)
 
       -- the queue of a channel after a firing of a node
-      queue_moved : (now : Queues) → (firing : ℕ)
+      pub queue_moved : (now : Queues) → (firing : ℕ)
           → moved node_meaning (flat tree) node firing now.queues pushes channel.target.node
           channel.target.port
-          ≡ drop (took node (pops_at ((flat tree).code node) firing) channel)
-          (now.queues channel.target.node channel.target.port) ++ gave node pushes channel
+          ≡ drop (items_taken node (pops_at ((flat tree).code node) firing) channel)
+          (now.queues channel.target.node channel.target.port) ++ items_pushed node pushes channel
       unfolding moved added
       queue_moved now firing =
           ap (λ (origin : Origin).
-          drop (took node (pops_at ((flat tree).code node) firing) channel)
+          drop (items_taken node (pops_at ((flat tree).code node) firing) channel)
           (now.queues channel.target.node channel.target.port) ++ added node pushes origin)
           (origin_is tree graph program circuit is number channel there)
 
@@ -131,10 +123,10 @@ module _ (tree : Stream NodeCode) (graph : Graph) (program : IsProgram tree grap
           ≡ buffer (moved node_meaning (flat tree) node firing now.queues pushes channel.target.node
           channel.target.port) size
       ring_holds now firing size rates held fits =
-          let left = took node pops channel in
-          let more = gave node pushes channel in
+          let left = items_taken node pops channel in
+          let more = items_pushed node pushes channel in
           let queue = now.queues channel.target.node channel.target.port in
-          let own = ap (λ (rate : ℕ → ℕ). drop (took node rate channel) queue ++ more) rates
+          let own = ap (λ (rate : ℕ → ℕ). drop (items_taken node rate channel) queue ++ more) rates
           ∙ sym (queue_moved now firing) in
           ring_moved (eqb channel.target.node node) (eqb channel.source.node node) refl refl
           ∙ ap (λ (r : Ring). extended more (shortened left r)) held

@@ -20,4 +20,4 @@ pub record IsFirst (graph : Graph) (sizes : List ℕ) (machine : MachineView) : 
   pub fields : machine.fields ≡ map node_fields graph.nodes
   pub fired : machine.fired ≡ replicate (length graph.nodes) 0
   pub rings : AreFirst graph.channels sizes machine.rings
-  pub words : machine.words ≡ []
+  pub words : machine.words ≡ replicate (length graph.nodes) []

@@ -7,3 +7,4 @@ pub mod Steps
 pub mod Machine
 pub mod Circuits
 pub mod RingAnswer
+pub mod RingRoom

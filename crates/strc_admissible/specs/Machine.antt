@@ -17,13 +17,21 @@ pub record CircuitView : Type 0 where
   pub outputs : PortRings
   pub input : List ℤ
 
--- what a run has come to: of each node the fields' values and how often it has fired, of each
--- channel its ring, and the words
+-- what a run has come to: of each node the fields' values, how often it has fired and the words
+-- that it gave, and of each channel its ring
 pub record MachineView : Type 0 where
   pub fields : List (List ℤ)
   pub fired : List ℕ
   pub rings : List Ring
-  pub words : List Word
+  pub words : List (List Word)
+
+-- the words of a node
+abbrev pub words_at : List (List Word) → (node : ℕ) → List Word
+words_at words node = slice_index_or words node []
+
+-- the words of all nodes, where one gives more
+abbrev pub more_words : List (List Word) → (node : ℕ) → List Word → List (List Word)
+more_words words node more = slice_set words node (words_at words node ++ more)
 
 -- a firing of a node, by its number
 abbrev pub step_at : CircuitView → MachineView → (node firing : ℕ) → Step
@@ -51,7 +59,7 @@ after_step machine node (Goes fields rings words) =
       fields = slice_set machine.fields node fields;
       fired = slice_set machine.fired node (one_more (slice_index machine.fired node));
       rings = rings;
-      words = machine.words ++ words;
+      words = more_words machine.words node words;
     })
 after_step machine node (Faults cause) = Stopped node (slice_index machine.fired node) cause
 
@@ -67,12 +75,12 @@ order_run circuit (node ∷ order) machine =
 
 -- how a run ends
 pub data Ending : Type 0 where
-  Ended : (words : List Word) → Ending
+  Ended : (words : List (List Word)) → Ending
   FaultedAtFirst : (node firing : ℕ) → Cause → Ending
-  FaultedIn : (round node firing : ℕ) → Cause → (words : List Word) → Ending
+  FaultedIn : (round node firing : ℕ) → Cause → (words : List (List Word)) → Ending
 
-abbrev pub after_round : (round : ℕ) → (words : List Word) → (MachineView → Ending) → Progress
-    → Ending
+abbrev pub after_round : (round : ℕ) → (words : List (List Word)) → (MachineView → Ending)
+    → Progress → Ending
 after_round round words later (Went machine) = later machine
 after_round round words later (Stopped node firing cause) = FaultedIn round node firing cause words
 

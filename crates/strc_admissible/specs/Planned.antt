@@ -11,15 +11,15 @@ use Rattle.strc_balance.specs.Balance.{count_at, IsWithinLimit}
 use Rattle.strc_balance.specs.Rates.{IsRated, equations_of, size_of, fires_by_rounds}
 use Rattle.strc_startup.specs.Startup as start
 use Rattle.strc_startup.specs.Rates.{rates_of, first_counts}
-use Rattle.strc_order.specs.Schedules.{ScheduleParts, IsSchedule}
+use Rattle.strc_order.specs.Schedules.{ScheduleParts, IsRunnable}
 
 -- a node is a filter of a graph
 abbrev pub IsFilterOf : Graph → filters.Filter → Type 0
 IsFilterOf graph filter = (node : ℕ) × (name : Option (List ℕ))
     × (slice_get graph.nodes node ≡ Some (Filter name filter))
 
--- a graph without nodes of fission, of filters that start and whose rates are checked, with the
--- schedule of its least counts
+-- a graph without nodes of fission, of filters that start and whose rates are checked, with a
+-- schedule of its least counts, greedy or not
 pub record IsPlanned (graph : Graph) (parts : ScheduleParts) : Type 0 where
   pub unfissioned : (node : ℕ) (code : NodeCode) → slice_get graph.nodes node ≡ Some code
       → fires_by_rounds code ≡ false
@@ -35,7 +35,7 @@ pub record IsPlanned (graph : Graph) (parts : ScheduleParts) : Type 0 where
   pub least_round : balance.IsLeast (size_of graph) (equations_of graph) round
   pub startup_within : IsWithinLimit startup
   pub round_within : IsWithinLimit round
-  pub schedule : IsSchedule (rates_of graph) (count_at startup) (count_at round) parts
+  pub schedule : IsRunnable (rates_of graph) (count_at startup) (count_at round) parts
 
 -- the names in each filter are known
 abbrev pub AreKnown : Graph → Type 0

@@ -1,5 +1,5 @@
 -- How a run over rings ends, as the answer of the stream equations.
-use Rattle.std.specs.Prelude.{◌≡◌, ℕ, zero, suc, ◌<◌, ◌≤◌, ◌^◌, ℤ, List, [], ◌++◌, length}
+use Rattle.std.specs.Prelude.{◌≡◌, ℕ, ◌<◌, ◌≤◌, ◌^◌, ℤ, List, length}
 use Rattle.strc_dataflow.specs.Answer.{Outcome, Outcome.Done, Outcome.StartupFault}
 use Rattle.strc_dataflow.specs.Answer.{Outcome.RoundFault, IsAnswer}
 use Rattle.strc_dataflow.specs.Streams as trees
@@ -13,23 +13,22 @@ use Rattle.strc_order.specs.Schedules.{ScheduleParts}
 use Rattle.strc_admissible.specs.Circuits.{IsCircuit, IsFirst}
 use Rattle.strc_admissible.specs.Laws.{startup_order, round_order, counts_at}
 use Rattle.strc_admissible.specs.Machine.{CircuitView, MachineView, Ending, Ended, FaultedAtFirst}
-use Rattle.strc_admissible.specs.Machine.{FaultedIn, whole_run}
+use Rattle.strc_admissible.specs.Machine.{FaultedIn, whole_run, words_at}
 use Rattle.strc_admissible.specs.Planned.{IsPlanned, AreKnown, items_read}
 
--- the words of so many nodes, of which at most one has any
-abbrev pub words_below : ℕ → (words : ℕ → List Word) → List Word
-words_below zero words = []
-words_below (suc count) words = words_below count words ++ words count
+-- lists of words are those of so many nodes
+abbrev pub AreWordsOf : (count : ℕ) → (words : ℕ → List Word) → List (List Word) → Type 0
+AreWordsOf count words given = (node : ℕ) → node < count → words_at given node ≡ words node
 
--- an ending of so many nodes is an outcome: the same words; or the same fault, in start-up without
--- words, in a round with the words before it
+-- an ending of so many nodes is an outcome: the same words of each node; or the same fault, in
+-- start-up without words, in a round with the words before it
 abbrev pub Tells : (count : ℕ) → Outcome Cause Word → Ending → Type 0
-Tells count (Done words) (Ended printed) = printed ≡ words_below count words
+Tells count (Done words) (Ended given) = AreWordsOf count words given
 Tells count (StartupFault stop) (FaultedAtFirst node firing cause) =
     stop ≡ record { node = node; firing = firing; cause = cause }
-Tells count (RoundFault q stop words) (FaultedIn round node firing cause printed) =
+Tells count (RoundFault q stop words) (FaultedIn round node firing cause given) =
     (q ≡ round) × (stop ≡ record { node = node; firing = firing; cause = cause })
-    × (printed ≡ words_below count words)
+    × AreWordsOf count words given
 Tells count _ _ = ⊥
 
 -- an ending is the answer of a tree's stream equations, at the counts and in the orders of a

@@ -1,8 +1,9 @@
 // Takes a flat graph that a whole program has, with its schedule.
-// Gives no code but two laws: the schedule is admissible, and its run over rings is right.
+// Gives no code but laws: the schedule is admissible, and its run over rings is right.
 // The theorems to rely on: `schedules_are_admissible`: in start-up and in each round each firing
 // finds what it looks at, no buffer holds more than its size, and the run over queues gives the
-// answer of the stream equations; `ring_runs_answer`: so does the run over rings of those sizes.
+// answer of the stream equations; `ring_runs_answer`: so does the run over rings of those sizes;
+// `rings_have_room`: in which no item is lost.
 // Stands on strc_dataflow, whose theorem of the run it applies, on strc_graph, whose nodes it runs,
 // on strc_order, strc_startup and strc_balance, whose orders and counts it speaks of, on strc_rate,
 // whose filters keep their rates, and on strc_semantics, whose filters these are.
@@ -10,6 +11,7 @@
 
 ghost use Rattle.strc_admissible.specs.Laws.{SchedulesAreAdmissible};
 ghost use Rattle.strc_admissible.specs.RingAnswer.{RingRunsAnswer};
+ghost use Rattle.strc_admissible.specs.RingRoom.{RingsHaveRoom};
 
 /// The schedule of a program's graph is admissible (Lee and Messerschmitt 1987: a periodic
 /// admissible sequential schedule), and what its run gives is the answer of the stream equations.
@@ -21,4 +23,11 @@ pub fn schedules_are_admissible()
 /// the stream equations.
 pub fn ring_runs_answer()
     ensures { RingRunsAnswer }
+{}
+
+/// Between any two firings of that run each ring has its channel's size and holds just the items
+/// of the channel's queue; the next firing finds what it looks at, and there is room for what it
+/// pushes.
+pub fn rings_have_room()
+    ensures { RingsHaveRoom }
 {}

@@ -70,13 +70,16 @@ module _ (text : List ℕ) (main : Option (String Global)) (plan : Planning)
 
     plan_answered : (result : Result Answer Stop) → IsRunAnswer plan input rounds result
         → IsAnswered text (command.Run rounds main) bytes (Ok result)
-    plan_answered (Ok (answer.Ran outcome)) runs = record {
-      plan = plan;
-      accepted = is.accepted;
-      input = input;
-      given = given_here;
-      ends = answers text (option_map string_bytes main) plan input rounds (Ok outcome) is runs;
-    }
+    plan_answered (Ok (answer.Ran own outcome)) runs = (
+      subst (IsPlanOf text (option_map string_bytes main)) (sym runs.0) is,
+      record {
+        plan = plan;
+        accepted = is.accepted;
+        input = input;
+        given = given_here;
+        ends = answers text (option_map string_bytes main) plan input rounds (Ok outcome) is runs.1;
+      },
+    )
     plan_answered (Ok answer) never = absurd never
     plan_answered (Err (stop.NotRun why)) unrun = record {
       plan = plan;

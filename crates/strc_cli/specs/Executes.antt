@@ -16,11 +16,12 @@ use Rattle.strc_outcome.specs.declared.refusal.RunRefusal.TheVariants as unrun
 use Rattle.strc_refusal.specs.declared.refusal.Refusal.{Refusal}
 use Rattle.strc_refusal.specs.declared.refusal.Refusal.TheVariants as refusal
 use Rattle.strc_cli.specs.Answering.{IsAnswered}
+use Rattle.strc_graph.specs.NodeView.{node_names}
 use Rattle.strc_output.specs.Output.{check_line, outcome_text, plan_text, stop_line}
 
 -- all that is written: what the run printed, the lines of a plan, a picture, or one line
 abbrev pub answer_text : Result Answer Stop → List ℕ
-answer_text (Ok (answer.Ran outcome)) = outcome_text outcome
+answer_text (Ok (answer.Ran plan outcome)) = outcome_text (node_names plan.graph) outcome
 answer_text (Ok (answer.Checked nodes channels)) = check_line nodes channels
 answer_text (Ok (answer.Planned plan)) = plan_text plan
 answer_text (Ok (answer.Drawn picture)) = picture.items
@@ -39,8 +40,8 @@ run_refusal_status refused = status.Refused
 
 -- the status that belongs to what is written
 abbrev pub answer_status : Result Answer Stop → Status
-answer_status (Ok (answer.Ran (outcome.Done words))) = status.Done
-answer_status (Ok (answer.Ran (outcome.Fault node firing round cause words))) = status.Fault
+answer_status (Ok (answer.Ran plan (outcome.Done tapes))) = status.Done
+answer_status (Ok (answer.Ran plan (outcome.Fault node firing round cause tapes))) = status.Fault
 answer_status (Ok (answer.Checked nodes channels)) = status.Done
 answer_status (Ok (answer.Planned plan)) = status.Done
 answer_status (Ok (answer.Drawn picture)) = status.Done

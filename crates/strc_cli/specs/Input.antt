@@ -5,7 +5,7 @@ use Rattle.std.specs.declared.alloc.Global.{Global}
 use Rattle.strc_input.specs.declared.input.ReadStop.{ReadStop}
 use Rattle.strc_input.specs.declared.input.ReadStop.TheVariants as stop
 use Rattle.strc_input.specs.Input.{ReadsNumbers}
-use Rattle.strc_stage.specs.Plans.{Planning}
+use Rattle.strc_stage.specs.Plans.{Planning, planning_of}
 use Rattle.strc_run.specs.Rounds.{IsRunOf}
 use Rattle.strc_cli.specs.declared.execute.CliError.{CliError}
 use Rattle.strc_cli.specs.declared.execute.CliError.TheVariants as failure
@@ -23,7 +23,8 @@ IsInputOf false bytes (Err why) = ⊥
 
 -- how the rounds of a plan are answered
 abbrev pub IsRunAnswer : Planning → List ℤ → (rounds : Option ℕ) → Result Answer Stop → Type 0
-IsRunAnswer plan input rounds (Ok (answer.Ran outcome)) = IsRunOf plan input rounds (Ok outcome)
+IsRunAnswer plan input rounds (Ok (answer.Ran own outcome)) =
+    (planning_of own ≡ plan) × IsRunOf plan input rounds (Ok outcome)
 IsRunAnswer plan input rounds (Ok _) = ⊥
 IsRunAnswer plan input rounds (Err (no_answer.NotRun refused)) =
     IsRunOf plan input rounds (Err refused)

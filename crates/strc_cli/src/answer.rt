@@ -26,8 +26,8 @@ use strc_run::run::{Outcome, RunRefusal, reads_input, run};
 /// What a command asks of an accepted text.
 #[derive(Drop)]
 pub enum Answer {
-    /// How its run ended.
-    Ran(Outcome),
+    /// How its run ended, with the plan that was run.
+    Ran(Plan, Outcome),
     /// How many nodes and channels its flat graph has.
     Checked { nodes: usize, channels: usize },
     /// Its plan.
@@ -57,7 +57,7 @@ pub fn answer_to<I: Source>(
         Err(refusal) => return Ok(Err(Stop::Refused(refusal))),
     };
     match command {
-        Command::Run { rounds, main: _ } => run_plan(alloc, &plan, *rounds, input),
+        Command::Run { rounds, main: _ } => run_plan(alloc, plan, *rounds, input),
         Command::Check { main: _ } => Ok(Ok(Answer::Checked {
             nodes: plan.graph().nodes().len(),
             channels: plan.graph().channels().len(),
@@ -70,19 +70,19 @@ pub fn answer_to<I: Source>(
 // The outcome of so many rounds of a plan, for whatever text's plan this is.
 fn run_plan<I: Source>(
     alloc: Global,
-    plan: &Plan,
+    plan: Plan,
     rounds: Option<u32>,
     input: &mut I,
 ) -> Result<Result<Answer, Stop>, CliError>
-    ensures run { AnswersPlan (planning_of plan.now) rounds (I.remaining input.old) result }
+    ensures run { AnswersPlan (planning_of plan) rounds (I.remaining input.old) result }
     ensures failed { result ≡ Err CliError.Read → I.has_failed input.new ≡ true }
     ensures steady { result ≢ Err CliError.Read → I.has_failed input.new ≡ I.has_failed input.old }
     ensures unread { (input.new ≡ input.old)
-        ⊎ (plan_reads (planning_of plan.now) ≡ true) }
+        ⊎ (plan_reads (planning_of plan) ≡ true) }
 {
     // The answer for the plan is the answer for its text.
     plans_answer_texts();
-    match input_of(alloc, plan, input) {
+    match input_of(alloc, &plan, input) {
         Ok(numbers) => Ok(run_numbers(alloc, plan, rounds, &numbers)),
         Err(stop) => unread(stop),
     }
@@ -118,14 +118,14 @@ fn input_of<I: Source>(alloc: Global, plan: &Plan, input: &mut I) -> Result<Vec<
 // The outcome of rounds over this input.
 fn run_numbers(
     alloc: Global,
-    plan: &Plan,
+    plan: Plan,
     rounds: Option<u32>,
     input: &[i32],
 ) -> Result<Answer, Stop>
-    ensures { IsRunAnswer (planning_of plan.now) input.now rounds result }
+    ensures { IsRunAnswer (planning_of plan) input.now rounds result }
 {
-    match run(alloc, plan, input, rounds) {
-        Ok(outcome) => Ok(Answer::Ran(outcome)),
+    match run(alloc, &plan, input, rounds) {
+        Ok(outcome) => Ok(Answer::Ran(plan, outcome)),
         Err(refusal) => Err(Stop::NotRun(refusal)),
     }
 }

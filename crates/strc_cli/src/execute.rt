@@ -10,7 +10,8 @@ use crate::answer::{Answer, answer_to};
 use std::alloc::{AllocError, Global};
 use strc_command::line::Command;
 use strc_input::device::{Sink, Source};
-use strc_output::output::{check_text, outcome_text, plan_text, stop_text};
+use strc_output::outcome::outcome_text;
+use strc_output::output::{check_text, plan_text, stop_text};
 use strc_output::stop::Stop;
 use strc_run::refusal::Refusal;
 use strc_run::run::{Outcome, RunRefusal};
@@ -119,7 +120,7 @@ fn answer_text(alloc: Global, answered: &Result<Answer, Stop>) -> Result<Vec<u8>
     ensures { IfOk result (λ text. text.items ≡ spec.answer_text answered.now) }
 {
     match answered {
-        Ok(Answer::Ran(outcome)) => outcome_text(alloc, outcome),
+        Ok(Answer::Ran(plan, outcome)) => outcome_text(alloc, plan.graph(), outcome),
         Ok(Answer::Checked { nodes, channels }) => check_text(alloc, *nodes, *channels),
         Ok(Answer::Planned(plan)) => plan_text(alloc, plan),
         Ok(Answer::Drawn(picture)) => picture.to_vec(alloc),
@@ -132,8 +133,8 @@ fn answer_status(answered: &Result<Answer, Stop>) -> Status
     ensures { result ≡ spec.answer_status answered.now }
 {
     match answered {
-        Ok(Answer::Ran(Outcome::Done(_))) => Status::Done,
-        Ok(Answer::Ran(Outcome::Fault { .. })) => Status::Fault,
+        Ok(Answer::Ran(_, Outcome::Done(_))) => Status::Done,
+        Ok(Answer::Ran(_, Outcome::Fault { .. })) => Status::Fault,
         Ok(Answer::Checked { .. }) => Status::Done,
         Ok(Answer::Planned(_)) => Status::Done,
         Ok(Answer::Drawn(_)) => Status::Done,

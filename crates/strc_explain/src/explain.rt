@@ -82,12 +82,13 @@ fn explanation(
         Err(Stop::NotRun(refusal)) => not_run_message(alloc, file, *refusal),
         Ok(
             Answer::Ran(
+                _,
                 Outcome::Fault {
                     node,
                     firing,
                     round,
                     cause,
-                    words: _,
+                    tapes: _,
                 },
             ),
         ) => {

@@ -26,8 +26,8 @@ refused_before nodes codes Connected refusal.NodeLimit same is =
     subst (λ l. IsRefused l Connected refusal.NodeLimit) same is
 refused_before nodes codes Connected refusal.TwoInputs same is =
     subst (λ l. IsRefused l Connected refusal.TwoInputs) same is
-refused_before nodes codes Connected refusal.TwoOutputs same is =
-    subst (λ l. IsRefused l Connected refusal.TwoOutputs) same is
+refused_before nodes codes Connected (refusal.TapeTwice node) same is =
+    subst (λ l. IsRefused l Connected (refusal.TapeTwice node)) same is
 refused_before nodes codes Connected refusal.Disconnected same is = absurd (is.3 tt)
 refused_before nodes codes Connected refusal.NoMemory same is = tt
 refused_before nodes codes Connected _ same is = absurd is
@@ -39,7 +39,7 @@ no_graph_refused : (stream : Stream) → IsWellTyped stream
 no_graph_refused stream typed few refusal.Disconnected no_graph = (
   few.few,
   few.one_input,
-  few.one_output,
+  few.apart,
   λ connected. no_graph (wires_are_graphs stream typed) ((wires_connect stream typed).1 connected),
 )
 no_graph_refused stream typed few refusal.NoMemory no_graph = tt
@@ -56,7 +56,7 @@ assembled_verdict stream nodes (Ok graph) same few assembled typed =
     record {
       few = accepted.few;
       one_input = accepted.one_input;
-      one_output = accepted.one_output;
+      apart = accepted.apart;
       connected = (wires_connect stream typed).0 assembled.1;
     }
 assembled_verdict stream nodes (Err refused) same few assembled typed =
@@ -80,7 +80,7 @@ pub assembled_program : (stream : Stream) (nodes : List NodeCode)
 assembled_program stream nodes (Ok graph) same few assembled closed =
     let accepted = subst (λ l. IsAccepted l (Unit {0})) same few in
     subst (IsProgram (tree_of stream)) (sym assembled.0)
-    (wires_are_programs stream closed accepted.one_input accepted.one_output)
+    (wires_are_programs stream closed accepted.one_input)
 assembled_program stream nodes (Err refused) same few assembled closed = tt
 
 names_view : (nodes : List Node)

@@ -4,3 +4,4 @@ pub mod Views
 pub mod NodeCounts
 pub mod Wiring
 pub mod Assembled
+pub mod Repeats

@@ -28,9 +28,9 @@ use strc_stream::stream::Stream;
 /// The flat graph of a stream: its nodes in preorder, and the channels between their ports, in
 /// order of the ports that they leave.
 ///
-/// It is refused where it has more than 4,096 nodes, more than one `FileReader`, more than one node
-/// that writes words, or where its nodes aren't all connected, tested in this order; and where
-/// memory runs out.
+/// It is refused where it has more than 4,096 nodes, more than one `FileReader`, two `FileWriter`s
+/// of one file, or where its nodes aren't all connected, tested in this order; and where memory
+/// runs out.
 pub fn flatten(alloc: Global, stream: &Stream) -> Result<Graph, ElabError>
     ensures verdict { IsWellTyped (stream_view stream.now)
         → IsFlattened (stream_view stream.now) result }
@@ -49,7 +49,7 @@ pub fn flatten(alloc: Global, stream: &Stream) -> Result<Graph, ElabError>
 {
     let mut nodes = Vec::new(alloc);
     collect(alloc, stream, &mut nodes)?;
-    match check(&nodes) {
+    match check(alloc, &nodes) {
         // Such a stream isn't well typed.
         Ok(()) if !has_nodes(stream) => Err(ElabError::Disconnected),
         Ok(()) => graph_of(alloc, stream, nodes),

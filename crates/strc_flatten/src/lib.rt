@@ -13,3 +13,4 @@ mod loops;
 mod nodes;
 mod parts;
 mod size;
+mod tapes;

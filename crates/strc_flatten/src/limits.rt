@@ -1,15 +1,17 @@
-// How many nodes a graph may have, and how many that take the input or write words.
+// How many nodes a graph may have, and how many that take the input.
 
 ghost use Rattle.std.specs.Prelude.{◌≡◌, map, count_by};
 ghost use Rattle.strc_graph.specs.Graphs as graphs;
 ghost use Rattle.strc_graph.specs.NodeView.{node_view};
 ghost use Rattle.strc_flatten.specs.Verdicts.{IsVerdict};
 
+use crate::tapes::first_repeat;
+use std::alloc::Global;
 use strc_graph::graph::{NODE_LIMIT, Node};
 use strc_scope::error::ElabError;
 
 /// Whether a graph can have these nodes, by the first test that fails.
-pub(crate) fn check(nodes: &[Node]) -> Result<(), ElabError>
+pub(crate) fn check(alloc: Global, nodes: &[Node]) -> Result<(), ElabError>
     ensures { IsVerdict (map node_view nodes.now) (Unit {0}) result }
 {
     if nodes.len() > NODE_LIMIT as usize {
@@ -18,10 +20,10 @@ pub(crate) fn check(nodes: &[Node]) -> Result<(), ElabError>
     if count_inputs(nodes) > 1 {
         return Err(ElabError::TwoInputs);
     }
-    if count_outputs(nodes) > 1 {
-        return Err(ElabError::TwoOutputs);
+    match first_repeat(alloc, nodes)? {
+        Some(node) => Err(ElabError::TapeTwice { node }),
+        None => Ok(()),
     }
-    Ok(())
 }
 
 /// How many nodes take the program's input.
@@ -31,19 +33,6 @@ fn count_inputs(nodes: &[Node]) -> usize
     let mut count = 0;
     for node in nodes {
         if reads_input(node) {
-            count += 1;
-        }
-    }
-    count
-}
-
-/// How many nodes can write words.
-fn count_outputs(nodes: &[Node]) -> usize
-    ensures { result ≡ count_by graphs.gives_words (map node_view nodes.now) }
-{
-    let mut count = 0;
-    for node in nodes {
-        if gives_words(node) {
             count += 1;
         }
     }
@@ -63,22 +52,6 @@ fn reads_input(node: &Node) -> bool
         | Node::Joiner(_)
         | Node::Scatter(_)
         | Node::Copy(_, _)
-        | Node::Gather(_) => false,
-    }
-}
-
-/// Whether a firing of a node can write words.
-fn gives_words(node: &Node) -> bool
-    ensures { result ≡ graphs.gives_words (node_view node.now) }
-{
-    match node {
-        Node::Filter(instance) | Node::Copy(instance, _) => instance.code.prints(),
-        Node::FileWriter(_) => true,
-        Node::Identity
-        | Node::FileReader(_)
-        | Node::Splitter(_)
-        | Node::Joiner(_)
-        | Node::Scatter(_)
         | Node::Gather(_) => false,
     }
 }

@@ -6,7 +6,7 @@ use Rattle.strc_dataflow.specs.Flat.{Source}
 use Rattle.strc_dataflow.specs.Flat as flat
 use Rattle.strc_dataflow.specs.Streams as trees
 use Rattle.strc_graph.specs.Graphs.{NodeCode, Graph, Channel, source_of, source_in, ends_at}
-use Rattle.strc_graph.specs.Graphs.{FileReader, reads_input, gives_words}
+use Rattle.strc_graph.specs.Graphs.{FileReader, reads_input}
 use Rattle.strc_graph.specs.Carriers.{takes_at, JoinsCarriers}
 
 -- one channel before another: by the node that it leaves, and then by the port
@@ -39,11 +39,10 @@ IsFed graph node port = (number : ℕ) × (channel : Channel)
     × (slice_get graph.channels number ≡ Some channel) × (ends_at node port channel ≡ true)
 
 -- a graph is the flat graph of a whole program: nothing comes from outside but what its one reader
--- reads, and one node prints
+-- reads
 pub record IsProgram (tree : trees.Stream NodeCode) (graph : Graph) : Type 0 where
   pub flat : IsFlat tree graph
   pub inputs : (node : ℕ) (text : List ℕ) → slice_get graph.nodes node ≡ Some (FileReader text)
       → (trees.flat tree).source node 0 ≡ program_input
   pub fed : (node port : ℕ) → takes_at graph.nodes node port ≡ true → IsFed graph node port
   pub one_input : count_by reads_input graph.nodes ≤ 1
-  pub one_output : count_by gives_words graph.nodes ≤ 1

@@ -1,12 +1,16 @@
 -- What a run of a flat graph relies on, as laws about all graphs.
-use Rattle.std.specs.Prelude.{◌≡◌, ℕ, ◌<◌, Bool, true, ℤ, List, map, sum, if◌then◌else◌}
+use Rattle.std.specs.Prelude.{◌≡◌, ℕ, ◌<◌, Bool, true, false, ℤ, List, [], map, sum}
+use Rattle.std.specs.Prelude.{if◌then◌else◌}
 use Rattle.strc_dataflow.specs.Flat.{Graph}
+use Rattle.strc_dataflow.specs.Node.{ByPort, Fired.Fires}
+use Rattle.strc_semantics.specs.declared.word.Word.{Word}
 use Rattle.strc_dataflow.specs.Answer.{whole_run}
 use Rattle.strc_dataflow.specs.RoundRobin.{IsRoundRobinSplitter, IsDuplicateSplitter}
 use Rattle.strc_dataflow.specs.RoundRobin.{IsRoundRobinJoiner}
 use Rattle.strc_graph.specs.Graphs.{NodeCode, Splitter, Joiner, Duplicate, Roundrobin, reads_input}
+use Rattle.strc_graph.specs.Graphs.{gives_words}
 use Rattle.strc_graph.specs.Carriers.{carries_in}
-use Rattle.strc_graph.specs.Meaning.{node_meaning}
+use Rattle.strc_graph.specs.Meaning.{node_fired, node_meaning}
 
 -- Two graphs with the same nodes, and the same sources at the ports that carry items and where the
 -- program's input is read, run alike: what is at a joiner's port of weight 0 makes no
@@ -35,3 +39,10 @@ NodesSplitAndJoin =
     → IsRoundRobinSplitter node_meaning (Splitter (Roundrobin weights)) weights)
     × IsDuplicateSplitter node_meaning (Splitter (Duplicate carried)) (map carried_weight carried)
     × IsRoundRobinJoiner node_meaning (Joiner weights) weights
+
+-- A firing of a node without a tape gives no words.
+abbrev pub OnlyTapesGiveWords : Type 0
+OnlyTapesGiveWords =
+    (code : NodeCode) (firing : ℕ) (fields : List ℤ) (seen : ByPort) (next : List ℤ)
+    (pushes : ByPort) (words : List Word) → gives_words code ≡ false
+    → node_fired code firing fields seen ≡ Fires next pushes words → words ≡ []

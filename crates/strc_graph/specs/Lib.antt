@@ -1,4 +1,5 @@
 pub mod Graphs
+pub mod Tapes
 pub mod Carriers
 pub mod NodeView
 pub mod Rates

@@ -12,3 +12,4 @@ pub mod graph;
 pub mod instance;
 pub mod laws;
 pub mod rates;
+pub mod tapes;

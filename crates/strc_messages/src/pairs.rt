@@ -10,7 +10,7 @@ use std::alloc::Global;
 use strc_base::memory::NoMemory;
 use strc_nodes::preorder::{Preorder, preorder_of};
 use strc_refusal::refusal::Refusal;
-use strc_source::declarations::{declaration_named, declaration_numbered, extent_of, print_of};
+use strc_source::declarations::{declaration_named, declaration_numbered};
 use strc_source::message::{Extent, Message};
 use strc_source::place::place_of;
 use strc_source::source::Source;
@@ -29,7 +29,7 @@ pub(crate) fn pair_message<E: Elaborates>(
     match refusal {
         Refusal::ManyMains => two_mains(trial.alloc, trial.source),
         Refusal::TypeMismatch { stream } => two_of_a_name(trial.alloc, trial.source, *stream),
-        Refusal::TwoInputs | Refusal::TwoOutputs | Refusal::Disconnected => {
+        Refusal::TwoInputs | Refusal::TapeTwice { .. } | Refusal::Disconnected => {
             two_nodes(trial, refusal)
         }
         _ => Ok(None),
@@ -96,8 +96,8 @@ fn two_nodes<E: Elaborates>(
     let Some((first, second)) = pair_of(alloc, &order, refusal)? else {
         return Ok(None);
     };
-    let other = site(trial, &order, first, second)?;
-    let place = site(trial, &order, second, first)?;
+    let other = site(trial, &order, first)?;
+    let place = site(trial, &order, second)?;
     let mut message = Message::new(alloc);
     order.push_name(&mut message, second)?;
     message.add(joining_words(refusal))?;
@@ -116,8 +116,8 @@ fn pair_of(
     refusal: &Refusal,
 ) -> Result<Option<(usize, usize)>, NoMemory> {
     match refusal {
-        Refusal::TwoInputs => Ok(first_two(order, false)),
-        Refusal::TwoOutputs => Ok(first_two(order, true)),
+        Refusal::TwoInputs => Ok(two_readers(order)),
+        Refusal::TapeTwice { node } => Ok(two_writers(order, *node)),
         _ => match order.first_apart(alloc)? {
             Some(node) => Ok(Some((0, node))),
             None => Ok(None),
@@ -125,12 +125,24 @@ fn pair_of(
     }
 }
 
-/// The first two nodes that print, or the first two that take the input.
-fn first_two(order: &Preorder, printing: bool) -> Option<(usize, usize)> {
+/// The first writer of a node's file, and the node.
+fn two_writers(order: &Preorder, node: usize) -> Option<(usize, usize)> {
+    let file = order.nodes.get(node)?.file.as_ref()?;
+    for (number, seen) in order.nodes.iter().enumerate() {
+        if let Some(other) = &seen.file {
+            if other.as_slice() == file.as_slice() {
+                return Some((number, node));
+            }
+        }
+    }
+    None
+}
+
+/// The first two nodes that take the input.
+fn two_readers(order: &Preorder) -> Option<(usize, usize)> {
     let mut first = None;
     for (number, seen) in order.nodes.iter().enumerate() {
-        let is = if printing { seen.prints } else { seen.reads };
-        if is {
+        if seen.reads {
             match first {
                 Some(first) => return Some((first, number)),
                 None => first = Some(number),
@@ -140,29 +152,22 @@ fn first_two(order: &Preorder, printing: bool) -> Option<(usize, usize)> {
     None
 }
 
-/// Where a node prints, if it and the other one are declared filters that print; else the statement
-/// that it comes from.
+/// The statement that a node comes from.
 fn site<E: Elaborates>(
     trial: Trial<'_, E>,
     order: &Preorder,
     node: usize,
-    other: usize,
 ) -> Result<Option<Extent>, NoMemory> {
-    let (Some(seen), Some(other)) = (order.nodes.get(node), order.nodes.get(other)) else {
-        return Ok(None);
-    };
-    if seen.prints && other.prints && seen.name.as_slice() != other.name.as_slice() {
-        if let Some(token) = print_of(trial.source.tokens, &seen.name) {
-            return Ok(Some(extent_of(token)));
-        }
+    match order.nodes.get(node) {
+        Some(seen) => origin_of(trial, node, &seen.name),
+        None => Ok(None),
     }
-    origin_of(trial, node, &seen.name)
 }
 
 fn joining_words(refusal: &Refusal) -> &'static [u8] {
     match refusal {
         Refusal::TwoInputs => b" takes the input, and so does ",
-        Refusal::TwoOutputs => b" prints, and so does ",
+        Refusal::TapeTwice { .. } => b" writes to the same file as ",
         _ => b" isn't connected with ",
     }
 }
@@ -170,7 +175,9 @@ fn joining_words(refusal: &Refusal) -> &'static [u8] {
 fn pair_hint(refusal: &Refusal) -> &'static [u8] {
     match refusal {
         Refusal::TwoInputs => b"one FileReader is allowed: split what it gives",
-        Refusal::TwoOutputs => b"one FileWriter, or one filter with print or println, is allowed",
+        Refusal::TapeTwice { .. } => {
+            b"each writer has a tape of its own: put another name between its quotes"
+        }
         _ => b"each stream has to take what the one before it gives, or give to the one after it",
     }
 }

@@ -83,7 +83,7 @@ fn program_sentence(refusal: &Refusal) -> &'static [u8] {
         Refusal::DepthLimit => b"streams are added in one another more than 64 deep",
         Refusal::NodeLimit => b"the program has more than 4,096 nodes",
         Refusal::TwoInputs => b"more than one FileReader takes the input",
-        Refusal::TwoOutputs => b"more than one node prints",
+        Refusal::TapeTwice { .. } => b"two FileWriters write to the same file",
         Refusal::Disconnected => b"the nodes aren't all connected by channels",
         Refusal::CountsTooLarge => b"a node would fire more than 1,000,000 times in a round",
         Refusal::StartupUnbounded => {

@@ -17,8 +17,8 @@ pub struct Seen {
     pub name: Vec<u8>,
     /// Whether it takes the program's input.
     pub reads: bool,
-    /// Whether it can write words.
-    pub prints: bool,
+    /// What a writer has between its quotes.
+    pub file: Option<Vec<u8>>,
     /// Whether it is the one that was put into a text.
     pub is_sought: bool,
 }
@@ -28,7 +28,7 @@ impl Drop for Seen {
         let Seen {
             name: _,
             reads: _,
-            prints: _,
+            file: _,
             is_sought: _,
         } = self;
     }
@@ -69,7 +69,7 @@ fn visit(alloc: Global, stream: &Stream, order: &mut Preorder) -> Result<Ends, N
         Stream::Filter(instance) => order.add_filter(alloc, instance),
         Stream::Identity => order.add(alloc, b"Identity", true, true),
         Stream::FileReader(_) => order.add_reader(alloc),
-        Stream::FileWriter(_) => order.add_writer(alloc),
+        Stream::FileWriter(text) => order.add_writer(alloc, text.as_bytes()),
         Stream::Pipeline(children) => visit_row(alloc, children, order),
         Stream::SplitJoin(splitter, children, joiner) => {
             let entry = match splitter {
@@ -162,14 +162,14 @@ impl Preorder {
         alloc: Global,
         name: &[u8],
         reads: bool,
-        prints: bool,
+        file: Option<Vec<u8>>,
         is_sought: bool,
     ) -> Result<usize, NoMemory> {
         let number = self.nodes.len();
         self.nodes.push(Seen {
             name: name.to_vec(alloc)?,
             reads,
-            prints,
+            file,
             is_sought,
         })?;
         Ok(number)
@@ -183,7 +183,7 @@ impl Preorder {
         takes: bool,
         gives: bool,
     ) -> Result<Ends, NoMemory> {
-        let node = self.push(alloc, name, false, false, false)?;
+        let node = self.push(alloc, name, false, None, false)?;
         Ok(Ends {
             entry: first_if(node, takes),
             exit: first_if(node, gives),
@@ -191,15 +191,16 @@ impl Preorder {
     }
 
     fn add_reader(&mut self, alloc: Global) -> Result<Ends, NoMemory> {
-        let node = self.push(alloc, b"FileReader", true, false, false)?;
+        let node = self.push(alloc, b"FileReader", true, None, false)?;
         Ok(Ends {
             entry: None,
             exit: Some(node),
         })
     }
 
-    fn add_writer(&mut self, alloc: Global) -> Result<Ends, NoMemory> {
-        let node = self.push(alloc, b"FileWriter", false, true, false)?;
+    fn add_writer(&mut self, alloc: Global, file: &[u8]) -> Result<Ends, NoMemory> {
+        let file = file.to_vec(alloc)?;
+        let node = self.push(alloc, b"FileWriter", false, Some(file), false)?;
         Ok(Ends {
             entry: Some(node),
             exit: None,
@@ -211,9 +212,8 @@ impl Preorder {
             Some(name) => name.as_bytes(),
             None => b"filter",
         };
-        let prints = instance.code.prints();
         let is_sought = name == SOUGHT_FILTER;
-        let node = self.push(alloc, name, false, prints, is_sought)?;
+        let node = self.push(alloc, name, false, None, is_sought)?;
         let tree = instance.code.tree();
         Ok(Ends {
             entry: first_if(node, tree.input == ItemType::Int),
@@ -226,11 +226,11 @@ impl Preorder {
             Splitter::Roundrobin(weights) => has_sought_weight(weights),
             Splitter::Duplicate(_) => false,
         };
-        self.push(alloc, b"split", false, false, is_sought)
+        self.push(alloc, b"split", false, None, is_sought)
     }
 
     fn add_joiner(&mut self, alloc: Global, weights: &[u32]) -> Result<usize, NoMemory> {
-        self.push(alloc, b"join", false, false, has_sought_weight(weights))
+        self.push(alloc, b"join", false, None, has_sought_weight(weights))
     }
 
     /// A channel, where both its ends have items.

@@ -1,8 +1,8 @@
 -- The items on channels from some counts on, seen as from the beginning on.
 use Rattle.std.proofs.Common.{◌≡◌, ◌∙◌, refl, sym, ap, subst, ℕ, zero, suc, ◌+◌, ◌*◌, ◌<◌}
 use Rattle.std.proofs.Common.{◌≤◌, max, List, [], ◌∷◌, ◌++◌, length, map, take, get_or, All, arith}
-use Rattle.std.proofs.Common.{slice_get, slice_index, Some, inl, inr, Result, Ok, Err}
-use Rattle.std.specs.Prelude.{IfOk, IfErr, Bool, ◌^◌}
+use Rattle.std.proofs.Common.{slice_get, slice_index, Some, inl, inr, Result, Err}
+use Rattle.std.specs.Prelude.{IfErr, Bool, ◌^◌}
 use mathlib.Core.Path.{Path, fun_ext}
 use Rattle.std.proofs.Common.{length-append}
 use Rattle.std.proofs.Math.ListN.{get_or-append}
@@ -10,9 +10,6 @@ use Rattle.std.proofs.Math.Seq.{get_or-append_seam}
 use Rattle.std.proofs.lemmas.Bool.{cases_eq}
 use Rattle.std.proofs.lemmas.List.Elements.{All-cons, All-nil}
 use Rattle.std.proofs.lemmas.Option.{same_Some, slice_get_within}
-use Rattle.std.proofs.lemmas.List.{length-map}
-use Rattle.strc_graph.specs.NodeView.{GraphParts, graph_view, channel_view}
-use Rattle.strc_startup.specs.Rates.{rates_of, rates_of_channel}
 use Rattle.strc_startup.specs.Startup.{popped, supply}
 use Rattle.strc_startup.specs.Waiting.{HasEnds, IsBounded}
 use Rattle.strc_startup.specs.declared.channel_rates.ChannelRates.{ChannelRates}
@@ -29,18 +26,18 @@ use Rattle.strc_order.proofs.Repeating.{supply_more, popped_more, pops_alike, ra
 
 -- by work alone all firings push and pop the same
 
-supply_by_work : (rates : ChannelRates) (items n : ℕ)
+pub supply_by_work : (rates : ChannelRates) (items n : ℕ)
     → supply (rates_on rates items) n ≡ items + rates.push * n
 supply_by_work rates items zero = omega arith
 supply_by_work rates items (suc n) = omega arith
 
-popped_by_work : (rates : ChannelRates) (items n : ℕ)
+pub popped_by_work : (rates : ChannelRates) (items n : ℕ)
     → popped (rates_on rates items) n ≡ rates.pop * n
 popped_by_work rates items zero = omega arith
 popped_by_work rates items (suc n) = omega arith
 
 -- after so many more
-abbrev more : (counts later : Firings) → Firings
+abbrev pub more : (counts later : Firings) → Firings
 more counts later node = counts node + later node
 
 module _ (rates : ChannelRates) (counts : Firings) (past_prework : IsPastPrework counts rates)
@@ -229,17 +226,6 @@ pub raised_known : (channels : List ChannelRates) (before peaks : List ℕ)
 raised_known channels before peaks first number rates there =
     let a = first number rates there in omega (arith, a)
 
--- the same of an answer
-pub raised_if_ok : {A E : Type 0} (items : A → List ℕ) (result : Result A E)
-    (channels : List ChannelRates) (counts : Firings) (fills order before : List ℕ)
-    → HasFills channels counts fills
-    → IfOk result (λ sizes. AreRaised (all_rates_on channels fills) none_fired order before
-    (items sizes))
-    → IfOk result (λ sizes. AreRaised channels counts order before (items sizes))
-raised_if_ok items (Ok sizes) channels counts fills order before has raised =
-    raised_on channels counts fills order before (items sizes) has raised
-raised_if_ok items (Err error) channels counts fills order before has raised = tt
-
 -- why there are no sizes
 module _ {A : Type 0} (result : Result A ScheduleError) (channels : List ChannelRates)
     (counts : Firings) (order before : List ℕ)
@@ -253,10 +239,3 @@ module _ {A : Type 0} (result : Result A ScheduleError) (channels : List Channel
       → ¬ (Path (Result A ScheduleError) result (Err (refused.Deadlock in_startup)))
   why_deadlock in_startup is =
       subst (λ r. IfErr r (HasNoSizes channels counts order before)) is none
-
--- there are rates for each channel of a graph
-pub all_rates : (graph : GraphParts)
-    → length (rates_of (graph_view graph)) ≡ length graph.channels
-all_rates graph =
-    length-map (graph_view graph).channels (rates_of_channel (graph_view graph).nodes)
-    ∙ length-map graph.channels channel_view

@@ -11,7 +11,6 @@ pub mod Units
 pub mod Buffering
 pub mod Lengthening
 pub mod Scheduling
-pub mod Connecting
 pub mod Greedily
 pub mod Ordering
 pub mod Deciding
@@ -20,3 +19,9 @@ pub mod Repeating
 pub mod PastPrework
 pub mod Passing
 pub mod Continuing
+pub mod RoundRates
+pub mod GoingOn
+pub mod Ranges
+pub mod OuterNodes
+pub mod Runnable
+pub mod CopyPeaks

@@ -2,6 +2,7 @@
 use Rattle.std.proofs.Common.{◌≡◌, ◌∙◌, sym, ap, subst, ℕ, zero, suc, ◌+◌, ◌*◌, ◌<◌}
 use Rattle.std.proofs.Common.{List}
 use Rattle.std.proofs.Common.{[], ◌∷◌, All, get_or, inl, inr, arith, slice_get, slice_index, Some}
+use Rattle.std.proofs.Common.{map, ◌≤◌}
 use Rattle.std.proofs.Common.{◌⊎◌}
 use Rattle.std.proofs.Common.{mul_left_comm}
 use mathlib.Core.Path.{fun_ext}
@@ -14,6 +15,7 @@ use Rattle.strc_order.specs.Order.{IsOrder}
 use Rattle.strc_order.specs.Rounds.{rounds_on, RoundBalances, IsPastPrework, OrderRepeats}
 use Rattle.strc_order.specs.Rounds.{FillsRepeat}
 use Rattle.strc_order.specs.Rounds.{NoBufferOverflows}
+use Rattle.strc_order.specs.Schedules.{ScheduleParts, IsSchedule}
 use Rattle.strc_order.proofs.Buffering.{at_channel}
 use Rattle.std.proofs.lemmas.Option.{same_Some, slice_get-get_or, slice_get_within}
 
@@ -41,7 +43,7 @@ popped_more rates (suc n) more past_prework =
     let e : suc n + more ≡ suc (n + more) = omega arith in
     omega (arith, ap (popped rates) e)
 
-reach_more : (rates : ChannelRates) (n more : ℕ)
+pub reach_more : (rates : ChannelRates) (n more : ℕ)
     → (0 < n) ⊎ ((rates.first_pop ≡ rates.pop) × (rates.first_window ≡ rates.window))
     → reach rates (n + more) ≡ reach rates n + rates.pop * more
 reach_more rates zero zero past_prework = omega arith
@@ -135,12 +137,33 @@ rates_there P channels number rates all there =
     subst P (same_Some (get_or channels number rates) rates
     (sym (slice_get-get_or channels number rates within) ∙ there)) (all number rates within)
 
-pub no_overflow : NoBufferOverflows
-no_overflow channels startup round schedule is past_prework balances rounds number rates there =
-    let own = rates_there (IsPastPrework startup) channels number rates past_prework there in
-    let even = rates_there (RoundBalances round) channels number rates balances there in
-    let same = fills_repeat rates startup round rounds (firings_of schedule.round) own even in
-    let size = ap (λ l. slice_index l number) is.sizes
-    ∙ at_channel (buffer_size startup schedule.startup schedule.round) channels number rates
-    there in
-    omega (arith, same, size)
+-- where sizes are those of an order, greedy or not, no round needs more
+module _ (channels : List ChannelRates) (startup round : Firings) (schedule : ScheduleParts)
+    (sizes : schedule.sizes ≡ map (buffer_size startup schedule.startup schedule.round) channels)
+    (past_prework : All (IsPastPrework startup) channels)
+    (balances : All (RoundBalances round) channels) where
+  within_sizes : (rounds number : ℕ) (rates : ChannelRates) → slice_get channels number ≡ Some rates
+      → peak_fill rates (rounds_on startup rounds round) (firings_of schedule.round)
+      ≤ slice_index schedule.sizes number
+  within_sizes rounds number rates there =
+      let own = rates_there (IsPastPrework startup) channels number rates past_prework there in
+      let even = rates_there (RoundBalances round) channels number rates balances there in
+      let same = fills_repeat rates startup round rounds (firings_of schedule.round) own even in
+      let size = ap (λ l. slice_index l number) sizes
+      ∙ at_channel (buffer_size startup schedule.startup schedule.round) channels number rates
+      there in
+      omega (arith, same, size)
+
+pub no_buffer_overflows : NoBufferOverflows
+no_buffer_overflows channels startup round schedule is =
+    within_sizes channels startup round schedule is.sizes
+
+-- the same of greedy orders
+pub no_overflow : (channels : List ChannelRates) (startup round : Firings)
+    (schedule : ScheduleParts) → IsSchedule channels startup round schedule
+    → All (IsPastPrework startup) channels → All (RoundBalances round) channels
+    → (rounds number : ℕ) (rates : ChannelRates) → slice_get channels number ≡ Some rates
+    → peak_fill rates (rounds_on startup rounds round) (firings_of schedule.round)
+    ≤ slice_index schedule.sizes number
+no_overflow channels startup round schedule is =
+    within_sizes channels startup round schedule is.sizes

@@ -7,6 +7,9 @@ pub mod Buffers
 pub mod Peaks
 pub mod Schedules
 pub mod Laws
+pub mod RoundRates
 pub mod Rounds
 pub mod Sizing
+pub mod Ranges
+pub mod CopyPeaks
 pub mod Sentences

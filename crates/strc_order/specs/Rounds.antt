@@ -1,17 +1,19 @@
 -- Round after round (Lee and Messerschmitt 1987: a periodic schedule).
 use Rattle.std.specs.Prelude.{◌≡◌, ◌⊎◌, ℕ, ◌+◌, ◌*◌, ◌<◌, ◌≤◌, List, All, slice_get, slice_index}
-use Rattle.std.specs.Prelude.{Some}
+use Rattle.std.specs.Prelude.{Some, map, length}
 use Rattle.strc_graph.specs.Graphs.{Graph}
 use Rattle.strc_balance.specs.Balance.{count_at}
 use Rattle.strc_balance.specs.Rates.{IsRated, equations_of}
 use Rattle.strc_startup.specs.Rates.{rates_of, first_counts}
 use Rattle.strc_startup.specs.Startup.{IsPrimed}
 use Rattle.strc_startup.specs.declared.channel_rates.ChannelRates.{ChannelRates}
-use Rattle.strc_order.specs.Buffers.{peak_fill}
-use Rattle.strc_order.specs.Firings.{Firings}
+use Rattle.strc_order.specs.Buffers.{peak_fill, buffer_size}
+use Rattle.strc_order.specs.Firings.{Firings, none_fired}
 use Rattle.strc_order.specs.Greedy.{firings_of}
 use Rattle.strc_order.specs.Order.{IsOrder}
-use Rattle.strc_order.specs.Schedules.{ScheduleParts, IsSchedule}
+use Rattle.strc_order.specs.Peaks.{AreRaised}
+use Rattle.strc_order.specs.Schedules.{ScheduleParts, IsSchedule, IsRunnable}
+use Rattle.strc_order.specs.declared.unit as units
 
 -- after so many rounds
 abbrev pub rounds_on : Firings → (rounds : ℕ) → (round : Firings) → Firings
@@ -42,11 +44,27 @@ FillsRepeat =
     → IsPastPrework counts rates → RoundBalances round rates
     → peak_fill rates (rounds_on counts rounds round) order ≡ peak_fill rates counts order
 
+-- greedy schedules are runnable
+abbrev pub SchedulesAreRunnable : Type 0
+SchedulesAreRunnable =
+    (channels : List ChannelRates) (startup round : Firings) (schedule : ScheduleParts)
+    → IsSchedule channels startup round schedule → IsRunnable channels startup round schedule
+
+-- the greatest numbers of items of start-up, raised to those of a round, are the sizes of buffers
+abbrev pub RaisedAreSizes : Type 0
+RaisedAreSizes =
+    (channels : List ChannelRates) (startup : Firings)
+    (startup_units round_units : List units.Unit.Unit) (greatest sizes : List ℕ)
+    → greatest ≡ map (λ rates. peak_fill rates none_fired (firings_of startup_units)) channels
+    → length sizes ≡ length channels
+    → AreRaised channels startup (firings_of round_units) greatest sizes
+    → sizes ≡ map (buffer_size startup startup_units round_units) channels
+
 -- so no buffer ever holds more than its size
 abbrev pub NoBufferOverflows : Type 0
 NoBufferOverflows =
     (channels : List ChannelRates) (startup round : Firings) (schedule : ScheduleParts)
-    → IsSchedule channels startup round schedule
+    → IsRunnable channels startup round schedule
     → All (IsPastPrework startup) channels → All (RoundBalances round) channels
     → (rounds number : ℕ) (rates : ChannelRates) → slice_get channels number ≡ Some rates
     → peak_fill rates (rounds_on startup rounds round) (firings_of schedule.round)

@@ -11,7 +11,7 @@ use Rattle.strc_order.specs.Firings.{Firings, none_fired, fill}
 use Rattle.strc_order.specs.Greedy.{IsGreedyOrder, firings_of}
 use Rattle.strc_order.specs.Buffers.{peak_fill, buffer_size, size_limit}
 use Rattle.strc_order.specs.Network.{NetworkView, size_of}
-use Rattle.strc_order.specs.Order.{after, HasOrder}
+use Rattle.strc_order.specs.Order.{firing_count, after, IsOrder, HasOrder}
 use Rattle.strc_order.specs.Peaks.{IsFirstPast}
 
 -- the orders of start-up and of a round, for each channel the greatest and the last numbers of
@@ -28,6 +28,24 @@ pub record IsSchedule (channels : List ChannelRates) (startup round : Firings)
     (schedule : ScheduleParts) : Type 0 where
   pub startup_order : IsGreedyOrder channels none_fired startup schedule.startup
   pub round_order : IsGreedyOrder channels startup round schedule.round
+  pub greatest : schedule.greatest
+      ≡ map (λ rates. peak_fill rates none_fired (firings_of schedule.startup)) channels
+  pub last : schedule.last ≡ map (λ rates. fill rates startup) channels
+  pub sizes : schedule.sizes
+      ≡ map (buffer_size startup schedule.startup schedule.round) channels
+
+-- an order of so many firings of each node, from these counts
+pub record IsOrderOf (channels : List ChannelRates) (counts firings : Firings)
+    (units : List units.Unit.Unit) : Type 0 where
+  pub order : IsOrder channels counts (firings_of units)
+  pub all : (node : ℕ) → firing_count (firings_of units) node ≡ firings node
+
+-- the orders are some of these firings, greedy or not, and the numbers of items are those of the
+-- orders
+pub record IsRunnable (channels : List ChannelRates) (startup round : Firings)
+    (schedule : ScheduleParts) : Type 0 where
+  pub startup_order : IsOrderOf channels none_fired startup schedule.startup
+  pub round_order : IsOrderOf channels startup round schedule.round
   pub greatest : schedule.greatest
       ≡ map (λ rates. peak_fill rates none_fired (firings_of schedule.startup)) channels
   pub last : schedule.last ≡ map (λ rates. fill rates startup) channels

@@ -11,9 +11,6 @@ use strc_startup::channel_rates::ChannelRates;
 use strc_startup::grouping::{Grouping, grouping_of};
 use strc_startup::rates::{sources_of, targets_of};
 
-/// How many nodes there are at most: they have numbers of 32 bits.
-pub(crate) const NODE_LIMIT: usize = 1 << 32;
-
 /// The channels of a graph. Contracts see their rates and their numbers by node.
 pub(crate) struct Network {
     channels: Vec<ChannelRates>,

@@ -20,7 +20,8 @@ ghost use Rattle.strc_order.specs.declared.error.ScheduleError.TheVariants as re
 use crate::buffers::{Buffers, buffers_of};
 use crate::error::ScheduleError;
 use crate::greedy::greedy_order;
-use crate::network::{NODE_LIMIT, Network};
+use crate::limit::NUMBERED_NODES;
+use crate::network::Network;
 use crate::parts::Schedule;
 use crate::unit::Unit;
 use std::alloc::Global;
@@ -83,7 +84,7 @@ fn schedule_of(
         (count_at startup.now) (count_at round.now)) }
 {
     let size = graph.nodes().len().max(startup.len()).max(round.len());
-    if size > NODE_LIMIT {
+    if size > NUMBERED_NODES {
         return Err(ScheduleError::NoMemory);
     }
     let channels = channel_rates(alloc, graph)?;

@@ -1,38 +1,36 @@
-// The sizes of buffers while an order fires whose first firings are done.
+// The sizes of buffers while an order of one round fires.
 
 ghost use Rattle.std.specs.Prelude.{◌≡◌, ℕ, Bool, ◌≤◌, All, Err, IfOk, IfErr, [], length};
-ghost use Rattle.strc_balance.specs.Rates.{IsRated, equations_of};
-ghost use Rattle.strc_graph.specs.Connections.{IsConnected};
 ghost use Rattle.strc_graph.specs.NodeView.{graph_view};
-ghost use Rattle.strc_startup.specs.Rates.{rates_of};
 ghost use Rattle.strc_order.specs.Buffers.{size_limit};
-ghost use Rattle.strc_order.specs.Firings.{Firings, none_fired};
+ghost use Rattle.strc_order.specs.Firings.{none_fired};
 ghost use Rattle.strc_order.specs.Greedy.{firings_of};
 ghost use Rattle.strc_order.specs.Network.{size_of};
 ghost use Rattle.strc_order.specs.Order.{firing_count};
 ghost use Rattle.strc_order.specs.Peaks.{AreRaised, HasNodes};
 ghost use Rattle.strc_order.specs.Progress.{count_bound};
-ghost use Rattle.strc_order.specs.Sizing.{rates_on, all_rates_on, HasFills, PassesOn, HasNoSizes};
+ghost use Rattle.strc_order.specs.Sizing.{round_rates_on, PassesOn, HasNoSizes};
 ghost use Rattle.strc_order.specs.declared.error.ScheduleError.TheVariants as refused;
 
 use crate::buffers::{first_past, narrowed, zeros};
 use crate::error::ScheduleError;
+use crate::limit::NUMBERED_NODES;
 use crate::network::Network;
 use crate::peaks::after_units;
+use crate::round_rates::rates_from;
 use crate::unit::Unit;
 use std::alloc::{AllocError, Global};
 use strc_graph::graph::Graph;
-use strc_startup::channel_rates::ChannelRates;
-use strc_startup::rates::channel_rates;
 
-/// The sizes of all buffers while an order fires from a state in which each channel has so many
-/// items, and in which first firings are done or like all others: for each channel the greatest of
-/// a number from before and its numbers of items before, between and after the firings.
+/// The sizes of all buffers while an order of one round fires, on channels that have so many items:
+/// for each channel the greatest of a number from before and its numbers of items before, between
+/// and after the firings.
 ///
-/// The units can have several nodes; each node fires at most 2,000,000 times. Both ends of each
-/// channel need a rate of at least 1 by `work`, and all nodes are connected by channels.
-/// `BufferLimit` comes for the lowest channel whose greatest number is above 16,777,216. `NoMemory`
-/// can come in place of any answer.
+/// The graph can have nodes of every kind, and the units several nodes. Each firing pushes and pops
+/// what it does by `work`; a copy pops what its filter pops. Each node fires at most 2,000,000
+/// times: counts and rates are multiplied in 128 bits, in which rates have 96. `BufferLimit` comes
+/// for the lowest channel whose greatest number is above 16,777,216. `NoMemory` can come in place
+/// of any answer, and comes where the graph has more than 4,294,967,296 nodes.
 pub fn sizes(
     alloc: Global,
     graph: &Graph,
@@ -40,75 +38,36 @@ pub fn sizes(
     fill: &[u32],
     round: &[Unit],
 ) -> Result<Vec<u32>, ScheduleError>
-    requires rated { All IsRated (equations_of (graph_view graph.now)) }
-    requires connected { IsConnected (graph_view graph.now) }
     requires before { length before.now ≡ length graph.now.channels }
     requires fill { length fill.now ≡ length graph.now.channels }
     requires nodes { All (HasNodes (length graph.now.nodes)) round.now }
     requires few { (node : ℕ) → firing_count (firings_of round.now) node ≤ count_bound }
     ensures channels { IfOk result (λ sizes. length sizes.items ≡ length graph.now.channels) }
     ensures within { IfOk result (λ sizes. All (λ size. size ≤ size_limit) sizes.items) }
-    // The sizes are those of the order, from whichever counts it goes on.
-    ensures sizes { (counts : Firings) → HasFills (rates_of (graph_view graph.now)) counts fill.now
-        → IfOk result (λ sizes. AreRaised (rates_of (graph_view graph.now)) counts
-        (firings_of round.now) before.now sizes.items) }
-    ensures limit { (counts : Firings) (channel : ℕ)
-        → HasFills (rates_of (graph_view graph.now)) counts fill.now
-        → result ≡ Err (refused.BufferLimit channel)
-        → PassesOn (rates_of (graph_view graph.now)) counts (firings_of round.now) before.now
-        channel }
+    ensures sizes { IfOk result (λ sizes. AreRaised (round_rates_on (graph_view graph.now) fill.now)
+        none_fired (firings_of round.now) before.now sizes.items) }
+    ensures limit { (channel : ℕ) → result ≡ Err (refused.BufferLimit channel)
+        → PassesOn (round_rates_on (graph_view graph.now) fill.now) none_fired
+        (firings_of round.now) before.now channel }
     ensures error { (in_startup : Bool) → ¬ (result ≡ Err (refused.Deadlock in_startup)) }
 {
     let network = network_on(alloc, graph, fill)?;
     sizes_on(alloc, &network, before, round)
 }
 
-/// The network of channels that have so many items, where all firings are by `work`.
+/// The network of channels that have so many items, in one round.
 fn network_on(alloc: Global, graph: &Graph, fill: &[u32]) -> Result<Network, AllocError>
-    requires rated { All IsRated (equations_of (graph_view graph.now)) }
-    requires connected { IsConnected (graph_view graph.now) }
     requires fill { length fill.now ≡ length graph.now.channels }
     ensures channels { IfOk result (λ network. network.channels
-        ≡ all_rates_on (rates_of (graph_view graph.now)) fill.now) }
+        ≡ round_rates_on (graph_view graph.now) fill.now) }
     ensures size { IfOk result (λ network. size_of network ≡ length graph.now.nodes) }
 {
-    let rates = channel_rates(alloc, graph)?;
-    let channels = rates_from(alloc, &rates, fill)?;
-    Network::new(alloc, channels, graph.nodes().len())
-}
-
-/// The rates of channels that have so many items, where all firings are by `work`.
-fn rates_from(
-    alloc: Global,
-    channels: &[ChannelRates],
-    fill: &[u32],
-) -> Result<Vec<ChannelRates>, AllocError>
-    requires each { length fill.now ≡ length channels.now }
-    ensures { IfOk result (λ rates. rates.items ≡ all_rates_on channels.now fill.now) }
-{
-    let mut rates = Vec::with_capacity(alloc, channels.len())?;
-    for channel in 0..channels.len() {
-        rates.push(rates_at(&channels[channel], fill[channel]))?;
+    let size = graph.nodes().len();
+    if size > NUMBERED_NODES {
+        return Err(AllocError);
     }
-    Ok(rates)
-}
-
-/// Those of one channel.
-fn rates_at(rates: &ChannelRates, fill: u32) -> ChannelRates
-    ensures { result ≡ rates_on rates.now fill }
-{
-    ChannelRates {
-        source: rates.source,
-        enqueued: u128::from(fill),
-        first_push: rates.push,
-        push: rates.push,
-        target: rates.target,
-        prework_window: 0,
-        first_window: rates.window,
-        first_pop: rates.pop,
-        pop: rates.pop,
-        window: rates.window,
-    }
+    let rates = rates_from(alloc, graph.nodes(), graph.channels(), fill)?;
+    Network::new(alloc, rates, size)
 }
 
 /// The sizes while units fire from the beginning.

@@ -3,11 +3,20 @@
 use strc_semantics::fault::Cause;
 use strc_semantics::word::Word;
 
-/// The printed words; or the firing that faulted, with the words of start-up and of the rounds
-/// before its own. A fault in start-up leaves no words.
+/// The words that a node gives: a program has one tape for each node that prints or writes, in
+/// order of their numbers.
+#[derive(Drop)]
+pub struct Tape {
+    /// The node, by its number.
+    pub node: u32,
+    pub words: Vec<Word>,
+}
+
+/// The tapes of all rounds; or the firing that faulted, with the tapes as they were before its
+/// round. A fault in start-up leaves each tape empty.
 #[derive(Drop)]
 pub enum Outcome {
-    Done(Vec<Word>),
+    Done(Vec<Tape>),
     Fault {
         /// The node that faulted, by its number.
         node: u32,
@@ -15,7 +24,7 @@ pub enum Outcome {
         firing: u64,
         round: Round,
         cause: Cause,
-        words: Vec<Word>,
+        tapes: Vec<Tape>,
     },
 }
 

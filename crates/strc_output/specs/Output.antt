@@ -1,7 +1,8 @@
 -- The text that is written: the words of a run and its fault line, the lines of a check or a plan,
 -- or the line of a refusal.
 use Rattle.std.specs.Prelude.{ℕ, ◌+◌, ◌-◌, Bool, true, false, not, Option, Some, None, length}
-use Rattle.std.specs.Prelude.{List, [], ◌∷◌, ◌++◌, slice_get, codes, decimal, if◌then◌else◌}
+use Rattle.std.specs.Prelude.{List, [], ◌∷◌, ◌++◌, slice_get, slice_index_or, codes, decimal}
+use Rattle.std.specs.Prelude.{if◌then◌else◌}
 use Rattle.std.specs.Fmt.{signed_decimal}
 use Rattle.strc_semantics.specs.declared.word.Word.{Word}
 use Rattle.strc_semantics.specs.declared.fault.Cause.{Cause}
@@ -9,6 +10,7 @@ use Rattle.strc_semantics.specs.declared.fault.Cause.TheVariants as cause
 use Rattle.strc_graph.specs.NodeView.{node_names}
 use Rattle.strc_graph.specs.declared.graph.Channel.{Channel}
 use Rattle.strc_stage.specs.Plans.{PlanParts}
+use Rattle.strc_outcome.specs.declared.outcome.Tape.{Tape}
 use Rattle.strc_outcome.specs.declared.outcome.Outcome.{Outcome}
 use Rattle.strc_outcome.specs.declared.outcome.Outcome.TheVariants as outcome
 use Rattle.strc_outcome.specs.declared.outcome.Round.{Round}
@@ -64,11 +66,42 @@ fault_line node firing round cause =
     codes "fault " ++ cause_name cause ++ codes " node " ++ decimal node
     ++ codes " firing " ++ decimal firing ++ round_words round ++ line_end
 
--- all that a run writes
-abbrev pub outcome_text : Outcome → List ℕ
-outcome_text (outcome.Done words) = words_text words.items
-outcome_text (outcome.Fault node firing round cause words) =
-    words_text words.items ++ closing words.items ++ fault_line node firing round cause
+-- words whose last line is closed
+abbrev pub closed_text : List Word → List ℕ
+closed_text words = words_text words ++ closing words
+
+-- `tape 0 node 1 Echo`
+abbrev pub tape_line : (number node : ℕ) → (name : List ℕ) → List ℕ
+tape_line number node name =
+    codes "tape " ++ decimal number ++ codes " node " ++ decimal node ++ codes " " ++ name
+    ++ line_end
+
+-- a tape after its line
+abbrev pub tape_text : (names : List (List ℕ)) → (number : ℕ) → Tape → List ℕ
+tape_text names number tape =
+    tape_line number tape.node (slice_index_or names tape.node []) ++ closed_text tape.words.items
+
+-- tapes, the first of which has this number
+abbrev pub tape_texts : (names : List (List ℕ)) → (number : ℕ) → List Tape → List ℕ
+tape_texts names number [] = []
+tape_texts names number (tape ∷ tapes) =
+    tape_text names number tape ++ tape_texts names (number + 1) tapes
+
+-- the tapes of nodes with these names: one alone is its words
+abbrev pub tapes_text : (names : List (List ℕ)) → List Tape → List ℕ
+tapes_text names (tape ∷ []) = words_text tape.words.items
+tapes_text names tapes = tape_texts names 0 tapes
+
+-- the same before a line
+abbrev pub closed_tapes : (names : List (List ℕ)) → List Tape → List ℕ
+closed_tapes names (tape ∷ []) = closed_text tape.words.items
+closed_tapes names tapes = tape_texts names 0 tapes
+
+-- all that a run of nodes with these names writes
+abbrev pub outcome_text : (names : List (List ℕ)) → Outcome → List ℕ
+outcome_text names (outcome.Done tapes) = tapes_text names tapes.items
+outcome_text names (outcome.Fault node firing round cause tapes) =
+    closed_tapes names tapes.items ++ fault_line node firing round cause
 
 -- `ok nodes 6 channels 6`
 abbrev pub check_line : ℕ → ℕ → List ℕ
@@ -146,7 +179,7 @@ refusal_words (refusal.RateMismatch node declared counted) = mismatch_words node
 refusal_words (refusal.PeekOutside node) = codes "E15 PeekOutside" ++ codes " node " ++ decimal node
 refusal_words (refusal.RateLimit node) = codes "E16 RateLimit" ++ codes " node " ++ decimal node
 refusal_words refusal.TwoInputs = codes "E17 TwoInputs"
-refusal_words refusal.TwoOutputs = codes "E18 TwoOutputs"
+refusal_words (refusal.TapeTwice node) = codes "E27 TapeTwice" ++ codes " node " ++ decimal node
 refusal_words refusal.Disconnected = codes "E19 Disconnected"
 refusal_words refusal.CountsTooLarge = codes "E20 CountsTooLarge"
 refusal_words (refusal.Inconsistent channel) =

@@ -7,6 +7,7 @@
 // itoa.
 #![tactic(auto)]
 
+pub mod outcome;
 pub mod output;
 pub mod stop;
 mod text;

@@ -1,114 +1,18 @@
-// What is written: the words and the fault line, the lines of a check or a plan, or the line of a
-// refusal.
+// What is written: the lines of a check or a plan, or the line of a refusal.
 
 ghost use Rattle.std.specs.Prelude.{◌≡◌, ◌++◌, IfOk, OnOk, decimal, length};
 ghost use Rattle.strc_graph.specs.NodeView.{node_names};
 ghost use Rattle.strc_output.specs.Output as spec;
 
+use crate::outcome::cause_name;
 use crate::stop::Stop;
 use crate::text::Piece::{Bytes, Number};
-use crate::text::{push_bytes, push_integer, push_number, push_pieces};
+use crate::text::{push_bytes, push_number, push_pieces};
 use std::alloc::{AllocError, Global};
 use strc_graph::graph::Channel;
-use strc_outcome::outcome::{Outcome, Round};
 use strc_outcome::refusal::RunRefusal;
 use strc_refusal::refusal::Refusal;
-use strc_semantics::fault::Cause;
-use strc_semantics::word::Word;
 use strc_stage::plan::Plan;
-
-/// The text of a run's outcome.
-pub fn outcome_text(alloc: Global, outcome: &Outcome) -> Result<Vec<u8>, AllocError>
-    ensures { IfOk result (λ text. text.items ≡ spec.outcome_text outcome.now) }
-{
-    let mut text = Vec::new(alloc);
-    match outcome {
-        Outcome::Done(words) => push_words(&mut text, words)?,
-        Outcome::Fault {
-            node,
-            firing,
-            round,
-            cause,
-            words,
-        } => {
-            push_words(&mut text, words)?;
-            if leaves_line_open(words) {
-                push_bytes(&mut text, b"\n")?;
-            }
-            push_fault(&mut text, *node, *firing, *round, *cause)?;
-        }
-    }
-    Ok(text)
-}
-
-// Each word in decimal, and a line feed after those that end a line.
-fn push_words(text: &mut Vec<u8>, words: &[Word]) -> Result<(), AllocError>
-    ensures { OnOk result (text.new.items ≡ text.old.items ++ spec.words_text words.now) }
-{
-    for word in words {
-        push_integer(text, word.value)?;
-        if word.ends_line {
-            push_bytes(text, b"\n")?;
-        }
-    }
-    Ok(())
-}
-
-fn leaves_line_open(words: &[Word]) -> bool
-    ensures { result ≡ spec.leaves_open words.now }
-{
-    match words.last() {
-        Some(word) => !word.ends_line,
-        None => false,
-    }
-}
-
-// The line of a fault: its cause, the node, how often it had fired before, and when.
-fn push_fault(
-    text: &mut Vec<u8>,
-    node: u32,
-    firing: u64,
-    round: Round,
-    cause: Cause,
-) -> Result<(), AllocError>
-    ensures { OnOk result (text.new.items ≡ text.old.items
-        ++ spec.fault_line node firing round cause) }
-{
-    push_pieces(
-        text,
-        &[
-            Bytes(b"fault "),
-            Bytes(cause_name(cause)),
-            Bytes(b" node "),
-            Number(u64::from(node)),
-            Bytes(b" firing "),
-            Number(firing),
-        ],
-    )?;
-    push_round(text, round)?;
-    push_bytes(text, b"\n")
-}
-
-// When a firing faulted.
-fn push_round(text: &mut Vec<u8>, round: Round) -> Result<(), AllocError>
-    ensures { OnOk result (text.new.items ≡ text.old.items ++ spec.round_words round) }
-{
-    match round {
-        Round::Startup => push_bytes(text, b" startup"),
-        Round::At(number) => push_pieces(text, &[Bytes(b" round "), Number(u64::from(number))]),
-    }
-}
-
-fn cause_name(cause: Cause) -> &'static [u8]
-    ensures { result.now ≡ spec.cause_name cause }
-{
-    match cause {
-        Cause::DivZero => b"DivZero",
-        Cause::Index => b"Index",
-        Cause::PeekRange => b"PeekRange",
-        Cause::Turns => b"Turns",
-    }
-}
 
 /// The line that tells how many nodes and channels there are.
 pub fn check_text(alloc: Global, nodes: usize, channels: usize) -> Result<Vec<u8>, AllocError>
@@ -305,7 +209,7 @@ fn push_refusal(text: &mut Vec<u8>, refusal: &Refusal) -> Result<(), AllocError>
         }
         Refusal::RateLimit { node } => push_field(text, b"E16 RateLimit", b" node ", *node as u64),
         Refusal::TwoInputs => push_bytes(text, b"E17 TwoInputs"),
-        Refusal::TwoOutputs => push_bytes(text, b"E18 TwoOutputs"),
+        Refusal::TapeTwice { node } => push_field(text, b"E27 TapeTwice", b" node ", *node as u64),
         Refusal::Disconnected => push_bytes(text, b"E19 Disconnected"),
         Refusal::CountsTooLarge => push_bytes(text, b"E20 CountsTooLarge"),
         Refusal::Inconsistent { channel } => {

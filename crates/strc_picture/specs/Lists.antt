@@ -8,4 +8,5 @@ nodes_of counted = record {
   names = node_names counted.graph.now;
   round = counted.round.now;
   startup = counted.startup.now;
+  tapes = counted.tapes.now;
 }

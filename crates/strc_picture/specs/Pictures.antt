@@ -1,9 +1,11 @@
 -- The text of a picture of a flat graph, as Graphviz reads it.
 use Rattle.std.specs.Prelude.{ℕ, zero, suc, List, [], ◌∷◌, ◌++◌, codes, decimal, length}
-use Rattle.std.specs.Prelude.{slice_get, slice_index_or}
+use Rattle.std.specs.Prelude.{slice_get, slice_index_or, Option, Some, None, map, nat_lt}
+use Rattle.std.specs.Prelude.{count_by, if◌then◌else◌}
 use Rattle.std.specs.Option.{option_map_or}
 use Rattle.strc_graph.specs.declared.graph.Channel.{Channel}
 use Rattle.strc_graph.specs.declared.graph.Node.{Node}
+use Rattle.strc_graph.specs.Graphs.{NodeCode, gives_words}
 use Rattle.strc_graph.specs.Rates.{pushes_at, pops_at}
 use Rattle.strc_graph.specs.NodeView.{node_view, GraphParts, node_names}
 use Rattle.strc_stream.specs.Instances.{Stream}
@@ -13,24 +15,54 @@ use Rattle.strc_picture.specs.declared.marks.Mark.TheVariants as mark
 use Rattle.strc_picture.specs.declared.marks.Construct.{Construct}
 use Rattle.strc_picture.specs.declared.marks.Construct.TheVariants as construct
 
--- what is written of the nodes: their names, and how often each fires in a round and before the
--- first one
+-- what is written of the nodes: their names, how often each fires in a round and before the first
+-- one, and the tapes of those that have one
 pub record Nodes : Type 0 where
   pub names : List (List ℕ)
   pub round : List ℕ
   pub startup : List ℕ
+  pub tapes : List (Option ℕ)
 
 -- nothing, where a node doesn't fire before the first round
 abbrev pub startup_words : ℕ → List ℕ
 startup_words zero = []
 startup_words (suc count) = codes ", " ++ decimal (suc count) ++ codes " before"
 
+-- the tapes of nodes, where the first tape has this number
+abbrev pub tape_numbers : (number : ℕ) → List NodeCode → List (Option ℕ)
+tape_numbers number [] = []
+tape_numbers number (code ∷ nodes) = if gives_words code
+    then Some number ∷ tape_numbers (suc number) nodes else None ∷ tape_numbers number nodes
+
+-- how many there are
+abbrev pub tape_count : List NodeCode → ℕ
+tape_count nodes = count_by gives_words nodes
+
+-- they are named where there are several
+abbrev pub named_tapes : List NodeCode → List (Option ℕ)
+named_tapes nodes = if nat_lt 1 (tape_count nodes) then tape_numbers 0 nodes else []
+
+-- nothing, where a node has none
+abbrev pub tape_words : Option ℕ → List ℕ
+tape_words None = []
+tape_words (Some number) = codes "\\ntape " ++ decimal number
+
+-- the beginning of a node's line, up to its name
+abbrev pub name_words : (names : List (List ℕ)) → (node : ℕ) → List ℕ
+name_words names node =
+    codes "  n" ++ decimal node ++ codes " [label=\"" ++ slice_index_or names node []
+
+-- how often it fires in a round and before the first one
+abbrev pub count_words : Nodes → (node : ℕ) → List ℕ
+count_words nodes node =
+    codes "\\n" ++ decimal (slice_index_or nodes.round node 0) ++ codes " a round"
+    ++ startup_words (slice_index_or nodes.startup node 0)
+
 -- the line of a node
 abbrev pub node_line : Nodes → (node : ℕ) → List ℕ
 node_line nodes node =
-    codes "  n" ++ decimal node ++ codes " [label=\"" ++ slice_index_or nodes.names node []
-    ++ codes "\\n" ++ decimal (slice_index_or nodes.round node 0) ++ codes " a round"
-    ++ startup_words (slice_index_or nodes.startup node 0) ++ codes "\"];\n"
+    name_words nodes.names node ++ count_words nodes node
+    ++ tape_words (slice_index_or nodes.tapes node None) ++ codes "\"];\n"
 
 abbrev pub label_of : Construct → List ℕ
 label_of construct.SplitJoin = codes "split-join"
@@ -96,6 +128,10 @@ channel_lines nodes channels sizes = []
 abbrev pub picture_text : Stream → GraphParts → (startup round sizes : List ℕ) → List ℕ
 picture_text stream graph startup round sizes =
     codes "digraph strc {\n  node [shape=box];\n"
-    ++ mark_lines (record { names = node_names graph; round = round; startup = startup }) 0 0
-    (marks_of stream)
+    ++ mark_lines (record {
+      names = node_names graph;
+      round = round;
+      startup = startup;
+      tapes = named_tapes (map node_view graph.nodes);
+    }) 0 0 (marks_of stream)
     ++ channel_lines graph.nodes graph.channels sizes ++ codes "}\n"

@@ -9,4 +9,5 @@ mod channels;
 pub mod marks;
 mod nodes;
 pub mod picture;
+mod tapes;
 mod text;

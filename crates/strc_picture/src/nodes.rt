@@ -1,6 +1,6 @@
 // The lines of nodes, in boxes.
 
-ghost use Rattle.std.specs.Prelude.{◌≡◌, ◌++◌, [], OnOk, slice_index_or};
+ghost use Rattle.std.specs.Prelude.{◌≡◌, ◌++◌, [], None, OnOk, slice_index_or};
 ghost use Rattle.strc_graph.specs.NodeView.{node_names};
 ghost use Rattle.strc_picture.specs.Pictures as spec;
 ghost use Rattle.strc_picture.specs.Lists.{nodes_of};
@@ -10,12 +10,14 @@ use crate::text::{push_bytes, push_number};
 use std::alloc::AllocError;
 use strc_graph::graph::Graph;
 
-/// A graph, and how often each node fires before the first round and in a round.
+/// A graph, how often each node fires before the first round and in a round, and the tapes of those
+/// that have one.
 #[derive(Clone, Copy)]
 pub(crate) struct Counted<'a> {
     pub(crate) graph: &'a Graph,
     pub(crate) startup: &'a [u32],
     pub(crate) round: &'a [u32],
+    pub(crate) tapes: &'a [Option<usize>],
 }
 
 /// Adds the lines of marks.
@@ -45,20 +47,38 @@ pub(crate) fn push_marks(
     Ok(())
 }
 
-/// The line of a node: its name, how often it fires in a round, and before the first one.
+/// The line of a node: its name, how often it fires in a round and before the first one, and its
+/// tape.
 fn push_node(text: &mut Vec<u8>, counted: Counted<'_>, node: usize) -> Result<(), AllocError>
     ensures { OnOk result (text.new.items ≡ text.old.items
         ++ spec.node_line (nodes_of counted.entry) node) }
 {
+    push_name(text, counted.graph, node)?;
+    push_counts(text, counted, node)?;
+    push_tape(text, tape_of(counted.tapes, node))?;
+    push_bytes(text, b"\"];\n")
+}
+
+/// The beginning of a node's line, up to its name.
+fn push_name(text: &mut Vec<u8>, graph: &Graph, node: usize) -> Result<(), AllocError>
+    ensures { OnOk result (text.new.items ≡ text.old.items
+        ++ spec.name_words (node_names graph.now) node) }
+{
     push_bytes(text, b"  n")?;
     push_number(text, node as u128)?;
     push_bytes(text, b" [label=\"")?;
-    push_bytes(text, name_of(counted.graph, node))?;
+    push_bytes(text, name_of(graph, node))
+}
+
+/// How often a node fires in a round and before the first one.
+fn push_counts(text: &mut Vec<u8>, counted: Counted<'_>, node: usize) -> Result<(), AllocError>
+    ensures { OnOk result (text.new.items ≡ text.old.items
+        ++ spec.count_words (nodes_of counted.entry) node) }
+{
     push_bytes(text, b"\\n")?;
     push_number(text, u128::from(count_of(counted.round, node)))?;
     push_bytes(text, b" a round")?;
-    push_startup(text, count_of(counted.startup, node))?;
-    push_bytes(text, b"\"];\n")
+    push_startup(text, count_of(counted.startup, node))
 }
 
 /// How often a node fires before the first round, where it does.
@@ -71,6 +91,30 @@ fn push_startup(text: &mut Vec<u8>, count: u32) -> Result<(), AllocError>
     push_bytes(text, b", ")?;
     push_number(text, u128::from(count))?;
     push_bytes(text, b" before")
+}
+
+/// The number of a node's tape, where it has one.
+fn push_tape(text: &mut Vec<u8>, tape: Option<usize>) -> Result<(), AllocError>
+    ensures { OnOk result (text.new.items ≡ text.old.items ++ spec.tape_words tape) }
+{
+    match tape {
+        Some(number) => {
+            push_bytes(text, b"\\ntape ")?;
+            push_number(text, number as u128)
+        }
+        None => Ok(()),
+    }
+}
+
+/// A node's tape.
+fn tape_of(tapes: &[Option<usize>], node: usize) -> Option<usize>
+    ensures { result ≡ slice_index_or tapes.now node None }
+{
+    if node < tapes.len() {
+        tapes[node]
+    } else {
+        None
+    }
 }
 
 /// A node's name, where there is such a node.

@@ -7,13 +7,15 @@ ghost use Rattle.strc_picture.specs.Pictures.{picture_text};
 use crate::channels::push_channels;
 use crate::marks;
 use crate::nodes::{Counted, push_marks};
+use crate::tapes::tapes_of;
 use crate::text::push_bytes;
 use std::alloc::{AllocError, Global};
 use strc_graph::graph::Graph;
 use strc_stream::stream::Stream;
 
 /// A picture of a stream's flat graph as Graphviz reads it (`dot -Tsvg`): a box with the name of
-/// each node, how often it fires in a round and, where it does, before the first one; a line for
+/// each node, how often it fires in a round and, where it does, before the first one, and, where
+/// there are several tapes, the number of its tape; a line for
 /// each channel, with what a firing of `work` pushes and pops at its ends, the size of its buffer,
 /// and how many items are enqueued on it. Split-joins and feedback loops are in boxes. Each
 /// channel has a size.
@@ -31,10 +33,12 @@ pub fn picture(
 {
     let mut marks = Vec::new(alloc);
     marks::push_marks(stream, &mut marks)?;
+    let tapes = tapes_of(alloc, graph.nodes())?;
     let counted = Counted {
         graph,
         startup,
         round,
+        tapes: &tapes,
     };
     let mut text = Vec::new(alloc);
     push_bytes(&mut text, b"digraph strc {\n  node [shape=box];\n")?;

@@ -16,4 +16,6 @@ mod runs;
 #[cfg(test)]
 mod schedules;
 #[cfg(test)]
+mod sizes;
+#[cfg(test)]
 mod small_graphs;

@@ -16,9 +16,10 @@ use std::test::Fail;
 use strc_balance::balance::balance;
 use strc_balance::condition::can_balance;
 use strc_graph::graph::{Graph, Node};
+use strc_order::laws::schedules_are_runnable;
 use strc_order::parts::Schedule;
 use strc_order::planning::schedule;
-use strc_sched::outcome::Outcome;
+use strc_sched::outcome::{Outcome, Tape};
 use strc_sched::plain::run_plain;
 use strc_sched::refusal::RunRefusal;
 use strc_semantics::word::Word;
@@ -76,6 +77,10 @@ graph reader duplicate identity identity join:1:1 writer \
 graph reader duplicate identity identity join:2:2 writer \
     |0.0-1.0 1.0-2.0 1.1-3.0 2.0-4.0 3.0-4.1 4.0-5.0|
 1 2 3 4|2=1/2/1/2/3/4/3/4/
+# Each of two writers has a tape of its own.
+graph reader duplicate writer writer|0.0-1.0 1.0-2.0 1.1-3.0|
+7 8|2=7/8/;7/8/
+7 8|0=;
 # The second branch hands the first of each two items on.
 graph reader duplicate identity split:1:1 join:2:1 writer \
     |0.0-1.0 1.0-2.0 1.1-3.0 2.0-4.0 3.0-4.1 4.0-5.0|
@@ -166,6 +171,7 @@ fn plan(alloc: Global, graph: &Graph) -> Result<Schedule, Fail>
     let Ok(before) = startup(alloc, graph, &round) else {
         return Err(Fail::from("no counts of start-up"));
     };
+    schedules_are_runnable();
     match schedule(alloc, graph, &before, &round) {
         Ok(schedule) => Ok(schedule),
         Err(_) => Err(Fail::from("no schedule")),
@@ -182,13 +188,25 @@ fn answer_of(alloc: Global, graph: &Graph, input: &[i32], rounds: u32) -> Result
     };
     let schedule = plan(alloc, graph)?;
     match run_plain(alloc, graph, &schedule, input, rounds) {
-        Ok(Outcome::Done(words)) => Ok(lines_of(alloc, &words)?),
+        Ok(Outcome::Done(tapes)) => Ok(tapes_of(alloc, &tapes)?),
         Ok(Outcome::Fault { .. }) => Err(Fail::from("a fault")),
         Err(RunRefusal::InputShort { need, got }) => {
             Ok(format!(in alloc; "needs {need} and got {got}")?)
         }
         Err(_) => Err(Fail::from("no run")),
     }
+}
+
+/// Tapes as a text, each after the first one behind a semicolon.
+fn tapes_of(alloc: Global, tapes: &[Tape]) -> Result<String, AllocError> {
+    let mut text = String::new(alloc);
+    for (number, tape) in tapes.iter().enumerate() {
+        if number > 0 {
+            text.push_str(";")?;
+        }
+        text.push_str(&lines_of(alloc, &tape.words)?)?;
+    }
+    Ok(text)
 }
 
 /// Words as a text, each with a slash after it where it ends its line, or else a space.

@@ -22,7 +22,7 @@ refusal_of (error.BadArguments stream) = refusal.BadArguments stream
 refusal_of (error.BadWeights stream) = refusal.BadWeights stream
 refusal_of (error.ConstFault cause) = refusal.ConstFault cause
 refusal_of error.TwoInputs = refusal.TwoInputs
-refusal_of error.TwoOutputs = refusal.TwoOutputs
+refusal_of (error.TapeTwice node) = refusal.TapeTwice node
 refusal_of error.Disconnected = refusal.Disconnected
 refusal_of error.NoMemory = refusal.NoMemory
 

@@ -97,9 +97,12 @@ pub enum Refusal {
     /// More than one node takes the input.
     #[error("more than one FileReader takes the input")]
     TwoInputs,
-    /// More than one node prints.
-    #[error("more than one node prints")]
-    TwoOutputs,
+    /// Two `FileWriter`s have the same bytes between their quotes; the lowest node that repeats an
+    /// earlier one's.
+    #[error("node {node} writes to the file of an earlier FileWriter")]
+    TapeTwice {
+        node: usize,
+    },
     /// The nodes aren't all connected.
     #[error("the nodes aren't all connected by channels")]
     Disconnected,
@@ -157,7 +160,7 @@ impl From<ElabError> for Refusal {
             ElabError::BadWeights { stream } => Refusal::BadWeights { stream },
             ElabError::ConstFault { cause } => Refusal::ConstFault { cause },
             ElabError::TwoInputs => Refusal::TwoInputs,
-            ElabError::TwoOutputs => Refusal::TwoOutputs,
+            ElabError::TapeTwice { node } => Refusal::TapeTwice { node },
             ElabError::Disconnected => Refusal::Disconnected,
             ElabError::NoMemory => Refusal::NoMemory,
         }

@@ -44,9 +44,7 @@ runs_or_not stream refusal.NodeLimit runs cannot = let few = runs.few in omega a
 runs_or_not stream refusal.TwoInputs runs cannot = let one = runs.one_input in let more =
     cannot.1 in
     omega arith
-runs_or_not stream refusal.TwoOutputs runs cannot = let one = runs.one_output in let more =
-    cannot.2 in
-    omega arith
+runs_or_not stream (refusal.TapeTwice node) runs cannot = runs.apart node cannot.2.repeats
 runs_or_not stream refusal.Disconnected runs cannot = cannot.3 runs.connected
 runs_or_not stream refused runs cannot = cannot
 

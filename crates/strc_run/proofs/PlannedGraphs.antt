@@ -8,10 +8,13 @@ use Rattle.strc_graph.specs.Graphs as graphs
 use Rattle.strc_graph.specs.Graphs.{NodeCode, Graph}
 use Rattle.strc_rate.specs.Rates.{FilterRates, checked}
 use Rattle.strc_elab.specs.Sound.{IsInstance}
+use Rattle.strc_balance.specs.Balance.{count_at}
 use Rattle.strc_balance.specs.Rates.{IsRated, equations_of, fires_by_rounds}
+use Rattle.strc_startup.specs.Rates.{rates_of}
 use Rattle.strc_order.specs.Schedules.{ScheduleParts}
+use Rattle.strc_order.proofs.Runnable.{schedules_are_runnable}
 use Rattle.strc_admissible.specs.Planned.{IsFilterOf, IsPlanned}
-use Rattle.strc_stage.specs.Plans.{HasRound, HasSchedule, HasStartup, IsPlan}
+use Rattle.strc_stage.specs.Plans.{HasRound, HasSchedule, HasStartup, IsPlan, IsWhole}
 use Rattle.strc_run.proofs.CheckedRates.{filter_ok}
 use Rattle.strc_run.proofs.Instances.{instance_starts}
 use Rattle.strc_run.proofs.RatedGraphs.{IsChecked, checked_at}
@@ -55,20 +58,22 @@ module _ (graph : Graph) (all : AllByRecursion IsChecked graph.nodes) where
     least_round = rounds.least;
     startup_within = starts.within;
     round_within = rounds.within;
-    schedule = scheduled.is;
+    schedule = schedules_are_runnable (rates_of graph) (count_at startup) (count_at round) parts
+        scheduled.is;
   }
 
 -- so it has a plan
 pub graph_has_plan : (graph : Graph) → AllByRecursion IsChecked graph.nodes
     → (parts : ScheduleParts) (startup round : List ℕ) → All IsRated (equations_of graph)
     → HasStartup graph startup → HasRound graph round → HasSchedule graph startup round parts
-    → IsPlan (record {
+    → IsWhole graph → IsPlan (record {
       graph = graph;
       startup_counts = startup;
       round_counts = round;
       schedule = parts;
     })
-graph_has_plan graph all parts startup round rated starts rounds scheduled = record {
+graph_has_plan graph all parts startup round rated starts rounds scheduled whole = record {
+  whole = whole;
   planned = graph_is_planned graph all parts startup round rated starts rounds scheduled;
   startup = starts;
   round = rounds;

@@ -91,7 +91,7 @@ module _ (text : List ℕ) (main : Option (List ℕ)) (program : List Declaratio
         inr (program, spells, Breaks.InGraph stream elaborates e)
     graph_refused error.TwoInputs e =
         inr (program, spells, Breaks.InGraph stream elaborates e)
-    graph_refused error.TwoOutputs e =
+    graph_refused (error.TapeTwice node) e =
         inr (program, spells, Breaks.InGraph stream elaborates e)
     graph_refused error.Disconnected e =
         inr (program, spells, Breaks.InGraph stream elaborates e)

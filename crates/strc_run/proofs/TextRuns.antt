@@ -2,6 +2,7 @@
 use Rattle.std.proofs.Common.{◌≡◌, ◌∙◌, ap, sym, subst, ℕ, ◌<◌, ℤ, List, length, Option}
 use Rattle.std.proofs.Common.{Ok, Err}
 use Rattle.std.specs.Prelude.{unwrap_or}
+use Rattle.strc_graph.specs.Graphs.{NodeCode}
 use Rattle.strc_stream.specs.Flattening.{tree_of, nodes_of}
 use Rattle.strc_sched.specs.Plain.{IsAnswer}
 use Rattle.strc_outcome.specs.declared.outcome.Outcome.{Outcome}
@@ -28,8 +29,8 @@ module _ (text : List ℕ) (main : Option (List ℕ)) (plan : Planning)
     count = runs.count;
     enough = runs.enough;
     answer =
-        subst (λ (nodes : ℕ). IsAnswer (tree_of is.accepted.stream) plan.schedule input
-        runs.rounds nodes outcome) (ap length is.nodes)
+        subst (λ (nodes : List NodeCode). IsAnswer (tree_of is.accepted.stream) plan.schedule input
+        runs.rounds nodes outcome) is.nodes
         (runs.answer (tree_of is.accepted.stream) is.whole);
   }
 
@@ -43,7 +44,11 @@ module _ (text : List ℕ) (main : Option (List ℕ)) (plan : Planning)
     short = subst (λ (n : ℕ). got < n) (sym short.1)
         (subst (λ (n : ℕ). n < need_of plan (unwrap_or asked 0)) (sym short.2) short.3);
   }
-  unrun_text refused.NoMemory out = is.accepted
+  unrun_text refused.NoMemory (bounded, enough) = record {
+    accepted = is.accepted;
+    bounded = sym same_bound ∙ bounded;
+    enough = enough;
+  }
   unrun_text refused.RoundsNeeded unbounded = record {
     accepted = is.accepted;
     unbounded = sym same_bound ∙ unbounded;

@@ -37,8 +37,8 @@ CannotRun stream refusal.NodeLimit = IsRefused (codes_of stream)
     (IsConnected (meaning_of stream)) error.NodeLimit
 CannotRun stream refusal.TwoInputs = IsRefused (codes_of stream)
     (IsConnected (meaning_of stream)) error.TwoInputs
-CannotRun stream refusal.TwoOutputs = IsRefused (codes_of stream)
-    (IsConnected (meaning_of stream)) error.TwoOutputs
+CannotRun stream (refusal.TapeTwice node) = IsRefused (codes_of stream)
+    (IsConnected (meaning_of stream)) (error.TapeTwice node)
 CannotRun stream refusal.Disconnected = IsRefused (codes_of stream)
     (IsConnected (meaning_of stream)) error.Disconnected
 CannotRun stream refused = ⊥

@@ -27,7 +27,7 @@ pub record RunsText (text : List ℕ) (main : Option (List ℕ)) (plan : Plannin
   pub count : IsCount (need_of plan) (length input) asked rounds
   pub enough : need_of plan rounds ≤ length input
   pub answer : IsAnswer (tree_of accepted.stream) plan.schedule input rounds
-      (length (nodes_of accepted.stream)) outcome
+      (nodes_of accepted.stream) outcome
 
 -- the text is accepted, and its rounds read so many items, where there are fewer
 pub record LacksInput (text : List ℕ) (main : Option (List ℕ)) (plan : Planning) (input : List ℤ)
@@ -44,6 +44,13 @@ pub record NeedsRounds (text : List ℕ) (main : Option (List ℕ)) (plan : Plan
   pub accepted : Accepts text main plan
   pub unbounded : is_bounded asked (nodes_of accepted.stream) ≡ false
 
+-- the text is accepted, its rounds could be run over the input, and memory runs out
+pub record LacksMemory (text : List ℕ) (main : Option (List ℕ)) (plan : Planning) (input : List ℤ)
+    (asked : Option ℕ) : Type 0 where
+  pub accepted : Accepts text main plan
+  pub bounded : is_bounded asked (nodes_of accepted.stream) ≡ true
+  pub enough : need_of plan (unwrap_or asked 0) ≤ length input
+
 -- how the rounds of an accepted text are answered: with their outcome, or with why they aren't run
 abbrev pub IsTextRun : List ℕ → Option (List ℕ) → Planning → List ℤ → (asked : Option ℕ)
     → Result Outcome RunRefusal → Type 0
@@ -52,5 +59,6 @@ IsTextRun text main plan input asked (Err (refused.InputShort need got)) =
     LacksInput text main plan input asked need got
 IsTextRun text main plan input asked (Err refused.RoundsNeeded) =
     NeedsRounds text main plan asked
-IsTextRun text main plan input asked (Err refused.NoMemory) = Accepts text main plan
+IsTextRun text main plan input asked (Err refused.NoMemory) =
+    LacksMemory text main plan input asked
 IsTextRun text main plan input asked (Err refusal) = ⊥

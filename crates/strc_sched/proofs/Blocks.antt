@@ -14,7 +14,7 @@ use Rattle.strc_graph.specs.Graphs as graphs
 use Rattle.strc_graph.specs.Graphs.{NodeCode}
 use Rattle.strc_order.specs.Order.{repeated}
 use Rattle.strc_admissible.specs.Machine.{CircuitView, MachineView, Went, after_step}
-use Rattle.strc_admissible.specs.Machine.{next_step, order_run, then_go, one_more}
+use Rattle.strc_admissible.specs.Machine.{next_step, order_run, then_go, one_more, more_words}
 use Rattle.strc_admissible.specs.Rings.{Ring, ring_at, at_port, items_at, shortened, extended}
 use Rattle.strc_admissible.specs.Rings.{moved}
 use Rattle.strc_admissible.specs.Steps.{Goes, if_found, filter_step, identity_step, node_step}
@@ -181,8 +181,8 @@ module _ (circuit : CircuitView) (node : ℕ) (code : NodeCode)
     → (node_step code firing [] (ports_at circuit.inputs node) (ports_at circuit.outputs node)
     circuit.input rings ≡ Goes [] (change rings) []) × Ready left (change rings)) where
   -- one firing
-  one_firing : (fields : List (List ℤ)) (fired : List ℕ) (rings : List Ring) (words : List Word)
-      (left : ℕ) → get_or fields node [] ≡ [] → Ready (suc left) rings
+  one_firing : (fields : List (List ℤ)) (fired : List ℕ) (rings : List Ring)
+      (words : List (List Word)) (left : ℕ) → get_or fields node [] ≡ [] → Ready (suc left) rings
       → after_step (record { fields = fields; fired = fired; rings = rings; words = words }) node
       (next_step circuit
       (record { fields = fields; fired = fired; rings = rings; words = words }) node)
@@ -206,16 +206,16 @@ module _ (circuit : CircuitView) (node : ℕ) (code : NodeCode)
         fields = all;
         fired = count;
         rings = change rings;
-        words = words ++ [];
+        words = more_words words node [];
       }))
       (sym (fields_kept fields node none))
-      ∙ ap (λ (all : List Word). Went (record {
+      ∙ ap (λ (all : List (List Word)). Went (record {
         fields = fields;
         fired = count;
         rings = change rings;
         words = all;
       }))
-      (append-nil words)
+      (ap (set words node) (append-nil (get_or words node [])) ∙ set-get_or words node [])
 
   -- so many
   pub passes : (count : ℕ) (rings : List Ring) → Ready count rings

@@ -2,9 +2,12 @@
 use Rattle.std.proofs.Common.{◌≡◌, refl, sym, ap, ◌∙◌, subst, ℕ}
 use Rattle.std.proofs.Common.{zero, suc, ◌<◌, ◌≤◌, ℤ, Bool, true, false}
 use Rattle.std.proofs.Common.{List, [], ◌∷◌, length, get_or, set, map, arith, Result, Ok, Err}
-use Rattle.std.proofs.Common.{append-nil, ◌≢◌, ◌⊎◌, inl, inr}
-use Rattle.std.specs.Prelude.{Option, Some, slice_get}
+use Rattle.std.proofs.Common.{append-nil, ◌≢◌, ◌⊎◌, inl, inr, ◌++◌}
+use Rattle.std.specs.Prelude.{Option, Some, slice_get, if◌then◌else◌, min, ◌^◌, ◌-◌, ◌+◌}
+use Rattle.std.proofs.Common.{ltb}
+use Rattle.std.proofs.lemmas.Bool.{ltb-true, ltb-false}
 use Rattle.std.proofs.lemmas.List.{map-set, get_or-map, length-map, length-set, set-get_or}
+use Rattle.std.proofs.lemmas.List.{get_or-set_same, get_or-set_other}
 use Rattle.std.proofs.lemmas.List.{nil_from_length}
 use Rattle.std.proofs.lemmas.Option.{slice_get-get_or, slice_get_within, slice_get_past}
 use Rattle.std.proofs.lemmas.Option.{slice_get-map}
@@ -22,21 +25,21 @@ use Rattle.strc_graph.specs.declared.graph.Node.TheVariants as nodes
 use Rattle.strc_graph.specs.declared.instance.Instance.{Instance}
 use Rattle.strc_graph.specs.declared.graph.Port.{Port}
 use Rattle.strc_admissible.specs.Machine.{CircuitView, MachineView, Went, step_at, next_step}
-use Rattle.strc_admissible.specs.Machine.{after_step}
+use Rattle.strc_admissible.specs.Machine.{after_step, more_words, one_more, words_at}
 use Rattle.strc_admissible.specs.Rings.{Ring}
 use Rattle.strc_admissible.specs.Steps.{Step, node_step, maybe_step, filter_step}
 use Rattle.strc_admissible.specs.Wiring.{PortRings, ports_at, IsWired}
 use Rattle.strc_sched.specs.Actors.{AreActors, IsActorOf, fields_of}
 use Rattle.strc_sched.specs.Answers.{HasStepped, IsPassive}
 use Rattle.strc_sched.specs.Identities.{KeepsNothing}
-use Rattle.strc_sched.specs.Running.{HasDone, HoldRings, IsMachine}
+use Rattle.strc_sched.specs.Running.{HasDone, HaveMoreWords, HoldRings, IsMachine}
 use Rattle.strc_sched.specs.declared.actor.Actor.{Actor}
 use Rattle.strc_sched.specs.declared.actor.Actor.TheVariants as kinds
 use Rattle.strc_sched.specs.declared.machine.Machine.{Machine}
 
 -- words stay words
-pub more_refl : (words : List Word) → MoreWords words words
-more_refl words = record { more = []; is = sym (append-nil words) }
+pub more_refl : (words : List (List Word)) → HaveMoreWords words words
+more_refl words node = record { more = []; is = sym (append-nil (words_at words node)) }
 
 -- the rings of channels that are wired
 pub hold_rings : (ends : List Port) (rings : PortRings) (count : ℕ) → IsWired ends rings
@@ -143,30 +146,115 @@ same_view before after fields fired rings words =
     ∙ ap (λ l. record
     { fields = before.fields; fired = before.fired; rings = before.rings; words = l }) words
 
+-- where one node has more words, all begin with those before
+pub more_at : (before after : List (List Word)) (node : ℕ) (words : List Word)
+    → after ≡ set before node words → node < length before
+    → MoreWords (words_at before node) words → HaveMoreWords before after
+more_at before after node words is there more other = by_node (same_or_not other node)
+  where
+    by_node : (other ≡ node) ⊎ (other ≢ node)
+        → MoreWords (words_at before other) (words_at after other)
+    by_node (inl same) =
+        subst (λ (l : List (List Word)). MoreWords (words_at before other) (words_at l other))
+        (sym is)
+        (subst (λ n. MoreWords (words_at before n) (words_at (set before node words) n)) (sym same)
+        (subst (MoreWords (words_at before node))
+        (sym (get_or-set_same before node words [] there)) more))
+    by_node (inr differ) =
+        subst (MoreWords (words_at before other))
+        (sym (ap (λ (l : List (List Word)). words_at l other) is
+        ∙ get_or-set_other before node other words [] differ))
+        (more_refl before other)
+
+-- a step after other words that are the same
+pub stepped_words : (step : Step) (result : Result Bool Halt) (old new : List ℤ)
+    (rings after : List Ring) (words other more : List Word) → other ≡ words
+    → HasStepped step result old new rings after words more
+    → HasStepped step result old new rings after other more
+stepped_words step result old new rings after words other more same h =
+    subst (λ l. HasStepped step result old new rings after l more) (sym same) h
+
 -- a step of a node is a step of the machine
 pub done_by : (step : Step) (result : Result Bool Halt) (node : ℕ) (before after : MachineView)
-    (fields : List ℤ)
+    (fields : List ℤ) (words : List Word)
     → HasStepped step result (get_or before.fields node []) fields before.rings after.rings
-    before.words after.words
+    (words_at before.words node) words
     → after.fired ≡ before.fired → after.fields ≡ set before.fields node fields
+    → after.words ≡ set before.words node words → node < length before.words
     → HasDone step node result before after
-done_by step (Ok true) node before after fields h fired is = (fields, h.0, h.1, is, h.2)
-done_by step (Ok false) node before after fields h fired is = (
+done_by step (Ok true) node before after fields words h fired is all there = (
+  fields,
+  h.0,
+  h.1,
+  is,
+  all ∙ ap (set before.words node) h.2,
+)
+done_by step (Ok false) node before after fields words h fired is all there = (
   h.0,
   same_view before after
-      (is ∙ ap (set before.fields node) h.1 ∙ set-get_or before.fields node []) fired h.2 h.3,
+      (is ∙ ap (set before.fields node) h.1 ∙ set-get_or before.fields node []) fired h.2
+      (all ∙ ap (set before.words node) h.3 ∙ set-get_or before.words node []),
 )
-done_by step (Err (halt.Fault cause)) node before after fields h fired is = h
-done_by step (Err halt.NoMemory) node before after fields h fired is = h
+done_by step (Err (halt.Fault cause)) node before after fields words h fired is all there =
+    (h.0, more_at before.words after.words node words all there h.1)
+done_by step (Err halt.NoMemory) node before after fields words h fired is all there =
+    more_at before.words after.words node words all there h
+
+-- firings are counted within 64 bits
+pub one_more_is : (firing counted : ℕ) → firing < 2 ^ 64 → counted ≡ min (firing + 1) (2 ^ 64 - 1)
+    → counted ≡ one_more firing
+one_more_is firing counted fits is = by_test (ltb firing (2 ^ 64 - 1)) refl
+  where
+    by_test : (test : Bool) → ltb firing (2 ^ 64 - 1) ≡ test
+        → counted ≡ (if test then suc firing else firing)
+    by_test true e = let less = ltb-true firing (2 ^ 64 - 1) e in omega (arith, is, less)
+    by_test false e = let past = ltb-false firing (2 ^ 64 - 1) e in omega (arith, is, past, fits)
+
+-- a firing that went, counted
+pub gone_once : (before after : MachineView) (node : ℕ) (step : Step) (fired : List ℕ)
+    → HasDone step node (Ok true) before after → node < length before.words
+    → fired ≡ set before.fired node (one_more (get_or before.fired node 0))
+    → (after_step before node step
+    ≡ Went (record {
+      fields = after.fields;
+      fired = fired;
+      rings = after.rings;
+      words = after.words;
+    })) × HaveMoreWords before.words after.words
+gone_once before after node step fired (fields, more, goes, fields_are, words_are) there counted = (
+  ap (after_step before node) goes
+      ∙ ap (λ l. Went (record {
+        fields = l;
+        fired = set before.fired node (one_more (get_or before.fired node 0));
+        rings = after.rings;
+        words = more_words before.words node more;
+      })) (sym fields_are)
+      ∙ ap (λ l. Went (record {
+        fields = after.fields;
+        fired = set before.fired node (one_more (get_or before.fired node 0));
+        rings = after.rings;
+        words = l;
+      })) (sym words_are)
+      ∙ ap (λ l. Went (record {
+        fields = after.fields;
+        fired = l;
+        rings = after.rings;
+        words = after.words;
+      })) (sym counted),
+  more_at before.words after.words node (words_at before.words node ++ more) words_are there
+      (record { more = more; is = refl }),
+)
 
 -- a machine after a firing has its places and rings
 pub machine_after : (circuit : CircuitView) (before after : Machine) → IsMachine circuit before
     → AreActors circuit.codes after.actors.items
     → length after.fired.items ≡ length before.fired.items
+    → length after.words.items ≡ length before.words.items
     → length after.rings.items ≡ length before.rings.items → IsMachine circuit after
-machine_after circuit before after h actors fired rings = record {
+machine_after circuit before after h actors fired words rings = record {
   actors = actors;
   fired = fired ∙ h.fired;
+  words = words ∙ h.words;
   input_nodes = h.input_nodes;
   output_nodes = h.output_nodes;
   inputs = subst (λ n. HoldRings n circuit.inputs) (sym rings) h.inputs;
@@ -317,7 +405,7 @@ module _ (result : Result Bool Halt) (words after_words : List Word)
 pub past_nodes : (circuit : CircuitView) (machine : MachineView) (node : ℕ)
     → length circuit.codes ≤ node
     → (after_step machine node (next_step circuit machine node) ≡ Went machine)
-    × MoreWords machine.words machine.words
+    × HaveMoreWords machine.words machine.words
 past_nodes circuit machine node past = (
   ap (λ (found : Option NodeCode). after_step machine node (maybe_step found
       (get_or machine.fired node 0) (get_or machine.fields node []) (ports_at circuit.inputs node)

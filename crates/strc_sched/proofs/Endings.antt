@@ -1,22 +1,29 @@
 -- How rounds end.
 use Rattle.std.proofs.Common.{◌≡◌, refl, sym, ap, ◌∙◌, subst, ℕ}
-use Rattle.std.proofs.Common.{suc, ◌+◌, ◌-◌, ◌<◌, ◌≤◌, List}
-use Rattle.std.proofs.Common.{length, take, arith, add-one, Result, Ok, Err}
-use Rattle.std.specs.Prelude.{IfOk, IfErr}
+use Rattle.std.proofs.Common.{suc, ◌+◌, ◌-◌, ◌<◌, ◌≤◌, Bool, true, false, List, [], ◌∷◌}
+use Rattle.std.proofs.Common.{length, take, arith, add-one, Result, Ok, Err, map}
+use Rattle.std.specs.Prelude.{IfOk, IfErr, Some, slice_get, slice_index, if◌then◌else◌}
 use Rattle.std.proofs.Math.Seq.{take-append_seam}
 use Rattle.std.proofs.lemmas.Option.{slice_get_within, get_or_from_slice_get}
 use Rattle.strc_semantics.specs.declared.fault.Cause.{Cause}
 use Rattle.strc_semantics.specs.declared.word.Word.{Word}
 use Rattle.strc_inst.specs.Running.{MoreWords}
 use Rattle.strc_graph.specs.Graphs as graphs
-use Rattle.strc_graph.specs.Graphs.{NodeCode, Graph}
+use Rattle.strc_graph.specs.Graphs.{NodeCode, Graph, gives_words}
 use Rattle.strc_admissible.specs.Machine.{CircuitView, MachineView, Progress, Went, Stopped}
-use Rattle.strc_admissible.specs.Machine.{Ending, FaultedIn, order_run, after_round}
-use Rattle.strc_admissible.specs.Machine.{rounds_run}
+use Rattle.strc_admissible.specs.Machine.{Ending, FaultedIn, FaultedAtFirst, order_run}
+use Rattle.strc_admissible.specs.Machine.{after_round, after_startup}
+use Rattle.strc_graph.specs.NodeView.{node_view}
+use Rattle.strc_graph.specs.declared.graph.Node.{Node}
+use Rattle.strc_sched.specs.Marks.{kept_tapes}
+use Rattle.strc_sched.specs.declared.tapes.Marks.{Marks}
+use Rattle.strc_admissible.specs.Machine.{rounds_run, words_at}
 use Rattle.strc_admissible.specs.Planned.{AreKnown}
 use Rattle.strc_sched.specs.Actors.{AreClosed, IsClosedNode}
 use Rattle.strc_sched.specs.Plain.{IsEnding, IsStopped}
-use Rattle.strc_sched.specs.Running.{HasGone}
+use Rattle.strc_sched.specs.Running.{HasGone, HaveMoreWords}
+use Rattle.strc_sched.specs.Tapes.{AreMarked, tapes_from, tapes_of}
+use Rattle.strc_outcome.specs.Tapes.{TapeView, tape}
 use Rattle.strc_sched.specs.declared.machine.Stop.{Stop}
 use Rattle.strc_sched.specs.declared.machine.Stop.TheVariants as stop
 use Rattle.strc_outcome.specs.declared.outcome.Outcome.{Outcome}
@@ -64,27 +71,109 @@ rounds_done circuit order rounds now_round past now =
     ap (λ n. rounds_run circuit order n now_round now) e
 
 -- the words before a round
-pub words_kept : (before after : List Word) (kept : ℕ) → kept ≡ length before
+words_kept : (before after : List Word) (kept : ℕ) → kept ≡ length before
     → MoreWords before after → take kept after ≡ before
 words_kept before after kept is more =
     ap (λ n. take n after) is ∙ ap (take (length before)) more.is
     ∙ take-append_seam before more.more
 
+-- the first so many words of each node
+abbrev first_words : (lengths : List ℕ) → List (List Word) → (node : ℕ) → List Word
+first_words lengths words node = take (slice_index lengths node) (words_at words node)
+
+-- of the tapes of a part of the nodes, where these are the rest
+tapes_kept_from : (all : List NodeCode) (lengths : List ℕ) (before after : List (List Word))
+    → AreMarked all lengths before → HaveMoreWords before after → (node : ℕ)
+    → (codes : List NodeCode)
+    → ((place : ℕ) (code : NodeCode) → slice_get codes place ≡ Some code
+    → slice_get all (node + place) ≡ Some code)
+    → tapes_from node codes (λ n. take (slice_index lengths n) (words_at after n))
+    ≡ tapes_from node codes (words_at before)
+tapes_kept_from all lengths before after marked more node [] within = refl
+tapes_kept_from all lengths before after marked more node (code ∷ codes) within =
+    by_kind (gives_words code) refl
+    (tapes_kept_from all lengths before after marked more (suc node) codes
+    (λ place own there. subst (λ n. slice_get all n ≡ Some own)
+    (let e : node + suc place ≡ suc node + place = omega arith in e)
+    (within (suc place) own there)))
+  where
+    by_kind : (test : Bool) → gives_words code ≡ test
+        → tapes_from (suc node) codes (first_words lengths after)
+        ≡ tapes_from (suc node) codes (words_at before)
+        → (if test then tape node (first_words lengths after node)
+        ∷ tapes_from (suc node) codes (first_words lengths after)
+        else tapes_from (suc node) codes (first_words lengths after))
+        ≡ (if test then tape node (words_at before node)
+        ∷ tapes_from (suc node) codes (words_at before)
+        else tapes_from (suc node) codes (words_at before))
+    by_kind false e rest = rest
+    by_kind true e rest =
+        let here : slice_get all node ≡ Some code = subst (λ n. slice_get all n ≡ Some code)
+        (let e : node + 0 ≡ node = omega arith in e) (within 0 code refl) in
+        ap (λ l. tape node l ∷ tapes_from (suc node) codes (first_words lengths after))
+        (words_kept (words_at before node) (words_at after node) (slice_index lengths node)
+        (marked node code here e) (more node))
+        ∙ ap (λ l. tape node (words_at before node) ∷ l) rest
+
+-- the tapes before a round
+pub tapes_kept : (codes : List NodeCode) (lengths : List ℕ) (before after : List (List Word))
+    → AreMarked codes lengths before → HaveMoreWords before after
+    → tapes_of codes (λ node. take (slice_index lengths node) (words_at after node))
+    ≡ tapes_of codes (words_at before)
+tapes_kept codes lengths before after marked more =
+    tapes_kept_from codes lengths before after marked more 0 codes
+    (λ place code there. subst (λ n. slice_get codes n ≡ Some code)
+    (let e : place ≡ 0 + place = omega arith in e) there)
+
+-- the tapes that were marked when a round began
+pub kept_before : (marks : Marks) (nodes old : List Node)
+    (shown before after seen : List (List Word)) → marks.nodes.now ≡ nodes → old ≡ nodes
+    → AreMarked (map node_view old) marks.lengths.items seen → seen ≡ before → shown ≡ after
+    → HaveMoreWords before after
+    → kept_tapes marks shown ≡ tapes_of (map node_view nodes) (words_at before)
+kept_before marks nodes old shown before after seen own same marked is are more =
+    ap (λ n. tapes_of (map node_view n) (first_words marks.lengths.items shown)) own
+    ∙ ap (λ w. tapes_of (map node_view nodes) (first_words marks.lengths.items w)) are
+    ∙ tapes_kept (map node_view nodes) marks.lengths.items before after
+    (subst (λ n. AreMarked (map node_view n) marks.lengths.items before) same
+    (subst (AreMarked (map node_view old) marks.lengths.items) is marked)) more
+
+-- no words come before any
+pub more_than_none : (after : List (List Word)) → HaveMoreWords [] after
+more_than_none after node = record { more = words_at after node; is = refl }
+
+-- the outcome of a start-up that was stopped is how the run ends
+pub ended_first : (codes : List NodeCode) (why : Stop) (result : Result Outcome RunRefusal)
+    (words : List (List Word)) (progress : Progress) (after : MachineView)
+    (shown : List TapeView) (later : MachineView → Ending)
+    → IfOk result (IsStopped why round.Startup shown) → HasGone progress (Err why) words after
+    → shown ≡ tapes_of codes (λ _. [])
+    → IfOk result (λ outcome. IsEnding codes outcome (after_startup later progress))
+ended_first codes (stop.Fault node firing cause) (Ok outcome) words progress after shown later h
+    gone kept =
+    subst (λ p. IsEnding codes outcome (after_startup later p)) (sym gone.0)
+    (subst (λ o. IsEnding codes o (FaultedAtFirst node firing cause)) (sym h.1)
+    (refl, refl, refl, h.2 ∙ kept))
+ended_first codes stop.NoMemory (Ok outcome) words progress after shown later h gone kept = absurd h
+ended_first codes why (Err refusal) words progress after shown later h gone kept = tt
+
 -- the outcome of a round that was stopped is how the run ends
-pub ended_in : (why : Stop) (result : Result Outcome RunRefusal) (q : ℕ) (words : List Word)
-    (progress : Progress) (after : MachineView) (shown : List Word) (ending : Ending)
+pub ended_in : (codes : List NodeCode) (why : Stop) (result : Result Outcome RunRefusal) (q : ℕ)
+    (words : List (List Word)) (progress : Progress) (after : MachineView)
+    (shown : List TapeView) (ending : Ending)
     → IfOk result (IsStopped why (round.At q) shown) → HasGone progress (Err why) words after
     → ((node firing : ℕ) (cause : Cause) → progress ≡ Stopped node firing cause
     → ending ≡ FaultedIn q node firing cause words)
-    → (MoreWords words after.words → shown ≡ words)
-    → IfOk result (λ outcome. IsEnding outcome ending)
-ended_in (stop.Fault node firing cause) (Ok outcome) q words progress after shown ending h gone ends
-    kept =
-    subst (λ e. IsEnding outcome e) (sym (ends node firing cause gone.0))
-    (subst (λ o. IsEnding o (FaultedIn q node firing cause words)) (sym h.1)
+    → (HaveMoreWords words after.words → shown ≡ tapes_of codes (words_at words))
+    → IfOk result (λ outcome. IsEnding codes outcome ending)
+ended_in codes (stop.Fault node firing cause) (Ok outcome) q words progress after shown ending h
+    gone ends kept =
+    subst (λ e. IsEnding codes outcome e) (sym (ends node firing cause gone.0))
+    (subst (λ o. IsEnding codes o (FaultedIn q node firing cause words)) (sym h.1)
     (refl, refl, refl, refl, h.2 ∙ kept gone.1))
-ended_in stop.NoMemory (Ok outcome) q words progress after shown ending h gone ends kept = absurd h
-ended_in why (Err refusal) q words progress after shown ending h gone ends kept = tt
+ended_in codes stop.NoMemory (Ok outcome) q words progress after shown ending h gone ends kept =
+    absurd h
+ended_in codes why (Err refusal) q words progress after shown ending h gone ends kept = tt
 
 -- what holds of an outcome
 pub outcome_so : (result : Result Outcome RunRefusal) (P Q : Outcome → Type 0) → IfOk result P

@@ -1,24 +1,25 @@
 -- An order that the machine goes through, piece by piece.
 use Rattle.std.proofs.Common.{◌≡◌, refl, sym, ap, ◌∙◌, ℕ, zero, suc, ◌+◌, ◌-◌, ◌<◌, ◌≤◌, List, []}
 use Rattle.std.proofs.Common.{◌∷◌, ◌++◌, length, drop, get_or, arith, append_assoc}
-use Rattle.std.proofs.Common.{append-nil, subst, Ok, Err}
+use Rattle.std.proofs.Common.{subst, Ok, Err}
 use Rattle.strc_semantics.specs.declared.fault.Cause.{Cause}
 use Rattle.strc_semantics.specs.declared.word.Word.{Word}
-use Rattle.strc_inst.specs.Running.{MoreWords}
 use Rattle.strc_order.specs.declared.unit as units
 use Rattle.strc_order.specs.Greedy.{firings_of}
 use Rattle.strc_order.specs.Order.{repeated}
 use Rattle.strc_admissible.specs.Machine.{CircuitView, MachineView, Progress, Went, Stopped}
-use Rattle.strc_admissible.specs.Machine.{then_go, order_run, after_step, next_step}
-use Rattle.strc_sched.specs.Running.{HasGone}
+use Rattle.strc_admissible.specs.Machine.{then_go, order_run, after_step, next_step, words_at}
+use Rattle.strc_sched.specs.Running.{HasGone, HaveMoreWords}
+use Rattle.strc_sched.proofs.Done.{more_refl}
 use Rattle.strc_sched.specs.declared.machine.Stop.{Stop}
 use Rattle.strc_sched.specs.declared.machine.Stop.TheVariants as stop
 
-pub more_then : (first second third : List Word) → MoreWords first second → MoreWords second third
-    → MoreWords first third
-more_then first second third h k = record {
-  more = h.more ++ k.more;
-  is = k.is ∙ ap (λ l. l ++ k.more) h.is ∙ append_assoc first h.more k.more;
+pub more_then : (first second third : List (List Word)) → HaveMoreWords first second
+    → HaveMoreWords second third → HaveMoreWords first third
+more_then first second third h k node = record {
+  more = (h node).more ++ (k node).more;
+  is = (k node).is ∙ ap (λ l. l ++ (k node).more) (h node).is
+      ∙ append_assoc (words_at first node) (h node).more (k node).more;
 }
 
 module _ (circuit : CircuitView) where
@@ -41,11 +42,11 @@ module _ (circuit : CircuitView) where
   -- how far an order has come: what is left of it from now on is what is left of the whole
   pub record Goes (whole left : List ℕ) (before now : MachineView) : Type 0 where
     pub rest : order_run circuit whole before ≡ order_run circuit left now
-    pub words : MoreWords before.words now.words
+    pub words : HaveMoreWords before.words now.words
 
   pub goes_on : (whole piece left : List ℕ) (before now next : MachineView)
       → Goes whole (piece ++ left) before now
-      → order_run circuit piece now ≡ Went next → MoreWords now.words next.words
+      → order_run circuit piece now ≡ Went next → HaveMoreWords now.words next.words
       → Goes whole left before next
   goes_on whole piece left before now next h gone more = record {
     rest = h.rest ∙ run_append piece left now ∙ ap (then_go (order_run circuit left)) gone;
@@ -130,5 +131,5 @@ pub starts_so : (circuit : CircuitView) (whole left : List ℕ) (machine : Machi
     → left ≡ whole → Goes circuit whole left machine machine
 starts_so circuit whole left machine same = record {
   rest = ap (λ l. order_run circuit l machine) (sym same);
-  words = record { more = []; is = sym (append-nil machine.words) };
+  words = more_refl machine.words;
 }

@@ -6,6 +6,7 @@ pub mod CircuitPorts
 pub mod Starting
 pub mod Done
 pub mod Going
+pub mod TapeLists
 pub mod Counting
 pub mod ServedRounds
 pub mod Endings

@@ -59,7 +59,7 @@ spread_out (weight ∷ weights) outputs count cycle items port rings =
 -- so many firings of a node that keeps no fields leave these rings, and count themselves
 abbrev pub PassesOn : CircuitView → (node turns : ℕ) → (before after : List Ring) → Type 0
 PassesOn circuit node turns before after =
-    (fields : List (List ℤ)) (fired : List ℕ) (words : List Word)
+    (fields : List (List ℤ)) (fired : List ℕ) (words : List (List Word))
     → slice_index_or fields node [] ≡ [] → node < length fired → slice_index fired node < 2 ^ 64
     → order_run circuit (repeated turns (node ∷ []))
     (record { fields = fields; fired = fired; rings = before; words = words })

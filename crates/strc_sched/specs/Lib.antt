@@ -3,6 +3,8 @@ pub mod Actors
 pub mod Circuits
 pub mod Running
 pub mod Reading
+pub mod Tapes
+pub mod Marks
 pub mod Plain
 pub mod Serving
 pub mod Identities

@@ -24,6 +24,7 @@ mod pouring;
 mod reading;
 mod ring;
 pub mod serving;
+mod tapes;
 mod wiring;
 
 pub use strc_order::{error, laws, parts, planning, sizing, unit};

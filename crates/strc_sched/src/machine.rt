@@ -1,6 +1,6 @@
 // The machine that fires a graph's nodes over rings.
 
-ghost use Rattle.std.specs.Prelude.{◌≡◌, ◌<◌, [], ◌∷◌, IfOk, length};
+ghost use Rattle.std.specs.Prelude.{◌≡◌, ◌<◌, [], ◌∷◌, IfOk, length, replicate};
 ghost use Rattle.strc_graph.specs.NodeView.{graph_view};
 ghost use Rattle.strc_order.specs.Greedy.{firings_of};
 ghost use Rattle.strc_order.specs.Order.{repeated};
@@ -9,7 +9,7 @@ ghost use Rattle.strc_admissible.specs.Circuits.{IsCircuit, IsFirst};
 ghost use Rattle.strc_sched.specs.Circuits.{circuit_view};
 ghost use Rattle.strc_admissible.specs.Machine as spec;
 ghost use Rattle.strc_sched.specs.Batches.{AreBatches, FitsUnit, IsBatch};
-ghost use Rattle.strc_sched.specs.Running.{HasDone, HasGone, IsMachine, machine_view};
+ghost use Rattle.strc_sched.specs.Running.{HasDone, HasGone, IsMachine, machine_view, words_of};
 
 use crate::actor::{Actor, start_actors};
 use crate::batches::{Batch, Order, batch_at};
@@ -18,7 +18,7 @@ use crate::circuit::Circuit;
 use crate::filter::fire_filter;
 use crate::passing::fire_passive;
 use crate::ring::{Ring, first_rings};
-use std::alloc::Global;
+use std::alloc::{AllocError, Global};
 use strc_base::memory::NoMemory;
 use strc_graph::graph::{Graph, Node};
 use strc_order::unit::Unit;
@@ -36,7 +36,8 @@ pub(crate) struct Machine {
     rings: Vec<Ring>,
     /// Room for items on their way from ring to ring.
     items: Vec<i32>,
-    words: Vec<Word>,
+    /// The words that each node has given.
+    words: Vec<Vec<Word>>,
 }
 
 /// Why a run ends early.
@@ -69,12 +70,13 @@ impl Machine {
         let fired = Vec::from_elem(alloc, 0, graph.nodes().len())?;
         let rings = first_rings(alloc, graph.channels(), sizes)?;
         let items = Vec::with_capacity(alloc, greatest(sizes))?;
+        let words = no_words(alloc, graph.nodes().len())?;
         Ok(Machine {
             actors,
             fired,
             rings,
             items,
-            words: Vec::new(alloc),
+            words,
         })
     }
 
@@ -256,7 +258,7 @@ impl Machine {
                     &mut self.rings,
                     batch.input,
                     batch.output,
-                    &mut self.words,
+                    &mut self.words[node],
                 ),
                 Actor::Passive => unreachable!(),
             },
@@ -268,25 +270,36 @@ impl Machine {
                 circuit.input,
                 &mut self.rings,
                 &mut self.items,
-                &mut self.words,
+                &mut self.words[node],
             ),
         }
     }
 
-    /// The words, taken out.
-    pub(crate) fn into_words(self) -> Vec<Word>
-        ensures { result.items ≡ (machine_view self).words }
+    /// The words of each node, taken out.
+    pub(crate) fn into_words(self) -> Vec<Vec<Word>>
+        ensures { words_of result.items ≡ (machine_view self).words }
     {
         let Machine { words, .. } = self;
         words
     }
 
-    /// How many words there are.
-    pub(crate) fn word_count(&self) -> usize
-        ensures { result ≡ length (machine_view self.now).words }
+    /// The words of each node.
+    pub(crate) fn words(&self) -> &[Vec<Word>]
+        ensures { words_of result.now ≡ (machine_view self.now).words }
     {
-        self.words.len()
+        &self.words
     }
+}
+
+/// No words of so many nodes.
+fn no_words(alloc: Global, count: usize) -> Result<Vec<Vec<Word>>, AllocError>
+    ensures { IfOk result (λ words. words_of words.items ≡ replicate count []) }
+{
+    let mut words = Vec::with_capacity(alloc, count)?;
+    for _node in 0..count {
+        words.push(Vec::new(alloc))?;
+    }
+    Ok(words)
 }
 
 /// The greatest of some sizes.

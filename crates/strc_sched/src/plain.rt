@@ -1,6 +1,6 @@
 // A run on one thread.
 
-ghost use Rattle.std.specs.Prelude.{◌≡◌, ◌≤◌, take, true, length, IfOk, IfErr};
+ghost use Rattle.std.specs.Prelude.{◌≡◌, ◌≤◌, [], true, length, IfOk, IfErr};
 ghost use Rattle.strc_graph.specs.NodeView.{graph_view};
 ghost use Rattle.strc_order.specs.Greedy.{firings_of};
 ghost use Rattle.strc_admissible.specs.Circuits.{IsCircuit};
@@ -11,7 +11,9 @@ ghost use Rattle.strc_sched.specs.Blocks.{AreAllApart};
 ghost use Rattle.strc_sched.specs.Circuits.{circuit_view};
 ghost use Rattle.strc_sched.specs.Plain.{AnswersGraph, IsEnding, IsPlainRefusal, IsStopped};
 ghost use Rattle.strc_sched.specs.Plain.{need_of, ReportsRun};
-ghost use Rattle.strc_sched.specs.Running.{IsMachine, machine_view};
+ghost use Rattle.strc_sched.specs.Marks.{IsMarks, kept_tapes};
+ghost use Rattle.strc_sched.specs.Running.{IsMachine, machine_view, words_of};
+ghost use Rattle.strc_sched.specs.Tapes.{AreMarked};
 ghost use Rattle.strc_sched.specs.Batches.{AreBatches};
 ghost use Rattle.strc_outcome.specs.declared.refusal.RunRefusal.TheVariants as refused;
 
@@ -21,6 +23,7 @@ use crate::machine::{Machine, Stop};
 use crate::outcome::{Outcome, Round};
 use crate::reading::items_needed;
 use crate::refusal::RunRefusal;
+use crate::tapes::Marks;
 use std::alloc::Global;
 use strc_graph::graph::Graph;
 use strc_order::parts::Schedule;
@@ -30,11 +33,11 @@ use strc_semantics::word::Word;
 /// the schedule says, and nodes fire over them in its order (Lee and Messerschmitt 1987: a periodic
 /// admissible sequential schedule; StreamIt specification 2.1, "Filters" and "Split-joins").
 ///
-/// The graph's filters start without a fault, `check` is Ok for each, and the schedule is that of
-/// the graph's least counts; there are no scatters, copies or gathers. For whatever stream's flat
-/// graph this is, the outcome is the answer of the stream equations at the schedule's counts.
-/// `InputShort` comes exactly where the input has fewer items than these rounds read, `NoMemory`
-/// where memory runs out.
+/// The graph's filters start without a fault, `check` is Ok for each, and the schedule is one of
+/// the graph's least counts, its orders greedy or not; there are no scatters, copies or gathers.
+/// For whatever stream's flat graph this is, the outcome is the answer of the stream equations at
+/// the schedule's counts. `InputShort` comes exactly where the input has fewer items than these
+/// rounds read, `NoMemory` where memory runs out.
 pub fn run_plain(
     alloc: Global,
     graph: &Graph,
@@ -74,6 +77,7 @@ fn run_circuit(
     requires outputs { length circuit.now.outputs ≡ length circuit.now.nodes.now }
     requires apart { circuit.now.apart ≡ true → AreAllApart circuit.now.inputs circuit.now.outputs }
     requires starts { AreStartable (graph_view graph.now).nodes }
+    requires nodes { circuit.now.nodes.now ≡ graph.now.nodes }
     ensures reported { IfOk result (ReportsRun (graph_view graph.now) (circuit_view circuit.now)
         schedule.now rounds) }
     ensures memory { IfErr result (λ refusal. refusal ≡ refused.NoMemory) }
@@ -87,67 +91,99 @@ fn run_circuit(
     let Ok(machine) = Machine::new(alloc, graph, circuit, schedule.sizes()) else {
         return Err(RunRefusal::NoMemory);
     };
-    run_orders(machine, circuit, &startup, &round, rounds)
+    let Ok(marks) = Marks::new(alloc, circuit.nodes) else {
+        return Err(RunRefusal::NoMemory);
+    };
+    run_orders(alloc, machine, marks, circuit, &startup, &round, rounds)
 }
 
 /// Start-up and so many rounds, in these orders.
 fn run_orders(
+    alloc: Global,
     machine: Machine,
+    marks: Marks,
     circuit: &Circuit,
     startup: &Order,
     round: &Order,
     rounds: u32,
 ) -> Result<Outcome, RunRefusal>
     requires machine { IsMachine (circuit_view circuit.now) machine }
+    requires marks { IsMarks marks }
+    requires nodes { marks.nodes.now ≡ circuit.now.nodes.now }
+    requires none { AreMarked (circuit_view circuit.now).codes marks.lengths.items [] }
     requires startup { AreBatches (circuit_view circuit.now) startup.now.units.now
         startup.now.batches.items }
     requires round { AreBatches (circuit_view circuit.now) round.now.units.now
         round.now.batches.items }
-    ensures ending { IfOk result (λ outcome. IsEnding outcome (spec.whole_run
+    ensures ending { IfOk result (λ outcome. IsEnding (circuit_view circuit.now).codes outcome
+        (spec.whole_run
         (circuit_view circuit.now) (firings_of startup.now.units.now)
         (firings_of round.now.units.now) rounds (machine_view machine))) }
     ensures memory { IfErr result (λ refusal. refusal ≡ refused.NoMemory) }
 {
     let mut started = machine;
     match started.fire_order(circuit, startup) {
-        Ok(()) => run_rounds(started, circuit, round, rounds),
-        Err(stop) => stopped(started.into_words(), 0, Round::Startup, stop),
+        Ok(()) => run_rounds(alloc, started, marks, circuit, round, rounds),
+        Err(stop) => stopped(alloc, &marks, started.into_words(), Round::Startup, stop),
     }
 }
 
 /// So many rounds.
 fn run_rounds(
+    alloc: Global,
     machine: Machine,
+    marks: Marks,
     circuit: &Circuit,
     order: &Order,
     rounds: u32,
 ) -> Result<Outcome, RunRefusal>
     requires machine { IsMachine (circuit_view circuit.now) machine }
+    requires marks { IsMarks marks }
+    requires nodes { marks.nodes.now ≡ circuit.now.nodes.now }
     requires batches { AreBatches (circuit_view circuit.now) order.now.units.now
         order.now.batches.items }
-    ensures ending { IfOk result (λ outcome. IsEnding outcome (spec.rounds_run
+    ensures ending { IfOk result (λ outcome. IsEnding (circuit_view circuit.now).codes outcome
+        (spec.rounds_run
         (circuit_view circuit.now) (firings_of order.now.units.now) rounds 0
         (machine_view machine))) }
     ensures memory { IfErr result (λ refusal. refusal ≡ refused.NoMemory) }
 {
     let mut running = machine;
+    let mut before = marks;
     for round in 0..rounds {
-        let before = running.word_count();
+        before.mark(running.words());
         match running.fire_order(circuit, order) {
             Ok(()) => {}
-            Err(stop) => return stopped(running.into_words(), before, Round::At(round), stop),
+            Err(stop) => {
+                let words = running.into_words();
+                return stopped(alloc, &before, words, Round::At(round), stop);
+            }
         }
     }
-    Ok(Outcome::Done(running.into_words()))
+    before.mark(running.words());
+    match before.tapes(alloc, running.into_words()) {
+        Ok(tapes) => Ok(Outcome::Done(tapes)),
+        Err(_) => Err(RunRefusal::NoMemory),
+    }
 }
 
-/// The outcome of a run that was stopped, with the first so many words.
-fn stopped(words: Vec<Word>, kept: usize, round: Round, stop: Stop) -> Result<Outcome, RunRefusal>
-    ensures outcome { IfOk result (IsStopped stop round (take kept words.items)) }
+/// The outcome of a run that was stopped, with the words that its tapes had when the round began.
+fn stopped(
+    alloc: Global,
+    marks: &Marks,
+    words: Vec<Vec<Word>>,
+    round: Round,
+    stop: Stop,
+) -> Result<Outcome, RunRefusal>
+    requires marks { IsMarks marks.now }
+    requires each { length words.items ≡ length marks.now.nodes.now }
+    ensures outcome { IfOk result (IsStopped stop round
+        (kept_tapes marks.now (words_of words.items))) }
     ensures memory { IfErr result (λ refusal. refusal ≡ refused.NoMemory) }
 {
-    let mut words = words;
-    words.truncate(kept);
+    let Ok(tapes) = marks.tapes(alloc, words) else {
+        return Err(RunRefusal::NoMemory);
+    };
     match stop {
         Stop::Fault {
             node,
@@ -158,7 +194,7 @@ fn stopped(words: Vec<Word>, kept: usize, round: Round, stop: Stop) -> Result<Ou
             firing,
             round,
             cause,
-            words,
+            tapes,
         }),
         Stop::NoMemory => Err(RunRefusal::NoMemory),
     }

@@ -120,25 +120,6 @@ pub fn first_keyword(tokens: &[Token], keyword: Keyword) -> Option<Extent> {
     None
 }
 
-/// The first statement of a declared stream that prints.
-pub fn print_of(tokens: &[Token], name: &[u8]) -> Option<Span> {
-    let start = place_named(tokens, name)?;
-    let mut depth: usize = 0;
-    for place in start..tokens.len() {
-        let outer = depth;
-        depth = depth_after(&tokens[place].kind, depth);
-        if outer == 1 && depth == 0 {
-            return None;
-        }
-        if is_keyword(&tokens[place], Keyword::Print)
-            || is_keyword(&tokens[place], Keyword::Println)
-        {
-            return Some(tokens[place].span);
-        }
-    }
-    None
-}
-
 /// In how many braces what follows a token is.
 fn depth_after(kind: &TokenKind, depth: usize) -> usize {
     match kind {

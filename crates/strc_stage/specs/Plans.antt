@@ -1,8 +1,13 @@
 -- Plans: a flat graph, how often its nodes fire, and the schedule of these firings (Lee and
 -- Messerschmitt 1987: a periodic admissible sequential schedule).
-use Rattle.std.specs.Prelude.{ℕ, ◌≤◌, Bool, true, false, List, All}
+use Rattle.std.specs.Prelude.{◌≡◌, ℕ, ◌≤◌, Bool, true, false, List, All}
+use Rattle.strc_graph.specs.Connections.{IsConnected}
+use Rattle.strc_graph.specs.FlatGraphs.{IsProgram}
 use Rattle.strc_graph.specs.Graphs.{Graph}
 use Rattle.strc_graph.specs.NodeView.{GraphParts, graph_view}
+use Rattle.strc_stream.specs.Flattening.{outer_loops, tree_of}
+use Rattle.strc_stream.specs.Instances.{Stream}
+use Rattle.strc_stream.specs.Types.{IsClosed}
 use Rattle.strc_balance.specs.Balance.{count_at, IsWithinLimit}
 use Rattle.strc_balance.specs.Balance as balance
 use Rattle.strc_balance.specs.Rates.{equations_of, size_of}
@@ -63,8 +68,19 @@ pub record HasSchedule (graph : Graph) (startup round : List ℕ) (schedule : Sc
     pub is : IsSchedule (rates_of graph) (count_at startup) (count_at round) schedule
     pub within : All (λ size. size ≤ size_limit) schedule.sizes
 
--- a plan: its graph can be run by its schedule, which is that of its least counts
+-- a graph is the flat graph of a whole program: of a stream that takes and gives nothing, with the
+-- outermost loop of each node
+pub record IsWhole (graph : Graph) : Type 0 where
+  pub stream : Stream
+  pub closed : IsClosed stream
+  pub program : IsProgram (tree_of stream) graph
+  pub connected : IsConnected graph
+  pub loops : graph.outer_loops ≡ outer_loops 0 stream
+
+-- a plan: its graph is a whole program's, and can be run by its schedule, which is that of its least
+-- counts
 pub record IsPlan (plan : Planning) : Type 0 where
+  pub whole : IsWhole plan.graph
   pub planned : IsPlanned plan.graph plan.schedule
   pub startup : HasStartup plan.graph plan.startup_counts
   pub round : HasRound plan.graph plan.round_counts

@@ -3,8 +3,9 @@
 // Gives a plan, which keeps them together, as they are before and after fission and fusion.
 // The theorem to rely on: a plan's graph can be run, its counts are the least ones, and its
 // schedule is that of these counts, within the limits.
-// Stands on strc_graph, strc_balance, strc_startup and strc_order, whose results a plan keeps, and
-// on strc_admissible, which says what such a schedule is worth.
+// Stands on strc_graph, strc_balance, strc_startup and strc_order, whose results a plan keeps, on
+// strc_stream, whose streams have flat graphs, and on strc_admissible, which says what such a
+// schedule is worth.
 #![tactic(auto)]
 
 pub mod laws;

@@ -4,7 +4,8 @@ ghost use Rattle.std.specs.Prelude.{◌≡◌, length};
 ghost use Rattle.strc_graph.specs.NodeView.{graph_view};
 ghost use Rattle.strc_admissible.specs.Planned.{IsPlanned};
 ghost use Rattle.strc_stage.specs.Origins.{origin_at};
-ghost use Rattle.strc_stage.specs.Plans.{HasRound, HasSchedule, HasStartup, IsPlan, planning_of};
+ghost use Rattle.strc_stage.specs.Plans.{HasRound, HasSchedule, HasStartup, IsPlan, IsWhole};
+ghost use Rattle.strc_stage.specs.Plans.{planning_of};
 
 use std::marker::Model;
 use strc_balance::counts::Counts;
@@ -64,9 +65,10 @@ impl Plan {
     /// The plan of a graph whose nodes fire so often before the first round and in each, in the
     /// order of this schedule.
     ///
-    /// The graph's filters start without a fault, `check` is Ok for each, and there are no
-    /// scatters, copies or gathers; the counts are the graph's least ones, as `startup` and
-    /// `balance` give them, and the schedule is that of these counts, as `schedule` gives it.
+    /// The graph is the flat graph of a whole program, as `flatten` gives it. Its filters start
+    /// without a fault, `check` is Ok for each, and there are no scatters, copies or gathers; the
+    /// counts are the graph's least ones, as `startup` and `balance` give them, and the schedule
+    /// is that of these counts, as `schedule` gives it.
     pub fn new(
         graph: Graph,
         startup_counts: Counts,
@@ -86,7 +88,8 @@ impl Plan {
 
     /// The flat graph before fission.
     pub fn graph(&self) -> &Graph
-        ensures { result.now ≡ self.now.graph }
+        ensures graph { result.now ≡ self.now.graph }
+        ensures whole { IsWhole (graph_view result.now) }
     {
         &self.graph
     }

@@ -19,7 +19,7 @@ refused_as r s (refused.BadArguments stream) carry h = carry h
 refused_as r s (refused.BadWeights stream) carry h = carry h
 refused_as r s (refused.ConstFault cause) carry h = carry h
 refused_as r s refused.TwoInputs carry h = carry h
-refused_as r s refused.TwoOutputs carry h = carry h
+refused_as r s (refused.TapeTwice node) carry h = carry h
 refused_as r s refused.Disconnected carry h = carry h
 refused_as r s refused.NoMemory carry h = tt
 

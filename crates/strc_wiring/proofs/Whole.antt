@@ -171,7 +171,7 @@ all_served stream closed node port (inl front) = absurd (no_items (sym closed.in
 all_served stream closed node port (inr ends) = ends_number (wires 0 stream None) node port ends
 
 pub wires_are_programs : WiresArePrograms
-wires_are_programs stream closed one_input one_output = record {
+wires_are_programs stream closed one_input = record {
   flat = wires_are_flat stream closed.typed;
   inputs = λ node text reads.
       let plain : 0 + node ≡ node = omega arith in
@@ -183,5 +183,4 @@ wires_are_programs stream closed one_input one_output = record {
   fed = λ node port takes. all_served stream closed node port
       (whole_served stream closed.typed node port takes);
   one_input = one_input;
-  one_output = one_output;
 }

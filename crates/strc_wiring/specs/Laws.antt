@@ -1,6 +1,6 @@
 -- What the nodes and channels of a stream are: its flat graph.
 use Rattle.std.specs.Prelude.{◌≡◌, ◌≤◌, length, count_by}
-use Rattle.strc_graph.specs.Graphs.{IsGraph, reads_input, gives_words}
+use Rattle.strc_graph.specs.Graphs.{IsGraph, reads_input}
 use Rattle.strc_graph.specs.Connections as by_channels
 use Rattle.strc_graph.specs.FlatGraphs.{IsProgram}
 use Rattle.strc_stream.specs.Instances.{Stream}
@@ -26,11 +26,10 @@ WiresAreFlat = (stream : Stream) → IsWellTyped stream → IsFlat stream (wired
 abbrev pub WiresAreGraphs : Type 0
 WiresAreGraphs = (stream : Stream) → IsWellTyped stream → IsGraph (wired stream)
 
--- a whole program's flat graph with one input and one output at most is a program's
+-- a whole program's flat graph with one input at most is a program's
 abbrev pub WiresArePrograms : Type 0
 WiresArePrograms = (stream : Stream) → IsClosed stream
-    → count_by reads_input (nodes_of stream) ≤ 1 → count_by gives_words (nodes_of stream) ≤ 1
-    → IsProgram (tree_of stream) (wired stream)
+    → count_by reads_input (nodes_of stream) ≤ 1 → IsProgram (tree_of stream) (wired stream)
 
 -- paths along channels are those of the tree's graph, both ways
 abbrev pub WiresConnect : Type 0

@@ -26,8 +26,8 @@ returns-in-Check-clause-answered g c =
     (rw (
       c.nodes.ensures,
       c.channels.ensures.channels,
-      c.graph.ensures,
-      c.graph-in-Check.ensures,
+      c.graph.ensures.graph,
+      c.graph-in-Check.ensures.graph,
       ← ap main_of c.in-Check.is,
     ) size)
 

@@ -9,7 +9,7 @@ loop-node-preserved c =
     let plan = c.args.plan.now in
     let counted : c.loop-node.node < length plan.round_counts = search rules in
     let named = ap (λ graph. slice_get (node_names graph) c.loop-node.node)
-    (sym c.graph-graph.ensures) ∙ c.name.ensures in
+    (sym c.graph-graph.ensures.graph) ∙ c.name.ensures in
     let count = c.at.ensures
     ∙ ap (λ counts. slice_index counts c.loop-node.node) c.round_counts-counts.ensures.counts in
     one_line_more c.loop-node.node (node_names plan.graph) plan.round_counts c.name.result.now

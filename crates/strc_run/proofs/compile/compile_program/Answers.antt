@@ -163,6 +163,13 @@ new-requires c =
       is = c.in_ok-schedule.ensures.schedule;
       within = c.in_ok-schedule.ensures.within;
     })
+    (record {
+      stream = stream_view c.in_ok-stream.stream;
+      closed = sound.closed;
+      program = c.in_ok-graph.ensures.program sound.closed;
+      connected = c.in_ok-graph.ensures.connected sound.closed.typed;
+      loops = c.in_ok-graph.ensures.loops;
+    })
 
 pub returns : goal.returns
 returns c = λ text spells.

@@ -2,7 +2,7 @@ use Rattle.std.proofs.Common.{◌∙◌, ap, subst}
 use Rattle.strc_graph.specs.NodeView.{graph_view}
 use Rattle.strc_order.specs.Greedy.{firings_of}
 use Rattle.strc_admissible.specs.Circuits.{IsFirst}
-use Rattle.strc_admissible.specs.Laws.{round_order}
+use Rattle.strc_admissible.specs.Laws.{round_order, startup_order}
 use Rattle.strc_admissible.specs.Machine.{whole_run}
 use Rattle.strc_sched.specs.Circuits.{circuit_view}
 use Rattle.strc_sched.specs.Plain.{IsEnding, ReportsRun}
@@ -27,8 +27,10 @@ returns-clause-reported c =
           c.in-Ok-new-2.ensures.first;
       known = c.in-Ok-new-2.ensures.known;
       reported =
-          subst (λ order. IsEnding outcome (whole_run circuit order (round_order schedule) rounds
-          machine)) startup
-          (subst (λ order. IsEnding outcome (whole_run circuit
-          (firings_of c.in-Ok.startup.units.now) order rounds machine)) round reported);
+          subst (λ codes. IsEnding codes outcome (whole_run circuit (startup_order schedule)
+          (round_order schedule) rounds machine)) c.requires.circuit.codes
+          (subst (λ order. IsEnding circuit.codes outcome (whole_run circuit order
+          (round_order schedule) rounds machine)) startup
+          (subst (λ order. IsEnding circuit.codes outcome (whole_run circuit
+          (firings_of c.in-Ok.startup.units.now) order rounds machine)) round reported));
     })

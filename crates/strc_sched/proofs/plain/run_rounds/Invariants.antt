@@ -2,12 +2,15 @@ use Rattle.std.proofs.Common.{◌≡◌, ◌-◌}
 use Rattle.strc_order.specs.Greedy.{firings_of}
 use Rattle.strc_admissible.specs.Machine.{rounds_run}
 use Rattle.strc_sched.specs.Circuits.{circuit_view}
+use Rattle.strc_sched.specs.Marks.{IsMarks}
 use Rattle.strc_sched.specs.Running.{IsMachine, machine_view}
 use Rattle.strc_sched.proofs.plain.run_rounds.Given as goal
 
 abbrev pub invariant-loop-round : goal.invariant-loop-round
 invariant-loop-round l = record {
   machine : IsMachine (circuit_view l.circuit) l.running;
+  marks : IsMarks l.before;
+  nodes : l.before.nodes.now ≡ l.circuit.nodes.now;
   rest : rounds_run (circuit_view l.circuit) (firings_of l.order.units.now) l.fn.rounds 0
       (machine_view l.fn.machine)
       ≡ rounds_run (circuit_view l.circuit) (firings_of l.order.units.now)

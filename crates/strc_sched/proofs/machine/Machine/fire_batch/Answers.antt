@@ -87,7 +87,7 @@ returns-in-Ok-true-clause-machine c =
     (c.pass_at_once.ensures.rings ∙ ap length c.deref_mut.ensures.value ∙ sym before.rings.ok.0) in
     machine_after (circuit_view c.args.circuit.now) before _ c.requires.machine
     c.requires.machine.actors
-    (length-set before.fired.items c.args.batch.now.node c.saturating_add.result)
+    (length-set before.fired.items c.args.batch.now.node c.saturating_add.result) refl
     (ap length left ∙ c.pass_at_once.ensures.rings ∙ ap length c.deref_mut.ensures.value)
 
 pub fire_alone-requires-clause-machine : goal.fire_alone-requires-clause-machine
@@ -96,7 +96,7 @@ fire_alone-requires-clause-machine c =
     let left = with_items_is rings c.pass_at_once.new.rings
     (c.pass_at_once.ensures.rings ∙ ap length c.deref_mut.ensures.value ∙ sym rings.ok.0) in
     machine_after (circuit_view c.args.circuit.now) c.args.self.now _ c.requires.machine
-    c.requires.machine.actors refl
+    c.requires.machine.actors refl refl
     (ap length left ∙ c.pass_at_once.ensures.rings ∙ ap length c.deref_mut.ensures.value)
 
 pub fire_alone-requires-clause-batch : goal.fire_alone-requires-clause-batch
@@ -131,5 +131,5 @@ returns-in-Err-clause-machine c =
     let left = with_items_is rings c.pass_at_once.new.rings
     (c.pass_at_once.ensures.rings ∙ ap length c.deref_mut.ensures.value ∙ sym rings.ok.0) in
     machine_after (circuit_view c.args.circuit.now) c.args.self.now _ c.requires.machine
-    c.requires.machine.actors refl
+    c.requires.machine.actors refl refl
     (ap length left ∙ c.pass_at_once.ensures.rings ∙ ap length c.deref_mut.ensures.value)

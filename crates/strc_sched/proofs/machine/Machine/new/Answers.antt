@@ -1,5 +1,5 @@
-use Rattle.std.proofs.Common.{◌∙◌, sym, ap, subst, length, map}
-use Rattle.std.proofs.lemmas.List.{length-map}
+use Rattle.std.proofs.Common.{◌∙◌, sym, ap, subst, length, map, []}
+use Rattle.std.proofs.lemmas.List.{length-map, length-replicate}
 use Rattle.strc_graph.specs.NodeView.{node_view, channel_view}
 use Rattle.strc_sched.specs.Actors.{AreActors}
 use Rattle.strc_sched.proofs.Done.{hold_rings}
@@ -15,6 +15,10 @@ returns-clause-machine c =
       actors = subst (λ codes. AreActors codes c.in_ok-actors.actors.items) nodes
           c.in_ok-actors.ensures.actors;
       fired = sym c.in_ok-fired.fired.ok.0 ∙ c.in_ok-fired.ensures.len ∙ ap length c.nodes-2.ensures
+          ∙ sym (length-map c.args.graph.now.nodes node_view) ∙ sym (ap length wired.codes);
+      words = sym (length-map c.in_ok-words.words.items (λ words. words.items))
+          ∙ ap length c.in_ok-words.ensures ∙ length-replicate _ []
+          ∙ ap length c.nodes-3.ensures
           ∙ sym (length-map c.args.graph.now.nodes node_view) ∙ sym (ap length wired.codes);
       input_nodes = wired.input_nodes ∙ sym (ap length wired.codes);
       output_nodes = wired.output_nodes ∙ sym (ap length wired.codes);

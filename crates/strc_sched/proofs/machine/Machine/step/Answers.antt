@@ -1,10 +1,11 @@
 use Rattle.std.proofs.Common.{◌∙◌, refl, sym, ap, subst, ◌<◌, [], length, get_or, arith}
 use Rattle.std.specs.Vec.{with_items}
-use Rattle.std.proofs.lemmas.List.{with_items_is, length-map}
+use Rattle.std.proofs.lemmas.List.{with_items_is, length-map, length-set}
 use Rattle.strc_semantics.specs.Filters.{filter_of}
 use Rattle.strc_graph.specs.NodeView.{node_view}
 use Rattle.strc_graph.specs.declared.graph.Node.{Node}
 use Rattle.strc_graph.specs.declared.graph.Node.TheVariants as node
+use Rattle.strc_admissible.specs.Machine.{words_at}
 use Rattle.strc_admissible.specs.Rings.{at_port}
 use Rattle.strc_admissible.specs.Wiring.{ports_at}
 use Rattle.strc_sched.specs.Actors.{IsActorOf, fields_of}
@@ -14,7 +15,8 @@ use Rattle.strc_sched.specs.Running.{machine_view}
 use Rattle.strc_sched.specs.declared.actor.Actor.TheVariants as actor
 use Rattle.strc_sched.proofs.Done.{actor_at, actor_set, code_at, done_by, fields_set, fields_at}
 use Rattle.strc_sched.proofs.Done.{machine_after, step_of, passive_kept, passive_of, fields_kept}
-use Rattle.strc_sched.proofs.Done.{stepped_filter, stepped_passive}
+use Rattle.strc_sched.proofs.Done.{stepped_filter, stepped_passive, stepped_words}
+use Rattle.strc_sched.proofs.TapeLists.{own_words, words_many, words_set}
 use Rattle.strc_sched.proofs.machine.Machine.step.Goals as goal
 
 pub fire_filter-requires-clause-actor : goal.fire_filter-requires-clause-actor
@@ -51,7 +53,7 @@ returns-in-Filter-index_mut-clause-machine c =
     (actor.Filter c.fire_filter.new.actor) c.requires.machine.actors
     (code_at c.args.circuit.now.nodes.now c.args.batch.now.node c.index-circuit-node.result filter
     there c.in-Filter.is) c.fire_filter.ensures.actor)
-    refl
+    refl (length-set c.args.self.now.words.items c.args.batch.now.node c.fire_filter.new.words)
     (ap length (with_items_is rings c.fire_filter.new.rings
     (c.fire_filter.ensures.rings ∙ ap length c.deref_mut.ensures.value ∙ sym rings.ok.0))
     ∙ c.fire_filter.ensures.rings ∙ ap length c.deref_mut.ensures.value)
@@ -75,13 +77,21 @@ returns-in-Filter-index_mut-clause-step c =
     let l = length-map c.args.circuit.now.nodes.now node_view in
     omega arith in
     let after = fields_set actors number (actor.Filter c.fire_filter.new.actor) in
+    let words = c.args.self.now.words.items in
+    let held : number < length words =
+    let e = c.requires.machine.words in
+    let l = length-map c.args.circuit.now.nodes.now node_view in
+    omega arith in
     done_by _ c.fire_filter.result number before _ c.fire_filter.new.actor.state.fields
+    c.fire_filter.new.words.items
     (subst (λ step. HasStepped step c.fire_filter.result (get_or before.fields number [])
     c.fire_filter.new.actor.state.fields before.rings
-    (with_items rings c.fire_filter.new.rings).items before.words c.fire_filter.new.words.items)
+    (with_items rings c.fire_filter.new.rings).items (words_at before.words number)
+    c.fire_filter.new.words.items)
     (sym (step_of circuit before number c.args.firing (node_view filter)
     (ports_at circuit.inputs number) (ports_at circuit.outputs number) here refl refl))
-    (stepped_filter c.fire_filter.result before.words c.fire_filter.new.words.items rings.items
+    (stepped_filter c.fire_filter.result (words_at before.words number)
+    c.fire_filter.new.words.items rings.items
     c.deref_mut.result.now (with_items rings c.fire_filter.new.rings).items
     c.fire_filter.new.rings c.deref_mut.ensures.value
     (sym (with_items_is rings c.fire_filter.new.rings
@@ -92,8 +102,11 @@ returns-in-Filter-index_mut-clause-step c =
     (at_port (ports_at circuit.outputs number) 0) c.args.batch.now.output
     (sym (fields_at actors number c.index_mut.result.now less c.index_mut.ensures.value
     ∙ ap fields_of c.in-Filter-index_mut.is))
-    c.requires.batch.input c.requires.batch.output c.fire_filter.ensures.step))
-    refl after
+    c.requires.batch.input c.requires.batch.output
+    (stepped_words _ _ _ _ _ _ _ _ _
+    (own_words words number c.index_mut-in-Filter-index_mut.result.now held
+    c.index_mut-in-Filter-index_mut.ensures.value) c.fire_filter.ensures.step)))
+    refl after (words_set words number c.fire_filter.new.words) (words_many words number held)
 
 pub returns-in_default : goal.returns-in_default
 returns-in_default c =
@@ -111,27 +124,37 @@ returns-in_default c =
     there refl in
     let none = passive_kept circuit.codes actors c.requires.machine.actors number
     (node_view passive) here (passive_of passive c.in_default.not-Filter) in
+    let words = c.args.self.now.words.items in
+    let held : number < length words =
+    let e = c.requires.machine.words in
+    let l = length-map c.args.circuit.now.nodes.now node_view in
+    omega arith in
     let left = with_items_is rings c.fire_passive.new.rings
     (c.fire_passive.ensures.rings ∙ ap length c.deref_mut-in_default.ensures.value
     ∙ sym rings.ok.0) in
     record {
       machine = machine_after circuit c.args.self.now _ c.requires.machine
-          c.requires.machine.actors refl
+          c.requires.machine.actors refl (length-set words number c.fire_passive.new.words)
           (ap length left ∙ c.fire_passive.ensures.rings
           ∙ ap length c.deref_mut-in_default.ensures.value);
       fired = refl;
-      step = done_by _ c.fire_passive.result number before _ []
+      step = done_by _ c.fire_passive.result number before _ [] c.fire_passive.new.words.items
           (subst (λ step. HasStepped step c.fire_passive.result (get_or before.fields number [])
-          [] before.rings (with_items rings c.fire_passive.new.rings).items before.words
-          c.fire_passive.new.words.items)
+          [] before.rings (with_items rings c.fire_passive.new.rings).items
+          (words_at before.words number) c.fire_passive.new.words.items)
           (sym (step_of circuit before number c.args.firing (node_view passive)
           c.at.result.now c.at-in_default.result.now here c.at.ensures
           c.at-in_default.ensures))
-          (stepped_passive c.fire_passive.result before.words c.fire_passive.new.words.items
+          (stepped_passive c.fire_passive.result (words_at before.words number)
+          c.fire_passive.new.words.items
           rings.items c.deref_mut-in_default.result.now
           (with_items rings c.fire_passive.new.rings).items c.fire_passive.new.rings
           c.deref_mut-in_default.ensures.value (sym left) (node_view passive) c.args.firing
           (get_or before.fields number []) c.at.result.now c.at-in_default.result.now
-          circuit.input none c.fire_passive.ensures.step))
-          refl (fields_kept before.fields number none);
+          circuit.input none
+          (stepped_words _ _ _ _ _ _ _ _ _
+          (own_words words number c.index_mut-in_default.result.now held
+          c.index_mut-in_default.ensures.value) c.fire_passive.ensures.step)))
+          refl (fields_kept before.fields number none)
+          (words_set words number c.fire_passive.new.words) (words_many words number held);
     }

@@ -1,0 +1,12 @@
+pub mod GroupBounds
+pub mod Forward
+pub mod Segments
+pub mod Firings
+pub mod Ranged
+pub mod Staged
+pub mod Beginnings
+pub mod StageUnits
+pub mod Row
+pub mod BlockRates
+pub mod Shares
+pub mod EvenShares

@@ -1,0 +1,80 @@
+-- A plan's round cut into stages between the groups of its nodes (Gordon, Thies and Amarasinghe
+-- 2006: coarse-grained software pipelining).
+use Rattle.std.specs.Prelude.{◌≡◌, ℕ, suc, ◌<◌, ◌≤◌, Bool, ◌&&◌, ◌||◌, nat_le}
+use Rattle.std.specs.Prelude.{nat_lt, if◌then◌else◌, ℤ, List, [], ◌∷◌, length, Option, Some}
+use Rattle.std.specs.Prelude.{slice_get, slice_index}
+use Rattle.strc_semantics.specs.declared.fault.Cause.{Cause}
+use Rattle.strc_semantics.specs.declared.word.Word.{Word}
+use Rattle.strc_graph.specs.Graphs.{NodeCode, Graph, reads_input}
+use Rattle.strc_graph.specs.Carriers.{carries_in}
+use Rattle.strc_graph.specs.Meaning.{node_meaning}
+use Rattle.strc_stream.specs.Instances.{Stream}
+use Rattle.strc_stream.specs.Flattening.{meaning_of, tree_of}
+use Rattle.strc_order.specs.declared.unit as units
+use Rattle.strc_order.specs.Order.{firing_count}
+use Rattle.strc_admissible.specs.Laws.{startup_order, round_order}
+use Rattle.strc_stage.specs.Plans.{Planning}
+use Rattle.strc_staging.specs.Ranges.{stage_within}
+use Rattle.strc_staging.specs.Rewired.{StagedStream}
+
+-- a number is between groups: no outermost feedback loop has nodes on both of its sides
+abbrev pub IsBetweenGroups : (loops : List (Option ℕ)) → (bound : ℕ) → Type 0
+IsBetweenGroups loops bound =
+    (low high loop : ℕ) → low < bound → bound ≤ high → slice_get loops low ≡ Some (Some loop)
+    → slice_get loops high ≡ Some (Some loop) → ⊥
+
+-- the node of this number, where it is one, is in no outermost loop that begins before it; a loop
+-- has its joiner's number, which is its first
+abbrev pub BeginsGroup : (loops : List (Option ℕ)) → (number : ℕ) → Type 0
+BeginsGroup loops number =
+    (loop : ℕ) → slice_get loops number ≡ Some (Some loop) → number ≤ loop
+
+-- bounds of stages: a stage has the nodes from its bound up to the next one's, all stages have
+-- all nodes, and each bound is between groups
+pub record IsCut (graph : Graph) (bound : (stage : ℕ) → ℕ) (stages : ℕ) : Type 0 where
+  pub first : bound 0 ≡ 0
+  pub all : bound stages ≡ length graph.nodes
+  pub rising : (stage : ℕ) → stage < stages → bound stage ≤ bound (suc stage)
+  pub between : (stage : ℕ) → stage ≤ stages → IsBetweenGroups graph.outer_loops (bound stage)
+
+-- the firings of an order that are of nodes from one number on, and before another
+abbrev pub firings_within : (first next : ℕ) → (order : List ℕ) → List ℕ
+firings_within first next [] = []
+firings_within first next (node ∷ order) =
+    if nat_le first node && nat_lt node next then node ∷ firings_within first next order
+    else firings_within first next order
+
+-- those of a stage's nodes
+abbrev pub segment_of : (bound : (stage : ℕ) → ℕ) → (order : List ℕ) → (stage : ℕ) → List ℕ
+segment_of bound order stage = firings_within (bound stage) (bound (suc stage)) order
+
+-- the units of an order whose nodes are so, of which the first tells
+abbrev pub units_within : (first next : ℕ) → (order : List units.Unit.Unit)
+    → List units.Unit.Unit
+units_within first next [] = []
+units_within first next (unit ∷ order) =
+    if nat_le first (slice_index unit.nodes.items 0) && nat_lt (slice_index unit.nodes.items 0) next
+    then unit ∷ units_within first next order else units_within first next order
+
+-- whether something comes to an input port: items of a channel, or the program's input
+abbrev pub takes_items : NodeCode → (port : ℕ) → Bool
+takes_items code port = reads_input code || carries_in code port
+
+-- the stream of a plan, its graph and its schedule, with stages from these bounds on
+abbrev pub staged_stream : Planning → Stream → (input : List ℤ) → (rounds : ℕ)
+    → (bound : (stage : ℕ) → ℕ) → (last : ℕ) → StagedStream NodeCode (List ℤ) Cause Word
+staged_stream plan stream input rounds bound last = record {
+  meaning = node_meaning;
+  stream = tree_of stream;
+  input = input;
+  startup = firing_count (startup_order plan.schedule);
+  round = firing_count (round_order plan.schedule);
+  startup_order = startup_order plan.schedule;
+  round_order = round_order plan.schedule;
+  rounds = rounds;
+  source = (meaning_of stream).source;
+  carries = λ node port. takes_items ((meaning_of stream).code node) port;
+  stage_of = stage_within bound last;
+  segment = segment_of bound (round_order plan.schedule);
+  stages = suc last;
+}

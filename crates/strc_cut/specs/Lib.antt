@@ -1,0 +1,4 @@
+pub mod Bounds
+pub mod Cuts
+pub mod Laws
+pub mod Rows

@@ -1,0 +1,23 @@
+// The nodes that give words.
+
+ghost use Rattle.std.specs.Prelude.{◌≡◌};
+ghost use Rattle.strc_graph.specs.Graphs as graphs;
+ghost use Rattle.strc_graph.specs.NodeView.{node_view};
+
+use crate::graph::Node;
+
+/// Whether a firing of a node can give words, so that it has a tape.
+pub fn gives_words(node: &Node) -> bool
+    ensures { result ≡ graphs.gives_words (node_view node.now) }
+{
+    match node {
+        Node::Filter(instance) | Node::Copy(instance, _) => instance.code.prints(),
+        Node::FileWriter(_) => true,
+        Node::Identity
+        | Node::FileReader(_)
+        | Node::Splitter(_)
+        | Node::Joiner(_)
+        | Node::Scatter(_)
+        | Node::Gather(_) => false,
+    }
+}

@@ -1,0 +1,193 @@
+// The sizes of buffers while given orders fire, in a graph in which a filter fires as two copies.
+
+ghost use Rattle.std.specs.Prelude.{◌≡◌, ℕ, ◌*◌, ◌<◌, ◌≤◌, length, All, IsTrue};
+ghost use Rattle.strc_order.specs.Greedy.{firings_of};
+ghost use Rattle.strc_order.specs.Order.{firing_count};
+ghost use Rattle.strc_order.specs.Peaks.{HasNodes};
+ghost use Rattle.strc_order.specs.Progress.{count_bound};
+
+use crate::small_graphs::Kind::{Reader, Writer};
+use crate::small_graphs::{ends_of, graph_of, node_of, row_of, shown};
+use std::alloc::{AllocError, Global};
+use std::process::Abort;
+use std::test::Fail;
+use strc_check::constants::Constants;
+use strc_graph::graph::{Fission, Graph, Node};
+use strc_graph::instance::Instance;
+use strc_order::error::ScheduleError;
+use strc_order::sizing::sizes;
+use strc_order::unit::Unit;
+use strc_syntax::tree::{FilterTree, ItemType, Member};
+use strc_work::lowering::lower;
+
+/// A source, a scatter, two copies, a gather and a sink.
+const CHANNELS: &str = "0.0-1.0 1.0-2.0 1.1-3.0 2.0-4.0 3.0-4.1 4.0-5.0";
+
+/// The filter pushes one item, pops one and looks at three; of its four firings a round each copy
+/// has two.
+const FISSION: Fission = Fission {
+    ways: 2,
+    firings: 2,
+    pop: 1,
+    window: 3,
+    push: 1,
+};
+
+/// A row a line: for each channel a number from before and its items, the units of a round, each
+/// with its turns and its nodes, and the answer: the sizes of the buffers.
+const CASES: &str = "\
+# Of the two items that are there and four that come the scatter gives each copy four.
+0 0 0 0 0 0|2 0 0 0 0 0|4*0 1*1 2*2 2*3 1*4 4*5=6 4 4 2 2 4
+0 0 0 0 0 0|2 0 0 0 0 0|4*0 1*1 2*2.3 1*4 4*5=6 4 4 2 2 4
+0 0 0 0 0 0|2 0 0 0 0 0|1*0.0.0.0.1.2.3.3.2.4.5.5.5.5=6 4 4 2 2 4
+0 0 0 0 0 0|2 0 0 0 0 0|=2 0 0 0 0 0
+# Numbers from before count.
+7 0 9 1 2 3|2 0 0 0 0 0|4*0 1*1 2*2 2*3 1*4 4*5=7 4 9 2 2 4
+# Items that no firings leave there.
+0 0 0 0 0 0|3 1 0 3 0 0|4*0 1*1 2*2 2*3 1*4 4*5=7 5 4 5 2 4
+# 16,777,216 items are the limit.
+0 0 0 0 0 0|2 0 0 0 0 16777212|4*0 1*1 2*2 2*3 1*4 4*5=6 4 4 2 2 16777216
+0 0 0 0 0 0|2 0 0 0 0 16777213|4*0 1*1 2*2 2*3 1*4 4*5=too many items on channel 5
+0 0 16777217 0 0 0|2 0 0 0 0 16777213|4*0 1*1 2*2 2*3 1*4 4*5=too many items on channel 2
+0 0 0 0 0 0|2 0 0 0 0|4*0=outside the condition
+0 0 0 0 0 0|2 0 0 0 0 0|1*6=outside the condition
+";
+
+/// A copy of the filter. What it does plays no part.
+fn copy_of(alloc: Global) -> Result<Node, Fail> {
+    let mut members = Vec::new(alloc);
+    members.push(Member::Work(Vec::new(alloc), Vec::new(alloc)))?;
+    let tree = FilterTree {
+        input: ItemType::Int,
+        output: ItemType::Int,
+        members,
+    };
+    match lower(alloc, &tree, &Constants::new(alloc)) {
+        Ok(code) => Ok(Node::Copy(Instance { name: None, code }, FISSION)),
+        Err(_) => Err(Fail::from("lower")),
+    }
+}
+
+/// The graph.
+fn split_graph(rt: &impl Abort, alloc: Global) -> Result<Graph, Fail> {
+    let mut nodes = Vec::new(alloc);
+    nodes.push(node_of(alloc, Reader)?)?;
+    nodes.push(Node::Scatter(FISSION))?;
+    nodes.push(copy_of(alloc)?)?;
+    nodes.push(copy_of(alloc)?)?;
+    nodes.push(Node::Gather(FISSION))?;
+    nodes.push(node_of(alloc, Writer)?)?;
+    Ok(graph_of(rt, alloc, nodes, &ends_of(alloc, CHANNELS)?, 0)?)
+}
+
+/// Whether these nodes are some of so many.
+fn are_below(nodes: &[u32], size: usize) -> bool
+    ensures { IsTrue result → All (λ node. node < size) nodes.now }
+{
+    for node in nodes {
+        if *node as usize >= size {
+            return false;
+        }
+    }
+    true
+}
+
+/// Whether a unit is one of so many nodes, of at most 1,000 firings.
+fn is_small(unit: &Unit, size: usize) -> bool
+    ensures nodes { IsTrue result → HasNodes size unit.now }
+    ensures few { IsTrue result → unit.now.turns * length unit.now.nodes.items ≤ 1000 }
+{
+    if unit.turns > 10 || unit.nodes.len() > 100 {
+        return false;
+    }
+    are_below(&unit.nodes, size)
+}
+
+/// Whether units are of so many nodes, and at most 1,000 of at most 1,000 firings.
+fn are_small(units: &[Unit], size: usize) -> bool
+    ensures nodes { IsTrue result → All (HasNodes size) units.now }
+    ensures few { IsTrue result
+        → (node : ℕ) → firing_count (firings_of units.now) node ≤ count_bound }
+{
+    if units.len() > 1000 {
+        return false;
+    }
+    for unit in units {
+        if !is_small(unit, size) {
+            return false;
+        }
+    }
+    true
+}
+
+/// The sizes as a text, or why there are none.
+fn answer_of(
+    alloc: Global,
+    graph: &Graph,
+    before: &[u32],
+    fill: &[u32],
+    round: &[Unit],
+) -> Result<String, AllocError> {
+    let channels = graph.channels().len();
+    if before.len() != channels || fill.len() != channels {
+        return format!(in alloc; "outside the condition");
+    }
+    if !are_small(round, graph.nodes().len()) {
+        return format!(in alloc; "outside the condition");
+    }
+    match sizes(alloc, graph, before, fill, round) {
+        Ok(sizes) => shown(alloc, &sizes),
+        Err(ScheduleError::NoMemory) => Err(AllocError),
+        Err(error) => format!(in alloc; "{error}"),
+    }
+}
+
+/// The numbers of a text, of which each is followed by this.
+fn numbers_of(alloc: Global, text: &str, end: char) -> Result<Vec<u32>, Fail> {
+    let mut numbers = Vec::new(alloc);
+    for word in text.split(end) {
+        let number: Option<u32> = word.parse().ok();
+        numbers.push(number.ok_or("no number")?)?;
+    }
+    Ok(numbers)
+}
+
+/// The units of a text.
+fn units_of(alloc: Global, text: &str) -> Result<Vec<Unit>, Fail> {
+    let mut units = Vec::new(alloc);
+    for word in text.split_whitespace() {
+        let (turns, nodes) = word.split_once("*").ok_or("no unit")?;
+        let turns: Option<u32> = turns.parse().ok();
+        units.push(Unit {
+            turns: turns.ok_or("no turns")?,
+            nodes: numbers_of(alloc, nodes, '.')?,
+        })?;
+    }
+    Ok(units)
+}
+
+#[test]
+fn sizes_of_a_split_graph(rt: HostRuntime) -> Result<(), Fail> {
+    let alloc = rt.alloc();
+    let graph = split_graph(&rt, alloc)?;
+    for line in CASES.lines() {
+        let Some((given, expected)) = row_of(line)? else {
+            continue;
+        };
+        let (before, given) = given.split_once("|").ok_or("no items")?;
+        let (fill, units) = given.split_once("|").ok_or("no units")?;
+        let (before, fill) = (
+            numbers_of(alloc, before, ' ')?,
+            numbers_of(alloc, fill, ' ')?,
+        );
+        let units = units_of(alloc, units)?;
+        assert_eq!(rt;
+            answer_of(alloc, &graph, &before, &fill, &units)?
+                .as_str()
+                .trim_end(),
+            expected,
+            "{line}"
+        );
+    }
+    Ok(())
+}
