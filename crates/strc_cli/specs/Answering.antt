@@ -63,8 +63,8 @@ pub record HasPicture (text : List ℕ) (main : Option (List ℕ)) (picture : Li
   pub drawn : picture
       ≡ picture_text stream plan.graph plan.startup_counts plan.round_counts plan.schedule.sizes
 
--- an answer is what a command asks of the text: the outcome of its rounds, with its plan, the size of
--- its graph, its plan, or the picture of its graph
+-- an answer is what a command asks of the text: the outcome of its rounds, with its plan, the size
+-- of its graph, its plan, or the picture of its graph
 abbrev pub IsAsked : List ℕ → Command → (bytes : Option (List ℕ)) → Answer → Type 0
 IsAsked text (command.Run rounds main) bytes (answer.Ran plan outcome) =
     IsPlanOf text (option_map string_bytes main) (planning_of plan)
