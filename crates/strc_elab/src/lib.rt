@@ -19,4 +19,6 @@ mod progress;
 mod task;
 mod text;
 
+pub use strc_graph::graph;
 pub use strc_scope::error;
+pub use strc_stream::stream;

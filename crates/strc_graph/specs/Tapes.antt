@@ -1,5 +1,5 @@
--- The outputs of a program: each node that gives words has a tape of its own, and tapes are in order
--- of their nodes.
+-- The outputs of a program: each node that gives words has a tape of its own, and tapes are in
+-- order of their nodes.
 use Rattle.std.specs.Prelude.{◌≡◌, ℕ, suc, ◌<◌, List, [], ◌∷◌, Some, slice_get, if◌then◌else◌}
 use Rattle.strc_graph.specs.Graphs.{NodeCode, FileWriter, gives_words}
 

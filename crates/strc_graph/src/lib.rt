@@ -3,7 +3,7 @@
 // mean.
 // The theorem to rely on: a graph's channels join ports of its nodes, and its readers give what
 // went in.
-// Stands on strc_dataflow, whose flat graphs give the meaning, on strc_work, whose codes its
+// Stands on strc_dataflow, whose flat graphs give the meaning, on strc_code, whose codes its
 // filters hold, and on strc_semantics, whose bodies they have.
 #![tactic(auto)]
 

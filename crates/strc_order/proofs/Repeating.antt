@@ -15,7 +15,7 @@ use Rattle.strc_order.specs.Order.{IsOrder}
 use Rattle.strc_order.specs.Rounds.{rounds_on, RoundBalances, IsPastPrework, OrderRepeats}
 use Rattle.strc_order.specs.Rounds.{FillsRepeat}
 use Rattle.strc_order.specs.Rounds.{NoBufferOverflows}
-use Rattle.strc_order.specs.Schedules.{ScheduleParts, IsSchedule}
+use Rattle.strc_order.specs.Schedules.{ScheduleParts}
 use Rattle.strc_order.proofs.Buffering.{at_channel}
 use Rattle.std.proofs.lemmas.Option.{same_Some, slice_get-get_or, slice_get_within}
 
@@ -156,14 +156,4 @@ module _ (channels : List ChannelRates) (startup round : Firings) (schedule : Sc
 
 pub no_buffer_overflows : NoBufferOverflows
 no_buffer_overflows channels startup round schedule is =
-    within_sizes channels startup round schedule is.sizes
-
--- the same of greedy orders
-pub no_overflow : (channels : List ChannelRates) (startup round : Firings)
-    (schedule : ScheduleParts) → IsSchedule channels startup round schedule
-    → All (IsPastPrework startup) channels → All (RoundBalances round) channels
-    → (rounds number : ℕ) (rates : ChannelRates) → slice_get channels number ≡ Some rates
-    → peak_fill rates (rounds_on startup rounds round) (firings_of schedule.round)
-    ≤ slice_index schedule.sizes number
-no_overflow channels startup round schedule is =
     within_sizes channels startup round schedule is.sizes

@@ -1,7 +1,7 @@
 -- One list of a parcel is another one.
 use Rattle.std.proofs.Common.{◌≡◌, ◌<◌, ℕ, ℤ, Bool, List, [], map, length, set, get_or, ap, ◌∙◌}
 use Rattle.std.proofs.Common.{Option, arith, Result, Ok, Err, MatchResult, ◌++◌, ◌∷◌, ◌+◌, take}
-use Rattle.std.proofs.Common.{replicate, add-one, sym, subst}
+use Rattle.std.proofs.Common.{replicate, add-one, sym, subst, ◌-◌}
 use Rattle.std.proofs.lemmas.List.{map-set, get_or-map, length-map, map-append, replicate_more}
 use Rattle.std.proofs.Math.Seq.{map-set_same, take-suc-set}
 use Rattle.std.specs.Global.{Vec}
@@ -9,7 +9,7 @@ use Rattle.std.specs.Vec.{vec_items, vec_capacity}
 use Rattle.strc_semantics.specs.declared.word.Word.{Word}
 use Rattle.strc_parcel.specs.declared.stop.Stop.{Stop}
 use Rattle.strc_parcel.specs.Parcels.{ParcelView, parcel, load_of, with_block, with_words, block_at}
-use Rattle.strc_parcel.specs.Parcels.{words_at}
+use Rattle.strc_parcel.specs.Parcels.{words_at, filled}
 
 module _ {X : Type 0} (lists : List (Vec X)) (at : ℕ) (old new : Vec X)
     (was : old ≡ get_or lists at old) where
@@ -49,6 +49,28 @@ module _ (blocks : List (Vec ℤ)) (words : List (Vec Word)) (stop : Option Stop
         rooms = capacities_set blocks at old new was same i;
         words = map vec_items words;
       }) stop last)
+
+  -- A parcel with as many more items in a block as it has room for.
+  pub filled_is : (at : ℕ) (old new : Vec ℤ) (items : List ℤ) → at < length blocks
+      → old ≡ get_or blocks at old → vec_capacity new ≡ vec_capacity old
+      → vec_items new ≡ vec_items old ++ take (vec_capacity old - length (vec_items old)) items
+      → parcel (load_of (set blocks at new) words) stop last
+      ≡ parcel (filled now.load at items) now.stop now.last
+  filled_is at old new items within was same more =
+      let held = items_at blocks at old old was
+      (let e = length-map blocks (λ (v : Vec ℤ). vec_items v) in omega arith) in
+      let room = get_or-map vec_capacity blocks at old 0 within ∙ ap vec_capacity (sym was) in
+      subst (λ (n : ParcelView). parcel (load_of (set blocks at new) words) stop last
+      ≡ parcel (filled n.load at items) n.stop n.last)
+      view
+      ((λ i. parcel (record {
+        blocks = items_set blocks at old new was i;
+        rooms = capacities_set blocks at old new was same i;
+        words = map vec_items words;
+      }) stop last)
+      ∙ ap (λ l. parcel (with_block (load_of blocks words) at l) stop last)
+      (more
+      ∙ (λ i. sym held i ++ take (sym room i - length (sym held i)) items)))
 
   -- The words of a tape, and a parcel with others.
   pub words_are : (at : ℕ) (old : Vec Word) → at < length now.load.words → old ≡ get_or words at old

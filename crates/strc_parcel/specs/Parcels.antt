@@ -1,5 +1,5 @@
 -- Parcels as plain data.
-use Rattle.std.specs.Prelude.{ℕ, ℤ, Bool, List, [], map, length, replicate}
+use Rattle.std.specs.Prelude.{ℕ, ◌-◌, ℤ, Bool, List, [], ◌++◌, map, length, replicate, take}
 use Rattle.std.specs.Prelude.{Option, slice_index_or, slice_set}
 use Rattle.std.specs.Global.{Vec}
 use Rattle.std.specs.Vec.{vec_items, vec_capacity}
@@ -68,3 +68,9 @@ with_words load tape words = record {
   rooms = load.rooms;
   words = slice_set load.words tape words;
 }
+
+-- A load with as many more items in a block as it has room for.
+abbrev pub filled : Load → ℕ → List ℤ → Load
+filled load number items = with_block load number
+    (block_at load number
+    ++ take (room_at load number - length (block_at load number)) items)

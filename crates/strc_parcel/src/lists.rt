@@ -1,7 +1,7 @@
 // Lists whose memory stays.
 
-ghost use Rattle.std.specs.Prelude.{◌≡◌, ◌+◌, ◌≤◌, ◌++◌, ◌∷◌, [], map, length, replicate};
-ghost use Rattle.std.specs.Prelude.{vec_len, MatchResult};
+ghost use Rattle.std.specs.Prelude.{◌≡◌, ◌+◌, ◌-◌, ◌≤◌, ◌++◌, ◌∷◌, [], map, length, replicate};
+ghost use Rattle.std.specs.Prelude.{take, vec_len, MatchResult};
 ghost use Rattle.std.specs.Vec.{vec_items, vec_capacity};
 
 use std::alloc::AllocError;
@@ -16,6 +16,16 @@ pub(crate) fn append_within(list: &mut Vec<i32>, items: &[i32])
     for item in items {
         list.push_reserved(*item);
     }
+}
+
+/// Appends items to a list, as many as it has room for.
+pub(crate) fn append_most(list: &mut Vec<i32>, items: &[i32])
+    ensures items { list.new.items ≡ list.old.items
+        ++ take (vec_capacity list.old - length list.old.items) items.now }
+    ensures capacity { vec_capacity list.new ≡ vec_capacity list.old }
+{
+    let room = list.capacity().saturating_sub(list.len());
+    append_within(list, &items[..items.len().min(room)]);
 }
 
 /// Appends a word, unless memory is refused.

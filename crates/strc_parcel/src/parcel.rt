@@ -5,11 +5,12 @@ ghost use Rattle.std.specs.Prelude.{Some, None, is_some, slice_index_or, slice_s
 ghost use Rattle.strc_core.specs.Actors.{or_else};
 ghost use Rattle.strc_parcel.specs.declared.stop.Stop.TheVariants.{NoMemory};
 
-use crate::lists::{add_word, append_within, clear_all};
+use crate::lists::{add_word, append_most, append_within, clear_all};
 use crate::making::{blocks_with, words_of};
 use crate::stop::Stop;
 use std::alloc::{AllocError, Global};
 use std::marker::Model;
+use std::mem;
 use strc_semantics::word::Word;
 
 /// A block of items for each channel that crosses stages, the words of each tape, why it is
@@ -32,7 +33,7 @@ impl Model for Parcel {
 
 impl Parcel {
     ghost use Rattle.strc_parcel.specs.Parcels.{parcel, empty_load, emptied, block_at, room_at};
-    ghost use Rattle.strc_parcel.specs.Parcels.{words_at, with_block, with_words};
+    ghost use Rattle.strc_parcel.specs.Parcels.{words_at, with_block, with_words, filled};
 
     /// Empty blocks with these rooms, and so many tapes with no words; where memory is refused,
     /// neither, and stopped by that.
@@ -117,12 +118,14 @@ impl Parcel {
         self.words.len()
     }
 
-    /// The items of a block.
+    /// The items of a block; none where there is no such block.
     pub fn block(&self, number: usize) -> &[i32]
-        requires { number < length self.now.load.blocks }
         ensures { result.now ≡ block_at self.now.load number }
     {
-        self.blocks[number].as_slice()
+        match self.blocks.get(number) {
+            Some(block) => block.as_slice(),
+            None => &[],
+        }
     }
 
     /// How many items a block has room for.
@@ -153,13 +156,48 @@ impl Parcel {
         append_within(&mut self.blocks[number], items);
     }
 
-    /// Empties a block, whose room stays.
+    /// Appends items to a block, as many as it has room for; to none where there is no such block.
+    /// It takes no memory.
+    pub fn fill_within(&mut self, number: usize, items: &[i32])
+        ensures { self.new ≡ parcel (filled self.old.load number items.now) self.old.stop
+            self.old.last }
+    {
+        if number < self.blocks.len() {
+            append_most(&mut self.blocks[number], items);
+        }
+    }
+
+    /// Empties a block, where there is one. Its room stays.
     pub fn clear_block(&mut self, number: usize)
-        requires { number < length self.old.load.blocks }
         ensures { self.new ≡ parcel (with_block self.old.load number []) self.old.stop
             self.old.last }
     {
-        self.blocks[number].clear();
+        if number < self.blocks.len() {
+            self.blocks[number].clear();
+        }
+    }
+
+    /// The words of a tape, taken out; none where there is no such tape.
+    pub fn take_words(&mut self, alloc: Global, tape: usize) -> Vec<Word>
+        ensures words { result.items ≡ words_at self.old.load tape }
+        ensures left { self.new ≡ parcel (with_words self.old.load tape []) self.old.stop
+            self.old.last }
+    {
+        if tape < self.words.len() {
+            mem::replace(&mut self.words[tape], Vec::new(alloc))
+        } else {
+            Vec::new(alloc)
+        }
+    }
+
+    /// These become the words of a tape, where there is one.
+    pub fn put_words(&mut self, tape: usize, words: Vec<Word>)
+        ensures { self.new ≡ parcel (with_words self.old.load tape words.items) self.old.stop
+            self.old.last }
+    {
+        if tape < self.words.len() {
+            self.words[tape] = words;
+        }
     }
 
     /// Appends a word to a tape. Where memory is refused, the parcel stays as it is.

@@ -17,3 +17,4 @@ mod simple;
 
 pub use program::parse;
 pub use strc_grammar::{HEIGHT_LIMIT, ParseError, one_tree};
+pub use strc_syntax::tree;

@@ -12,11 +12,13 @@ pub struct Marker {
 }
 
 impl Actor for Marker {
-    ghost use Rattle.std.specs.Prelude.{◌≡◌, ◌+◌, nat_eq, true};
+    ghost use Rattle.std.specs.Prelude.{◌≡◌, ◌+◌, nat_eq, true, false};
 
     ghost does = { λ before _ after _. after.left + 1 ≡ before.left };
 
     ghost has_finished = { λ stage. nat_eq stage.left 0 };
+
+    ghost has_halted = { λ _. false };
 
     ghost takes = { λ _ _. true };
 
@@ -53,11 +55,13 @@ pub struct Counter {
 }
 
 impl Actor for Counter {
-    ghost use Rattle.std.specs.Prelude.{◌≡◌, ◌+◌, nat_eq, true};
+    ghost use Rattle.std.specs.Prelude.{◌≡◌, ◌+◌, nat_eq, true, false};
 
     ghost does = { λ before _ after _. after.left + 1 ≡ before.left };
 
     ghost has_finished = { λ collector. nat_eq collector.left 0 };
+
+    ghost has_halted = { λ _. false };
 
     ghost takes = { λ _ _. true };
 

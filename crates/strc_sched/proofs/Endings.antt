@@ -14,18 +14,17 @@ use Rattle.strc_admissible.specs.Machine.{CircuitView, MachineView, Progress, We
 use Rattle.strc_admissible.specs.Machine.{Ending, FaultedIn, FaultedAtFirst, order_run}
 use Rattle.strc_admissible.specs.Machine.{after_round, after_startup}
 use Rattle.strc_graph.specs.NodeView.{node_view}
-use Rattle.strc_graph.specs.declared.graph.Node.{Node}
 use Rattle.strc_sched.specs.Marks.{kept_tapes}
 use Rattle.strc_sched.specs.declared.tapes.Marks.{Marks}
 use Rattle.strc_admissible.specs.Machine.{rounds_run, words_at}
 use Rattle.strc_admissible.specs.Planned.{AreKnown}
-use Rattle.strc_sched.specs.Actors.{AreClosed, IsClosedNode}
+use Rattle.strc_runner.specs.Actors.{AreClosed, IsClosedNode}
 use Rattle.strc_sched.specs.Plain.{IsEnding, IsStopped}
-use Rattle.strc_sched.specs.Running.{HasGone, HaveMoreWords}
+use Rattle.strc_runner.specs.Running.{HasGone, HaveMoreWords}
 use Rattle.strc_sched.specs.Tapes.{AreMarked, tapes_from, tapes_of}
 use Rattle.strc_outcome.specs.Tapes.{TapeView, tape}
-use Rattle.strc_sched.specs.declared.machine.Stop.{Stop}
-use Rattle.strc_sched.specs.declared.machine.Stop.TheVariants as stop
+use Rattle.strc_runner.specs.declared.machine.Stop.{Stop}
+use Rattle.strc_runner.specs.declared.machine.Stop.TheVariants as stop
 use Rattle.strc_outcome.specs.declared.outcome.Outcome.{Outcome}
 use Rattle.strc_outcome.specs.declared.outcome.Round.TheVariants as round
 use Rattle.strc_outcome.specs.declared.refusal.RunRefusal.{RunRefusal}
@@ -126,17 +125,16 @@ tapes_kept codes lengths before after marked more =
     (let e : place ≡ 0 + place = omega arith in e) there)
 
 -- the tapes that were marked when a round began
-pub kept_before : (marks : Marks) (nodes old : List Node)
-    (shown before after seen : List (List Word)) → marks.nodes.now ≡ nodes → old ≡ nodes
-    → AreMarked (map node_view old) marks.lengths.items seen → seen ≡ before → shown ≡ after
-    → HaveMoreWords before after
-    → kept_tapes marks shown ≡ tapes_of (map node_view nodes) (words_at before)
-kept_before marks nodes old shown before after seen own same marked is are more =
-    ap (λ n. tapes_of (map node_view n) (first_words marks.lengths.items shown)) own
-    ∙ ap (λ w. tapes_of (map node_view nodes) (first_words marks.lengths.items w)) are
-    ∙ tapes_kept (map node_view nodes) marks.lengths.items before after
-    (subst (λ n. AreMarked (map node_view n) marks.lengths.items before) same
-    (subst (AreMarked (map node_view old) marks.lengths.items) is marked)) more
+pub kept_before : (marks : Marks) (codes old : List NodeCode)
+    (shown before after seen : List (List Word)) → map node_view marks.nodes.now ≡ codes
+    → old ≡ codes → AreMarked old marks.lengths.items seen → seen ≡ before → shown ≡ after
+    → HaveMoreWords before after → kept_tapes marks shown ≡ tapes_of codes (words_at before)
+kept_before marks codes old shown before after seen own same marked is are more =
+    ap (λ n. tapes_of n (first_words marks.lengths.items shown)) own
+    ∙ ap (λ w. tapes_of codes (first_words marks.lengths.items w)) are
+    ∙ tapes_kept codes marks.lengths.items before after
+    (subst (λ n. AreMarked n marks.lengths.items before) same
+    (subst (AreMarked old marks.lengths.items) is marked)) more
 
 -- no words come before any
 pub more_than_none : (after : List (List Word)) → HaveMoreWords [] after

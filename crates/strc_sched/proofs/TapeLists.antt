@@ -7,34 +7,36 @@ use Rattle.std.proofs.Common.{inr, ◌⊎◌, append_assoc, add-one}
 use Rattle.std.specs.Prelude.{Some, slice_get, slice_index, if◌then◌else◌}
 use Rattle.std.proofs.lemmas.Bool.{cases_eq}
 use Rattle.std.proofs.lemmas.List.{drop_more, get_or-set_same, get_or-set_other, length-map}
-use Rattle.std.proofs.lemmas.List.{get_or-map, map-set}
+use Rattle.std.proofs.lemmas.List.{get_or-map}
 use Rattle.strc_semantics.specs.declared.word.Word.{Word}
 use Rattle.strc_graph.specs.Graphs.{NodeCode, gives_words}
 use Rattle.strc_graph.specs.NodeView.{node_view}
 use Rattle.strc_graph.specs.declared.graph.Node.{Node}
 use Rattle.strc_outcome.specs.Tapes.{TapeView, tape}
 use Rattle.strc_admissible.specs.Machine.{words_at}
-use Rattle.strc_sched.specs.Running.{words_of}
-use Rattle.strc_sched.specs.Tapes.{AreMarked, tape_nodes, tapes_from}
+use Rattle.strc_runner.specs.Running.{words_of}
+use Rattle.strc_runner.proofs.WordLists.{words_set}
+use Rattle.strc_graph.specs.Tapes.{tape_nodes_from}
+use Rattle.strc_sched.specs.Tapes.{AreMarked, tapes_from}
 use Rattle.std.specs.declared.vec.Vec.{Vec}
 use Rattle.std.specs.declared.alloc.Global.{Global}
 
 -- each of them is a node
 pub tape_nodes_within : (first : ℕ) (codes : List NodeCode) (place d : ℕ)
-    → place < length (tape_nodes first codes)
-    → get_or (tape_nodes first codes) place d < first + length codes
+    → place < length (tape_nodes_from first codes)
+    → get_or (tape_nodes_from first codes) place d < first + length codes
 tape_nodes_within first [] place d less = absurd (omega arith)
 tape_nodes_within first (code ∷ codes) place d less =
     by_kind (gives_words code) place less
     (λ place less. tape_nodes_within (suc first) codes place d less)
   where
     by_kind : (test : Bool) → (place : ℕ)
-        → place < length (if test then first ∷ tape_nodes (suc first) codes
-        else tape_nodes (suc first) codes)
-        → ((place : ℕ) → place < length (tape_nodes (suc first) codes)
-        → get_or (tape_nodes (suc first) codes) place d < suc first + length codes)
-        → get_or (if test then first ∷ tape_nodes (suc first) codes
-        else tape_nodes (suc first) codes) place d < first + suc (length codes)
+        → place < length (if test then first ∷ tape_nodes_from (suc first) codes
+        else tape_nodes_from (suc first) codes)
+        → ((place : ℕ) → place < length (tape_nodes_from (suc first) codes)
+        → get_or (tape_nodes_from (suc first) codes) place d < suc first + length codes)
+        → get_or (if test then first ∷ tape_nodes_from (suc first) codes
+        else tape_nodes_from (suc first) codes) place d < first + suc (length codes)
     by_kind true zero less later = omega arith
     by_kind true (suc place) less later =
         let own = later place (omega arith) in omega arith
@@ -49,23 +51,23 @@ pub record IsAmong (nodes : List ℕ) (node : ℕ) : Type 0 where
 -- a node that gives words is one of them
 pub tape_place : (first : ℕ) (codes : List NodeCode) (node : ℕ) (code : NodeCode)
     → slice_get codes node ≡ Some code → gives_words code ≡ true
-    → IsAmong (tape_nodes first codes) (first + node)
+    → IsAmong (tape_nodes_from first codes) (first + node)
 tape_place first [] node code there gives = absurd (cc)
 tape_place first (own ∷ codes) zero code there gives =
     let same : own ≡ code = cc in
     by_kind (gives_words own) (ap gives_words same ∙ gives)
   where
     by_kind : (test : Bool) → test ≡ true
-        → IsAmong (if test then first ∷ tape_nodes (suc first) codes
-        else tape_nodes (suc first) codes) (first + 0)
+        → IsAmong (if test then first ∷ tape_nodes_from (suc first) codes
+        else tape_nodes_from (suc first) codes) (first + 0)
     by_kind true e = record { place = 0; within = omega arith; is = omega arith }
     by_kind false e = absurd (cc)
 tape_place first (own ∷ codes) (suc node) code there gives =
     by_kind (gives_words own) (tape_place (suc first) codes node code there gives)
   where
-    by_kind : (test : Bool) → IsAmong (tape_nodes (suc first) codes) (suc first + node)
-        → IsAmong (if test then first ∷ tape_nodes (suc first) codes
-        else tape_nodes (suc first) codes) (first + suc node)
+    by_kind : (test : Bool) → IsAmong (tape_nodes_from (suc first) codes) (suc first + node)
+        → IsAmong (if test then first ∷ tape_nodes_from (suc first) codes
+        else tape_nodes_from (suc first) codes) (first + suc node)
     by_kind true among = record {
       place = suc among.place;
       within = let less = among.within in omega arith;
@@ -86,7 +88,7 @@ AreMarkedBelow tapes count lengths words =
 
 -- those of all tapes
 pub marked_all : (codes : List NodeCode) (lengths : List ℕ) (words : List (List Word))
-    → AreMarkedBelow (tape_nodes 0 codes) (length (tape_nodes 0 codes)) lengths words
+    → AreMarkedBelow (tape_nodes_from 0 codes) (length (tape_nodes_from 0 codes)) lengths words
     → AreMarked codes lengths words
 marked_all codes lengths words below node code there gives =
     let among = tape_place 0 codes node code there gives in
@@ -130,19 +132,19 @@ module _ (nodes : List Node) (node : ℕ) (own : Node) (less : node < length nod
       (get_or-map node_view nodes node own (node_view own) less ∙ ap node_view (sym is))
 
   abbrev pub nodes_later : List ℕ
-  nodes_later = tape_nodes (node + 1) (drop (node + 1) (map node_view nodes))
+  nodes_later = tape_nodes_from (node + 1) (drop (node + 1) (map node_view nodes))
 
-  nodes_from : tape_nodes node (drop node (map node_view nodes))
+  nodes_from : tape_nodes_from node (drop node (map node_view nodes))
       ≡ (if gives_words (node_view own) then node ∷ nodes_later else nodes_later)
   nodes_from =
-      ap (tape_nodes node) from_here
+      ap (tape_nodes_from node) from_here
       ∙ ap (λ n. if gives_words (node_view own)
-      then node ∷ tape_nodes n (drop (node + 1) (map node_view nodes))
-      else tape_nodes n (drop (node + 1) (map node_view nodes))) (sym (add-one node))
+      then node ∷ tape_nodes_from n (drop (node + 1) (map node_view nodes))
+      else tape_nodes_from n (drop (node + 1) (map node_view nodes))) (sym (add-one node))
 
   pub node_here : (test : Bool) → test ≡ gives_words (node_view own) → test ≡ true
       → (before whole : List ℕ)
-      → before ++ tape_nodes node (drop node (map node_view nodes)) ≡ whole
+      → before ++ tape_nodes_from node (drop node (map node_view nodes)) ≡ whole
       → (before ++ node ∷ []) ++ nodes_later ≡ whole
   node_here test e gives before whole all =
       append_assoc before (node ∷ []) nodes_later
@@ -152,7 +154,7 @@ module _ (nodes : List Node) (node : ℕ) (own : Node) (less : node < length nod
 
   pub no_node_here : (test : Bool) → test ≡ gives_words (node_view own) → test ≡ false
       → (before whole : List ℕ)
-      → before ++ tape_nodes node (drop node (map node_view nodes)) ≡ whole
+      → before ++ tape_nodes_from node (drop node (map node_view nodes)) ≡ whole
       → before ++ nodes_later ≡ whole
   no_node_here test e none before whole all =
       ap (λ l. before ++ l)
@@ -196,7 +198,7 @@ module _ (nodes : List Node) (node : ℕ) (own : Node) (less : node < length nod
 
 -- a tape's node is one of them
 pub tape_below : (nodes : List Node) (tapes : List ℕ) (place node : ℕ)
-    → tapes ≡ tape_nodes 0 (map node_view nodes) → place < length tapes
+    → tapes ≡ tape_nodes_from 0 (map node_view nodes) → place < length tapes
     → node ≡ get_or tapes place 0 → node < length nodes
 tape_below nodes tapes place node is less at =
     let long = ap length is in
@@ -207,14 +209,15 @@ tape_below nodes tapes place node is less at =
 
 -- two lists of the tapes of the same nodes
 pub tapes_long : (nodes others : List Node) (tapes own : List ℕ)
-    → tapes ≡ tape_nodes 0 (map node_view nodes) → own ≡ tape_nodes 0 (map node_view others)
+    → tapes ≡ tape_nodes_from 0 (map node_view nodes)
+    → own ≡ tape_nodes_from 0 (map node_view others)
     → nodes ≡ others → length tapes ≡ length own
 tapes_long nodes others tapes own is are same =
-    ap length is ∙ ap (λ l. length (tape_nodes 0 (map node_view l))) same ∙ sym (ap length are)
+    ap length is ∙ ap (λ l. length (tape_nodes_from 0 (map node_view l))) same ∙ sym (ap length are)
 
 -- at the end all are marked
 pub marked_end : (nodes others : List Node) (tapes lengths : List ℕ) (words : List (List Word))
-    (count : ℕ) → tapes ≡ tape_nodes 0 (map node_view nodes) → nodes ≡ others
+    (count : ℕ) → tapes ≡ tape_nodes_from 0 (map node_view nodes) → nodes ≡ others
     → length tapes ≤ count → AreMarkedBelow tapes count lengths words
     → AreMarked (map node_view others) lengths words
 marked_end nodes others tapes lengths words count is same all below =
@@ -222,17 +225,6 @@ marked_end nodes others tapes lengths words count is same all below =
     (marked_all (map node_view nodes) lengths words
     (subst (λ l. AreMarkedBelow l (length l) lengths words) is
     (λ place less. below place (omega (arith, less, all)))))
-
--- the words of all nodes, where one node's change
-pub words_set : (all : List (Vec Word Global)) (node : ℕ) (own : Vec Word Global)
-    → words_of (set all node own) ≡ set (words_of all) node own.items
-words_set all node own = map-set (λ (words : Vec Word Global). words.items) all node own
-
-pub words_many : (all : List (Vec Word Global)) (node : ℕ) → node < length all
-    → node < length (words_of all)
-words_many all node less =
-    let many = length-map all (λ (words : Vec Word Global). words.items) in
-    omega (arith, less, many)
 
 -- words of a node that are taken leave those of others
 pub other_words : (all : List (Vec Word Global)) (node : ℕ) (own : Vec Word Global) (other : ℕ)
@@ -242,17 +234,11 @@ other_words all node own other differs =
     ap (λ l. words_at l other) (words_set all node own)
     ∙ get_or-set_other (words_of all) node other own.items [] differs
 
-pub own_words : (all : List (Vec Word Global)) (node : ℕ) (own : Vec Word Global)
-    → node < length all → own ≡ get_or all node own → words_at (words_of all) node ≡ own.items
-own_words all node own less is =
-    get_or-map (λ (words : Vec Word Global). words.items) all node own [] less
-    ∙ ap (λ (words : Vec Word Global). words.items) (sym is)
-
 -- there is a list of words for each node
-pub words_each : (all others : List (Vec Word Global)) (nodes own : List Node)
-    → words_of all ≡ words_of others → length others ≡ length (map node_view nodes) → own ≡ nodes
+pub words_each : (all others : List (Vec Word Global)) (codes : List NodeCode) (own : List Node)
+    → words_of all ≡ words_of others → length others ≡ length codes → map node_view own ≡ codes
     → length all ≡ length own
-words_each all others nodes own same each is =
+words_each all others codes own same each is =
     let lists = λ (words : Vec Word Global). words.items in
     sym (length-map all lists) ∙ ap length same ∙ length-map others lists ∙ each
-    ∙ length-map nodes node_view ∙ ap length (sym is)
+    ∙ ap length (sym is) ∙ length-map own node_view

@@ -1,13 +1,5 @@
-pub mod Answers
-pub mod Actors
-pub mod Circuits
-pub mod Running
 pub mod Reading
 pub mod Tapes
 pub mod Marks
 pub mod Plain
 pub mod Serving
-pub mod Identities
-pub mod Blocks
-pub mod Pairs
-pub mod Batches

@@ -4,12 +4,13 @@ use Rattle.strc_semantics.specs.declared.word.Word.{Word}
 use Rattle.strc_graph.specs.NodeView.{node_view}
 use Rattle.strc_outcome.specs.Tapes.{TapeView}
 use Rattle.strc_admissible.specs.Machine.{words_at}
-use Rattle.strc_sched.specs.Tapes.{tape_nodes, tapes_of}
+use Rattle.strc_graph.specs.Tapes.{tape_nodes_from}
+use Rattle.strc_sched.specs.Tapes.{tapes_of}
 use Rattle.strc_sched.specs.declared.tapes.Marks.{Marks}
 
 -- the nodes that give words are known, and there is a length for each node
 pub record IsMarks (marks : Marks) : Type 0 where
-  pub tapes : marks.tapes.items ≡ tape_nodes 0 (map node_view marks.nodes.now)
+  pub tapes : marks.tapes.items ≡ tape_nodes_from 0 (map node_view marks.nodes.now)
   pub each : length marks.lengths.items ≡ length marks.nodes.now
 
 -- the tapes with the words that they had then

@@ -19,10 +19,10 @@ use Rattle.strc_outcome.specs.declared.outcome.Outcome.{Outcome}
 use Rattle.strc_outcome.specs.declared.outcome.Outcome.TheVariants as outcome
 use Rattle.strc_outcome.specs.declared.outcome.Round.{Round}
 use Rattle.strc_outcome.specs.declared.outcome.Round.TheVariants as round
-use Rattle.strc_sched.specs.Actors.{AreClosed}
+use Rattle.strc_runner.specs.Actors.{AreClosed}
 use Rattle.strc_sched.specs.Tapes.{tapes_of}
-use Rattle.strc_sched.specs.declared.machine.Stop.{Stop}
-use Rattle.strc_sched.specs.declared.machine.Stop.TheVariants as stop
+use Rattle.strc_runner.specs.declared.machine.Stop.{Stop}
+use Rattle.strc_runner.specs.declared.machine.Stop.TheVariants as stop
 use Rattle.strc_outcome.specs.declared.refusal.RunRefusal.{RunRefusal}
 use Rattle.strc_outcome.specs.declared.refusal.RunRefusal.TheVariants as refused
 

@@ -16,12 +16,6 @@ tapes_from node (code ∷ codes) words = if gives_words code
 abbrev pub tapes_of : List NodeCode → (words : ℕ → List Word) → List TapeView
 tapes_of codes words = tapes_from 0 codes words
 
--- the nodes that give words, where the first of these nodes has this number
-abbrev pub tape_nodes : (node : ℕ) → List NodeCode → List ℕ
-tape_nodes node [] = []
-tape_nodes node (code ∷ codes) = if gives_words code
-    then node ∷ tape_nodes (suc node) codes else tape_nodes (suc node) codes
-
 -- each tape's length is known
 abbrev pub AreMarked : List NodeCode → (lengths : List ℕ) → List (List Word) → Type 0
 AreMarked codes lengths words =

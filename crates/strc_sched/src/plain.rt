@@ -1,32 +1,33 @@
 // A run on one thread.
 
-ghost use Rattle.std.specs.Prelude.{◌≡◌, ◌≤◌, [], true, length, IfOk, IfErr};
-ghost use Rattle.strc_graph.specs.NodeView.{graph_view};
+ghost use Rattle.std.specs.Prelude.{◌≡◌, ◌≤◌, [], length, map, IfOk, IfErr};
+ghost use Rattle.strc_graph.specs.NodeView.{graph_view, node_view};
 ghost use Rattle.strc_order.specs.Greedy.{firings_of};
 ghost use Rattle.strc_admissible.specs.Circuits.{IsCircuit};
 ghost use Rattle.strc_admissible.specs.Machine as spec;
 ghost use Rattle.strc_admissible.specs.Planned.{IsPlanned};
-ghost use Rattle.strc_sched.specs.Actors.{AreStartable};
-ghost use Rattle.strc_sched.specs.Blocks.{AreAllApart};
-ghost use Rattle.strc_sched.specs.Circuits.{circuit_view};
+ghost use Rattle.strc_runner.specs.Actors.{AreStartable};
+ghost use Rattle.strc_circuit.specs.Circuits.{circuit_view, IsReady};
 ghost use Rattle.strc_sched.specs.Plain.{AnswersGraph, IsEnding, IsPlainRefusal, IsStopped};
 ghost use Rattle.strc_sched.specs.Plain.{need_of, ReportsRun};
 ghost use Rattle.strc_sched.specs.Marks.{IsMarks, kept_tapes};
-ghost use Rattle.strc_sched.specs.Running.{IsMachine, machine_view, words_of};
+ghost use Rattle.strc_runner.specs.Running.{IsMachine, machine_view, words_of};
 ghost use Rattle.strc_sched.specs.Tapes.{AreMarked};
-ghost use Rattle.strc_sched.specs.Batches.{AreBatches};
+ghost use Rattle.strc_runner.specs.Batches.{IsOrderOf, units_of};
 ghost use Rattle.strc_outcome.specs.declared.refusal.RunRefusal.TheVariants as refused;
 
-use crate::batches::Order;
-use crate::circuit::Circuit;
-use crate::machine::{Machine, Stop};
 use crate::outcome::{Outcome, Round};
 use crate::reading::items_needed;
 use crate::refusal::RunRefusal;
 use crate::tapes::Marks;
-use std::alloc::Global;
+use std::alloc::{AllocError, Global};
 use strc_graph::graph::Graph;
 use strc_order::parts::Schedule;
+use strc_order::unit::Unit;
+use strc_runner::batches::Order;
+use strc_runner::circuit::Circuit;
+use strc_runner::machine::{Machine, Stop};
+use strc_runner::units::copy_units;
 use strc_semantics::word::Word;
 
 /// Start-up and so many rounds of a schedule, on one thread: each channel is a ring as large as
@@ -53,7 +54,7 @@ pub fn run_plain(
     ensures refused { IfErr result (IsPlainRefusal
         (need_of (graph_view graph.now) schedule.now rounds) (length input.now)) }
 {
-    let need = items_needed(graph.nodes(), schedule, rounds);
+    let need = input_needed(graph, schedule, rounds);
     let got = input.len() as u64;
     if got < need {
         return Err(RunRefusal::InputShort { need, got });
@@ -62,6 +63,14 @@ pub fn run_plain(
         return Err(RunRefusal::NoMemory);
     };
     run_circuit(alloc, graph, &circuit, schedule, rounds)
+}
+
+/// How many items of the program's input start-up and so many rounds read.
+pub fn input_needed(graph: &Graph, schedule: &Schedule, rounds: u32) -> u64
+    requires planned { IsPlanned (graph_view graph.now) schedule.now }
+    ensures { result ≡ need_of (graph_view graph.now) schedule.now rounds }
+{
+    items_needed(graph.nodes(), schedule, rounds)
 }
 
 /// The same, over the circuit of the graph.
@@ -73,28 +82,34 @@ fn run_circuit(
     rounds: u32,
 ) -> Result<Outcome, RunRefusal>
     requires circuit { IsCircuit (graph_view graph.now) (circuit_view circuit.now) }
-    requires inputs { length circuit.now.inputs ≡ length circuit.now.nodes.now }
-    requires outputs { length circuit.now.outputs ≡ length circuit.now.nodes.now }
-    requires apart { circuit.now.apart ≡ true → AreAllApart circuit.now.inputs circuit.now.outputs }
+    requires ready { IsReady circuit.now }
     requires starts { AreStartable (graph_view graph.now).nodes }
-    requires nodes { circuit.now.nodes.now ≡ graph.now.nodes }
     ensures reported { IfOk result (ReportsRun (graph_view graph.now) (circuit_view circuit.now)
         schedule.now rounds) }
     ensures memory { IfErr result (λ refusal. refusal ≡ refused.NoMemory) }
 {
-    let Ok(startup) = Order::new(alloc, circuit, schedule.startup()) else {
+    let Ok(startup) = order_of(alloc, circuit, schedule.startup()) else {
         return Err(RunRefusal::NoMemory);
     };
-    let Ok(round) = Order::new(alloc, circuit, schedule.round()) else {
+    let Ok(round) = order_of(alloc, circuit, schedule.round()) else {
         return Err(RunRefusal::NoMemory);
     };
     let Ok(machine) = Machine::new(alloc, graph, circuit, schedule.sizes()) else {
         return Err(RunRefusal::NoMemory);
     };
-    let Ok(marks) = Marks::new(alloc, circuit.nodes) else {
+    let Ok(marks) = Marks::new(alloc, graph.nodes()) else {
         return Err(RunRefusal::NoMemory);
     };
     run_orders(alloc, machine, marks, circuit, &startup, &round, rounds)
+}
+
+/// The order of a schedule's units.
+fn order_of(alloc: Global, circuit: &Circuit, units: &[Unit]) -> Result<Order, AllocError>
+    requires ready { IsReady circuit.now }
+    ensures order { IfOk result (IsOrderOf (circuit_view circuit.now)) }
+    ensures firings { IfOk result (λ order. firings_of (units_of order) ≡ firings_of units.now) }
+{
+    Order::new(alloc, circuit, copy_units(alloc, units)?)
 }
 
 /// Start-up and so many rounds, in these orders.
@@ -109,16 +124,14 @@ fn run_orders(
 ) -> Result<Outcome, RunRefusal>
     requires machine { IsMachine (circuit_view circuit.now) machine }
     requires marks { IsMarks marks }
-    requires nodes { marks.nodes.now ≡ circuit.now.nodes.now }
+    requires nodes { map node_view marks.nodes.now ≡ (circuit_view circuit.now).codes }
     requires none { AreMarked (circuit_view circuit.now).codes marks.lengths.items [] }
-    requires startup { AreBatches (circuit_view circuit.now) startup.now.units.now
-        startup.now.batches.items }
-    requires round { AreBatches (circuit_view circuit.now) round.now.units.now
-        round.now.batches.items }
+    requires startup { IsOrderOf (circuit_view circuit.now) startup.now }
+    requires round { IsOrderOf (circuit_view circuit.now) round.now }
     ensures ending { IfOk result (λ outcome. IsEnding (circuit_view circuit.now).codes outcome
         (spec.whole_run
-        (circuit_view circuit.now) (firings_of startup.now.units.now)
-        (firings_of round.now.units.now) rounds (machine_view machine))) }
+        (circuit_view circuit.now) (firings_of (units_of startup.now))
+        (firings_of (units_of round.now)) rounds (machine_view machine))) }
     ensures memory { IfErr result (λ refusal. refusal ≡ refused.NoMemory) }
 {
     let mut started = machine;
@@ -139,12 +152,11 @@ fn run_rounds(
 ) -> Result<Outcome, RunRefusal>
     requires machine { IsMachine (circuit_view circuit.now) machine }
     requires marks { IsMarks marks }
-    requires nodes { marks.nodes.now ≡ circuit.now.nodes.now }
-    requires batches { AreBatches (circuit_view circuit.now) order.now.units.now
-        order.now.batches.items }
+    requires nodes { map node_view marks.nodes.now ≡ (circuit_view circuit.now).codes }
+    requires order { IsOrderOf (circuit_view circuit.now) order.now }
     ensures ending { IfOk result (λ outcome. IsEnding (circuit_view circuit.now).codes outcome
         (spec.rounds_run
-        (circuit_view circuit.now) (firings_of order.now.units.now) rounds 0
+        (circuit_view circuit.now) (firings_of (units_of order.now)) rounds 0
         (machine_view machine))) }
     ensures memory { IfErr result (λ refusal. refusal ≡ refused.NoMemory) }
 {

@@ -2,11 +2,12 @@
 
 ghost use Rattle.std.specs.Prelude.{◌≡◌, ◌<◌, IfOk, [], length, map, take};
 ghost use Rattle.strc_graph.specs.NodeView.{node_view};
+ghost use Rattle.strc_graph.specs.Tapes.{tape_nodes_from};
 ghost use Rattle.strc_outcome.specs.Tapes.{tape, tape_view};
 ghost use Rattle.strc_admissible.specs.Machine.{words_at};
 ghost use Rattle.strc_sched.specs.Marks.{IsMarks, kept_tapes};
-ghost use Rattle.strc_sched.specs.Running.{words_of};
-ghost use Rattle.strc_sched.specs.Tapes.{AreMarked, tape_nodes};
+ghost use Rattle.strc_runner.specs.Running.{words_of};
+ghost use Rattle.strc_sched.specs.Tapes.{AreMarked};
 
 use crate::outcome::Tape;
 use std::alloc::{AllocError, Global};
@@ -87,7 +88,7 @@ fn word_count(words: &[Vec<Word>], node: usize) -> usize
 
 /// The nodes that give words.
 fn tapes_among(alloc: Global, nodes: &[Node]) -> Result<Vec<usize>, AllocError>
-    ensures { IfOk result (λ tapes. tapes.items ≡ tape_nodes 0 (map node_view nodes.now)) }
+    ensures { IfOk result (λ tapes. tapes.items ≡ tape_nodes_from 0 (map node_view nodes.now)) }
 {
     let mut tapes = Vec::new(alloc);
     for node in 0..nodes.len() {

@@ -77,8 +77,8 @@ pub record IsWhole (graph : Graph) : Type 0 where
   pub connected : IsConnected graph
   pub loops : graph.outer_loops ≡ outer_loops 0 stream
 
--- a plan: its graph is a whole program's, and can be run by its schedule, which is that of its least
--- counts
+-- a plan: its graph is a whole program's, and can be run by its schedule, which is that of its
+-- least counts
 pub record IsPlan (plan : Planning) : Type 0 where
   pub whole : IsWhole plan.graph
   pub planned : IsPlanned plan.graph plan.schedule

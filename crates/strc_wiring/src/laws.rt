@@ -23,7 +23,7 @@ pub fn wires_are_graphs()
     ensures { WiresAreGraphs }
 {}
 
-/// A whole program's flat graph with one input and one output at most is a program's.
+/// A whole program's flat graph with one input at most is a program's.
 pub fn wires_are_programs()
     ensures { WiresArePrograms }
 {}

@@ -10,4 +10,7 @@ pub mod frame;
 pub mod lowering;
 pub mod state;
 
+pub use strc_check::constants;
 pub use strc_code::code;
+pub use strc_inst::window;
+pub use strc_semantics::{body, fault, word};

@@ -1,13 +1,13 @@
 // A worker's whole body.
 
-ghost use Rattle.std.specs.Prelude.{◌≡◌, true, false};
+ghost use Rattle.std.specs.Prelude.{◌≡◌, false};
 ghost use Rattle.strc_worker.specs.Working.{Did, Unfit, worked};
 
-use crate::actor::Actor;
 use crate::gate::Gate;
 use crate::worked::Worked;
 use std::alloc::Global;
 use std::sync::Wait;
+use strc_actor::Actor;
 use strc_link::{Rx, Tx};
 use strc_parcel::Parcel;
 
@@ -59,7 +59,6 @@ fn step_by<A: Actor, G: Gate<A>>(
     gate: &G,
 ) -> Parcel
     requires open { A.has_finished actor.old ≡ false }
-    requires fits { A.takes actor.old parcel ≡ true }
     ensures { A.does actor.old parcel actor.new result }
 {
     if parcel.stopped() || actor.halted() {

@@ -1,17 +1,16 @@
 // What calls an actor's steps.
 
-use crate::actor::Actor;
 use std::alloc::Global;
+use strc_actor::Actor;
 use strc_parcel::Parcel;
 
 /// Calls an actor's step on a parcel. A test's gate waits here for other workers.
 pub trait Gate<A: Actor>: Sync {
-    ghost use Rattle.std.specs.Prelude.{◌≡◌, true, false};
+    ghost use Rattle.std.specs.Prelude.{◌≡◌, false};
 
     /// The step of actor `at` in this round, counted from 0.
     fn step(&self, alloc: Global, at: u32, round: u32, actor: &mut A, parcel: Parcel) -> Parcel
         requires open { A.has_finished actor.old ≡ false }
-        requires fits { A.takes actor.old parcel ≡ true }
         ensures { A.does actor.old parcel actor.new result };
 }
 

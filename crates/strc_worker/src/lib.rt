@@ -4,16 +4,15 @@
 // The theorem to rely on: `work`, whose `did` says that what was sent, and then the parcel that is
 // held, are the actor's steps over what was received, in order.
 // The definition to believe is specs/Working: what a worker did.
-// Stands on strc_link, over whose links parcels come and go, and strc_core, whose `Runs` it speaks
-// in.
+// Stands on strc_actor, whose actors these are, strc_link, over whose links parcels come and go,
+// and strc_core, whose `Runs` it speaks in.
 #![tactic(auto)]
 
-mod actor;
 mod body;
 mod gate;
 mod worked;
 
-pub use actor::Actor;
 pub use body::work;
 pub use gate::{Gate, OpenGate};
+pub use strc_actor::Actor;
 pub use worked::Worked;

@@ -4,9 +4,10 @@ use Rattle.strc_order.specs.Greedy.{firings_of}
 use Rattle.strc_admissible.specs.Circuits.{IsFirst}
 use Rattle.strc_admissible.specs.Laws.{round_order, startup_order}
 use Rattle.strc_admissible.specs.Machine.{whole_run}
-use Rattle.strc_sched.specs.Circuits.{circuit_view}
+use Rattle.strc_runner.specs.Batches.{units_of}
+use Rattle.strc_circuit.specs.Circuits.{circuit_view}
 use Rattle.strc_sched.specs.Plain.{IsEnding, ReportsRun}
-use Rattle.strc_sched.specs.Running.{machine_view}
+use Rattle.strc_runner.specs.Running.{machine_view}
 use Rattle.strc_sched.proofs.Endings.{outcome_so}
 use Rattle.strc_sched.proofs.plain.run_circuit.Goals as goal
 
@@ -16,21 +17,21 @@ returns-clause-reported c =
     let schedule = c.args.schedule.now in
     let rounds = c.args.rounds in
     let circuit = circuit_view c.args.circuit.now in
-    let machine = machine_view c.in-Ok-new-2.machine in
-    let startup = ap firings_of (c.in-Ok.ensures.units ∙ c.startup.ensures) in
-    let round = ap firings_of (c.in-Ok-new.ensures.units ∙ c.round.ensures) in
+    let machine = machine_view c.in-Ok-new.machine in
+    let startup = c.in-Ok.ensures.firings ∙ ap firings_of c.startup.ensures in
+    let round = c.in-Ok-order_of.ensures.firings ∙ ap firings_of c.round.ensures in
     outcome_so c.run_orders.result _ (ReportsRun graph circuit schedule rounds)
     c.run_orders.ensures.ending
     (λ outcome reported. record {
       machine = machine;
       first = subst (λ sizes. IsFirst graph sizes machine) c.sizes.ensures
-          c.in-Ok-new-2.ensures.first;
-      known = c.in-Ok-new-2.ensures.known;
+          c.in-Ok-new.ensures.first;
+      known = c.in-Ok-new.ensures.known;
       reported =
           subst (λ codes. IsEnding codes outcome (whole_run circuit (startup_order schedule)
           (round_order schedule) rounds machine)) c.requires.circuit.codes
           (subst (λ order. IsEnding circuit.codes outcome (whole_run circuit order
           (round_order schedule) rounds machine)) startup
           (subst (λ order. IsEnding circuit.codes outcome (whole_run circuit
-          (firings_of c.in-Ok.startup.units.now) order rounds machine)) round reported));
+          (firings_of (units_of c.in-Ok.startup)) order rounds machine)) round reported));
     })

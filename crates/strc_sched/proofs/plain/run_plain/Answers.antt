@@ -1,11 +1,10 @@
-use Rattle.std.proofs.Common.{◌∙◌, sym, ap, map, length, arith, ◌≤◌}
-use Rattle.std.proofs.lemmas.List.{length-map}
+use Rattle.std.proofs.Common.{◌∙◌, ap, map, length, arith, ◌≤◌}
 use Rattle.strc_graph.specs.NodeView.{graph_view, node_view}
 use Rattle.strc_admissible.specs.Laws.{counts_at, startup_order, round_order}
 use Rattle.strc_admissible.specs.Machine.{whole_run}
 use Rattle.strc_admissible.specs.Planned.{items_read}
 use Rattle.strc_admissible.proofs.RingRuns.{ring_runs}
-use Rattle.strc_sched.specs.Circuits.{circuit_view}
+use Rattle.strc_circuit.specs.Circuits.{circuit_view}
 use Rattle.strc_sched.specs.Plain.{AnswersGraph, IsPlainRefusal, ReportsRun, need_of}
 use Rattle.strc_sched.proofs.Endings.{closed_known, outcome_so, memory_so}
 use Rattle.strc_sched.proofs.plain.run_plain.Goals as goal
@@ -14,9 +13,7 @@ pub returns-in_default-clause-refused : goal.returns-in_default-clause-refused
 returns-in_default-clause-refused c =
     let graph = graph_view c.args.graph.now in
     let schedule = c.args.schedule.now in
-    let need = c.items_needed-need.ensures
-    ∙ ap (λ nodes. items_read (map node_view nodes) (counts_at schedule c.args.rounds))
-    c.nodes.ensures in
+    let need = c.input_needed-need.ensures in
     let enough = c.if-got-need.false in
     let supplied : need_of graph schedule c.args.rounds ≤ length c.args.input.now =
     omega (arith, need, enough) in
@@ -25,26 +22,14 @@ returns-in_default-clause-refused c =
 pub run_circuit-requires-clause-circuit : goal.run_circuit-requires-clause-circuit
 run_circuit-requires-clause-circuit c = c.in-Ok.ensures.circuit
 
-pub run_circuit-requires-clause-inputs : goal.run_circuit-requires-clause-inputs
-run_circuit-requires-clause-inputs c =
-    c.in-Ok.ensures.circuit.input_nodes ∙ length-map c.args.graph.now.nodes node_view
-    ∙ sym (ap length c.in-Ok.ensures.nodes)
-
-pub run_circuit-requires-clause-outputs : goal.run_circuit-requires-clause-outputs
-run_circuit-requires-clause-outputs c =
-    c.in-Ok.ensures.circuit.output_nodes ∙ length-map c.args.graph.now.nodes node_view
-    ∙ sym (ap length c.in-Ok.ensures.nodes)
-
-pub run_circuit-requires-clause-apart : goal.run_circuit-requires-clause-apart
-run_circuit-requires-clause-apart c = c.in-Ok.ensures.apart
+pub run_circuit-requires-clause-ready : goal.run_circuit-requires-clause-ready
+run_circuit-requires-clause-ready c = c.in-Ok.ensures.ready
 
 pub returns-clause-enough : goal.returns-clause-enough
 returns-clause-enough c =
     let graph = graph_view c.args.graph.now in
     let schedule = c.args.schedule.now in
-    let need = c.items_needed-need.ensures
-    ∙ ap (λ nodes. items_read (map node_view nodes) (counts_at schedule c.args.rounds))
-    c.nodes.ensures in
+    let need = c.input_needed-need.ensures in
     let enough = c.if-got-need.false in
     let supplied : need_of graph schedule c.args.rounds ≤ length c.args.input.now =
     omega (arith, need, enough) in
@@ -57,9 +42,7 @@ pub returns-clause-refused : goal.returns-clause-refused
 returns-clause-refused c =
     let graph = graph_view c.args.graph.now in
     let schedule = c.args.schedule.now in
-    let need = c.items_needed-need.ensures
-    ∙ ap (λ nodes. items_read (map node_view nodes) (counts_at schedule c.args.rounds))
-    c.nodes.ensures in
+    let need = c.input_needed-need.ensures in
     let enough = c.if-got-need.false in
     let supplied : need_of graph schedule c.args.rounds ≤ length c.args.input.now =
     omega (arith, need, enough) in
@@ -73,8 +56,7 @@ returns-clause-answer c =
     let schedule = c.args.schedule.now in
     let rounds = c.args.rounds in
     let circuit = circuit_view c.in-Ok.circuit in
-    let need = c.items_needed-need.ensures
-    ∙ ap (λ nodes. items_read (map node_view nodes) (counts_at schedule rounds)) c.nodes.ensures in
+    let need = c.input_needed-need.ensures in
     let enough = c.if-got-need.false in
     let supplied : items_read graph.nodes (counts_at schedule rounds)
     ≤ length c.args.input.now = omega (arith, need, enough) in

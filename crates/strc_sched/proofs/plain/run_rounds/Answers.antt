@@ -1,12 +1,14 @@
-use Rattle.std.proofs.Common.{◌∙◌, subst, sym, arith}
+use Rattle.std.proofs.Common.{◌∙◌, ap, subst, sym, arith, map}
+use Rattle.strc_graph.specs.NodeView.{node_view}
 use Rattle.strc_order.specs.Greedy.{firings_of}
 use Rattle.strc_admissible.specs.Machine.{order_run, rounds_run}
-use Rattle.strc_sched.specs.Circuits.{circuit_view}
+use Rattle.strc_runner.specs.Batches.{units_of}
+use Rattle.strc_circuit.specs.Circuits.{circuit_view}
 use Rattle.strc_sched.specs.Marks.{kept_tapes}
-use Rattle.strc_sched.specs.Running.{machine_view, words_of}
+use Rattle.strc_runner.specs.Running.{machine_view, words_of}
 use Rattle.strc_sched.specs.Plain.{IsEnding}
 use Rattle.strc_outcome.specs.declared.outcome.Outcome.TheVariants as outcome
-use Rattle.strc_sched.proofs.Done.{more_refl}
+use Rattle.strc_runner.proofs.Done.{more_refl}
 use Rattle.strc_sched.proofs.TapeLists.{words_each}
 use Rattle.strc_sched.proofs.Endings.{ended_in, kept_before, rounds_done, rounds_next, rounds_stop}
 use Rattle.strc_sched.proofs.plain.run_rounds.Goals as goal
@@ -14,7 +16,7 @@ use Rattle.strc_sched.proofs.plain.run_rounds.Goals as goal
 pub returns-in-Err-clause-ending : goal.returns-in-Err-clause-ending
 returns-in-Err-clause-ending c =
     let circuit = circuit_view c.args.circuit.now in
-    let order = firings_of c.args.order.now.units.now in
+    let order = firings_of (units_of c.args.order.now) in
     let now = machine_view c.loop-round.running in
     let after = machine_view c.fire_order.new.self in
     ended_in circuit.codes c.in-Err.stop c.stopped.result c.loop-round.round now.words
@@ -25,46 +27,50 @@ returns-in-Err-clause-ending c =
     (λ node firing cause gone. c.loop-round.invariant.rest
     ∙ rounds_stop circuit order c.args.rounds c.loop-round.round c.loop-round-test.true now node
     firing cause gone)
-    (λ more. kept_before c.mark.new.self c.args.circuit.now.nodes.now
-    c.loop-round.before.nodes.now (words_of c.into_words-words.result.items) now.words after.words
-    (words_of c.words.result.now) (c.mark.ensures.nodes ∙ c.loop-round.invariant.nodes)
+    (λ more. kept_before c.mark.new.self circuit.codes
+    (map node_view c.loop-round.before.nodes.now) (words_of c.into_words-words.result.items)
+    now.words after.words (words_of c.words.result.now)
+    (ap (map node_view) c.mark.ensures.nodes ∙ c.loop-round.invariant.nodes)
     c.loop-round.invariant.nodes c.mark.ensures.marked c.words.ensures c.into_words-words.ensures
     more)
 
 pub stopped-requires-clause-each : goal.stopped-requires-clause-each
 stopped-requires-clause-each c =
     words_each c.into_words-words.result.items c.fire_order.new.self.words.items
-    c.args.circuit.now.nodes.now c.mark.new.self.nodes.now c.into_words-words.ensures
-    c.in-Err.ensures.machine.words (c.mark.ensures.nodes ∙ c.loop-round.invariant.nodes)
+    (circuit_view c.args.circuit.now).codes c.mark.new.self.nodes.now c.into_words-words.ensures
+    c.in-Err.ensures.machine.words
+    (ap (map node_view) c.mark.ensures.nodes ∙ c.loop-round.invariant.nodes)
 
 pub tapes-requires-clause-each : goal.tapes-requires-clause-each
 tapes-requires-clause-each c =
     words_each c.into_words.result.items c.loop-round.running.words.items
-    c.args.circuit.now.nodes.now c.mark-2.new.self.nodes.now c.into_words.ensures
-    c.loop-round.invariant.machine.words (c.mark-2.ensures.nodes ∙ c.loop-round.invariant.nodes)
+    (circuit_view c.args.circuit.now).codes c.mark-2.new.self.nodes.now c.into_words.ensures
+    c.loop-round.invariant.machine.words
+    (ap (map node_view) c.mark-2.ensures.nodes ∙ c.loop-round.invariant.nodes)
 
 pub returns-in-Ok-tapes-clause-ending : goal.returns-in-Ok-tapes-clause-ending
 returns-in-Ok-tapes-clause-ending c =
     let circuit = circuit_view c.args.circuit.now in
-    let order = firings_of c.args.order.now.units.now in
+    let order = firings_of (units_of c.args.order.now) in
     let now = machine_view c.loop-round.running in
     subst (IsEnding circuit.codes (outcome.Done c.in-Ok-tapes.tapes))
     (sym (c.loop-round.invariant.rest ∙ rounds_done circuit order c.args.rounds c.loop-round.round
     (let past = c.loop-round-test.false in omega (arith, past)) now))
     (c.in-Ok-tapes.ensures
-    ∙ kept_before c.mark-2.new.self c.args.circuit.now.nodes.now c.loop-round.before.nodes.now
+    ∙ kept_before c.mark-2.new.self circuit.codes (map node_view c.loop-round.before.nodes.now)
     (words_of c.into_words.result.items) now.words now.words (words_of c.words-2.result.now)
-    (c.mark-2.ensures.nodes ∙ c.loop-round.invariant.nodes) c.loop-round.invariant.nodes
+    (ap (map node_view) c.mark-2.ensures.nodes ∙ c.loop-round.invariant.nodes)
+    c.loop-round.invariant.nodes
     c.mark-2.ensures.marked c.words-2.ensures c.into_words.ensures (more_refl now.words))
 
 pub loop-round-preserved : goal.loop-round-preserved
 loop-round-preserved c =
     let circuit = circuit_view c.args.circuit.now in
-    let order = firings_of c.args.order.now.units.now in
+    let order = firings_of (units_of c.args.order.now) in
     record {
       machine = c.fire_order.ensures.machine;
       marks = c.mark.ensures.marks;
-      nodes = c.mark.ensures.nodes ∙ c.loop-round.invariant.nodes;
+      nodes = ap (map node_view) c.mark.ensures.nodes ∙ c.loop-round.invariant.nodes;
       rest = c.loop-round.invariant.rest
           ∙ rounds_next circuit order c.args.rounds c.loop-round.round c.loop-round-test.true
           (machine_view c.loop-round.running) (machine_view c.fire_order.new.self)

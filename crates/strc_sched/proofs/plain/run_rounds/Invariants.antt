@@ -1,18 +1,20 @@
-use Rattle.std.proofs.Common.{◌≡◌, ◌-◌}
+use Rattle.std.proofs.Common.{◌≡◌, ◌-◌, map}
+use Rattle.strc_graph.specs.NodeView.{node_view}
 use Rattle.strc_order.specs.Greedy.{firings_of}
 use Rattle.strc_admissible.specs.Machine.{rounds_run}
-use Rattle.strc_sched.specs.Circuits.{circuit_view}
+use Rattle.strc_runner.specs.Batches.{units_of}
+use Rattle.strc_circuit.specs.Circuits.{circuit_view}
 use Rattle.strc_sched.specs.Marks.{IsMarks}
-use Rattle.strc_sched.specs.Running.{IsMachine, machine_view}
+use Rattle.strc_runner.specs.Running.{IsMachine, machine_view}
 use Rattle.strc_sched.proofs.plain.run_rounds.Given as goal
 
 abbrev pub invariant-loop-round : goal.invariant-loop-round
 invariant-loop-round l = record {
   machine : IsMachine (circuit_view l.circuit) l.running;
   marks : IsMarks l.before;
-  nodes : l.before.nodes.now ≡ l.circuit.nodes.now;
-  rest : rounds_run (circuit_view l.circuit) (firings_of l.order.units.now) l.fn.rounds 0
+  nodes : map node_view l.before.nodes.now ≡ (circuit_view l.circuit).codes;
+  rest : rounds_run (circuit_view l.circuit) (firings_of (units_of l.order)) l.fn.rounds 0
       (machine_view l.fn.machine)
-      ≡ rounds_run (circuit_view l.circuit) (firings_of l.order.units.now)
+      ≡ rounds_run (circuit_view l.circuit) (firings_of (units_of l.order))
       (l.fn.rounds - l.round) l.round (machine_view l.running);
 }

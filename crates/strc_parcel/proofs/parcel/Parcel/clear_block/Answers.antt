@@ -3,8 +3,8 @@ use Rattle.strc_parcel.specs.Parcels.{parcel, with_block}
 use Rattle.strc_parcel.proofs.Loads.{block_set}
 use Rattle.strc_parcel.proofs.parcel.Parcel.clear_block.Goals as goal
 
-pub returns : goal.returns
-returns c =
+pub returns-then-number-len : goal.returns-then-number-len
+returns-then-number-len c =
     let mine = c.self.inside in
     let now = c.args.self.now in
     block_set mine.blocks.items mine.words.items mine.stop mine.last now c.self.view_is

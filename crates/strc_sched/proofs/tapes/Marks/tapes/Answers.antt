@@ -7,9 +7,9 @@ use Rattle.strc_graph.specs.Graphs.{gives_words}
 use Rattle.strc_graph.specs.NodeView.{node_view}
 use Rattle.strc_outcome.specs.Tapes.{tape, tape_view}
 use Rattle.strc_admissible.specs.Machine.{words_at}
-use Rattle.strc_sched.specs.Running.{words_of}
+use Rattle.strc_runner.specs.Running.{words_of}
 use Rattle.strc_sched.proofs.TapeLists.{tape_here, no_tape_here, tapes_later, other_words}
-use Rattle.strc_sched.proofs.TapeLists.{own_words}
+use Rattle.strc_runner.proofs.WordLists.{own_words}
 use Rattle.strc_sched.proofs.tapes.Marks.tapes.Goals.{then-gives_words+in_ok-tape_of+in_ok-push}
 use Rattle.strc_sched.proofs.tapes.Marks.tapes.Goals.{else-gives_words}
 use Rattle.strc_sched.proofs.tapes.Marks.tapes.Goals as goal

@@ -4,7 +4,7 @@ use Rattle.strc_graph.specs.NodeView.{node_view}
 use Rattle.strc_outcome.specs.Tapes.{tape_view}
 use Rattle.strc_admissible.specs.Machine.{words_at}
 use Rattle.strc_sched.specs.Marks.{kept_tapes}
-use Rattle.strc_sched.specs.Running.{words_of}
+use Rattle.strc_runner.specs.Running.{words_of}
 use Rattle.strc_sched.specs.Tapes.{tapes_from}
 use Rattle.strc_sched.proofs.tapes.Marks.tapes.Given as goal
 

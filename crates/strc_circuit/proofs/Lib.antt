@@ -1,0 +1,5 @@
+pub mod Wirings
+pub mod CircuitPorts
+pub mod PartLists
+pub mod PartCircuits
+pub mod UnitLists

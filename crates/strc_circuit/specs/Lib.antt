@@ -1,0 +1,4 @@
+pub mod Apart
+pub mod Circuits
+pub mod Parts
+pub mod Units

@@ -1,0 +1,16 @@
+pub mod Fronts
+pub mod Ports
+pub mod Firsts
+pub mod Starting
+pub mod WordLists
+pub mod Done
+pub mod Going
+pub mod Wanting
+pub mod Identities
+pub mod Blocks
+pub mod Moves
+pub mod Batching
+pub mod Turns
+pub mod TurnFirings
+pub mod PartLists
+pub mod PartMachines

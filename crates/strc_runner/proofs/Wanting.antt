@@ -1,0 +1,103 @@
+-- A filter's firing that wants memory, and a step of the machine that does.
+use Rattle.std.proofs.Common.{◌≡◌, ◌≢◌, refl, sym, ◌∙◌, subst, ℕ, zero, suc, ◌≤◌, ℤ}
+use Rattle.std.proofs.Common.{All, Bool, true, false, List, [], ◌∷◌, ◌++◌, length, Result, Ok, Err}
+use Rattle.std.proofs.Common.{arith, slice_index}
+use Rattle.std.specs.Prelude.{Option}
+use Rattle.std.proofs.lemmas.Bool.{le-leb}
+use Rattle.strc_semantics.specs.Filters as filters
+use Rattle.strc_semantics.specs.Filters.{body_prints}
+use Rattle.strc_semantics.specs.Firing.{Fired, fired}
+use Rattle.strc_semantics.specs.declared.body.Body.TheVariants as body
+use Rattle.strc_semantics.specs.declared.fault.Cause.{Cause}
+use Rattle.strc_semantics.specs.declared.fault.Halt.{Halt}
+use Rattle.strc_semantics.specs.declared.fault.Halt.TheVariants as halt
+use Rattle.strc_semantics.specs.declared.word.Word.{Word}
+use Rattle.strc_inst.specs.Running.{WantsOnlyWords}
+use Rattle.strc_work.specs.Answers.{WantsGivenWords}
+use Rattle.strc_graph.specs.Rates.{body_at, filter_pops}
+use Rattle.strc_admissible.specs.Rings.{Ring, items_at}
+use Rattle.strc_admissible.specs.Steps.{Step, filter_after, filter_looks, filter_step}
+use Rattle.strc_admissible.specs.Steps.{if_found}
+use Rattle.strc_runner.specs.Actors.{IsTakingOf}
+use Rattle.strc_runner.specs.Memory.{GivesWords, QuietOrdersWantNoMemory, WantsWordOfStep}
+use Rattle.strc_runner.specs.Memory.{prints_at}
+use Rattle.strc_runner.specs.declared.filter.Taking.{Taking}
+use Rattle.strc_runner.specs.declared.machine.Stop.{Stop}
+use Rattle.strc_runner.specs.declared.machine.Stop.TheVariants as stop
+
+-- what the first firing looks at, and each later one
+pub first_looks : (filter : filters.Filter) (firing : ℕ) (taking : Taking) → firing ≡ 0
+    → IsTakingOf filter body.Prework taking → taking.window ≡ filter_looks filter firing
+first_looks filter zero taking is h = h.window
+first_looks filter (suc firing) taking is h = absurd (omega arith)
+
+pub later_looks : (filter : filters.Filter) (firing : ℕ) (taking : Taking) → firing ≢ 0
+    → IsTakingOf filter body.Work taking → taking.window ≡ filter_looks filter firing
+later_looks filter zero taking differs h = absurd (differs refl)
+later_looks filter (suc firing) taking differs h = h.window
+
+-- a list with a word in it
+has_word : (words given : List Word) (next : Word) (rest : List Word) → words ≡ given ++ next ∷ rest
+    → words ≢ []
+has_word words [] next rest is none = let e : next ∷ rest ≡ [] = sym is ∙ none in cc
+has_word words (first ∷ given) next rest is none =
+    let e : first ∷ (given ++ next ∷ rest) ≡ [] = sym is ∙ none in cc
+
+-- only a word that a filter gives wants memory
+pub filter_wants : (filter : filters.Filter) (firing : ℕ) (fields : List ℤ)
+    (input output : Option ℕ) (rings : List Ring) (window : ℕ) (why : Halt)
+    (before after : List Word) → window ≡ filter_looks filter firing
+    → window ≤ length (items_at rings input)
+    → WantsOnlyWords (body_prints (body_at firing) filter) (Err why)
+    → WantsGivenWords (fired filter (body_at firing) fields (items_at rings input)) (Err why)
+    before after
+    → WantsWordOfStep (body_prints (body_at firing) filter)
+    (filter_step filter firing fields input output rings) (Err why)
+filter_wants filter firing fields input output rings window (halt.Fault cause) before after looks
+    found prints gives = tt
+filter_wants filter firing fields input output rings window halt.NoMemory before after looks found
+    prints gives = record {
+      prints = prints;
+      gives = subst (λ test. GivesWords (if_found test
+          (filter_after (filter_pops filter firing) input output rings
+          (fired filter (body_at firing) fields (items_at rings input)))))
+          (sym (le-leb (filter_looks filter firing) (length (items_at rings input))
+          (subst (λ n. n ≤ length (items_at rings input)) looks found)))
+          (by_outcome (fired filter (body_at firing) fields (items_at rings input)) gives);
+    }
+  where
+    by_outcome : (outcome : Result Fired Cause)
+        → WantsGivenWords outcome (Err halt.NoMemory) before after
+        → GivesWords (filter_after (filter_pops filter firing) input output rings outcome)
+    by_outcome (Ok done) gives = has_word done.words gives.given gives.next gives.rest gives.is
+    by_outcome (Err cause) gives = tt
+
+-- a step that is named otherwise
+pub step_wants : (prints other : Bool) (step same : Step) (result : Result Bool Halt)
+    → prints ≡ other → step ≡ same → WantsWordOfStep prints step result
+    → WantsWordOfStep other same result
+step_wants prints other step same result prints_is is h =
+    subst (λ p. WantsWordOfStep p same result) prints_is
+    (subst (λ s. WantsWordOfStep prints s result) is h)
+
+-- ---- orders without words
+
+in_middle : (holds : ℕ → Type 0) (done : List ℕ) (node : ℕ) (rest : List ℕ)
+    → All holds (done ++ node ∷ rest) → holds node
+in_middle holds [] node rest h = h 0 0 (omega arith)
+in_middle holds (first ∷ done) node rest h =
+    in_middle holds done node rest (λ place d less. h (suc place) d (omega (arith, less)))
+
+pub quiet_order : QuietOrdersWantNoMemory
+quiet_order circuit order before (Ok done) quiet wants same =
+    let e : ◌≡◌ {A = Result (Unit {0}) Stop} (Ok done) (Err stop.NoMemory) = same in cc
+quiet_order circuit order before (Err (stop.Fault node firing cause)) quiet wants same =
+    let e : ◌≡◌ {A = Result (Unit {0}) Stop} (Err (stop.Fault node firing cause))
+    (Err stop.NoMemory) = same in cc
+quiet_order circuit order before (Err stop.NoMemory) quiet wants same =
+    let firing = slice_index wants.now.fired wants.node in
+    let none = in_middle (λ node. (firing : ℕ) → prints_at circuit node firing ≡ false) wants.done
+    wants.node wants.rest
+    (subst (All (λ node. (firing : ℕ) → prints_at circuit node firing ≡ false)) (sym wants.is)
+    quiet) in
+    let e : true ≡ false = sym wants.next.prints ∙ none firing in cc

@@ -1,0 +1,66 @@
+-- What each node of a graph keeps between firings.
+use Rattle.std.specs.Prelude.{◌≡◌, ℕ, ℤ, List, [], length, slice_get, Some, Ok, All}
+use Rattle.strc_semantics.specs.Filters as filters
+use Rattle.strc_semantics.specs.Filters.{body_rates, window_size, pop_rate, item_count}
+use Rattle.strc_semantics.specs.Closed.{IsClosedFilter}
+use Rattle.strc_semantics.specs.Firing.{started}
+use Rattle.strc_semantics.specs.declared.body.Body.{Body}
+use Rattle.strc_semantics.specs.declared.body.Body.TheVariants as body
+use Rattle.strc_work.specs.States.{IsStateOf, IsFrameOf}
+use Rattle.strc_graph.specs.Graphs as graphs
+use Rattle.strc_graph.specs.Graphs.{NodeCode}
+use Rattle.strc_admissible.specs.Steps.{look_by}
+use Rattle.strc_runner.specs.declared.filter.Taking.{Taking}
+use Rattle.strc_runner.specs.declared.filter.FilterActor.{FilterActor}
+use Rattle.strc_runner.specs.declared.actor.Actor.{Actor}
+use Rattle.strc_runner.specs.declared.actor.Actor.TheVariants as actor
+
+-- a filter starts without a fault
+abbrev pub CanStart : filters.Filter → Type 0
+CanStart filter = (fields : List ℤ) × (started filter ≡ Ok fields)
+
+-- what a body's firings look at and pop
+pub record IsTakingOf (filter : filters.Filter) (fires : Body) (taking : Taking) : Type 0 where
+  pub window : taking.window
+      ≡ look_by filter.input (window_size (body_rates fires filter.members))
+  pub pops : taking.pops ≡ item_count (pop_rate (body_rates fires filter.members))
+
+-- state, room and rates are a filter's
+pub record IsFilterActor (filter : filters.Filter) (kept : FilterActor) : Type 0 where
+  pub state : IsStateOf filter kept.state
+  pub frame : IsFrameOf filter kept.frame
+  pub first : IsTakingOf filter body.Prework kept.first
+  pub later : IsTakingOf filter body.Work kept.later
+
+-- the values of a node's fields
+abbrev pub fields_of : Actor → List ℤ
+fields_of (actor.Filter kept) = kept.state.fields
+fields_of actor.Passive = []
+
+-- what a node keeps: a filter its state, others nothing
+abbrev pub IsActorOf : NodeCode → Actor → Type 0
+IsActorOf (graphs.Filter name filter) (actor.Filter kept) = IsFilterActor filter kept
+IsActorOf (graphs.Filter name filter) actor.Passive = ⊥
+IsActorOf code (actor.Filter kept) = ⊥
+IsActorOf code actor.Passive = Unit {0}
+
+-- one for each node
+pub record AreActors (codes : List NodeCode) (actors : List Actor) : Type 0 where
+  pub each : length actors ≡ length codes
+  pub kept : (node : ℕ) (code : NodeCode) (actor : Actor) → slice_get codes node ≡ Some code
+      → slice_get actors node ≡ Some actor → IsActorOf code actor
+
+-- a node that is a filter starts, and its names are known
+abbrev pub CanStartNode : NodeCode → Type 0
+CanStartNode (graphs.Filter name filter) = CanStart filter
+CanStartNode code = Unit {0}
+
+abbrev pub IsClosedNode : NodeCode → Type 0
+IsClosedNode (graphs.Filter name filter) = IsClosedFilter filter
+IsClosedNode code = Unit {0}
+
+abbrev pub AreStartable : List NodeCode → Type 0
+AreStartable codes = All CanStartNode codes
+
+abbrev pub AreClosed : List NodeCode → Type 0
+AreClosed codes = All IsClosedNode codes

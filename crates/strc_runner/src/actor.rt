@@ -1,0 +1,55 @@
+// What each node of a graph keeps between firings.
+
+ghost use Rattle.std.specs.Prelude.{◌≡◌, IfOk, map};
+ghost use Rattle.strc_graph.specs.Meaning.{node_fields};
+ghost use Rattle.strc_graph.specs.NodeView.{node_view};
+ghost use Rattle.strc_runner.specs.Actors.{AreActors, AreStartable, AreClosed, IsActorOf};
+ghost use Rattle.strc_runner.specs.Actors.{CanStartNode, IsClosedNode, fields_of};
+
+use crate::filter::{FilterActor, start_filter};
+use std::alloc::Global;
+use strc_base::memory::NoMemory;
+use strc_graph::graph::Node;
+
+/// What a node keeps between firings.
+#[derive(Drop)]
+pub(crate) enum Actor {
+    Filter(FilterActor),
+    /// A node of another kind keeps nothing.
+    Passive,
+}
+
+/// The nodes of a graph before their first firings.
+pub(crate) fn start_actors(alloc: Global, nodes: &[Node]) -> Result<Vec<Actor>, NoMemory>
+    requires starts { AreStartable (map node_view nodes.now) }
+    ensures actors { IfOk result (λ actors. AreActors (map node_view nodes.now) actors.items) }
+    ensures fields { IfOk result (λ actors. map fields_of actors.items
+        ≡ map node_fields (map node_view nodes.now)) }
+    ensures known { IfOk result (λ actors. AreClosed (map node_view nodes.now)) }
+{
+    let mut actors = Vec::with_capacity(alloc, nodes.len())?;
+    for node in nodes {
+        actors.push(start_actor(alloc, node)?)?;
+    }
+    Ok(actors)
+}
+
+/// A node before its first firing.
+fn start_actor(alloc: Global, node: &Node) -> Result<Actor, NoMemory>
+    requires starts { CanStartNode (node_view node.now) }
+    ensures actor { IfOk result (IsActorOf (node_view node.now)) }
+    ensures fields { IfOk result (λ actor. fields_of actor ≡ node_fields (node_view node.now)) }
+    ensures known { IfOk result (λ actor. IsClosedNode (node_view node.now)) }
+{
+    match node {
+        Node::Filter(instance) => Ok(Actor::Filter(start_filter(alloc, &instance.code)?)),
+        Node::Identity
+        | Node::FileReader(_)
+        | Node::FileWriter(_)
+        | Node::Splitter(_)
+        | Node::Joiner(_)
+        | Node::Scatter(_)
+        | Node::Copy(_, _)
+        | Node::Gather(_) => Ok(Actor::Passive),
+    }
+}

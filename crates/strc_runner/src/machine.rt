@@ -1,0 +1,329 @@
+// The machine that fires a graph's nodes over rings.
+
+ghost use Rattle.std.specs.Prelude.{◌≡◌, ◌<◌, [], ◌∷◌, IfOk, length, replicate};
+ghost use Rattle.strc_graph.specs.NodeView.{graph_view};
+ghost use Rattle.strc_order.specs.Greedy.{firings_of};
+ghost use Rattle.strc_order.specs.Order.{repeated};
+ghost use Rattle.strc_runner.specs.Actors.{AreActors, AreStartable, AreClosed};
+ghost use Rattle.strc_admissible.specs.Circuits.{IsCircuit, IsFirst};
+ghost use Rattle.strc_circuit.specs.Circuits.{circuit_view};
+ghost use Rattle.strc_admissible.specs.Machine as spec;
+ghost use Rattle.strc_runner.specs.Batches.{FitsUnit, IsBatch, IsOrderOf, units_of};
+ghost use Rattle.strc_runner.specs.Memory.{WantsWordOfOrder, WantsWordOfStep, prints_at};
+ghost use Rattle.strc_runner.specs.Running.{HasDone, HasGone, IsMachine, machine_view, words_of};
+
+use crate::actor::{Actor, start_actors};
+use crate::batches::{Batch, Order, batch_at};
+use crate::block::pass_at_once;
+use crate::filter::fire_filter;
+use crate::passing::fire_passive;
+use crate::ring::{Ring, first_rings};
+use std::alloc::{AllocError, Global};
+use strc_base::memory::NoMemory;
+use strc_circuit::circuit::Circuit;
+use strc_graph::graph::{Graph, Node};
+use strc_order::unit::Unit;
+use strc_semantics::fault::{Cause, Halt};
+use strc_semantics::word::Word;
+
+/// What a run has come to.
+#[derive(Drop)]
+pub struct Machine {
+    /// What each node keeps between firings.
+    pub(crate) actors: Vec<Actor>,
+    /// How often each node has fired.
+    pub(crate) fired: Vec<u64>,
+    /// The items on each channel.
+    pub(crate) rings: Vec<Ring>,
+    /// Room for items on their way from ring to ring: as many as the largest ring holds.
+    pub(crate) items: Vec<i32>,
+    /// The words that each node has given.
+    pub(crate) words: Vec<Vec<Word>>,
+}
+
+/// Why a run ends early.
+#[derive(Clone, Copy)]
+pub enum Stop {
+    /// A firing of a node, by its number, faulted.
+    Fault {
+        node: u32,
+        firing: u64,
+        cause: Cause,
+    },
+    NoMemory,
+}
+
+impl Machine {
+    /// Before the first firing: on each channel are its enqueued items.
+    pub fn new(
+        alloc: Global,
+        graph: &Graph,
+        circuit: &Circuit,
+        sizes: &[u32],
+    ) -> Result<Machine, NoMemory>
+        requires circuit { IsCircuit (graph_view graph.now) (circuit_view circuit.now) }
+        requires starts { AreStartable (graph_view graph.now).nodes }
+        ensures machine { IfOk result (IsMachine (circuit_view circuit.now)) }
+        ensures first { IfOk result (λ machine. IsFirst (graph_view graph.now) sizes.now
+            (machine_view machine)) }
+        ensures known { IfOk result (λ machine. AreClosed (graph_view graph.now).nodes) }
+    {
+        let actors = start_actors(alloc, graph.nodes())?;
+        let fired = Vec::from_elem(alloc, 0, graph.nodes().len())?;
+        let rings = first_rings(alloc, graph.channels(), sizes)?;
+        let items = Vec::from_elem(alloc, 0, greatest(sizes))?;
+        let words = no_words(alloc, graph.nodes().len())?;
+        Ok(Machine {
+            actors,
+            fired,
+            rings,
+            items,
+            words,
+        })
+    }
+
+    /// Fires the nodes of an order's units, each as often as its unit says, until one faults. It
+    /// takes no memory but for the words: it is out of memory only at a firing with a word to give.
+    pub fn fire_order(&mut self, circuit: &Circuit, order: &Order) -> Result<(), Stop>
+        requires machine { IsMachine (circuit_view circuit.now) self.old }
+        requires order { IsOrderOf (circuit_view circuit.now) order.now }
+        ensures machine { IsMachine (circuit_view circuit.now) self.new }
+        ensures gone { HasGone (spec.order_run (circuit_view circuit.now)
+            (firings_of (units_of order.now)) (machine_view self.old)) result
+            (machine_view self.old).words (machine_view self.new) }
+        ensures memory { WantsWordOfOrder (circuit_view circuit.now)
+            (firings_of (units_of order.now)) (machine_view self.old) result }
+    {
+        for place in 0..order.units.len() {
+            match self.fire_unit(circuit, &order.units[place], &order.batches[place]) {
+                Ok(()) => {}
+                Err(stop) => return Err(stop),
+            }
+        }
+        Ok(())
+    }
+
+    /// Fires a unit's nodes in turn, and the whole list a number of times; as its batch, where it
+    /// has one.
+    #[inline]
+    fn fire_unit(
+        &mut self,
+        circuit: &Circuit,
+        unit: &Unit,
+        batch: &Option<Batch>,
+    ) -> Result<(), Stop>
+        requires machine { IsMachine (circuit_view circuit.now) self.old }
+        requires batch { FitsUnit (circuit_view circuit.now) unit.now batch.now }
+        ensures machine { IsMachine (circuit_view circuit.now) self.new }
+        ensures gone { HasGone (spec.order_run (circuit_view circuit.now)
+            (repeated unit.now.turns unit.now.nodes.items) (machine_view self.old)) result
+            (machine_view self.old).words (machine_view self.new) }
+        ensures memory { WantsWordOfOrder (circuit_view circuit.now)
+            (repeated unit.now.turns unit.now.nodes.items) (machine_view self.old) result }
+    {
+        match batch {
+            Some(batch) => self.fire_batch(circuit, batch),
+            None => self.fire_turns(circuit, unit),
+        }
+    }
+
+    /// Fires a batch's node so often; at once where it passes items on and finds them all.
+    #[inline]
+    fn fire_batch(&mut self, circuit: &Circuit, batch: &Batch) -> Result<(), Stop>
+        requires machine { IsMachine (circuit_view circuit.now) self.old }
+        requires batch { IsBatch (circuit_view circuit.now) batch.now }
+        ensures machine { IsMachine (circuit_view circuit.now) self.new }
+        ensures gone { HasGone (spec.order_run (circuit_view circuit.now)
+            (repeated batch.now.turns (batch.now.node ∷ [])) (machine_view self.old)) result
+            (machine_view self.old).words (machine_view self.new) }
+        ensures memory { WantsWordOfOrder (circuit_view circuit.now)
+            (repeated batch.now.turns (batch.now.node ∷ [])) (machine_view self.old) result }
+    {
+        if !pass_at_once(circuit, batch, &mut self.rings, &mut self.items) {
+            return self.fire_alone(circuit, batch);
+        }
+        let place = batch.node as usize;
+        self.fired[place] = self.fired[place].saturating_add(u64::from(batch.turns));
+        Ok(())
+    }
+
+    /// Fires a batch's node so often, one firing after another.
+    #[inline(never)]
+    fn fire_alone(&mut self, circuit: &Circuit, batch: &Batch) -> Result<(), Stop>
+        requires machine { IsMachine (circuit_view circuit.now) self.old }
+        requires batch { IsBatch (circuit_view circuit.now) batch.now }
+        ensures machine { IsMachine (circuit_view circuit.now) self.new }
+        ensures gone { HasGone (spec.order_run (circuit_view circuit.now)
+            (repeated batch.now.turns (batch.now.node ∷ [])) (machine_view self.old)) result
+            (machine_view self.old).words (machine_view self.new) }
+        ensures memory { WantsWordOfOrder (circuit_view circuit.now)
+            (repeated batch.now.turns (batch.now.node ∷ [])) (machine_view self.old) result }
+    {
+        for _turn in 0..batch.turns {
+            match self.fire_once(circuit, batch) {
+                Ok(()) => {}
+                Err(stop) => return Err(stop),
+            }
+        }
+        Ok(())
+    }
+
+    /// Fires a unit's nodes one by one.
+    fn fire_turns(&mut self, circuit: &Circuit, unit: &Unit) -> Result<(), Stop>
+        requires machine { IsMachine (circuit_view circuit.now) self.old }
+        ensures machine { IsMachine (circuit_view circuit.now) self.new }
+        ensures gone { HasGone (spec.order_run (circuit_view circuit.now)
+            (repeated unit.now.turns unit.now.nodes.items) (machine_view self.old)) result
+            (machine_view self.old).words (machine_view self.new) }
+        ensures memory { WantsWordOfOrder (circuit_view circuit.now)
+            (repeated unit.now.turns unit.now.nodes.items) (machine_view self.old) result }
+    {
+        for _turn in 0..unit.turns {
+            match self.fire_nodes(circuit, &unit.nodes) {
+                Ok(()) => {}
+                Err(stop) => return Err(stop),
+            }
+        }
+        Ok(())
+    }
+
+    /// Fires nodes in turn.
+    fn fire_nodes(&mut self, circuit: &Circuit, nodes: &[u32]) -> Result<(), Stop>
+        requires machine { IsMachine (circuit_view circuit.now) self.old }
+        ensures machine { IsMachine (circuit_view circuit.now) self.new }
+        ensures gone { HasGone (spec.order_run (circuit_view circuit.now) nodes.now
+            (machine_view self.old)) result (machine_view self.old).words (machine_view self.new) }
+        ensures memory { WantsWordOfOrder (circuit_view circuit.now) nodes.now
+            (machine_view self.old) result }
+    {
+        for node in nodes {
+            match self.fire(circuit, *node) {
+                Ok(()) => {}
+                Err(stop) => return Err(stop),
+            }
+        }
+        Ok(())
+    }
+
+    /// Fires a node once, where there is one and it finds its windows.
+    fn fire(&mut self, circuit: &Circuit, node: u32) -> Result<(), Stop>
+        requires machine { IsMachine (circuit_view circuit.now) self.old }
+        ensures machine { IsMachine (circuit_view circuit.now) self.new }
+        ensures gone { HasGone (spec.after_step (machine_view self.old) node
+            (spec.next_step (circuit_view circuit.now) (machine_view self.old) node)) result
+            (machine_view self.old).words (machine_view self.new) }
+        ensures memory { WantsWordOfOrder (circuit_view circuit.now) (node ∷ [])
+            (machine_view self.old) result }
+    {
+        let place = node as usize;
+        if place >= circuit.nodes.len() {
+            return Ok(());
+        }
+        self.fire_alone(circuit, &batch_at(circuit, node))
+    }
+
+    /// Fires a batch's node once, where it finds its windows.
+    #[inline(always)]
+    fn fire_once(&mut self, circuit: &Circuit, batch: &Batch) -> Result<(), Stop>
+        requires machine { IsMachine (circuit_view circuit.now) self.old }
+        requires batch { IsBatch (circuit_view circuit.now) batch.now }
+        ensures machine { IsMachine (circuit_view circuit.now) self.new }
+        ensures gone { HasGone (spec.after_step (machine_view self.old) batch.now.node
+            (spec.next_step (circuit_view circuit.now) (machine_view self.old) batch.now.node))
+            result (machine_view self.old).words (machine_view self.new) }
+        ensures memory { WantsWordOfOrder (circuit_view circuit.now) (batch.now.node ∷ [])
+            (machine_view self.old) result }
+    {
+        let place = batch.node as usize;
+        let firing = self.fired[place];
+        match self.step(circuit, batch, firing) {
+            Ok(true) => {
+                self.fired[place] = firing.saturating_add(1);
+                Ok(())
+            }
+            Ok(false) => Ok(()),
+            Err(Halt::Fault(cause)) => Err(Stop::Fault {
+                node: batch.node,
+                firing,
+                cause,
+            }),
+            Err(Halt::NoMemory) => Err(Stop::NoMemory),
+        }
+    }
+
+    /// One firing of a batch's node, by its number. Whether it found its windows; if not, it leaves
+    /// all as it was.
+    #[inline]
+    fn step(&mut self, circuit: &Circuit, batch: &Batch, firing: u64) -> Result<bool, Halt>
+        requires machine { IsMachine (circuit_view circuit.now) self.old }
+        requires batch { IsBatch (circuit_view circuit.now) batch.now }
+        ensures machine { IsMachine (circuit_view circuit.now) self.new }
+        ensures fired { self.new.fired ≡ self.old.fired }
+        ensures step { HasDone (spec.step_at (circuit_view circuit.now) (machine_view self.old)
+            batch.now.node firing) batch.now.node result (machine_view self.old)
+            (machine_view self.new) }
+        ensures memory { WantsWordOfStep (prints_at (circuit_view circuit.now) batch.now.node
+            firing) (spec.step_at (circuit_view circuit.now) (machine_view self.old)
+            batch.now.node firing) result }
+    {
+        let node = batch.node as usize;
+        match &circuit.nodes[node] {
+            Node::Filter(instance) => match &mut self.actors[node] {
+                Actor::Filter(actor) => fire_filter(
+                    &instance.code,
+                    firing,
+                    actor,
+                    &mut self.rings,
+                    batch.input,
+                    batch.output,
+                    &mut self.words[node],
+                ),
+                Actor::Passive => unreachable!(),
+            },
+            passive => fire_passive(
+                passive,
+                firing,
+                circuit.inputs.at(node),
+                circuit.outputs.at(node),
+                &circuit.input,
+                &mut self.rings,
+                &mut self.words[node],
+            ),
+        }
+    }
+
+    /// The words of each node, taken out.
+    pub fn into_words(self) -> Vec<Vec<Word>>
+        ensures { words_of result.items ≡ (machine_view self).words }
+    {
+        let Machine { words, .. } = self;
+        words
+    }
+
+    /// The words of each node.
+    pub fn words(&self) -> &[Vec<Word>]
+        ensures { words_of result.now ≡ (machine_view self.now).words }
+    {
+        &self.words
+    }
+}
+
+/// No words of so many nodes.
+pub(crate) fn no_words(alloc: Global, count: usize) -> Result<Vec<Vec<Word>>, AllocError>
+    ensures { IfOk result (λ words. words_of words.items ≡ replicate count []) }
+{
+    let mut words = Vec::with_capacity(alloc, count)?;
+    for _node in 0..count {
+        words.push(Vec::new(alloc))?;
+    }
+    Ok(words)
+}
+
+/// The greatest of some sizes.
+pub(crate) fn greatest(sizes: &[u32]) -> usize {
+    let mut greatest = 0;
+    for size in sizes {
+        greatest = greatest.max(*size);
+    }
+    greatest as usize
+}

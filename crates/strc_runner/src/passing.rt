@@ -1,0 +1,68 @@
+// A firing of a node that keeps nothing between firings, whatever its kind.
+
+ghost use Rattle.std.specs.Prelude.{◌≡◌, [], length};
+ghost use Rattle.strc_graph.specs.NodeView.{node_view};
+ghost use Rattle.strc_admissible.specs.Steps as steps;
+ghost use Rattle.strc_runner.specs.Answers.{AreRings, HasStepped, IsMover, IsPassive, MovesBy};
+ghost use Rattle.strc_runner.specs.Memory.{WantsWordOfStep, node_prints};
+
+use crate::movers::{fire_identity, fire_joiner, fire_reader, fire_splitter, fire_writer, ring_of};
+use crate::ring::Ring;
+use strc_graph::graph::Node;
+use strc_semantics::fault::Halt;
+use strc_semantics::word::Word;
+
+/// One firing, by its number. Whether it found its windows; if not, it leaves all as it was.
+pub(crate) fn fire_passive(
+    node: &Node,
+    firing: u64,
+    inputs: &[Option<usize>],
+    outputs: &[Option<usize>],
+    input: &[i32],
+    rings: &mut [Ring],
+    words: &mut Vec<Word>,
+) -> Result<bool, Halt>
+    requires passive { IsPassive (node_view node.now) }
+    requires inputs { AreRings (length rings.old) inputs.now }
+    requires outputs { AreRings (length rings.old) outputs.now }
+    ensures rings { length rings.new ≡ length rings.old }
+    ensures step { HasStepped (steps.node_step (node_view node.now) firing [] inputs.now outputs.now
+        input.now rings.old) result [] [] rings.old rings.new words.old.items words.new.items }
+    ensures memory { WantsWordOfStep (node_prints (node_view node.now) firing)
+        (steps.node_step (node_view node.now) firing [] inputs.now outputs.now input.now
+        rings.old) result }
+{
+    if let Node::FileWriter(_) = node {
+        return fire_writer(rings, ring_of(inputs, 0), words);
+    }
+    Ok(fire_mover(node, firing, inputs, outputs, input, rings))
+}
+
+/// The same for a node that prints nothing.
+fn fire_mover(
+    node: &Node,
+    firing: u64,
+    inputs: &[Option<usize>],
+    outputs: &[Option<usize>],
+    input: &[i32],
+    rings: &mut [Ring],
+) -> bool
+    requires mover { IsMover (node_view node.now) }
+    requires inputs { AreRings (length rings.old) inputs.now }
+    requires outputs { AreRings (length rings.old) outputs.now }
+    ensures rings { length rings.new ≡ length rings.old }
+    ensures step { MovesBy (steps.node_step (node_view node.now) firing [] inputs.now outputs.now
+        input.now rings.old) result rings.old rings.new }
+{
+    match node {
+        Node::Identity => fire_identity(rings, ring_of(inputs, 0), ring_of(outputs, 0)),
+        Node::FileReader(_) => fire_reader(rings, firing, ring_of(outputs, 0), input),
+        Node::Splitter(splitter) => { fire_splitter(rings, splitter, ring_of(inputs, 0), outputs) }
+        Node::Joiner(weights) => fire_joiner(rings, weights, inputs, ring_of(outputs, 0)),
+        Node::Filter(_)
+        | Node::FileWriter(_)
+        | Node::Scatter(_)
+        | Node::Copy(_, _)
+        | Node::Gather(_) => false,
+    }
+}
