@@ -1,0 +1,61 @@
+-- The bounds that workers share are a cut.
+use Rattle.std.proofs.Common.{◌≡◌, refl, sym, ap, ◌∙◌, subst, ℕ, suc, ◌<◌, ◌≤◌, List, []}
+use Rattle.std.proofs.Common.{◌∷◌, length, map, arith}
+use Rattle.strc_graph.specs.Graphs.{Graph, Channel}
+use Rattle.strc_stage.specs.Plans.{Planning, IsWhole}
+use Rattle.strc_cut.specs.Bounds.{stage_bound, stage_bounds, stage_count}
+use Rattle.strc_cut.specs.Cuts.{IsBetweenGroups, IsCut}
+use Rattle.strc_cut.proofs.EvenShares.{bounds_are_a_cut}
+use Rattle.strc_cut.proofs.Shares.{bounds_are_listed}
+use Rattle.strc_staged.specs.Beginnings.{round_pushes}
+use Rattle.strc_launch.specs.Bounds.{bound_in, last_of}
+use Rattle.strc_launch.specs.Links.{link_of, room_of}
+
+module _ (graph : Graph) (workers : ℕ) (whole : IsWhole graph) (some : 0 < workers)
+    (nodes : 0 < length graph.nodes) where
+  abbrev bounds : List ℕ
+  bounds = stage_bounds graph.outer_loops workers
+
+  abbrev count : ℕ
+  count = stage_count graph.outer_loops workers
+
+  long : length bounds ≡ suc count
+  long = (bounds_are_listed graph.outer_loops workers).0
+
+  bound_is : (stage : ℕ) → stage ≤ count
+      → bound_in bounds stage ≡ stage_bound graph.outer_loops workers stage
+  bound_is stage less = (bounds_are_listed graph.outer_loops workers).1 stage less
+
+  some_stage : 0 < count
+  some_stage = (bounds_are_a_cut graph workers whole some nodes).0
+
+  pub two_bounds : 2 ≤ length bounds
+  two_bounds = omega (arith, long, some_stage)
+
+  pub stages_are : suc (last_of bounds) ≡ count
+  stages_are = omega (arith, long, some_stage)
+
+  counted : IsCut graph (bound_in bounds) count
+  counted =
+      let is = (bounds_are_a_cut graph workers whole some nodes).1 in record {
+        first = bound_is 0 (omega arith) ∙ is.first;
+        all = bound_is count (omega arith) ∙ is.all;
+        rising = λ stage less. omega (
+          arith,
+          bound_is stage (omega (arith, less)),
+          bound_is (suc stage) (omega (arith, less)),
+          is.rising stage less,
+        );
+        between = λ stage less. subst (IsBetweenGroups graph.outer_loops)
+            (sym (bound_is stage less)) (is.between stage less);
+      }
+
+  pub bounds_cut : IsCut graph (bound_in bounds) (suc (last_of bounds))
+  bounds_cut = subst (IsCut graph (bound_in bounds)) (sym stages_are) counted
+
+-- the room of each channel
+pub link_rooms : (plan : Planning) (at_bounds : List ℕ) (channels : List Channel)
+    → map room_of (map (link_of plan at_bounds) channels) ≡ map (round_pushes plan) channels
+link_rooms plan at_bounds [] = refl
+link_rooms plan at_bounds (channel ∷ channels) =
+    ap (λ l. round_pushes plan channel ∷ l) (link_rooms plan at_bounds channels)

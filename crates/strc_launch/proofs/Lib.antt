@@ -1,0 +1,10 @@
+pub mod Lists
+pub mod Ranges
+pub mod RingCounts
+pub mod TapeNodes
+pub mod Cuts
+pub mod Crossings
+pub mod Parting
+pub mod Remainders
+pub mod Begun
+pub mod Started

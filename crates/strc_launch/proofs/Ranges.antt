@@ -1,0 +1,151 @@
+-- Stages that are ranges between bounds.
+use Rattle.std.proofs.Common.{◌≡◌, refl, sym, ap, ◌∙◌, subst, ℕ, zero, suc, ◌+◌, ◌<◌, ◌≤◌}
+use Rattle.std.proofs.Common.{Bool, true, false, cond, leb, arith, leb-true, leb-false, inl, inr}
+use Rattle.std.proofs.Common.{length, true≢false}
+use Rattle.std.specs.Prelude.{eqb}
+use Rattle.std.proofs.lemmas.Bool.{cases_order, cases_lt, eq-eqb, eqb-true, le-leb, lt-leb}
+use Rattle.strc_graph.specs.Graphs.{Graph}
+use Rattle.strc_circuit.specs.Parts.{IsOutside, is_within}
+use Rattle.strc_circuit.proofs.PartLists.{within_true, within_false}
+use Rattle.strc_cut.specs.Cuts.{IsCut}
+use Rattle.strc_staging.specs.Ranges.{stage_within}
+use Rattle.strc_staging.proofs.Ranges.{bounds_from}
+
+module _ (bound : ℕ → ℕ) where
+  -- ---- one stage after another
+
+  pub stage_first : (node : ℕ) → 0 ≡ stage_within bound 0 node
+  unfolding stage_within
+  stage_first node = refl
+
+  stage_next : (stage node : ℕ) → stage_within bound (stage + 1) node
+      ≡ cond (leb (bound (stage + 1)) node) (stage + 1) (stage_within bound stage node)
+  unfolding stage_within
+  stage_next stage node =
+      let e : stage + 1 ≡ suc stage = omega arith in
+      ap (λ n. stage_within bound n node) e
+      ∙ ap (λ n. cond (leb (bound n) node) n (stage_within bound stage node)) (sym e)
+
+  pub stage_here : (stage node : ℕ) → bound (stage + 1) ≤ node
+      → stage + 1 ≡ stage_within bound (stage + 1) node
+  stage_here stage node from = sym (stage_next stage node
+      ∙ ap (λ t. cond t (stage + 1) (stage_within bound stage node))
+      (le-leb (bound (stage + 1)) node from))
+
+  pub stage_before : (stage node found : ℕ) → node < bound (stage + 1)
+      → found ≡ stage_within bound stage node → found ≡ stage_within bound (stage + 1) node
+  stage_before stage node found below is = is ∙ sym (stage_next stage node
+      ∙ ap (λ t. cond t (stage + 1) (stage_within bound stage node))
+      (lt-leb (bound (stage + 1)) node below))
+
+  -- ---- which nodes a stage has
+
+  at_most : (last v : ℕ) → stage_within bound last v ≤ last
+  unfolding stage_within
+  at_most zero v = omega arith
+  at_most (suc a) v = by_test (leb (bound (suc a)) v) (at_most a v)
+    where
+      by_test : (test : Bool) → stage_within bound a v ≤ a
+          → cond test (suc a) (stage_within bound a v) ≤ suc a
+      by_test true less = omega arith
+      by_test false less = omega (arith, less)
+
+  from_bound : (last v : ℕ) → 0 < stage_within bound last v
+      → bound (stage_within bound last v) ≤ v
+  unfolding stage_within
+  from_bound zero v more = absurd (omega arith)
+  from_bound (suc a) v more = by_test (leb (bound (suc a)) v) refl (from_bound a v) more
+    where
+      by_test : (test : Bool) → leb (bound (suc a)) v ≡ test
+          → (0 < stage_within bound a v → bound (stage_within bound a v) ≤ v)
+          → 0 < cond test (suc a) (stage_within bound a v)
+          → bound (cond test (suc a) (stage_within bound a v)) ≤ v
+      by_test true e ih more = leb-true (bound (suc a)) v e
+      by_test false e ih more = ih more
+
+  below_bound : (last v : ℕ) → stage_within bound last v < last
+      → v < bound (suc (stage_within bound last v))
+  unfolding stage_within
+  below_bound zero v less = absurd (omega arith)
+  below_bound (suc a) v less = by_test (leb (bound (suc a)) v) refl (at_most a v)
+      (below_bound a v) less
+    where
+      by_test : (test : Bool) → leb (bound (suc a)) v ≡ test → stage_within bound a v ≤ a
+          → (stage_within bound a v < a → v < bound (suc (stage_within bound a v)))
+          → cond test (suc a) (stage_within bound a v) < suc a
+          → v < bound (suc (cond test (suc a) (stage_within bound a v)))
+      by_test true e most ih less = absurd (omega arith)
+      by_test false e most ih less = elim (cases_order (stage_within bound a v) a) [
+        | inl same ↦ subst (λ (n : ℕ). v < bound (suc n)) (sym same)
+            (omega (arith, leb-false (bound (suc a)) v e))
+        | inr other ↦ elim other [ inl under ↦ ih under | inr over ↦ absurd (omega arith) ]
+      ]
+
+module _ (graph : Graph) (bound : ℕ → ℕ) (last : ℕ) (cut : IsCut graph bound (suc last)) where
+  pub own_from : (stage node : ℕ) → stage_within bound last node ≡ stage → bound stage ≤ node
+  own_from zero node is = omega (arith, cut.first)
+  own_from (suc stage) node is =
+      subst (λ (n : ℕ). bound n ≤ node) is (from_bound bound last node (omega (arith, is)))
+
+  pub own_below : (stage node : ℕ) → node < length graph.nodes
+      → stage_within bound last node ≡ stage → node < bound (suc stage)
+  own_below stage node less is = elim (cases_lt stage last) [
+    | inl below ↦ subst (λ (n : ℕ). node < bound (suc n)) is
+        (below_bound bound last node (omega (arith, is, below)))
+    | inr past ↦
+        let e : suc stage ≡ suc last = omega (arith, is, past, at_most bound last node) in
+        subst (λ (n : ℕ). node < bound n) (sym e) (omega (arith, less, cut.all))
+  ]
+
+  pub is_own : (stage node : ℕ) → stage ≤ last → bound stage ≤ node → node < bound (suc stage)
+      → stage_within bound last node ≡ stage
+  is_own stage node most from below =
+      let own = stage_within bound last node in
+      elim (cases_order own stage) [
+        | inl same ↦ same
+        | inr other ↦ elim other [
+          | inl under ↦ absurd (omega (
+            arith,
+            below_bound bound last node (omega (arith, under, most)),
+            bounds_from bound (suc last) cut.rising (suc own) stage (omega (arith, under))
+                (omega (arith, most)),
+            from,
+          ))
+          | inr over ↦ absurd (omega (
+            arith,
+            at_most bound last node,
+            from_bound bound last node (omega (arith, over)),
+            bounds_from bound (suc last) cut.rising (suc stage) own (omega (arith, over))
+                (omega (arith, at_most bound last node)),
+            below,
+          ))
+        ]
+      ]
+
+  -- a node that a stage doesn't have is outside
+  pub is_outside : (stage node : ℕ) → stage ≤ last
+      → (stage_within bound last node ≡ stage → ⊥)
+      → IsOutside (bound stage) (bound (suc stage)) node
+  is_outside stage node most other = elim (cases_lt node (bound stage)) [
+    | inl below ↦ inl below
+    | inr from ↦ elim (cases_lt node (bound (suc stage))) [
+      | inl less ↦ absurd (other (is_own stage node most from less))
+      | inr past ↦ inr past
+    ]
+  ]
+
+  -- the two tests agree on nodes
+  pub same_test : (stage node : ℕ) → stage ≤ last → node < length graph.nodes
+      → eqb (stage_within bound last node) stage
+      ≡ is_within (bound stage) (bound (suc stage)) node
+  same_test stage node most less = by_test (eqb (stage_within bound last node) stage) refl
+    where
+      by_test : (test : Bool) → eqb (stage_within bound last node) stage ≡ test
+          → test ≡ is_within (bound stage) (bound (suc stage)) node
+      by_test true e =
+          let is = eqb-true (stage_within bound last node) stage e in
+          sym (within_true (bound stage) (bound (suc stage)) node (own_from stage node is)
+          (own_below stage node less is))
+      by_test false e =
+          sym (within_false (bound stage) (bound (suc stage)) node (is_outside stage node most
+          (λ is. absurd (true≢false (sym (eq-eqb (stage_within bound last node) stage is) ∙ e)))))

@@ -1,0 +1,77 @@
+use Rattle.std.proofs.Common.{◌≡◌, ◌∙◌, sym, ap, subst, ◌<◌, ◌*◌, ℕ, List, length, map}
+use Rattle.std.specs.Prelude.{slice_get}
+use Rattle.std.specs.Vec.{vec_items}
+use Rattle.std.proofs.lemmas.List.{length-map}
+use Rattle.strc_graph.specs.NodeView.{GraphParts, node_view}
+use Rattle.strc_graph.specs.Tapes.{tape_nodes}
+use Rattle.strc_admissible.specs.Machine.{words_at}
+use Rattle.strc_circuit.specs.Circuits.{circuit_view}
+use Rattle.strc_runner.specs.Running.{machine_view}
+use Rattle.strc_stage.specs.Plans.{planning_of}
+use Rattle.strc_staged.specs.Beginnings.{IsBeginning}
+use Rattle.strc_stages.specs.Collectors.{begun}
+use Rattle.strc_stages.specs.declared.collector.CollectorParts.{CollectorParts}
+use Rattle.strc_launch.specs.Bounds.{bound_in, last_of}
+use Rattle.strc_launch.specs.Launches.{IsRingOf, bounds_of, start_of}
+use Rattle.strc_launch.specs.Made.{AreMade}
+use Rattle.strc_launch.proofs.Begun.{AreParts, is_beginning}
+use Rattle.strc_launch.proofs.Cuts.{bounds_cut, stages_are}
+use Rattle.strc_launch.proofs.ringing.ring_of.Goals as goal
+
+pub tape_words-requires : goal.tape_words-requires
+tape_words-requires c =
+    let machine = c.args.machine in
+    let codes = (circuit_view c.args.circuit.now).codes in
+    sym (length-map c.into_words.result.items vec_items)
+    ∙ ap length (c.into_words.ensures ∙ c.in_ok-stages.ensures.words)
+    ∙ length-map machine.words.items vec_items ∙ c.requires.machine.words
+    ∙ ap length c.requires.circuit.codes ∙ length-map c.args.plan.now.graph.nodes node_view
+    ∙ ap length (sym (c.nodes.ensures
+    ∙ ap (λ (g : GraphParts). g.nodes) c.graph.ensures.graph))
+
+pub returns : goal.returns
+returns c =
+    let plan = planning_of c.args.plan.now in
+    let bounds = c.in_ok-cut.cut.bounds.items in
+    let circuit = circuit_view c.args.circuit.now in
+    let started = machine_view c.args.machine in
+    let workers = c.args.workers in
+    let stages = c.in_ok-stages.stages.items in
+    let whole = c.in_ok-cut.ensures.cut.at.is.whole in
+    let some = subst (λ n. 0 < n) (sym (length-map c.args.plan.now.graph.nodes node_view))
+    c.requires.nodes in
+    let same : bounds ≡ bounds_of plan workers = c.in_ok-cut.ensures.bounds in
+    let stages_are_made = c.in_ok-stages.ensures in
+    let parts : AreParts plan bounds circuit started c.args.rounds stages
+    c.in_ok-free.free.items c.in_ok-words.words = record {
+      some = c.requires.rounds;
+      each = stages_are_made.each;
+      made = stages_are_made.made;
+      free_each = c.in_ok-free.ensures.each ∙ ap (λ l. 2 * length l) c.deref.ensures.value;
+      free_are = λ first there. c.in_ok-free.ensures.free first
+          (ap (λ l. slice_get l 0) c.deref.ensures.value ∙ there);
+      words_are = c.in_ok-words.ensures
+          ∙ ap (λ l. map (words_at l) (tape_nodes (map node_view c.nodes.result.now)))
+          (c.into_words.ensures ∙ stages_are_made.words)
+          ∙ ap (λ l. map (words_at started.words) (tape_nodes (map node_view l)))
+          (c.nodes.ensures ∙ ap (λ (g : GraphParts). g.nodes) c.graph.ensures.graph);
+    } in
+    subst (λ (collector : CollectorParts). IsRingOf plan circuit started c.args.rounds workers
+    (record {
+      stages = c.in_ok-stages.stages;
+      free = c.in_ok-free.free;
+      collector = collector;
+    })) (sym c.new-2.ensures) (record {
+      count = stages_are plan.graph workers whole c.requires.workers some;
+      cut = bounds_cut plan.graph workers whole c.requires.workers some;
+      beginning = subst (λ (l : List ℕ). IsBeginning plan (bound_in l) (last_of l) circuit started
+          c.args.rounds (start_of (record {
+            stages = c.in_ok-stages.stages;
+            free = c.in_ok-free.free;
+            collector = begun c.in_ok-words.words c.args.rounds;
+          }))) same
+          (is_beginning plan bounds circuit started c.args.rounds stages c.in_ok-free.free.items
+          c.in_ok-words.words parts);
+      made = subst (λ (l : List ℕ). AreMade plan l circuit started c.args.rounds stages) same
+          stages_are_made.made;
+    })

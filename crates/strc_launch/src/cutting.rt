@@ -1,0 +1,110 @@
+// A plan, cut into stages.
+
+ghost use Rattle.std.specs.Prelude.{◌≡◌, ◌<◌, ◌≤◌, ◌-◌, IfOk, length, map};
+ghost use Rattle.strc_cut.specs.Bounds as bounds;
+ghost use Rattle.strc_graph.specs.Graphs.{IsGraph};
+ghost use Rattle.strc_graph.specs.NodeView.{channel_view, graph_view};
+ghost use Rattle.strc_stage.specs.Plans.{planning_of, IsPlan};
+ghost use Rattle.strc_staging.specs.Ranges.{stage_within};
+ghost use Rattle.strc_launch.specs.Bounds.{bound_in, last_of};
+ghost use Rattle.strc_launch.specs.Cuts.{IsCutting};
+ghost use Rattle.strc_launch.specs.Links as spec;
+
+use crate::links::{Link, rooms};
+use crate::pushes::round_pushes;
+use crate::tapes::tape_list;
+use std::alloc::Global;
+use strc_base::memory::NoMemory;
+use strc_cut::bounds::stage_bounds;
+use strc_graph::graph::Channel;
+use strc_stage::plan::Plan;
+
+/// A plan, cut into stages.
+#[derive(Drop)]
+pub(crate) struct Cut {
+    /// The node with which each stage begins, and the number of nodes.
+    pub bounds: Vec<usize>,
+    /// The channels, by the stages that they join.
+    pub links: Vec<Link>,
+    /// How many items each channel's source pushes in a round.
+    pub rooms: Vec<u32>,
+    /// The nodes that give words.
+    pub tapes: Vec<usize>,
+}
+
+impl Cut {
+    /// The stages that so many workers share.
+    pub(crate) fn new(alloc: Global, plan: &Plan, workers: u32) -> Result<Cut, NoMemory>
+        requires workers { 0 < workers }
+        requires nodes { 0 < length plan.now.graph.nodes }
+        ensures cut { IfOk result (IsCutting (planning_of plan.now)) }
+        ensures bounds { IfOk result (λ cut. cut.bounds.items
+            ≡ bounds.stage_bounds plan.now.graph.outer_loops workers) }
+    {
+        known_plan(plan);
+        let bounds = stage_bounds(alloc, plan, workers)?;
+        let links = links_of(alloc, plan, &bounds)?;
+        let rooms = rooms(alloc, &links)?;
+        let tapes = tape_list(alloc, plan.graph().nodes())?;
+        Ok(Cut {
+            bounds,
+            links,
+            rooms,
+            tapes,
+        })
+    }
+}
+
+/// What is known of a plan, by its readers.
+pub(crate) fn known_plan(plan: &Plan)
+    ensures is { IsPlan (planning_of plan.now) }
+    ensures graph { IsGraph (graph_view plan.now.graph) }
+{
+    let _channels = plan.graph().channels();
+    let _startup = plan.startup_counts();
+    let _round = plan.round_counts();
+    let _schedule = plan.schedule();
+}
+
+/// The channels of a plan, by the stages that they join.
+fn links_of(alloc: Global, plan: &Plan, bounds: &[usize]) -> Result<Vec<Link>, NoMemory>
+    requires { 2 ≤ length bounds.now }
+    ensures { IfOk result (λ links. links.items
+        ≡ spec.links_of (planning_of plan.now) bounds.now) }
+{
+    let channels = plan.graph().channels();
+    let mut links = Vec::with_capacity(alloc, channels.len())?;
+    for channel in channels {
+        links.push(link_of(plan, bounds, channel)?)?;
+    }
+    Ok(links)
+}
+
+/// A channel, by the stages that it joins.
+fn link_of(plan: &Plan, bounds: &[usize], channel: &Channel) -> Result<Link, NoMemory>
+    requires { 2 ≤ length bounds.now }
+    ensures { IfOk result (λ link. link
+        ≡ spec.link_of (planning_of plan.now) bounds.now (channel_view channel.now)) }
+{
+    let nodes = plan.graph().nodes();
+    let counts = plan.round_counts().as_slice();
+    Ok(Link {
+        from: stage_at(bounds, channel.source.node as usize),
+        to: stage_at(bounds, channel.target.node as usize),
+        room: round_pushes(nodes, counts, channel.source)?,
+    })
+}
+
+/// The stage of a node: the last that begins at it or before it.
+fn stage_at(bounds: &[usize], node: usize) -> usize
+    requires { 2 ≤ length bounds.now }
+    ensures { result ≡ stage_within (bound_in bounds.now) (last_of bounds.now) node }
+{
+    let mut found = 0;
+    for stage in 0..bounds.len() - 2 {
+        if bounds[stage + 1] <= node {
+            found = stage + 1;
+        }
+    }
+    found
+}

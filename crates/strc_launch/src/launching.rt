@@ -1,0 +1,80 @@
+// Start-up of a plan, and the ring of stages that it leaves.
+
+ghost use Rattle.std.specs.Prelude.{◌≡◌, ◌<◌, IfOk, length};
+ghost use Rattle.strc_order.specs.Greedy.{firings_of};
+ghost use Rattle.strc_circuit.specs.Circuits.{circuit_view, IsReady};
+ghost use Rattle.strc_runner.specs.Batches.{IsOrderOf, units_of};
+ghost use Rattle.strc_stage.specs.Plans.{planning_of};
+ghost use Rattle.strc_launch.specs.Launches.{IsFaultOf, IsLaunch};
+
+use crate::cutting::known_plan;
+use crate::laws::runs_keep_rings;
+use crate::ringing::{Launch, ring_of};
+use std::alloc::{AllocError, Global};
+use strc_base::memory::NoMemory;
+use strc_circuit::circuit::Circuit;
+use strc_circuit::units::copy_units;
+use strc_order::unit::Unit;
+use strc_runner::batches::Order;
+use strc_runner::machine::{Machine, Stop};
+use strc_stage::plan::Plan;
+
+/// Start-up of a plan on this thread; then its nodes are parted among stages, one for each of so
+/// many workers, or for each group of nodes where these are fewer.
+///
+/// Err only where memory runs out, or where a channel carries more items in a round than memory can
+/// hold.
+pub fn launch(
+    alloc: Global,
+    plan: &Plan,
+    input: &[i32],
+    rounds: u32,
+    workers: u32,
+) -> Result<Launch, NoMemory>
+    requires workers { 0 < workers }
+    requires rounds { 0 < rounds }
+    requires nodes { 0 < length plan.now.graph.nodes }
+    ensures { IfOk result (IsLaunch (planning_of plan.now) input.now rounds workers) }
+{
+    runs_keep_rings();
+    known_plan(plan);
+    let graph = plan.graph();
+    let schedule = plan.schedule();
+    let circuit = Circuit::new(alloc, graph, input)?;
+    let startup = order_of(alloc, &circuit, schedule.startup())?;
+    let mut machine = Machine::new(alloc, graph, &circuit, schedule.sizes())?;
+    match machine.fire_order(&circuit, &startup) {
+        Ok(()) => {
+            let ring = ring_of(alloc, plan, &circuit, machine, rounds, workers)?;
+            Ok(Launch::Going(ring))
+        }
+        Err(stop) => faulted(stop),
+    }
+}
+
+/// What start-up comes to where a firing of it stops.
+fn faulted(stop: Stop) -> Result<Launch, NoMemory>
+    ensures { IfOk result (IsFaultOf stop) }
+{
+    match stop {
+        Stop::Fault {
+            node,
+            firing,
+            cause,
+        } => Ok(Launch::Faulted {
+            node,
+            firing,
+            cause,
+        }),
+        Stop::NoMemory => Err(NoMemory),
+    }
+}
+
+/// The order of a schedule's units.
+fn order_of(alloc: Global, circuit: &Circuit, units: &[Unit]) -> Result<Order, AllocError>
+    requires ready { IsReady circuit.now }
+    ensures order { IfOk result (IsOrderOf (circuit_view circuit.now)) }
+    ensures firings { IfOk result (λ order. firings_of (units_of order) ≡ firings_of units.now) }
+{
+    Order::new(alloc, circuit, copy_units(alloc, units)?)
+}

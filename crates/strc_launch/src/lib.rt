@@ -1,0 +1,22 @@
+// Takes a plan, the program's input, and how many rounds and workers there are.
+// Gives what start-up comes to on this thread: its fault, or the ring of stages that it leaves.
+// The theorem to rely on: `launch`, whose ring is the beginning of strc_staged's law, cut between
+// the groups that workers share.
+// Stands on strc_stages, whose stages and collector it makes, on strc_runner and strc_circuit,
+// whose machine and circuit it parts, on strc_cut, whose bounds it parts them at, on strc_stage,
+// whose plan it launches, and on strc_staged, whose definitions say what a ring begins with.
+#![tactic(auto)]
+
+mod cutting;
+mod freeing;
+mod launching;
+pub mod laws;
+mod links;
+mod making;
+mod pushes;
+mod ringing;
+mod tapes;
+mod units;
+
+pub use launching::launch;
+pub use ringing::{Launch, Ring};

@@ -1,0 +1,75 @@
+// The ring of stages that start-up leaves.
+
+ghost use Rattle.std.specs.Prelude.{◌≡◌, ◌<◌, IfOk, length};
+ghost use Rattle.strc_graph.specs.NodeView.{graph_view};
+ghost use Rattle.strc_admissible.specs.Circuits.{IsCircuit};
+ghost use Rattle.strc_circuit.specs.Circuits.{circuit_view, IsReady};
+ghost use Rattle.strc_runner.specs.Running.{IsMachine, machine_view};
+ghost use Rattle.strc_stage.specs.Plans.{planning_of};
+ghost use Rattle.strc_launch.specs.Launches.{IsRingOf};
+
+use crate::cutting::Cut;
+use crate::freeing::free_parcels;
+use crate::making::stages_of;
+use crate::tapes::tape_words;
+use std::alloc::Global;
+use strc_base::memory::NoMemory;
+use strc_circuit::circuit::Circuit;
+use strc_parcel::Parcel;
+use strc_runner::laws::whole_machines_hold;
+use strc_runner::machine::Machine;
+use strc_semantics::fault::Cause;
+use strc_stage::plan::Plan;
+use strc_stages::{Collector, Stage};
+
+/// The stages of a plan, the free parcels and the collector.
+#[derive(Drop)]
+pub struct Ring {
+    pub stages: Vec<Stage>,
+    pub free: Vec<Parcel>,
+    pub collector: Collector,
+}
+
+/// What start-up of a plan comes to: the ring of stages that it leaves, or a fault.
+#[derive(Drop)]
+pub enum Launch {
+    Going(Ring),
+    Faulted {
+        node: u32,
+        firing: u64,
+        cause: Cause,
+    },
+}
+
+/// The ring of so many workers, with the machine that start-up leaves.
+pub(crate) fn ring_of(
+    alloc: Global,
+    plan: &Plan,
+    circuit: &Circuit,
+    machine: Machine,
+    rounds: u32,
+    workers: u32,
+) -> Result<Ring, NoMemory>
+    requires workers { 0 < workers }
+    requires rounds { 0 < rounds }
+    requires nodes { 0 < length plan.now.graph.nodes }
+    requires circuit { IsCircuit (graph_view plan.now.graph) (circuit_view circuit.now) }
+    requires ready { IsReady circuit.now }
+    requires machine { IsMachine (circuit_view circuit.now) machine }
+    requires rings { length (machine_view machine).rings
+        ≡ length (graph_view plan.now.graph).channels }
+    ensures { IfOk result (IsRingOf (planning_of plan.now) (circuit_view circuit.now)
+        (machine_view machine) rounds workers) }
+{
+    whole_machines_hold();
+    let cut = Cut::new(alloc, plan, workers)?;
+    let mut left = machine;
+    let stages = stages_of(alloc, plan, &cut, circuit, &mut left, rounds)?;
+    let free = free_parcels(alloc, &stages)?;
+    let words = tape_words(alloc, plan.graph().nodes(), left.into_words())?;
+    Ok(Ring {
+        stages,
+        free,
+        collector: Collector::new(words, rounds),
+    })
+}

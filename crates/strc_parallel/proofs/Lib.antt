@@ -1,0 +1,4 @@
+pub mod Tapes
+pub mod Endings
+pub mod Rings
+pub mod Answering

@@ -1,0 +1,16 @@
+use Rattle.std.proofs.Common.{◌∙◌, refl, ap, map, vec_items, Vec, List}
+use Rattle.strc_semantics.specs.declared.word.Word.{Word}
+use Rattle.strc_graph.specs.NodeView.{node_view}
+use Rattle.strc_parallel.specs.Telling.{tapes_by}
+use Rattle.strc_parallel.proofs.Tapes.{no_words}
+use Rattle.strc_parallel.proofs.telling.faulted.Goals as goal
+
+pub returns-clause-ending : goal.returns-clause-ending
+returns-clause-ending c = (
+  refl,
+  refl,
+  refl,
+  c.in_ok-told_tapes.ensures.tapes
+      ∙ ap (λ l. tapes_by (map node_view c.args.nodes.now) (map vec_items l)) c.new.ensures.items
+      ∙ no_words 0 0 (map node_view c.args.nodes.now),
+)

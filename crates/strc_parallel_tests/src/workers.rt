@@ -1,0 +1,49 @@
+// Whatever the number of workers, the outcome is the same.
+
+ghost use Rattle.std.specs.Prelude.{◌≤◌, ◌<◌, length};
+ghost use Rattle.strc_sched.specs.Plain.{need_of};
+ghost use Rattle.strc_stage.specs.Plans.{planning_of};
+
+use crate::programs::{Case, PROGRAMS, case_of};
+use crate::telling::told;
+use std::alloc::Global;
+use std::process::Abort;
+use std::test::Fail;
+use strc_outcome::outcome::Outcome;
+use strc_parallel::running::run_stages;
+use strc_sched::plain::input_needed;
+
+/// The outcome of a case by so many workers.
+fn outcome_of(alloc: Global, case: &Case<'_>, workers: u32) -> Result<Outcome, Fail> {
+    let plan = &case.plan;
+    if plan.graph().nodes().is_empty() || case.rounds == 0 || workers == 0 {
+        return Err("nothing to begin with".into());
+    }
+    if (case.input.len() as u64) < input_needed(plan.graph(), plan.schedule(), case.rounds) {
+        return Err("the input is short".into());
+    }
+    Ok(run_stages(alloc, plan, &case.input, case.rounds, workers)?)
+}
+
+/// With each number of workers a case comes to what its row says.
+fn compare_workers(rt: &impl Abort, alloc: Global, case: &Case<'_>) -> Result<(), Fail> {
+    for workers in [1, 2, 3, 5, 64] {
+        let outcome = outcome_of(alloc, case, workers)?;
+        assert_eq!(rt;
+            told(alloc, &outcome)?.as_str(),
+            case.wanted,
+            "{}, {workers} workers",
+            case.name
+        );
+    }
+    Ok(())
+}
+
+#[test]
+fn any_number_of_workers_comes_to_the_same(rt: HostRuntime) -> Result<(), Fail> {
+    let alloc = rt.alloc();
+    for row in PROGRAMS {
+        compare_workers(&rt, alloc, &case_of(alloc, row)?)?;
+    }
+    Ok(())
+}

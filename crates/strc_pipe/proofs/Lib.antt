@@ -1,0 +1,6 @@
+mod Timely
+mod Acting
+mod Moving
+mod Happening
+mod Beginning
+mod Advancing

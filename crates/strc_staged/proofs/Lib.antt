@@ -1,0 +1,16 @@
+pub mod Folds
+pub mod OwnSteps
+pub mod OwnRuns
+pub mod Crossings
+pub mod Passing
+pub mod Setting
+pub mod Held
+pub mod OneStep
+pub mod Follows
+pub mod Links
+pub mod Fresh
+pub mod Totals
+pub mod Chain
+pub mod Alike
+pub mod ParcelsFit
+pub mod Rows

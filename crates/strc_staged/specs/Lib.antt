@@ -1,0 +1,6 @@
+pub mod Steps
+pub mod Beginnings
+pub mod Blocks
+pub mod Holding
+pub mod Laws
+pub mod Rows

@@ -1,0 +1,8 @@
+pub mod Gathered
+pub mod Collecting
+pub mod Filling
+pub mod Words
+pub mod Steps
+pub mod Turns
+pub mod Working
+pub mod Fitting

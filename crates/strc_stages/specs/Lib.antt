@@ -1,0 +1,7 @@
+pub mod Collectors
+pub mod Gathering
+pub mod Tapes
+pub mod Stages
+pub mod Stepping
+pub mod Blocks
+pub mod Going
