@@ -1,4 +1,4 @@
-// Takes a plan and a number of workers.
+// Takes circuits, machines and orders of parts of a plan's nodes.
 // Gives the stages of the plan, and the collector of what they print.
 // The theorem to rely on: each step of a stage, and of a collector, is that of strc_staged.
 // Stands on strc_runner, whose machine a stage has, on strc_parcel, whose parcels stages make, on
