@@ -66,6 +66,16 @@ impl Schedule {
         }
     }
 
+    /// Puts another order of a round in place of this one, with the sizes of the buffers that it
+    /// needs, of which each channel has one.
+    pub fn replace_round(&mut self, round: Vec<Unit>, sizes: Vec<u32>)
+        requires { length sizes.items ≡ length self.old.last }
+        ensures { self.new ≡ record self.old { round = round.items; sizes = sizes.items } }
+    {
+        self.round = round;
+        self.sizes = sizes;
+    }
+
     /// The order of start-up.
     pub fn startup(&self) -> &[Unit]
         ensures { result.now ≡ self.now.startup }

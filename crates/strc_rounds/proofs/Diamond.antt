@@ -230,6 +230,13 @@ module _ {Code State Cause Word : Type 0} (meaning : Meaning Code State Cause Wo
         (λ e. fits a v port b pb ready_a e) (λ e. fits b v port a pa ready_b e)
         (added_swap a b apart pa pb (graph.source v port).origin)))
       where
+        none_taken : (node v port : ℕ) → v ≡ node
+            → ((firing : ℕ) → meaning.popped (graph.code v) firing port ≡ 0)
+            → meaning.popped (graph.code node) (now.runs node).fired port ≡ 0
+        none_taken node v port same none =
+            subst (λ (u : ℕ). meaning.popped (graph.code u) (now.runs node).fired port ≡ 0) same
+            (none (now.runs node).fired)
+
         fits : (node v port other : ℕ) (pushes : ByPort) → IsReadyNow now node
             → eqb v node ≡ true
             → (meaning.popped (graph.code node) (now.runs node).fired port
@@ -239,8 +246,13 @@ module _ {Code State Cause Word : Type 0} (meaning : Meaning Code State Cause Wo
             elim (cases_lt port (meaning.ports (graph.code v))) [
               | inl less ↦ inl
                   (taken_less within now node v port ready less (eqb-true v node e))
-              | inr past ↦ inr (adds_nothing other pushes
-                  (graph.source v port).origin (wired v port past))
+              | inr past ↦ elim (wired v port past) [
+                | inl none ↦ inr (adds_nothing other pushes (graph.source v port).origin none)
+                | inr none ↦ inl (omega (
+                  arith,
+                  none_taken node v port (eqb-true v node e) none,
+                ))
+              ]
             ]
 
     pub states_swap : next_of (next_of now b sb pb wb) a sa pa wa

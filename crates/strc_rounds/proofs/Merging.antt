@@ -38,7 +38,7 @@ module _ (before first second after : List ℕ) (h m n : ℕ) where
   )
 
   -- On one channel.
-  fused_passes : (link : Link)
+  pub fused_passes : (link : Link)
       → IsClear link first second m n second
       ⊎ (IsClear link first second m n first ⊎ IsForward link first second m n)
       → (g t : ℕ) → Passes link g t apart → Passes link g t fused

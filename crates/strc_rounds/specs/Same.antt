@@ -1,5 +1,5 @@
 -- Two orders of the same firings: from one state of the queues they come to the same.
-use Rattle.std.specs.Prelude.{◌≡◌, ℕ, ◌≤◌, true, List, [], ◌∷◌, Option, Some, None}
+use Rattle.std.specs.Prelude.{◌≡◌, ℕ, ◌≤◌, ◌⊎◌, true, List, [], ◌∷◌, Option, Some, None}
 use Rattle.strc_dataflow.specs.Node.{Meaning}
 use Rattle.strc_dataflow.specs.Flat.{Graph, Origin.Nowhere}
 use Rattle.strc_dataflow.specs.Order.{firing_count}
@@ -23,10 +23,11 @@ module _ {Code State Cause Word : Type 0} (meaning : Meaning Code State Cause Wo
       × ((next : Fifo State Cause Word) → fifo_fire meaning graph now node ≡ FifoWent next
       → IsValid rest next)
 
-  -- Nothing comes to a port that a node doesn't have.
+  -- Nothing comes to a port that a node doesn't have, or its firings take nothing there.
   abbrev pub IsWired : Type 0
   IsWired = (node port : ℕ) → meaning.ports (graph.code node) ≤ port
-      → (graph.source node port).origin ≡ Nowhere
+      → ((graph.source node port).origin ≡ Nowhere)
+      ⊎ ((firing : ℕ) → meaning.popped (graph.code node) firing port ≡ 0)
 
 -- Two valid orders of the same firings, from one state of the queues: both stop at a fault, or both
 -- come to the same state, and so to the same words of each node.

@@ -1,0 +1,89 @@
+-- How often nodes fire in lists and units.
+use Rattle.std.proofs.Common.{◌≡◌, refl, sym, ap, ◌∙◌, ℕ, zero, suc, ◌+◌, ◌*◌, ◌<◌, List, [], ◌∷◌}
+use Rattle.std.proofs.Common.{◌++◌, map, arith, inl, inr, ◌⊎◌, Bool, true, false, cond, eqb}
+use Rattle.std.proofs.lemmas.Bool.{cases_lt}
+use Rattle.strc_dataflow.specs.Order as generic
+use Rattle.strc_order.specs.declared.unit as units
+use Rattle.strc_order.specs.Greedy as order
+use Rattle.strc_order.specs.Order as order_lists
+use Rattle.strc_order.specs.Order.{firing_count}
+use Rattle.strc_order.proofs.FiringCounts.{firing_count_append}
+use Rattle.strc_rounds.specs.Fused.{repeated}
+use Rattle.strc_rounds.specs.FusedUnits.{RoundUnit, firings_of, nodes_of, joined_unit}
+use Rattle.strc_fuse.specs.Units.{round_unit, round_units}
+
+-- both layers count alike
+pub counts_alike : (order : List ℕ) (node : ℕ)
+    → generic.firing_count order node ≡ firing_count order node
+unfolding generic.firing_count generic.raised
+counts_alike [] node = refl
+counts_alike (first ∷ order) node =
+    by_test (generic.firing_count order node) (firing_count order node) (eqb node first)
+    (counts_alike order node)
+  where
+    by_test : (mine its : ℕ) (same : Bool) → mine ≡ its
+        → cond same (suc mine) mine ≡ cond same 1 0 + its
+    by_test mine its true e = omega arith
+    by_test mine its false e = omega arith
+
+pub count_repeated : (turns : ℕ) (nodes : List ℕ) (node : ℕ)
+    → firing_count (repeated turns nodes) node ≡ turns * firing_count nodes node
+count_repeated zero nodes node = omega arith
+count_repeated (suc turns) nodes node = omega (
+  arith,
+  firing_count_append nodes (repeated turns nodes) node,
+  count_repeated turns nodes node,
+)
+
+pub count_joined : (h m n : ℕ) (unit next : RoundUnit) (node : ℕ)
+    → firing_count (joined_unit h m n unit next).nodes node
+    ≡ m * firing_count unit.nodes node + n * firing_count next.nodes node
+count_joined h m n unit next node = omega (
+  arith,
+  firing_count_append (repeated m unit.nodes) (repeated n next.nodes) node,
+  count_repeated m unit.nodes node,
+  count_repeated n next.nodes node,
+)
+
+-- a node that occurs in a list, or doesn't
+pub occurs : (nodes : List ℕ) (node : ℕ)
+    → (0 < firing_count nodes node) ⊎ (firing_count nodes node ≡ 0)
+occurs nodes node = elim (cases_lt 0 (firing_count nodes node)) [
+  | inl some ↦ inl some
+  | inr none ↦ inr (omega arith)
+]
+
+pub times_zero : (k c : ℕ) → c ≡ 0 → k * c ≡ 0
+times_zero k c e = omega (arith, ap (λ (n : ℕ). k * n) e)
+
+-- a node in neither list isn't in the joined one
+pub in_either : (h m n : ℕ) (unit next : RoundUnit) (node : ℕ)
+    → 0 < firing_count (joined_unit h m n unit next).nodes node
+    → (0 < firing_count unit.nodes node) ⊎ (0 < firing_count next.nodes node)
+in_either h m n unit next node some = elim (occurs unit.nodes node) [
+  | inl there ↦ inl there
+  | inr none ↦ elim (occurs next.nodes node) [
+    | inl there ↦ inr there
+    | inr nowhere ↦ absurd (omega (
+      arith,
+      some,
+      count_joined h m n unit next node,
+      times_zero m (firing_count unit.nodes node) none,
+      times_zero n (firing_count next.nodes node) nowhere,
+    ))
+  ]
+]
+
+-- units as declared and as they are seen fire alike
+
+pub repeated_same : (turns : ℕ) (nodes : List ℕ)
+    → order_lists.repeated turns nodes ≡ repeated turns nodes
+repeated_same zero nodes = refl
+repeated_same (suc turns) nodes = ap (λ (l : List ℕ). nodes ++ l) (repeated_same turns nodes)
+
+pub firings_same : (units : List units.Unit.Unit)
+    → order.firings_of units ≡ firings_of (round_units units)
+firings_same [] = refl
+firings_same (unit ∷ later) =
+    ap (λ (l : List ℕ). l ++ order.firings_of later) (repeated_same unit.turns unit.nodes.items)
+    ∙ ap (λ (l : List ℕ). repeated unit.turns unit.nodes.items ++ l) (firings_same later)

@@ -1,0 +1,12 @@
+pub mod Counting
+pub mod Channels
+pub mod FusedOrders
+pub mod Forward
+pub mod Freely
+pub mod Fusible
+pub mod GreedyUnits
+pub mod Lawful
+pub mod Marks
+pub mod OneFusion
+pub mod Refusals
+pub mod Steps

@@ -1,0 +1,5 @@
+use Rattle.strc_fuse.proofs.Lawful.{fused_units_count}
+use Rattle.strc_fuse.proofs.laws.fused_units_count.Goals as goal
+
+pub returns : goal.returns
+returns c = fused_units_count

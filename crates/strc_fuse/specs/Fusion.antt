@@ -1,0 +1,43 @@
+-- What fusion of a schedule's round comes to.
+use Rattle.std.specs.Prelude.{◌≡◌, ℕ, ℤ, Bool, List, All}
+use Rattle.strc_dataflow.specs.Flat as flat
+use Rattle.strc_dataflow.specs.Queues.{Fifo, fifo_go}
+use Rattle.strc_semantics.specs.declared.fault.Cause.{Cause}
+use Rattle.strc_semantics.specs.declared.word.Word.{Word}
+use Rattle.strc_graph.specs.Graphs.{Graph, NodeCode}
+use Rattle.strc_graph.specs.Meaning.{node_meaning}
+use Rattle.strc_startup.specs.declared.channel_rates.ChannelRates.{ChannelRates}
+use Rattle.strc_order.specs.Firings.{Firings, none_fired}
+use Rattle.strc_order.specs.Rounds.{IsPastPrework, RoundBalances}
+use Rattle.strc_order.specs.Schedules.{ScheduleParts, IsRunnable}
+use Rattle.strc_order.specs.Sizing.{IsCovered, round_rates_on, PassesOn}
+use Rattle.strc_rounds.specs.FusedUnits.{RoundUnit, AreFused, firings_of}
+use Rattle.strc_rounds.specs.Same.{gone, IsValid}
+use Rattle.strc_fuse.specs.Units.{is_free, round_units, ArePlaced}
+
+-- the buffer of a channel passes the limit while the fused units of a schedule's round fire, and of
+-- no lower channel
+pub record FusedPass (graph : Graph) (threshold : ℕ) (schedule : ScheduleParts) (channel : ℕ)
+    : Type 0 where
+  pub units : List RoundUnit
+  pub fused : AreFused (is_free graph) threshold (round_units schedule.round) units
+  pub passes : PassesOn (round_rates_on graph schedule.last) none_fired (firings_of units)
+      schedule.greatest channel
+
+-- a schedule of these firings that can be run round after round, and whose round has all firings of
+-- each node that may be fused in one unit, after all firings of the nodes that give to it
+pub record IsFusible (channels : List ChannelRates) (free : ℕ → Bool) (startup round : Firings)
+    (schedule : ScheduleParts) : Type 0 where
+  pub runnable : IsRunnable channels startup round schedule
+  pub past_prework : All (IsPastPrework startup) channels
+  pub covered : All (IsCovered startup) channels
+  pub balanced : All (RoundBalances round) channels
+  pub placed : ArePlaced channels round free (round_units schedule.round)
+
+-- from each state of a graph's queues in which both orders are valid, they come to the same state,
+-- or both to a fault
+abbrev pub DoTheSame : flat.Graph NodeCode → (first second : List ℕ) → Type 0
+DoTheSame graph first second =
+    (now : Fifo (List ℤ) Cause Word)
+    → IsValid node_meaning graph first now → IsValid node_meaning graph second now
+    → gone (fifo_go node_meaning graph first now) ≡ gone (fifo_go node_meaning graph second now)

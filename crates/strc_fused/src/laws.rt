@@ -1,0 +1,13 @@
+// Planned schedules before fusion and after it.
+
+ghost use Rattle.strc_fused.specs.Laws.{PlannedAreFusible, FusedArePlanned};
+
+/// A planned schedule whose units are placed has all that `fuse` keeps.
+pub fn planned_are_fusible()
+    ensures { PlannedAreFusible }
+{}
+
+/// And what it leaves is planned, with the same counts.
+pub fn fused_are_planned()
+    ensures { FusedArePlanned }
+{}
