@@ -5,7 +5,8 @@
 use std::fs::File;
 use std::io::{ErrorKind, Write};
 use std::process::ExitCode;
-use std::thread::Builder;
+use std::sync::Wait;
+use std::thread::{Builder, Threads};
 use std::{env, thread};
 use strc_cli::device::Told;
 use strc_cli::execute::CliError;
@@ -32,16 +33,16 @@ fn main(rt: HostRuntime) -> ExitCode {
     let status = thread::scope(thread::scope_env(), &rt, |scope| {
         match Builder::new()
             .stack_size(STACK)
-            .spawn_scoped(scope, || run(&rt))
+            .spawn_scoped(scope, || run(&rt, &rt))
         {
             Ok(handle) => handle.join(&rt),
-            Err(_) => run(&rt),
+            Err(_) => run(&rt, &rt),
         }
     });
     ExitCode::from(status)
 }
 
-fn run(rt: &HostRuntime) -> u8 {
+fn run<T: Threads + Wait + Sync>(rt: &HostRuntime, threads: &T) -> u8 {
     let words: Vec<String> = match env::args(rt) {
         Ok(words) => match words.collect(rt.alloc()) {
             Ok(words) => words,
@@ -60,7 +61,7 @@ fn run(rt: &HostRuntime) -> u8 {
         Err(_) => return out_of_memory(rt),
     };
     match command(rt.alloc(), &words) {
-        Ok(line) => run_line(rt, &line),
+        Ok(line) => run_line(rt, threads, &line),
         Err(LineFault::Memory) => out_of_memory(rt),
         Err(LineFault::Words) => print_usage(rt, &words),
     }
@@ -88,7 +89,7 @@ fn print_usage(rt: &HostRuntime, words: &[&str]) -> u8 {
 }
 
 // Reads the text that the line names, and executes it.
-fn run_line(rt: &HostRuntime, line: &Line) -> u8 {
+fn run_line<T: Threads + Wait + Sync>(rt: &HostRuntime, threads: &T, line: &Line) -> u8 {
     let name = match &line.file {
         Some(file) => file.as_str(),
         None => "standard input",
@@ -105,7 +106,7 @@ fn run_line(rt: &HostRuntime, line: &Line) -> u8 {
         None => read_text(rt.alloc(), &mut rt.stdin()),
     };
     match text {
-        Ok(text) => execute_text(rt, name, line, &text),
+        Ok(text) => execute_text(rt, threads, name, line, &text),
         Err(TextFault::NoMemory) => out_of_memory(rt),
         Err(TextFault::Failed(error)) => {
             let _ = eprintln!(rt; "strc: cannot read {name}: {error}");
@@ -115,11 +116,25 @@ fn run_line(rt: &HostRuntime, line: &Line) -> u8 {
 }
 
 // Executes it, and tells a person on standard error what is wrong with it.
-fn execute_text(rt: &HostRuntime, name: &str, line: &Line, text: &[u8]) -> u8 {
+fn execute_text<T: Threads + Wait + Sync>(
+    rt: &HostRuntime,
+    threads: &T,
+    name: &str,
+    line: &Line,
+    text: &[u8],
+) -> u8 {
     let mut input = Told::new(rt.stdin());
     let mut output = Told::new(rt.stdout());
     let command = &line.command;
-    let explained = execute_explained(rt.alloc(), name, text, command, &mut input, &mut output);
+    let explained = execute_explained(
+        threads,
+        rt.alloc(),
+        name,
+        text,
+        command,
+        &mut input,
+        &mut output,
+    );
     let _ = rt.stderr().write_all(&explained.message);
     match explained.result {
         Ok(status) => status.number(),

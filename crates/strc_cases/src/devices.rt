@@ -3,6 +3,8 @@
 use std::alloc::{AllocError, Global};
 use std::io;
 use std::io::{ErrorKind, Read, Write};
+use std::sync::Wait;
+use std::thread::Threads;
 use strc_cli::device::{Sink, Source, Told};
 use strc_cli::execute::{CliError, Status, execute};
 use strc_cli::program_text::{TextFault, read_text};
@@ -18,6 +20,7 @@ void->void pipeline Minimal { add IntSource; add IntPrinter; }
 fn rounds(count: u32) -> Command {
     Command::Run {
         rounds: Some(count),
+        workers: 1,
         main: None,
     }
 }
@@ -91,24 +94,33 @@ impl Read for Reader<'_> {
 
 /// How many ways of failing there are, and how many of them aren't reported as they are to be; a
 /// line says which.
-pub(crate) fn run_devices(rt: &HostRuntime) -> io::Result<(usize, usize)> {
+pub(crate) fn run_devices<T: Threads + Wait + Sync>(
+    rt: &HostRuntime,
+    threads: &T,
+) -> io::Result<(usize, usize)> {
     let alloc = rt.alloc();
     let devices = [
         (
             "a partial write goes on",
-            goes_on_after_partial_writes(alloc)?,
+            goes_on_after_partial_writes(threads, alloc)?,
         ),
-        ("a writer that fails", reports_failed_writes(alloc, true)?),
+        (
+            "a writer that fails",
+            reports_failed_writes(threads, alloc, true)?,
+        ),
         (
             "a writer that takes nothing",
-            reports_failed_writes(alloc, false)?,
+            reports_failed_writes(threads, alloc, false)?,
         ),
         ("a text in pieces", reads_text_in_pieces(alloc)?),
         ("a text without an end", stops_at_the_limit(alloc)?),
         ("a text that fails", reports_failed_texts(alloc)),
         ("reads that are counted", counts_reads()),
-        ("input in pieces of any size", takes_input_in_pieces(alloc)?),
-        ("input that fails", reports_failed_inputs(alloc)?),
+        (
+            "input in pieces of any size",
+            takes_input_in_pieces(threads, alloc)?,
+        ),
+        ("input that fails", reports_failed_inputs(threads, alloc)?),
     ];
     let mut different: usize = 0;
     for (name, is_as_wanted) in devices {
@@ -120,25 +132,32 @@ pub(crate) fn run_devices(rt: &HostRuntime) -> io::Result<(usize, usize)> {
     Ok((devices.len(), different))
 }
 
-fn goes_on_after_partial_writes(alloc: Global) -> Result<bool, AllocError> {
+fn goes_on_after_partial_writes<T: Threads + Wait + Sync>(
+    threads: &T,
+    alloc: Global,
+) -> Result<bool, AllocError> {
     let nothing: &[u8] = &[];
     let mut input = Told::new(nothing);
     let mut output = told_writer(alloc, 3, 1000, true)?;
     let text = MINIMAL.as_bytes();
-    let outcome = execute(alloc, text, &rounds(5), &mut input, &mut output);
+    let outcome = execute(threads, alloc, text, &rounds(5), &mut input, &mut output);
     let is_quiet = !output.failed() && !input.failed() && input.left() == 4294967296;
     let taken = output.into_device().taken;
     Ok(outcome == Ok(Status::Done) && is_quiet && taken.as_slice() == b"0\n1\n2\n3\n4\n".as_slice())
 }
 
 /// After each number of calls.
-fn reports_failed_writes(alloc: Global, fails: bool) -> Result<bool, AllocError> {
+fn reports_failed_writes<T: Threads + Wait + Sync>(
+    threads: &T,
+    alloc: Global,
+    fails: bool,
+) -> Result<bool, AllocError> {
     for calls in 0..3 {
         let nothing: &[u8] = &[];
         let mut input = Told::new(nothing);
         let mut output = told_writer(alloc, 3, calls, fails)?;
         let text = MINIMAL.as_bytes();
-        let outcome = execute(alloc, text, &rounds(5), &mut input, &mut output);
+        let outcome = execute(threads, alloc, text, &rounds(5), &mut input, &mut output);
         let is_reported = outcome == Err(CliError::Write) && output.failed();
         if !is_reported || output.write(b"x").is_ok() || !output.failed() {
             return Ok(false);
@@ -207,9 +226,13 @@ const ECHO: &str = "void->void pipeline Echo {
     add FileWriter<int>(\"out\");
 }";
 
-fn takes_input_in_pieces(alloc: Global) -> Result<bool, AllocError> {
+fn takes_input_in_pieces<T: Threads + Wait + Sync>(
+    threads: &T,
+    alloc: Global,
+) -> Result<bool, AllocError> {
     let all = Command::Run {
         rounds: None,
+        workers: 1,
         main: None,
     };
     for at_once in [1, 2, 3, 5, 1000] {
@@ -219,7 +242,14 @@ fn takes_input_in_pieces(alloc: Global) -> Result<bool, AllocError> {
             calls_left: 1000,
         });
         let mut output = told_writer(alloc, 1000, 1000, true)?;
-        let outcome = execute(alloc, ECHO.as_bytes(), &all, &mut input, &mut output);
+        let outcome = execute(
+            threads,
+            alloc,
+            ECHO.as_bytes(),
+            &all,
+            &mut input,
+            &mut output,
+        );
         let taken = output.into_device().taken;
         if outcome != Ok(Status::Done) || taken.as_slice() != b"12\n-345\n6\n".as_slice() {
             return Ok(false);
@@ -229,7 +259,10 @@ fn takes_input_in_pieces(alloc: Global) -> Result<bool, AllocError> {
 }
 
 /// After each number of calls. Nothing is written then.
-fn reports_failed_inputs(alloc: Global) -> Result<bool, AllocError> {
+fn reports_failed_inputs<T: Threads + Wait + Sync>(
+    threads: &T,
+    alloc: Global,
+) -> Result<bool, AllocError> {
     for calls_left in 0..3 {
         let mut input = Told::new(Reader {
             rest: b"12 34 56",
@@ -238,7 +271,7 @@ fn reports_failed_inputs(alloc: Global) -> Result<bool, AllocError> {
         });
         let mut output = told_writer(alloc, 1000, 1000, true)?;
         let text = ECHO.as_bytes();
-        let outcome = execute(alloc, text, &rounds(1), &mut input, &mut output);
+        let outcome = execute(threads, alloc, text, &rounds(1), &mut input, &mut output);
         let is_reported = input.failed() && !output.failed();
         let is_empty = output.into_device().taken.is_empty();
         if outcome != Err(CliError::Read) || !is_reported || !is_empty {

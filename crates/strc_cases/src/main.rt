@@ -3,6 +3,7 @@
 // Takes the files of the folder that it runs in. A case is a text NAME.str and its words NAME.args,
 // the command first; its input NAME.in, if it has one; what it writes, NAME.out; the status it ends
 // with, NAME.status, if that isn't 0; and what a person reads of it, NAME.message, if there is one.
+// Where a case's text is run by one worker, it is to come to the same by several.
 // Gives a line for each case that differs, and at the end how many do; and the same of devices that
 // fail or take little at a time.
 // There is no theorem here; the values are those of the language's rules.
@@ -14,7 +15,8 @@ mod devices;
 use crate::devices::run_devices;
 use std::io::ErrorKind;
 use std::process::ExitCode;
-use std::thread::Builder;
+use std::sync::Wait;
+use std::thread::{Builder, Threads};
 use std::{fs, io, thread};
 use strc_cli::device::Told;
 use strc_command::line::{Command, LineFault};
@@ -23,6 +25,9 @@ use strc_explain::explain::execute_explained;
 
 // The status of a command line that isn't understood, as of the program's.
 const WORDS: u8 = 1;
+
+// The numbers of workers by which a case is run besides one: it comes to the same by each.
+const WORKERS: [&str; 3] = ["2", "3", "64"];
 
 // The statuses of this program where not all cases are as they are to be.
 const DIFFERENT: u8 = 1;
@@ -47,18 +52,18 @@ fn main(rt: HostRuntime) -> ExitCode {
     let status = thread::scope(thread::scope_env(), &rt, |scope| {
         match Builder::new()
             .stack_size(STACK)
-            .spawn_scoped(scope, || status_of(&rt))
+            .spawn_scoped(scope, || status_of(&rt, &rt))
         {
             Ok(handle) => handle.join(&rt),
-            Err(_) => status_of(&rt),
+            Err(_) => status_of(&rt, &rt),
         }
     });
     ExitCode::from(status)
 }
 
 /// Runs the cases. 0 where all are as they are to be.
-fn status_of(rt: &HostRuntime) -> u8 {
-    match run_all(rt) {
+fn status_of<T: Threads + Wait + Sync>(rt: &HostRuntime, threads: &T) -> u8 {
+    match run_all(rt, threads) {
         Ok(true) => 0,
         Ok(false) => DIFFERENT,
         Err(error) => {
@@ -73,19 +78,19 @@ fn status_of(rt: &HostRuntime) -> u8 {
 
 /// Whether no case and no device differs. An error is out of memory, or a folder or an output that
 /// fails.
-fn run_all(rt: &HostRuntime) -> io::Result<bool> {
-    let cases_are_as_wanted = run_cases(rt)?;
-    let (devices, different) = run_devices(rt)?;
+fn run_all<T: Threads + Wait + Sync>(rt: &HostRuntime, threads: &T) -> io::Result<bool> {
+    let cases_are_as_wanted = run_cases(rt, threads)?;
+    let (devices, different) = run_devices(rt, threads)?;
     println!(rt; "{devices} devices, {different} differ")?;
     Ok(cases_are_as_wanted && different == 0)
 }
 
 /// Whether no case differs.
-fn run_cases(rt: &HostRuntime) -> io::Result<bool> {
+fn run_cases<T: Threads + Wait + Sync>(rt: &HostRuntime, threads: &T) -> io::Result<bool> {
     let names = case_names(rt)?;
     let mut different: usize = 0;
     for name in &names {
-        if !is_as_wanted(rt, name)? {
+        if !is_as_wanted(rt, threads, name)? {
             different = different.saturating_add(1);
         }
     }
@@ -107,8 +112,12 @@ fn case_names(rt: &HostRuntime) -> io::Result<Vec<String>> {
 
 /// Whether a case is as its files say; a line says the first difference. A file that can't be read
 /// is one, so that no case is passed over.
-fn is_as_wanted(rt: &HostRuntime, name: &str) -> io::Result<bool> {
-    match compare(rt, name) {
+fn is_as_wanted<T: Threads + Wait + Sync>(
+    rt: &HostRuntime,
+    threads: &T,
+    name: &str,
+) -> io::Result<bool> {
+    match compare(rt, threads, name) {
         Err(error) if error.kind() != ErrorKind::OutOfMemory => {
             println!(rt; "{name}: {error}")?;
             Ok(false)
@@ -117,62 +126,113 @@ fn is_as_wanted(rt: &HostRuntime, name: &str) -> io::Result<bool> {
     }
 }
 
-fn compare(rt: &HostRuntime, name: &str) -> io::Result<bool> {
+fn compare<T: Threads + Wait + Sync>(
+    rt: &HostRuntime,
+    threads: &T,
+    name: &str,
+) -> io::Result<bool> {
     let wanted = Answer {
         output: part(rt, name, "out")?,
         status: wanted_status(rt, name)?,
         message: part_if_there(rt, name, "message")?,
     };
-    let found = found_answer(rt, name)?;
+    let given = String::from_utf8_lossy(rt.alloc(), &part(rt, name, "args")?)?;
+    if !is_answer(rt, name, &wanted, &found_answer(rt, threads, name, &given)?)? {
+        return Ok(false);
+    }
+    if !comes_to_a_run(&given, &wanted) {
+        return Ok(true);
+    }
+    is_same_by_workers(rt, threads, name, &given, &wanted)
+}
+
+/// Whether a case's words leave the number of workers open, and its text comes to a run: one that
+/// is refused is so before there are workers.
+fn comes_to_a_run(given: &str, wanted: &Answer) -> bool {
+    given.split_whitespace().next() == Some("run")
+        && !given.contains("--workers")
+        && wanted.status != WORDS
+        && !wanted.output.starts_with(b"refused E")
+}
+
+/// Whether several workers come to the same.
+fn is_same_by_workers<T: Threads + Wait + Sync>(
+    rt: &HostRuntime,
+    threads: &T,
+    name: &str,
+    given: &str,
+    wanted: &Answer,
+) -> io::Result<bool> {
+    for workers in WORKERS {
+        let words = format!(in rt.alloc(); "{given} --workers {workers}")?;
+        let title = format!(in rt.alloc(); "{name} by {workers} workers")?;
+        if !is_answer(
+            rt,
+            &title,
+            wanted,
+            &found_answer(rt, threads, name, &words)?,
+        )? {
+            return Ok(false);
+        }
+    }
+    Ok(true)
+}
+
+/// Whether an answer is the wanted one; a line with this title says the first difference.
+fn is_answer(rt: &HostRuntime, title: &str, wanted: &Answer, found: &Answer) -> io::Result<bool> {
     // No case asks for more memory than there is.
     if found.status == NO_MEMORY && wanted.status != NO_MEMORY {
         return Err(io::Error::from(ErrorKind::OutOfMemory));
     }
     if found.output != wanted.output {
-        print_difference(rt, name, &wanted.output, &found.output)?;
+        print_difference(rt, title, &wanted.output, &found.output)?;
         return Ok(false);
     }
     if found.status != wanted.status {
         println!(rt;
-            "{name}: wanted status {}, got {}",
+            "{title}: wanted status {}, got {}",
             wanted.status, found.status
         )?;
         return Ok(false);
     }
     // A case without a message says nothing of it.
     if !wanted.message.is_empty() && found.message != wanted.message {
-        print_difference(rt, name, &wanted.message, &found.message)?;
+        print_difference(rt, title, &wanted.message, &found.message)?;
         return Ok(false);
     }
     Ok(true)
 }
 
 /// Prints the first line of one text that isn't the other's. A text that ends too soon has none.
-fn print_difference(rt: &HostRuntime, name: &str, wanted: &[u8], found: &[u8]) -> io::Result<()> {
+fn print_difference(rt: &HostRuntime, title: &str, wanted: &[u8], found: &[u8]) -> io::Result<()> {
     let wanted = String::from_utf8_lossy(rt.alloc(), wanted)?;
     let found = String::from_utf8_lossy(rt.alloc(), found)?;
     let mut lines = found.split('\n');
     for line in wanted.split('\n') {
         let got = lines.next();
         if got != Some(line) {
-            return println!(rt; "{name}: wanted {line:?}, got {got:?}");
+            return println!(rt; "{title}: wanted {line:?}, got {got:?}");
         }
     }
-    println!(rt; "{name}: wanted no more, got {:?}", lines.next())
+    println!(rt; "{title}: wanted no more, got {:?}", lines.next())
 }
 
-/// What the program does with the case's words and input.
-fn found_answer(rt: &HostRuntime, name: &str) -> io::Result<Answer> {
+/// What the program does with a case's text and input, for these words.
+fn found_answer<T: Threads + Wait + Sync>(
+    rt: &HostRuntime,
+    threads: &T,
+    name: &str,
+    given: &str,
+) -> io::Result<Answer> {
     let alloc = rt.alloc();
     let file = format!(in alloc; "{name}.str")?;
-    let given = String::from_utf8_lossy(alloc, &part(rt, name, "args")?)?;
     let mut given = given.split_whitespace();
     let mut words = vec![in alloc; "strc", given.next().unwrap_or(""), file.as_str()]?;
     for word in given {
         words.push(word)?;
     }
     match command(alloc, &words) {
-        Ok(line) => run(rt, name, &line.command),
+        Ok(line) => run(rt, threads, name, &line.command),
         Err(LineFault::Words) => Ok(Answer {
             output: Vec::new(alloc),
             status: WORDS,
@@ -182,14 +242,27 @@ fn found_answer(rt: &HostRuntime, name: &str) -> io::Result<Answer> {
     }
 }
 
-fn run(rt: &HostRuntime, name: &str, command: &Command) -> io::Result<Answer> {
+fn run<T: Threads + Wait + Sync>(
+    rt: &HostRuntime,
+    threads: &T,
+    name: &str,
+    command: &Command,
+) -> io::Result<Answer> {
     let alloc = rt.alloc();
     let text = part(rt, name, "str")?;
     let input = part_if_there(rt, name, "in")?;
     let mut input = Told::new(input.as_slice());
     let mut output = Told::new(Vec::new(alloc));
     let file = format!(in alloc; "{name}.str")?;
-    let explained = execute_explained(alloc, &file, &text, command, &mut input, &mut output);
+    let explained = execute_explained(
+        threads,
+        alloc,
+        &file,
+        &text,
+        command,
+        &mut input,
+        &mut output,
+    );
     match explained.result {
         Ok(status) => Ok(Answer {
             output: output.into_device(),

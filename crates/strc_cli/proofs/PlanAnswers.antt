@@ -36,7 +36,7 @@ plan_size text main plan is = record {
 
 module _ (text : List ℕ) (main : Option (String Global)) (plan : Planning)
     (is : IsPlanOf text (option_map string_bytes main) plan) (rounds : Option ℕ)
-    (bytes : Option (List ℕ)) where
+    (workers : ℕ) (bytes : Option (List ℕ)) where
   -- the plan's nodes are the stream's
   same_reader : plan_reads plan ≡ has_reader is.accepted.stream
   same_reader = ap (list_any reads_input) is.nodes
@@ -68,8 +68,8 @@ module _ (text : List ℕ) (main : Option (String Global)) (plan : Planning)
     given_here : IsInput (has_reader is.accepted.stream) bytes input
     given_here = subst (λ b. IsInput b bytes input) same_reader given
 
-    plan_answered : (result : Result Answer Stop) → IsRunAnswer plan input rounds result
-        → IsAnswered text (command.Run rounds main) bytes (Ok result)
+    plan_answered : (result : Result Answer Stop) → IsRunAnswer plan input rounds workers result
+        → IsAnswered text (command.Run rounds workers main) bytes (Ok result)
     plan_answered (Ok (answer.Ran own outcome)) runs = (
       subst (IsPlanOf text (option_map string_bytes main)) (sym runs.0) is,
       record {
@@ -77,7 +77,8 @@ module _ (text : List ℕ) (main : Option (String Global)) (plan : Planning)
         accepted = is.accepted;
         input = input;
         given = given_here;
-        ends = answers text (option_map string_bytes main) plan input rounds (Ok outcome) is runs.1;
+        ends = answers text (option_map string_bytes main) plan input rounds workers (Ok outcome)
+            is runs.1;
       },
     )
     plan_answered (Ok answer) never = absurd never
@@ -86,21 +87,22 @@ module _ (text : List ℕ) (main : Option (String Global)) (plan : Planning)
       accepted = is.accepted;
       input = input;
       given = given_here;
-      ends = answers text (option_map string_bytes main) plan input rounds (Err why) is unrun;
+      ends = answers text (option_map string_bytes main) plan input rounds workers (Err why) is
+          unrun;
     }
     plan_answered (Err why) never = absurd never
 
   -- a run of the plan over its input is one of the text
   pub input_run : PlansAnswerTexts → (numbers : Vec ℤ Global) (result : Result Answer Stop)
       → IsInputOf (plan_reads plan) bytes (Ok numbers)
-      → IsRunAnswer plan numbers.items rounds result
-      → IsAnswered text (command.Run rounds main) bytes (Ok result)
+      → IsRunAnswer plan numbers.items rounds workers result
+      → IsAnswered text (command.Run rounds workers main) bytes (Ok result)
   input_run law numbers result given answers =
       plan_answered law numbers.items (input_is (plan_reads plan) numbers given) result answers
 
   -- or the input isn't read to its end
   pub stopped_run : (why : ReadStop) → IsInputOf (plan_reads plan) bytes (Err why)
-      → IsAnswered text (command.Run rounds main) bytes (unread why)
+      → IsAnswered text (command.Run rounds workers main) bytes (unread why)
   stopped_run (read.BadInput word) given = (
     reads_text (no_input (plan_reads plan) (read.BadInput word) given),
     bad_input (plan_reads plan) word given,

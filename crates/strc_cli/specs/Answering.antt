@@ -29,15 +29,16 @@ abbrev pub IsInput : (reads : Bool) → (bytes : Option (List ℕ)) → List ℤ
 IsInput true bytes input = WritesNumbers bytes (Ok input)
 IsInput false bytes input = input ≡ []
 
--- the text is accepted, and its rounds over the input that the bytes write end so: with the answer
--- of the stream equations of its main stream, or with why they aren't run
-pub record RunsText (text : List ℕ) (main : Option (List ℕ)) (rounds : Option ℕ)
+-- the text is accepted, and its rounds by so many workers over the input that the bytes write end
+-- so: with the answer of the stream equations of its main stream, which is the same for each number
+-- of workers, or with why they aren't run
+pub record RunsText (text : List ℕ) (main : Option (List ℕ)) (rounds : Option ℕ) (workers : ℕ)
     (bytes : Option (List ℕ)) (result : Result Outcome RunRefusal) : Type 0 where
   pub plan : Planning
   pub accepted : Accepts text main plan
   pub input : List ℤ
   pub given : IsInput (has_reader accepted.stream) bytes input
-  pub ends : IsTextRun text main plan input rounds result
+  pub ends : IsTextRun text main plan input rounds workers result
 
 -- the text is accepted, and its main stream has a reader of the input
 pub record ReadsText (text : List ℕ) (main : Option (List ℕ)) : Type 0 where
@@ -66,9 +67,9 @@ pub record HasPicture (text : List ℕ) (main : Option (List ℕ)) (picture : Li
 -- an answer is what a command asks of the text: the outcome of its rounds, with its plan, the size
 -- of its graph, its plan, or the picture of its graph
 abbrev pub IsAsked : List ℕ → Command → (bytes : Option (List ℕ)) → Answer → Type 0
-IsAsked text (command.Run rounds main) bytes (answer.Ran plan outcome) =
+IsAsked text (command.Run rounds workers main) bytes (answer.Ran plan outcome) =
     IsPlanOf text (option_map string_bytes main) (planning_of plan)
-    × RunsText text (option_map string_bytes main) rounds bytes (Ok outcome)
+    × RunsText text (option_map string_bytes main) rounds workers bytes (Ok outcome)
 IsAsked text (command.Check main) bytes (answer.Checked nodes channels) =
     HasSize text (option_map string_bytes main) nodes channels
 IsAsked text (command.Plan main) bytes (answer.Planned plan) =
@@ -79,7 +80,7 @@ IsAsked text _ bytes _ = ⊥
 
 -- a command asks for a run, which reads the input
 abbrev pub ReadsInput : List ℕ → Command → Type 0
-ReadsInput text (command.Run rounds main) = ReadsText text (option_map string_bytes main)
+ReadsInput text (command.Run rounds workers main) = ReadsText text (option_map string_bytes main)
 ReadsInput text _ = ⊥
 
 -- a command has no answer, for this reason: the text is refused; a word of its input writes no
@@ -88,8 +89,8 @@ abbrev pub IsStopped : List ℕ → Command → (bytes : Option (List ℕ)) → 
 IsStopped text command bytes (stop.Refused refused) = IsTrueOf text (main_of command) refused
 IsStopped text command bytes (stop.BadInput word) =
     ReadsInput text command × WritesNumbers bytes (Err word)
-IsStopped text (command.Run rounds main) bytes (stop.NotRun refused) =
-    RunsText text (option_map string_bytes main) rounds bytes (Err refused)
+IsStopped text (command.Run rounds workers main) bytes (stop.NotRun refused) =
+    RunsText text (option_map string_bytes main) rounds workers bytes (Err refused)
 IsStopped text _ bytes (stop.NotRun refused) = ⊥
 
 -- a command is answered, or has no answer; or the input fails, or memory runs out while it is read
@@ -102,9 +103,9 @@ IsAnswered text command bytes (Err error.Memory) = ReadsInput text command
 IsAnswered text command bytes (Err error.Write) = ⊥
 
 -- a run of a plan is answered, whatever text it is the plan of
-abbrev pub AnswersPlan : Planning → (rounds : Option ℕ) → (bytes : Option (List ℕ))
-    → Result (Result Answer Stop) CliError → Type 0
-AnswersPlan plan rounds bytes result =
+abbrev pub AnswersPlan : Planning → (rounds : Option ℕ) → (workers : ℕ)
+    → (bytes : Option (List ℕ)) → Result (Result Answer Stop) CliError → Type 0
+AnswersPlan plan rounds workers bytes result =
     (text : List ℕ) (main : Option (String Global))
     → IsPlanOf text (option_map string_bytes main) plan
-    → IsAnswered text (command.Run rounds main) bytes result
+    → IsAnswered text (command.Run rounds workers main) bytes result

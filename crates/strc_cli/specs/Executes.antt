@@ -101,7 +101,8 @@ IsReported (Ok answer) result before after = TellsAnswer answer result before af
 IsReported (Err failure) result before after = (result ≡ Err failure) × WroteNothing before after
 
 -- what is reported is the answer for this text, command and input, of which the bytes are given
--- where they are known
+-- where they are known; a run that ends writes the same by each number of workers, since no
+-- equation speaks of them
 abbrev pub Executes : List ℕ → Command → (bytes : Option (List ℕ)) → Result Status CliError
     → Device → Device → Type 0
 Executes text command bytes result before after =

@@ -21,14 +21,15 @@ IsInputOf true bytes result = ReadsNumbers bytes result
 IsInputOf false bytes (Ok numbers) = numbers.items ≡ []
 IsInputOf false bytes (Err why) = ⊥
 
--- how the rounds of a plan are answered
-abbrev pub IsRunAnswer : Planning → List ℤ → (rounds : Option ℕ) → Result Answer Stop → Type 0
-IsRunAnswer plan input rounds (Ok (answer.Ran own outcome)) =
-    (planning_of own ≡ plan) × IsRunOf plan input rounds (Ok outcome)
-IsRunAnswer plan input rounds (Ok _) = ⊥
-IsRunAnswer plan input rounds (Err (no_answer.NotRun refused)) =
-    IsRunOf plan input rounds (Err refused)
-IsRunAnswer plan input rounds (Err _) = ⊥
+-- how the rounds of a plan are answered by so many workers
+abbrev pub IsRunAnswer : Planning → List ℤ → (rounds : Option ℕ) → (workers : ℕ)
+    → Result Answer Stop → Type 0
+IsRunAnswer plan input rounds workers (Ok (answer.Ran own outcome)) =
+    (planning_of own ≡ plan) × IsRunOf plan input rounds workers (Ok outcome)
+IsRunAnswer plan input rounds workers (Ok _) = ⊥
+IsRunAnswer plan input rounds workers (Err (no_answer.NotRun refused)) =
+    IsRunOf plan input rounds workers (Err refused)
+IsRunAnswer plan input rounds workers (Err _) = ⊥
 
 -- what comes of an input that gives no numbers
 abbrev pub unread : ReadStop → Result (Result Answer Stop) CliError

@@ -13,6 +13,8 @@ ghost use Rattle.strc_cli.specs.Input.{IsInputOf, IsRunAnswer};
 use crate::drawing::drawn;
 use crate::execute::CliError;
 use std::alloc::{AllocError, Global};
+use std::sync::Wait;
+use std::thread::Threads;
 use strc_command::line::Command;
 use strc_input::device::Source;
 use strc_input::input::{ReadStop, read_numbers};
@@ -22,6 +24,7 @@ use strc_run::laws::plans_answer_texts;
 use strc_run::options::Options;
 use strc_run::refusal::Refusal;
 use strc_run::run::{Outcome, RunRefusal, reads_input, run};
+use strc_worker::OpenGate;
 
 /// What a command asks of an accepted text.
 #[derive(Drop)]
@@ -38,7 +41,8 @@ pub enum Answer {
 
 /// The answer to a command. A refusal of the text comes before the input is read, and one of the
 /// input before one of the run. The input is read where the text is run and its graph has a reader.
-pub fn answer_to<I: Source>(
+pub fn answer_to<R: Threads + Wait + Sync, I: Source>(
+    rt: &R,
     alloc: Global,
     text: &[u8],
     command: &Command,
@@ -57,7 +61,11 @@ pub fn answer_to<I: Source>(
         Err(refusal) => return Ok(Err(Stop::Refused(refusal))),
     };
     match command {
-        Command::Run { rounds, main: _ } => run_plan(alloc, plan, *rounds, input),
+        Command::Run {
+            rounds,
+            workers,
+            main: _,
+        } => run_plan(rt, alloc, plan, *rounds, *workers, input),
         Command::Check { main: _ } => Ok(Ok(Answer::Checked {
             nodes: plan.graph().nodes().len(),
             channels: plan.graph().channels().len(),
@@ -67,14 +75,17 @@ pub fn answer_to<I: Source>(
     }
 }
 
-// The outcome of so many rounds of a plan, for whatever text's plan this is.
-fn run_plan<I: Source>(
+// The outcome of so many rounds of a plan by so many workers, for whatever text's plan this is.
+fn run_plan<R: Threads + Wait + Sync, I: Source>(
+    rt: &R,
     alloc: Global,
     plan: Plan,
     rounds: Option<u32>,
+    workers: u32,
     input: &mut I,
 ) -> Result<Result<Answer, Stop>, CliError>
-    ensures run { AnswersPlan (planning_of plan) rounds (I.remaining input.old) result }
+    ensures run { AnswersPlan (planning_of plan) rounds workers (I.remaining input.old)
+        result }
     ensures failed { result ≡ Err CliError.Read → I.has_failed input.new ≡ true }
     ensures steady { result ≢ Err CliError.Read → I.has_failed input.new ≡ I.has_failed input.old }
     ensures unread { (input.new ≡ input.old)
@@ -83,7 +94,7 @@ fn run_plan<I: Source>(
     // The answer for the plan is the answer for its text.
     plans_answer_texts();
     match input_of(alloc, &plan, input) {
-        Ok(numbers) => Ok(run_numbers(alloc, plan, rounds, &numbers)),
+        Ok(numbers) => Ok(run_numbers(rt, alloc, plan, rounds, workers, &numbers)),
         Err(stop) => unread(stop),
     }
 }
@@ -115,16 +126,18 @@ fn input_of<I: Source>(alloc: Global, plan: &Plan, input: &mut I) -> Result<Vec<
     }
 }
 
-// The outcome of rounds over this input.
-fn run_numbers(
+// The outcome of rounds by so many workers over this input.
+fn run_numbers<R: Threads + Wait + Sync>(
+    rt: &R,
     alloc: Global,
     plan: Plan,
     rounds: Option<u32>,
+    workers: u32,
     input: &[i32],
 ) -> Result<Answer, Stop>
-    ensures { IsRunAnswer (planning_of plan) input.now rounds result }
+    ensures { IsRunAnswer (planning_of plan) input.now rounds workers result }
 {
-    match run(alloc, &plan, input, rounds) {
+    match run(rt, alloc, &plan, input, rounds, workers, &OpenGate) {
         Ok(outcome) => Ok(Answer::Ran(plan, outcome)),
         Err(refusal) => Err(Stop::NotRun(refusal)),
     }
@@ -147,7 +160,11 @@ pub fn main_name(command: &Command) -> Option<&str>
     ensures { option_map (λ name. name.now) result ≡ main_of command.now }
 {
     let main = match command {
-        Command::Run { rounds: _, main } => main,
+        Command::Run {
+            rounds: _,
+            workers: _,
+            main,
+        } => main,
         Command::Check { main } => main,
         Command::Plan { main } => main,
         Command::Graph { main } => main,

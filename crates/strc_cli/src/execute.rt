@@ -8,6 +8,8 @@ ghost use Rattle.strc_cli.specs.Executes.{Executes, TellsAnswer, Writes, device_
 
 use crate::answer::{Answer, answer_to};
 use std::alloc::{AllocError, Global};
+use std::sync::Wait;
+use std::thread::Threads;
 use strc_command::line::Command;
 use strc_input::device::{Sink, Source};
 use strc_output::outcome::outcome_text;
@@ -60,7 +62,8 @@ pub enum CliError {
 
 /// Runs a program's text over the input, and writes what it prints; or writes how large its graph
 /// is, or how often its nodes fire; or one line that names a refusal.
-pub fn execute<I: Source, O: Sink>(
+pub fn execute<R: Threads + Wait + Sync, I: Source, O: Sink>(
+    rt: &R,
     alloc: Global,
     text: &[u8],
     command: &Command,
@@ -76,7 +79,7 @@ pub fn execute<I: Source, O: Sink>(
     // The input is read only for a run of a text whose stream has a reader.
     ensures unread { (input.new ≡ input.old) ⊎ ReadsInput text.now command.now }
 {
-    match answer_to(alloc, text, command, input) {
+    match answer_to(rt, alloc, text, command, input) {
         Ok(answered) => tell(alloc, &answered, output),
         Err(failure) => Err(failure),
     }

@@ -1,4 +1,5 @@
--- Words that have no fault leave rows of one value each, a number of 32 bits for `--rounds`.
+-- Words that have no fault leave rows of one value each, a number of 32 bits for `--rounds`
+-- and `--workers`.
 use Rattle.std.proofs.Common.{append-nil, ◌≡◌, ◌∙◌, ℕ, zero, suc, Bool, true, false, cond, not}
 use Rattle.std.proofs.Common.{◌&&◌, refl, sym, ap, subst, List, [], ◌∷◌, ◌++◌, length, Option, Some}
 use Rattle.std.proofs.Common.{None, is_some, ◌⊎◌, inl, inr, arith, codes}
@@ -88,17 +89,21 @@ abbrev IsRead : Reading → Text → Type 0
 IsRead reading value = (reading ≡ WithoutMinus) ×
     (accepts false (Signed (pos 0) (pos 4294967295)) value ≡ true)
 
--- a row of one value, which is a number where the row is that of `--rounds`
+-- whether an option takes a number
+abbrev pub takes_number : Text → Bool
+takes_number id = bytes_eq id (codes "rounds") || bytes_eq id (codes "workers")
+
+-- a row of one value, which is a number where the row is that of an option that takes one
 pub record IsGood (row : Row) : Type 0 where
   pub value : Text
   pub values : row.values ≡ value ∷ []
-  pub number : bytes_eq row.id (codes "rounds") ≡ true → IsRead row.reading value
+  pub number : takes_number row.id ≡ true → IsRead row.reading value
 
 -- an argument that one use gives one value
 pub record TakesOne (rule : Rule) : Type 0 where
   pub action : rule.action ≡ Some action.Set
   pub range : rule.range ≡ Some (record { start_inclusive = 1; end_inclusive = 1 })
-  pub number : bytes_eq rule.id (codes "rounds") ≡ true → (value : Text) → accepts rule.ignore_case
+  pub number : takes_number rule.id ≡ true → (value : Text) → accepts rule.ignore_case
       (parser_of_value rule.parser) value ≡ true
       → IsRead (reading_by rule) value
 

@@ -30,10 +30,10 @@ use Rattle.clap.specs.Faults.{check_fault, defaults_fault, entered_fault, level_
 use Rattle.clap.specs.Faults.{settle_fault, step_fault, turn_fault, walk_fault, word_fault}
 use Rattle.std.specs.Prelude.{if◌then◌else◌}
 use Rattle.clap.specs.declared.builder.value_parser.ValueParser.TheVariants.{Signed}
-use Rattle.strc_command.specs.Lines.{IsCommand, IsNumberOf, Writes32, check_app, faults, graph_app}
+use Rattle.strc_command.specs.Lines.{IsCommand, IsNumber, Writes32, check_app, faults, graph_app}
 use Rattle.strc_command.specs.Lines.{plan_app, run_app, strc_app}
 use Rattle.strc_command.proofs.FaultlessRows.{none_first, none_second, Each, find_each, IsGood}
-use Rattle.strc_command.proofs.FaultlessRows.{IsPlainRule, settled_good, walk_good}
+use Rattle.strc_command.proofs.FaultlessRows.{IsPlainRule, settled_good, takes_number, walk_good}
 
 -- ---- where the program's words stop
 
@@ -190,8 +190,11 @@ plain_run = (
   (
     inl (record { action = refl; range = refl; number = λ is value passes. (refl, passes) }),
     (
-      inl (record { action = refl; range = refl; number = λ is value passes. cc }),
-      (inr refl, tt),
+      inl (record { action = refl; range = refl; number = λ is value passes. (refl, passes) }),
+      (
+        inl (record { action = refl; range = refl; number = λ is value passes. cc }),
+        (inr refl, tt),
+      ),
     ),
   ),
 )
@@ -281,19 +284,31 @@ given_file rows good = go (find (λ row. bytes_eq row.id (codes "FILE")) rows)
     go None is given = cc
     go (Some row) is given = rw is.0.values refl
 
-number_read : (rows : List Row) → Each IsGood rows → (number : Option ℕ) × IsNumberOf
-    (one_of (codes "rounds") rows) number
-number_read rows good = go (find (λ row. bytes_eq row.id (codes "rounds")) rows)
-    (find_each IsGood (λ row. bytes_eq row.id (codes "rounds")) rows good)
+number_read : (option : Text) → ((id : Text) → bytes_eq id option ≡ true → takes_number id ≡ true)
+    → (rows : List Row) → Each IsGood rows → IsNumber (one_of option rows)
+number_read option takes rows good = go (find (λ row. bytes_eq row.id option) rows)
+    (find_each IsGood (λ row. bytes_eq row.id option) rows good)
   where
     go : (found : Option Row) → IfSome found
-        (λ row. IsGood row × (bytes_eq row.id (codes "rounds") ≡ true))
-        → (number : Option ℕ) × IsNumberOf (option_and_then row_text found) number
+        (λ row. IsGood row × (bytes_eq row.id option ≡ true))
+        → IsNumber (option_and_then row_text found)
     go None is = (None, tt)
     go (Some row) is =
-        let read = is.0.number is.1 in
+        let read = is.0.number (takes row.id is.1) in
         let writes = is_number is.0.value read.1 in
         (Some writes.0, rw (is.0.values, read.0) writes.1)
+
+or_second : (first second : Bool) → second ≡ true → (first || second) ≡ true
+or_second true second is = refl
+or_second false second is = is
+
+rounds_read : (rows : List Row) → Each IsGood rows → IsNumber (one_of (codes "rounds") rows)
+rounds_read = number_read (codes "rounds")
+    (λ id is. ap (λ (b : Bool). b || bytes_eq id (codes "workers")) is)
+
+workers_read : (rows : List Row) → Each IsGood rows → IsNumber (one_of (codes "workers") rows)
+workers_read = number_read (codes "workers")
+    (λ id is. or_second (bytes_eq id (codes "rounds")) _ is)
 
 file_given : (given : Bool) → check_kinds false false (not given || false) ≡ [] → given ≡ true
 file_given true none = refl
@@ -346,12 +361,13 @@ runs words none =
     let run = shape_of run_app in
     let faultless = faultless_level run [] words false [] none in
     let rows = rows_after run.rules [] words in
-    let good = rows_good run plain_run (refl, (refl, (refl, (refl, tt)))) refl words faultless in
+    let good =
+    rows_good run plain_run (refl, (refl, (refl, (refl, (refl, tt))))) refl words faultless in
     record {
       name = codes "run";
       rows = rows;
       is = refl;
-      known = inl (refl, number_read rows good);
+      known = inl (refl, (rounds_read rows good, workers_read rows good));
       file = given_file rows good (file_given (is_given (codes "FILE") rows) faultless.checks);
     }
 

@@ -1,7 +1,7 @@
 -- What the reading of a line's matches has found.
 use Rattle.std.proofs.Common.{◌≡◌, ◌∙◌, ◌^◌, ◌<◌, ℕ, refl, sym, subst, true, List, Option, Some}
 use Rattle.std.proofs.Common.{None, Result, Ok, Err, is_some, codes, inl, inr}
-use Rattle.std.specs.Prelude.{option_map}
+use Rattle.std.specs.Prelude.{option_map, unwrap_or}
 use Rattle.std.specs.Str.Parse.{ExplainsUnsignedError, HasUnsignedDigitsIfOk, ParsesUnsigned}
 use Rattle.std.specs.declared.num.ParseIntError.{ParseIntError}
 use Rattle.std.specs.Box.{box_value}
@@ -9,8 +9,8 @@ use Rattle.clap.specs.Matches.{TriesOne, found_of, subcommand_name_of}
 use Rattle.clap.specs.Simple.{subcommand_rows_of}
 use Rattle.clap.specs.declared.parser.matches.ArgMatches.{ArgMatches}
 use Rattle.clap.specs.declared.parser.matches.ArgMatches.TheViews.{out-ArgMatches, out-SubCommand}
-use Rattle.clap.specs.Walk.{Row, Text, first_of, one_of, rows_of}
-use Rattle.strc_command.specs.Lines.{IsCommand, IsKnown, IsNumberOf}
+use Rattle.clap.specs.Walk.{Row, Text, first_of, rows_of}
+use Rattle.strc_command.specs.Lines.{HasNumbers, IsCommand, IsKnown, IsNumberOf, IsNumberOr}
 
 some_same : {A : Type 0} (one other : A) → Some one ≡ Some other → one ≡ other
 some_same one other is = cc
@@ -58,13 +58,20 @@ not_known met name found is none command =
     command.known)
 
 -- `run` with a text that is no number is no subcommand that is known
-pub no_number : (name : Text) (rows : List Row) → name ≡ codes "run"
-    → ((number : Option ℕ) → IsNumberOf (one_of (codes "rounds") rows) number → ⊥)
+pub no_numbers : (name : Text) (rows : List Row) → name ≡ codes "run" → (HasNumbers rows → ⊥)
     → IsKnown name rows → ⊥
-no_number name rows run none (inl (is, (number, reads))) = none number reads
-no_number name rows run none (inr (inl is)) = cc
-no_number name rows run none (inr (inr (inl is))) = cc
-no_number name rows run none (inr (inr (inr is))) = cc
+no_numbers name rows run none (inl (is, numbers)) = none numbers
+no_numbers name rows run none (inr (inl is)) = cc
+no_numbers name rows run none (inr (inr (inl is))) = cc
+no_numbers name rows run none (inr (inr (inr is))) = cc
+
+-- a number that is given, or the one in its place
+pub number_or : (absent : ℕ) (text : Option Text) (given : Option ℕ) → IsNumberOf text given
+    → IsNumberOr absent text (unwrap_or given absent)
+number_or absent None None is = refl
+number_or absent (Some text) (Some number) is = is
+number_or absent None (Some number) is = absurd is
+number_or absent (Some text) None is = absurd is
 
 -- how a text is read as a number of 32 bits
 abbrev pub Gives : Text → Result ℕ ParseIntError → Type 0

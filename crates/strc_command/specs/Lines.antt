@@ -1,7 +1,7 @@
 -- What the words of a command line ask for. After the program's name they are
--- `run FILE [--rounds N] [--main NAME]`, `check FILE [--main NAME]`, `plan FILE [--main NAME]` or
--- `graph FILE [--main NAME]`, and are read as the crate `clap` reads the words of a command:
--- `strc_app` describes ours.
+-- `run FILE [--rounds N] [--workers N] [--main NAME]`, `check FILE [--main NAME]`,
+-- `plan FILE [--main NAME]` or `graph FILE [--main NAME]`, and are read as the crate `clap` reads
+-- the words of a command: `strc_app` describes ours.
 use Rattle.std.specs.Prelude.{◌≡◌, ◌⊎◌, ℕ, ◌<◌, ◌^◌, pos, true, List, []}
 use Rattle.std.specs.Prelude.{Option, Some, None, IsSome, option_map, string_bytes, codes}
 use Rattle.std.specs.Str.Parse.{IsNumeral, digits_value, without_leading_plus}
@@ -21,26 +21,34 @@ use Rattle.strc_command.specs.declared.line.Command.TheVariants as command
 
 -- the name of the main stream that a command gives
 abbrev pub main_of : Command → Option (List ℕ)
-main_of (command.Run rounds main) = option_map string_bytes main
+main_of (command.Run rounds workers main) = option_map string_bytes main
 main_of (command.Check main) = option_map string_bytes main
 main_of (command.Plan main) = option_map string_bytes main
 main_of (command.Graph main) = option_map string_bytes main
 
--- without words the text comes from standard input, and five rounds are run
+-- without words the text comes from standard input, and five rounds are run by one worker
 abbrev pub default_line : Line
-default_line = record { file = None; command = command.Run (Some 5) None }
+default_line = record { file = None; command = command.Run (Some 5) 1 None }
 
 -- FILE, which has to be given
 abbrev pub file_rule : Rule
 file_rule = record (new_rule (codes "FILE")) { required = true }
 
--- `--rounds N`, a number of 32 bits
-abbrev pub rounds_rule : Rule
-rounds_rule = record (new_rule (codes "rounds")) {
-  long = Some (codes "rounds");
+-- `--NAME N`, a number of 32 bits
+abbrev pub number_rule : Text → Rule
+number_rule name = record (new_rule name) {
+  long = Some name;
   value_names = 1;
   parser = Some (Signed (pos 0) (pos 4294967295));
 }
+
+-- `--rounds N`
+abbrev pub rounds_rule : Rule
+rounds_rule = number_rule (codes "rounds")
+
+-- `--workers N`
+abbrev pub workers_rule : Rule
+workers_rule = number_rule (codes "workers")
 
 -- `--main NAME`
 abbrev pub main_rule : Rule
@@ -48,7 +56,9 @@ main_rule = record (new_rule (codes "main")) { long = Some (codes "main"); value
 
 -- the words of `run`
 abbrev pub run_app : App
-run_app = with_rule (with_rule (with_rule (new_app (codes "run")) file_rule) rounds_rule) main_rule
+run_app =
+    with_rule (with_rule (with_rule (with_rule (new_app (codes "run")) file_rule) rounds_rule)
+    workers_rule) main_rule
 
 -- the words of `check`
 abbrev pub check_app : App
@@ -82,11 +92,21 @@ IsNumberOf None None = Unit {0}
 IsNumberOf (Some text) (Some number) = Writes32 text number
 IsNumberOf text number = ⊥
 
+-- a text is none, or writes a number
+abbrev pub IsNumber : Option Text → Type 0
+IsNumber text = (number : Option ℕ) × IsNumberOf text number
+
+-- the number that a text writes, or this one where no text is there
+abbrev pub IsNumberOr : (absent : ℕ) → Option Text → ℕ → Type 0
+IsNumberOr absent None number = number ≡ absent
+IsNumberOr absent (Some text) number = Writes32 text number
+
 -- this command is that of the name and of what was found for its options, whatever its main stream;
--- `run` alone has a number of rounds
+-- `run` alone has a number of rounds, and one of workers, which is 1 where none is given
 abbrev pub IsCommandOf : Text → List Row → Command → Type 0
-IsCommandOf name rows (command.Run rounds main) =
+IsCommandOf name rows (command.Run rounds workers main) =
     (name ≡ codes "run") × IsNumberOf (one_of (codes "rounds") rows) rounds
+    × IsNumberOr 1 (one_of (codes "workers") rows) workers
 IsCommandOf name rows (command.Check main) = name ≡ codes "check"
 IsCommandOf name rows (command.Plan main) = name ≡ codes "plan"
 IsCommandOf name rows (command.Graph main) = name ≡ codes "graph"
@@ -103,12 +123,15 @@ abbrev pub IsLineIn : Option (Text × List Row) → Line → Type 0
 IsLineIn met line =
     (name : Text) × (rows : List Row) × (met ≡ Some (name, rows)) × IsLineOf name rows line
 
--- the name is that of a subcommand: `run`, with a number where one is given, `check`, `plan` or
--- `graph`
+-- the options of `run` that take numbers are given some, or not given
+abbrev pub HasNumbers : List Row → Type 0
+HasNumbers rows =
+    IsNumber (one_of (codes "rounds") rows) × IsNumber (one_of (codes "workers") rows)
+
+-- the name is that of a subcommand: `run`, with its numbers, `check`, `plan` or `graph`
 abbrev pub IsKnown : Text → List Row → Type 0
 IsKnown name rows =
-    ((name ≡ codes "run")
-    × ((number : Option ℕ) × IsNumberOf (one_of (codes "rounds") rows) number))
+    ((name ≡ codes "run") × HasNumbers rows)
     ⊎ ((name ≡ codes "check") ⊎ ((name ≡ codes "plan") ⊎ (name ≡ codes "graph")))
 
 -- one of the subcommands was met, with a FILE

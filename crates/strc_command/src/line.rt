@@ -5,10 +5,12 @@ use thiserror::Error;
 /// What the program is to do.
 #[derive(Drop)]
 pub enum Command {
-    /// Run the program for so many rounds, or for as many as its input allows.
+    /// Run the program for so many rounds, or for as many as its input allows, by so many workers.
     Run {
         /// 0 to 4,294,967,295 rounds, where a number is given.
         rounds: Option<u32>,
+        /// 0 to 4,294,967,295 workers: those from 1 to 64 can run it.
+        workers: u32,
         /// The name of the main stream, where one is given.
         main: Option<String>,
     },

@@ -2,16 +2,16 @@
 
 ghost use Rattle.std.specs.Prelude.{◌≡◌, ◌≢◌, ◌<◌, ◌≤◌, IfErr, IfOk, Ok, Err, [], false, length};
 ghost use Rattle.std.specs.Prelude.{◌++◌, ◌∷◌, IsOkAnd, map};
-ghost use Rattle.std.specs.Prelude.{option_map, string_bytes};
+ghost use Rattle.std.specs.Prelude.{codes, option_map, string_bytes};
 ghost use Rattle.clap.specs.Words.{app_of, found_of, kind_of, new_app, rows_of, rule_of};
 ghost use Rattle.clap.specs.Words.{subcommand_rows_of, with_rule};
-ghost use Rattle.clap.specs.Walk.{texts};
+ghost use Rattle.clap.specs.Walk.{one_of, texts};
 ghost use Rattle.clap.specs.declared.builder.command.Command.TheViews.{out-Command as fields_of};
-ghost use Rattle.strc_command.specs.Lines.{main_of};
-ghost use Rattle.strc_command.specs.Lines.{AsksFor, IsCommand, IsCommandOf, IsKnown, IsLineIn};
-ghost use Rattle.strc_command.specs.Lines.{check_app, default_line, fault_by, faults, file_rule};
-ghost use Rattle.strc_command.specs.Lines.{graph_app, main_rule, plan_app, rounds_rule, run_app};
-ghost use Rattle.strc_command.specs.Lines.{strc_app};
+ghost use Rattle.strc_command.specs.Lines.{AsksFor, HasNumbers, IsCommand, IsCommandOf, IsKnown};
+ghost use Rattle.strc_command.specs.Lines.{IsLineIn, IsNumber, IsNumberOf, check_app, default_line};
+ghost use Rattle.strc_command.specs.Lines.{fault_by, faults, file_rule, graph_app, main_rule};
+ghost use Rattle.strc_command.specs.Lines.{number_rule, plan_app, rounds_rule, run_app, strc_app};
+ghost use Rattle.strc_command.specs.Lines.{workers_rule, main_of};
 
 use crate::line::{Command, Line, LineFault};
 use clap::error::ErrorKind;
@@ -23,6 +23,9 @@ pub const VERSION: &str = "0.9.0";
 
 // How many rounds the program runs with no words after its name.
 const BARE_ROUNDS: u32 = 5;
+
+// How many workers run it where no number is given.
+const BARE_WORKERS: u32 = 1;
 
 /// Reads the words of a command line, the program's name first.
 ///
@@ -38,6 +41,7 @@ pub fn command<'a>(alloc: Global, words: &'a [&'a str]) -> Result<Line, LineFaul
             file: None,
             command: Command::Run {
                 rounds: Some(BARE_ROUNDS),
+                workers: BARE_WORKERS,
                 main: None,
             },
         });
@@ -111,13 +115,14 @@ fn with_last<T: Drop>(
     Ok(items)
 }
 
-// The words `run FILE [--rounds N] [--main NAME]`.
+// The words `run FILE [--rounds N] [--workers N] [--main NAME]`.
 fn run_command<'a>(alloc: Global) -> Result<clap::Command<'a>, AllocError>
     ensures app { IfOk result (λ run. app_of run ≡ run_app) }
     ensures local { IfOk result (λ run. (fields_of run).has_globals ≡ false) }
 {
     file_command(alloc, "run", "Runs a StreamIt program")?
         .arg(rounds_option(alloc))?
+        .arg(workers_option(alloc))?
         .arg(main_option(alloc))
 }
 
@@ -188,11 +193,24 @@ fn rounds_option<'a>(alloc: Global) -> Arg<'a>
     ensures rule { rule_of result ≡ rounds_rule }
     ensures local { result.global ≡ false }
 {
-    Arg::new(alloc, "rounds")
-        .long("rounds")
+    number_option(alloc, "rounds").help("How many rounds to run after start-up")
+}
+
+fn workers_option<'a>(alloc: Global) -> Arg<'a>
+    ensures rule { rule_of result ≡ workers_rule }
+    ensures local { result.global ≡ false }
+{
+    number_option(alloc, "workers").help("How many workers run them, 1 to 64")
+}
+
+fn number_option<'a>(alloc: Global, name: &'a str) -> Arg<'a>
+    ensures rule { rule_of result ≡ number_rule name.entry.now }
+    ensures local { result.global ≡ false }
+{
+    Arg::new(alloc, name)
+        .long(name)
         .value_name("N")
         .value_parser(value_parser!(u32))
-        .help("How many rounds to run after start-up")
 }
 
 fn main_option<'a>(alloc: Global) -> Arg<'a>
@@ -235,14 +253,39 @@ fn command_of(name: &str, found: &ArgMatches, main: Option<String>) -> Result<Co
     ensures refused { IfErr result (λ fault. IsKnown name.now (rows_of (found_of found.now)) → ⊥) }
 {
     match name {
-        "run" => match found.try_get_one::<u32>("rounds") {
-            Ok(rounds) => Ok(Command::Run { rounds, main }),
-            Err(_) => Err(LineFault::Words),
-        },
+        "run" => run_of(found, main),
         "check" => Ok(Command::Check { main }),
         "plan" => Ok(Command::Plan { main }),
         "graph" => Ok(Command::Graph { main }),
         _ => Err(LineFault::Words),
+    }
+}
+
+// The command `run`, with what was found for its options.
+fn run_of(found: &ArgMatches, main: Option<String>) -> Result<Command, LineFault>
+    ensures answered { IfOk result (λ command. IsCommandOf (codes "run")
+        (rows_of (found_of found.now)) command
+        × (main_of command ≡ option_map string_bytes main)) }
+    ensures refused { IfErr result (λ fault. HasNumbers (rows_of (found_of found.now)) → ⊥) }
+{
+    let rounds = number_of(found, "rounds")?;
+    let workers = number_of(found, "workers")?.unwrap_or(BARE_WORKERS);
+    Ok(Command::Run {
+        rounds,
+        workers,
+        main,
+    })
+}
+
+// The number that was found for an option, where one is given.
+fn number_of(found: &ArgMatches, option: &str) -> Result<Option<u32>, LineFault>
+    ensures answered { IfOk result (IsNumberOf (one_of option.now (rows_of (found_of found.now)))) }
+    ensures refused { IfErr result (λ fault.
+        IsNumber (one_of option.now (rows_of (found_of found.now))) → ⊥) }
+{
+    match found.try_get_one::<u32>(option) {
+        Ok(number) => Ok(number),
+        Err(_) => Err(LineFault::Words),
     }
 }
 

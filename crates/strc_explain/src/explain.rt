@@ -6,6 +6,8 @@ ghost use Rattle.strc_cli.specs.Executes.{Executes, device_of};
 
 use crate::elaborator::Elaborator;
 use std::alloc::Global;
+use std::sync::Wait;
+use std::thread::Threads;
 use strc_base::memory::NoMemory;
 use strc_cli::answer::{Answer, answer_to, main_name};
 use strc_cli::execute::{CliError, Status, tell};
@@ -25,7 +27,8 @@ pub struct Explained {
 
 /// As `execute`; and where the text, its input or its run is refused, or a firing faults, what a
 /// person reads of it, with the place in the file of this name.
-pub fn execute_explained<I: Source, O: Sink>(
+pub fn execute_explained<R: Threads + Wait + Sync, I: Source, O: Sink>(
+    rt: &R,
     alloc: Global,
     file: &str,
     text: &[u8],
@@ -41,7 +44,7 @@ pub fn execute_explained<I: Source, O: Sink>(
         → I.has_failed input.new ≡ I.has_failed input.old }
     ensures unread { (input.new ≡ input.old) ⊎ ReadsInput text.now command.now }
 {
-    match answer_to(alloc, text, command, input) {
+    match answer_to(rt, alloc, text, command, input) {
         Ok(answered) => Explained {
             result: tell(alloc, &answered, output),
             message: message_of(alloc, file, text, main_name(command), &answered),

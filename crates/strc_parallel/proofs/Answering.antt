@@ -1,9 +1,9 @@
 -- What a launch comes to is the answer of the stream equations.
-use Rattle.std.proofs.Common.{◌≡◌, ◌∙◌, sym, ap, subst, ℕ, suc, ◌<◌, ◌≤◌, ◌^◌, ℤ, List, length}
-use Rattle.std.proofs.Common.{true, Result, Ok, Err, IfOk}
+use Rattle.std.proofs.Common.{sym, ap, subst, ℕ, ◌<◌, ◌≤◌, ◌^◌, ℤ, List, length}
+use Rattle.std.proofs.Common.{Result, Ok, Err, IfOk}
 use Rattle.strc_semantics.specs.declared.fault.Cause.{Cause}
 use Rattle.strc_admissible.specs.Laws.{startup_order, round_order, counts_at}
-use Rattle.strc_admissible.specs.Machine.{Ending, FaultedAtFirst, after_startup, rounds_run}
+use Rattle.strc_admissible.specs.Machine.{FaultedAtFirst, after_startup, rounds_run}
 use Rattle.strc_admissible.specs.Machine.{whole_run}
 use Rattle.strc_admissible.specs.Planned.{items_read}
 use Rattle.strc_admissible.proofs.RingRuns.{ring_runs}

@@ -1,4 +1,8 @@
 pub mod Tapes
 pub mod Endings
+pub mod Lists
+pub mod SameRings
 pub mod Rings
+pub mod CodeCrosses
+pub mod StageCrosses
 pub mod Answering

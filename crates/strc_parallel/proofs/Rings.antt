@@ -1,23 +1,29 @@
--- A ring that has begun is driven to an end of its start.
-use Rattle.std.proofs.Common.{◌≡◌, ◌∙◌, sym, ap, subst, true, false, Bool, List, map, IfOk, Ok, Err}
+-- A ring that has begun is run to an end of its start.
+use Rattle.std.proofs.Common.{◌≡◌, sym, ap, subst, Bool, List, map, IfOk, IfErr, Ok, Err}
 use Rattle.std.proofs.Common.{Result}
 use Rattle.strc_graph.specs.Graphs.{NodeCode}
 use Rattle.strc_outcome.specs.declared.outcome.Outcome.{Outcome}
 use Rattle.strc_outcome.specs.declared.refusal.RunRefusal.{RunRefusal}
-use Rattle.strc_core.specs.Events.{is_over}
-use Rattle.strc_core.specs.States.{IsStart, first_core}
-use Rattle.strc_core.proofs.Starting.{first_state}
+use Rattle.strc_outcome.specs.declared.refusal.RunRefusal.TheVariants as refused
+use Rattle.strc_core.specs.Actors.{Step, Collects}
+use Rattle.strc_core.specs.States.{IsStart}
 use Rattle.strc_admissible.specs.Machine.{Ending}
 use Rattle.strc_sched.specs.Plain.{IsEnding}
 use Rattle.strc_staged.specs.Laws.{TellsEnding}
 use Rattle.strc_staged.specs.Steps.{stage_work}
-use Rattle.strc_pipe.specs.Pipes.{Beginning, PipeView, IsStateOf}
+use Rattle.strc_pipe.specs.Pipes.{Beginning, IsStateOf}
+use Rattle.strc_ring.specs.Cores as cores
+use Rattle.strc_ring.specs.States.{IsRing}
+use Rattle.strc_ring.specs.declared.shapes.Parts.{Parts}
+use Rattle.strc_ring.specs.declared.shapes.Start.{Start}
+use Rattle.strc_ring.proofs.Cores.{ring_state}
 use Rattle.strc_stages.specs.Collectors.{sees, total_of}
 use Rattle.strc_stages.specs.Stages.{see}
 use Rattle.strc_stages.specs.declared.collector.CollectorParts.{CollectorParts}
+use Rattle.strc_stages.specs.declared.stage.StageParts.{StageParts}
 use Rattle.strc_launch.specs.Launches.{start_of}
 use Rattle.strc_launch.specs.declared.ringing.Ring.{Ring}
-use Rattle.strc_parallel.specs.Running.{HasEnded}
+use Rattle.strc_parallel.specs.Running.{Drives, HasEnded, LacksMeans}
 
 -- A ring's start, by whether its actors are done.
 abbrev pub start_done : Ring → Bool → Beginning
@@ -27,12 +33,6 @@ start_done ring done = record {
   collector = sees ring.collector;
   done = done;
 }
-
--- What a ring is driven to: an end of this start, with what the collector has come to.
-abbrev pub Drives : Beginning → CollectorParts → Type 0
-Drives start parts =
-    (core : PipeView) × IsStateOf start core × (is_over core ≡ true)
-    × (core.collector ≡ sees parts)
 
 -- An outcome is of whatever ending this collector tells of.
 abbrev pub Tells : List NodeCode → CollectorParts → Outcome → Type 0
@@ -51,14 +51,33 @@ module _ (codes : List NodeCode) (ring : Ring) (parts : CollectorParts) where
         tells),
   )
 
-  pub ring_ends : {pipe : PipeView} → IsStart (start_of ring)
-      → pipe ≡ first_core (start_done ring ring.collector.finished)
-      → ((start : Beginning) → IsStateOf start pipe → Drives start parts)
-      → (result : Result Outcome RunRefusal)
+  pub told_ends : Drives (start_of ring) parts → (result : Result Outcome RunRefusal)
       → IfOk result (Tells codes parts)
       → IfOk result (HasEnded codes (start_of ring))
-  ring_ends begun pipe_is drives (Ok outcome) told =
-      driven_ends (drives (start_of ring) (subst (IsStateOf (start_of ring))
-      (sym (pipe_is ∙ ap (λ done. first_core (start_done ring done)) begun.finished_is))
-      (first_state stage_work (start_of ring) begun))) outcome told
-  ring_ends begun pipe_is drives (Err refusal) told = tt
+  told_ends drives (Ok outcome) told = driven_ends drives outcome told
+  told_ends drives (Err refusal) told = tt
+
+-- Where only memory may lack, means may.
+pub only_memory : (result : Result Outcome RunRefusal)
+    → IfErr result (λ refusal. refusal ≡ refused.NoMemory) → IfErr result LacksMeans
+only_memory (Ok outcome) is = tt
+only_memory (Err refusal) is = subst LacksMeans (sym is) tt
+
+-- What a ring's workers begin with.
+abbrev pub seat_of : Ring → Start StageParts CollectorParts
+seat_of ring = record { stages = ring.stages; free = ring.free; collector = ring.collector }
+
+module _ (ring : Ring) (begun : IsStart (start_of ring)) where
+  seen_start : cores.start_of see sees (seat_of ring) ≡ start_of ring
+  unfolding cores.start_of
+  seen_start = ap (start_done ring) begun.finished_is
+
+  -- What workers leave of it is a state of its start.
+  pub left_state : (ended : Parts StageParts CollectorParts)
+      → IsRing (λ s p t q. Step stage_work (see s) p (see t) q)
+      (λ c p d q. Collects stage_work (sees c) p (sees d) q) (seat_of ring) ended
+      → IsStateOf (start_of ring) (cores.core_of_parts see sees ended)
+  left_state ended is =
+      subst (λ start. IsStateOf start (cores.core_of_parts see sees ended)) seen_start
+      (ring_state stage_work _ see (λ s p t q does. does) _ sees (λ c p d q gathers. gathers)
+      (seat_of ring) ended is (subst IsStart (sym seen_start) begun))

@@ -1,5 +1,5 @@
 -- The tapes that lists of words are.
-use Rattle.std.proofs.Common.{◌≡◌, refl, sym, ap, ◌∙◌, subst, ℕ, zero, suc, ◌+◌, ◌<◌, ◌≤◌, Bool}
+use Rattle.std.proofs.Common.{◌≡◌, refl, sym, ap, ◌∙◌, ℕ, zero, suc, ◌+◌, ◌<◌, ◌≤◌, Bool}
 use Rattle.std.proofs.Common.{true, false}
 use Rattle.std.proofs.Common.{List, [], ◌∷◌, ◌++◌, map, drop, get_or, length, arith, if◌then◌else◌}
 use Rattle.std.proofs.Common.{append_assoc, add-one}

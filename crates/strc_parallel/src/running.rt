@@ -1,36 +1,44 @@
 // The rounds of a plan, by its stages.
 
-ghost use Rattle.std.specs.Prelude.{◌≡◌, ◌<◌, ◌≤◌, length, map, IfOk, IfErr};
-ghost use Rattle.strc_outcome.specs.declared.refusal.RunRefusal.TheVariants as refused;
+ghost use Rattle.std.specs.Prelude.{◌<◌, ◌≤◌, length, map, IfOk, IfErr};
 ghost use Rattle.strc_graph.specs.NodeView.{node_view};
 ghost use Rattle.strc_core.specs.States.{IsStart};
 ghost use Rattle.strc_sched.specs.Plain.{need_of, AnswersGraph};
 ghost use Rattle.strc_stage.specs.Plans.{IsPlan, planning_of};
 ghost use Rattle.strc_launch.specs.Launches.{start_of};
-ghost use Rattle.strc_parallel.specs.Running.{HasEnded, IsBegun, IsEndOf};
+ghost use Rattle.strc_parallel.specs.Running.{Drives, HasEnded, IsBegun, IsEndOf};
+ghost use Rattle.strc_parallel.specs.Running.{LacksMeans};
 
+use crate::driving::driven;
 use crate::telling::{faulted, outcome_of};
 use std::alloc::Global;
+use std::sync::Wait;
+use std::thread::Threads;
 use strc_launch::{Launch, Ring, launch};
 use strc_outcome::outcome::Outcome;
 use strc_outcome::refusal::RunRefusal;
-use strc_pipe::Pipe;
+use strc_ring::{Failure, Start, run_ring};
 use strc_stage::plan::Plan;
+use strc_stages::{Collector, Stage};
+use strc_worker::Gate;
 
 /// Start-up, and then so many rounds by the stages of the plan for so many workers, one for each of
-/// them or for each group of nodes where these are fewer: a ring of stages that hand parcels on, a
-/// round's items each. The first stage that can hand on or take a parcel does so, again and again,
-/// in this thread.
+/// them or for each group of nodes where these are fewer (Gordon, Thies and Amarasinghe 2006:
+/// coarse-grained software pipelining). Each stage has a thread of its own, and they hand parcels
+/// on in a ring, a round's items each; this thread collects what is printed. Each step of a stage
+/// is the gate's. It waits.
 ///
 /// For whatever stream the plan's graph is the flat graph of, the outcome is the answer of the
 /// stream equations at the schedule's counts, as that of one worker is. `NoMemory` comes where
-/// memory runs out.
-pub fn run_stages(
+/// memory runs out, `NoWorker` where a thread is refused.
+pub fn run_stages<G: Gate<Stage>, R: Threads + Wait + Sync>(
+    rt: &R,
     alloc: Global,
     plan: &Plan,
     input: &[i32],
     rounds: u32,
     workers: u32,
+    gate: &G,
 ) -> Result<Outcome, RunRefusal>
     requires rounds { 0 < rounds }
     requires workers { 0 < workers }
@@ -39,11 +47,11 @@ pub fn run_stages(
         ≤ length input.now }
     ensures answer { IfOk result (AnswersGraph (planning_of plan.now).graph plan.now.schedule
         input.now rounds) }
-    ensures memory { IfErr result (λ refusal. refusal ≡ refused.NoMemory) }
+    ensures means { IfErr result LacksMeans }
 {
     known_plan(plan);
     match launch(alloc, plan, input, rounds, workers) {
-        Ok(launched) => run_launched(alloc, plan, launched),
+        Ok(launched) => run_launched(rt, alloc, plan, launched, gate),
         Err(_) => Err(RunRefusal::NoMemory),
     }
 }
@@ -59,13 +67,19 @@ fn known_plan(plan: &Plan)
 }
 
 /// What comes of start-up, and of the rounds after it.
-fn run_launched(alloc: Global, plan: &Plan, launched: Launch) -> Result<Outcome, RunRefusal>
+fn run_launched<G: Gate<Stage>, R: Threads + Wait + Sync>(
+    rt: &R,
+    alloc: Global,
+    plan: &Plan,
+    launched: Launch,
+    gate: &G,
+) -> Result<Outcome, RunRefusal>
     requires start { IsBegun launched }
     ensures ended { IfOk result (IsEndOf (map node_view plan.now.graph.nodes) launched) }
-    ensures memory { IfErr result (λ refusal. refusal ≡ refused.NoMemory) }
+    ensures means { IfErr result LacksMeans }
 {
     match launched {
-        Launch::Going(ring) => run_ring(alloc, plan, ring),
+        Launch::Going(ring) => run_rounds(rt, alloc, plan, ring, gate),
         Launch::Faulted {
             node,
             firing,
@@ -75,18 +89,45 @@ fn run_launched(alloc: Global, plan: &Plan, launched: Launch) -> Result<Outcome,
 }
 
 /// A ring's rounds, and what they come to.
-fn run_ring(alloc: Global, plan: &Plan, ring: Ring) -> Result<Outcome, RunRefusal>
+fn run_rounds<G: Gate<Stage>, R: Threads + Wait + Sync>(
+    rt: &R,
+    alloc: Global,
+    plan: &Plan,
+    ring: Ring,
+    gate: &G,
+) -> Result<Outcome, RunRefusal>
     requires start { IsStart (start_of ring) }
     ensures ended { IfOk result (HasEnded (map node_view plan.now.graph.nodes) (start_of ring)) }
-    ensures memory { IfErr result (λ refusal. refusal ≡ refused.NoMemory) }
+    ensures means { IfErr result LacksMeans }
+{
+    match collected(rt, alloc, ring, gate) {
+        Ok(collector) => outcome_of(alloc, plan.graph().nodes(), collector.into_parts()),
+        Err(Failure::NoMemory) => Err(RunRefusal::NoMemory),
+        Err(Failure::NoWorker) => Err(RunRefusal::NoWorker),
+    }
+}
+
+/// The collector of a ring after its last parcel. Where a worker ended before that, this thread
+/// lets happen what is left.
+fn collected<G: Gate<Stage>, R: Threads + Wait + Sync>(
+    rt: &R,
+    alloc: Global,
+    ring: Ring,
+    gate: &G,
+) -> Result<Collector, Failure>
+    requires start { IsStart (start_of ring) }
+    ensures { IfOk result (Drives (start_of ring)) }
 {
     let Ring {
         stages,
         free,
         collector,
     } = ring;
-    match Pipe::new(alloc, stages, free, collector) {
-        Ok(pipe) => outcome_of(alloc, plan.graph().nodes(), pipe.drive(alloc).into_parts()),
-        Err(_) => Err(RunRefusal::NoMemory),
-    }
+    let start = Start {
+        stages,
+        free,
+        collector,
+    };
+    let ended = run_ring(rt, alloc, start, gate)?;
+    Ok(driven(alloc, ended)?)
 }

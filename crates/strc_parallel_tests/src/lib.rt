@@ -1,6 +1,6 @@
 // Takes nothing: this crate is tests alone.
-// Gives runs of whole programs by the stages of several workers, in the order of strc_parallel and
-// in random orders of events.
+// Gives runs of whole programs by the stages of several workers, in threads and in random orders of
+// events.
 // There is no theorem here: the outcomes are worked out by hand.
 // Stands on strc_parallel, and on strc_launch and strc_pipe, whose rings it drives; strc_run gives
 // the plans and the outcomes of one worker.
@@ -8,6 +8,8 @@
 
 #[cfg(test)]
 mod dice;
+#[cfg(test)]
+mod gates;
 #[cfg(test)]
 mod orders;
 #[cfg(test)]

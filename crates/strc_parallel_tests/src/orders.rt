@@ -7,7 +7,7 @@ use crate::telling::{told, told_collector};
 use std::alloc::Global;
 use std::process::Abort;
 use std::test::Fail;
-use strc_run::run::run;
+use strc_sched::plain::run_plain;
 use strc_stages::Collector;
 
 /// How many lists of events there are for each program and number of workers.
@@ -77,7 +77,14 @@ fn compare_lists(
 
 /// With some numbers of workers a case comes to what it does with one.
 fn compare_case(rt: &impl Abort, alloc: Global, case: &Case<'_>) -> Result<(), Fail> {
-    let outcome = run(alloc, &case.plan, &case.input, Some(case.rounds))?;
+    let plan = &case.plan;
+    let outcome = run_plain(
+        alloc,
+        plan.graph(),
+        plan.schedule(),
+        &case.input,
+        case.rounds,
+    )?;
     let wanted = told(alloc, &outcome)?;
     for workers in [2, 3, 7] {
         compare_lists(rt, alloc, case, workers, wanted.as_str())?;

@@ -8,13 +8,21 @@ use crate::programs::{Case, PROGRAMS, case_of};
 use crate::telling::told;
 use std::alloc::Global;
 use std::process::Abort;
+use std::sync::Wait;
 use std::test::Fail;
+use std::thread::Threads;
 use strc_outcome::outcome::Outcome;
 use strc_parallel::running::run_stages;
 use strc_sched::plain::input_needed;
+use strc_worker::OpenGate;
 
 /// The outcome of a case by so many workers.
-fn outcome_of(alloc: Global, case: &Case<'_>, workers: u32) -> Result<Outcome, Fail> {
+fn outcome_of<R: Threads + Wait + Sync>(
+    rt: &R,
+    alloc: Global,
+    case: &Case<'_>,
+    workers: u32,
+) -> Result<Outcome, Fail> {
     let plan = &case.plan;
     if plan.graph().nodes().is_empty() || case.rounds == 0 || workers == 0 {
         return Err("nothing to begin with".into());
@@ -22,13 +30,25 @@ fn outcome_of(alloc: Global, case: &Case<'_>, workers: u32) -> Result<Outcome, F
     if (case.input.len() as u64) < input_needed(plan.graph(), plan.schedule(), case.rounds) {
         return Err("the input is short".into());
     }
-    Ok(run_stages(alloc, plan, &case.input, case.rounds, workers)?)
+    Ok(run_stages(
+        rt,
+        alloc,
+        plan,
+        &case.input,
+        case.rounds,
+        workers,
+        &OpenGate,
+    )?)
 }
 
 /// With each number of workers a case comes to what its row says.
-fn compare_workers(rt: &impl Abort, alloc: Global, case: &Case<'_>) -> Result<(), Fail> {
+fn compare_workers<R: Abort + Threads + Wait + Sync>(
+    rt: &R,
+    alloc: Global,
+    case: &Case<'_>,
+) -> Result<(), Fail> {
     for workers in [1, 2, 3, 5, 64] {
-        let outcome = outcome_of(alloc, case, workers)?;
+        let outcome = outcome_of(rt, alloc, case, workers)?;
         assert_eq!(rt;
             told(alloc, &outcome)?.as_str(),
             case.wanted,

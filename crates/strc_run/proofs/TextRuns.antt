@@ -1,6 +1,6 @@
 -- The rounds of a text's plan are those of the text.
-use Rattle.std.proofs.Common.{◌≡◌, ◌∙◌, ap, sym, subst, ℕ, ◌<◌, ℤ, List, length, Option}
-use Rattle.std.proofs.Common.{Ok, Err}
+use Rattle.std.proofs.Common.{◌≡◌, ◌∙◌, ap, sym, subst, ℕ, ◌<◌, ◌≤◌, ℤ, List, length, Option}
+use Rattle.std.proofs.Common.{Ok, Err, true}
 use Rattle.std.specs.Prelude.{unwrap_or}
 use Rattle.strc_graph.specs.Graphs.{NodeCode}
 use Rattle.strc_stream.specs.Flattening.{tree_of, nodes_of}
@@ -12,10 +12,10 @@ use Rattle.strc_stage.specs.Plans.{Planning}
 use Rattle.strc_run.specs.Laws.{PlansAnswerTexts}
 use Rattle.strc_run.specs.Plans.{IsPlanOf}
 use Rattle.strc_run.specs.Rounds.{IsUnrun, RunsRounds, is_bounded, need_of}
-use Rattle.strc_run.specs.TextRuns.{IsTextRun, RunsText}
+use Rattle.strc_run.specs.TextRuns.{HasInput, IsTextRun, RunsText}
 
 module _ (text : List ℕ) (main : Option (List ℕ)) (plan : Planning)
-    (is : IsPlanOf text main plan) (input : List ℤ) (asked : Option ℕ) where
+    (is : IsPlanOf text main plan) (input : List ℤ) (asked : Option ℕ) (workers : ℕ) where
   -- the plan's nodes are the stream's
   same_bound : is_bounded asked plan.graph.nodes ≡ is_bounded asked (nodes_of is.accepted.stream)
   same_bound = ap (is_bounded asked) is.nodes
@@ -34,29 +34,39 @@ module _ (text : List ℕ) (main : Option (List ℕ)) (plan : Planning)
         (runs.answer (tree_of is.accepted.stream) is.whole);
   }
 
-  unrun_text : (refusal : RunRefusal) → IsUnrun plan (length input) asked refusal
-      → IsTextRun text main plan input asked (Err refusal)
-  unrun_text (refused.InputShort need got) short = record {
-    accepted = is.accepted;
-    bounded = sym same_bound ∙ short.0;
-    needed = short.1;
-    had = short.2;
-    short = subst (λ (n : ℕ). got < n) (sym short.1)
-        (subst (λ (n : ℕ). n < need_of plan (unwrap_or asked 0)) (sym short.2) short.3);
-  }
-  unrun_text refused.NoMemory (bounded, enough) = record {
+  -- rounds that could be run over the input
+  has_input : is_bounded asked plan.graph.nodes ≡ true
+      → need_of plan (unwrap_or asked 0) ≤ length input → HasInput text main plan input asked
+  has_input bounded enough = record {
     accepted = is.accepted;
     bounded = sym same_bound ∙ bounded;
     enough = enough;
   }
-  unrun_text refused.RoundsNeeded unbounded = record {
-    accepted = is.accepted;
-    unbounded = sym same_bound ∙ unbounded;
-  }
-  unrun_text refusal never = absurd never
+
+  unrun_text : (refusal : RunRefusal) → IsUnrun plan (length input) asked workers refusal
+      → IsTextRun text main plan input asked workers (Err refusal)
+  unrun_text refused.BadWorkers bad = (is.accepted, bad)
+  unrun_text (refused.InputShort need got) (are, bounded, (needed, had, short)) = (
+    are,
+    record {
+      accepted = is.accepted;
+      bounded = sym same_bound ∙ bounded;
+      needed = needed;
+      had = had;
+      short = subst (λ (n : ℕ). got < n) (sym needed)
+          (subst (λ (n : ℕ). n < need_of plan (unwrap_or asked 0)) (sym had) short);
+    },
+  )
+  unrun_text refused.NoMemory (are, bounded, enough) = (are, has_input bounded enough)
+  unrun_text refused.NoWorker (are, bounded, (many, enough)) =
+      (are, (many, has_input bounded enough))
+  unrun_text refused.RoundsNeeded (are, unbounded) = (
+    are,
+    record { accepted = is.accepted; unbounded = sym same_bound ∙ unbounded },
+  )
 
 pub plans_answer : PlansAnswerTexts
-plans_answer text main plan input asked (Ok outcome) is runs =
-    runs_text text main plan is input asked outcome runs
-plans_answer text main plan input asked (Err refusal) is unrun =
-    unrun_text text main plan is input asked refusal unrun
+plans_answer text main plan input asked workers (Ok outcome) is (are, runs) =
+    (are, runs_text text main plan is input asked workers outcome runs)
+plans_answer text main plan input asked workers (Err refusal) is unrun =
+    unrun_text text main plan is input asked workers refusal unrun

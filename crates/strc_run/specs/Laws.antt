@@ -24,5 +24,6 @@ OneStream = (text : List ℕ) (main : Option (List ℕ)) (plan other : Planning)
 -- what the rounds of a text's plan come to is what those of the text come to
 abbrev pub PlansAnswerTexts : Type 0
 PlansAnswerTexts = (text : List ℕ) (main : Option (List ℕ)) (plan : Planning) (input : List ℤ)
-    (asked : Option ℕ) (result : Result Outcome RunRefusal) → IsPlanOf text main plan
-    → IsRunOf plan input asked result → IsTextRun text main plan input asked result
+    (asked : Option ℕ) (workers : ℕ) (result : Result Outcome RunRefusal)
+    → IsPlanOf text main plan → IsRunOf plan input asked workers result
+    → IsTextRun text main plan input asked workers result

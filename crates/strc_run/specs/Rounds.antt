@@ -1,4 +1,5 @@
--- How a plan's rounds are run: so many as are asked for, or as many as the input serves.
+-- How a plan's rounds are run: so many as are asked for, or as many as the input serves, by so many
+-- workers.
 use Rattle.std.specs.Prelude.{◌≡◌, ℕ, ◌<◌, ◌≤◌, ℤ, Bool, true, false, ◌||◌, List, length, Option}
 use Rattle.std.specs.Prelude.{Some, None, unwrap_or, Result, Ok, Err}
 use Rattle.std.specs.List.{list_any}
@@ -10,6 +11,11 @@ use Rattle.strc_outcome.specs.declared.outcome.Outcome.{Outcome}
 use Rattle.strc_outcome.specs.declared.refusal.RunRefusal.{RunRefusal}
 use Rattle.strc_outcome.specs.declared.refusal.RunRefusal.TheVariants as refused
 use Rattle.strc_stage.specs.Plans.{Planning}
+use Rattle.strc_run.specs.declared.run.TheConstants.{WORKER_LIMIT}
+
+-- rounds can be run by so many workers
+abbrev pub AreWorkers : ℕ → Type 0
+AreWorkers workers = (1 ≤ workers) × (workers ≤ WORKER_LIMIT)
 
 -- whether a node of a plan's graph reads the program's input
 abbrev pub plan_reads : Planning → Bool
@@ -41,18 +47,30 @@ pub record RunsRounds (plan : Planning) (input : List ℤ) (asked : Option ℕ) 
   pub enough : need_of plan rounds ≤ length input
   pub answer : AnswersGraph plan.graph plan.schedule input rounds outcome
 
--- or they aren't run: nobody says how many where a number is needed; the input is shorter than what
--- they read, or than what start-up reads, where it is to say how many; or memory runs out
-abbrev pub IsUnrun : Planning → (got : ℕ) → (asked : Option ℕ) → RunRefusal → Type 0
-IsUnrun plan got asked refused.RoundsNeeded = is_bounded asked plan.graph.nodes ≡ false
-IsUnrun plan got asked (refused.InputShort need had) =
-    (is_bounded asked plan.graph.nodes ≡ true) × (need ≡ need_of plan (unwrap_or asked 0))
-    × (had ≡ got) × (got < need_of plan (unwrap_or asked 0))
-IsUnrun plan got asked refused.NoMemory =
-    (is_bounded asked plan.graph.nodes ≡ true) × (need_of plan (unwrap_or asked 0) ≤ got)
-IsUnrun plan got asked _ = ⊥
+-- rounds that read so many items aren't run over an input by so many workers: it is shorter, and
+-- only then; or memory runs out, or a worker of several can't be started
+abbrev pub IsWorkedRefusal : (need got workers : ℕ) → RunRefusal → Type 0
+IsWorkedRefusal need got workers (refused.InputShort needed had) =
+    (needed ≡ need) × (had ≡ got) × (got < need)
+IsWorkedRefusal need got workers refused.NoMemory = need ≤ got
+IsWorkedRefusal need got workers refused.NoWorker = (1 < workers) × (need ≤ got)
+IsWorkedRefusal need got workers _ = ⊥
 
--- how the rounds of a plan are answered
-abbrev pub IsRunOf : Planning → List ℤ → (asked : Option ℕ) → Result Outcome RunRefusal → Type 0
-IsRunOf plan input asked (Ok outcome) = RunsRounds plan input asked outcome
-IsRunOf plan input asked (Err refusal) = IsUnrun plan (length input) asked refusal
+-- or they aren't run: there are too few or too many workers; else nobody says how many rounds where
+-- a number is needed; else the input is shorter than what they read, or than what start-up reads,
+-- where it is to say how many; or memory runs out, or a worker of several can't be started
+abbrev pub IsUnrun : Planning → (got : ℕ) → (asked : Option ℕ) → (workers : ℕ) → RunRefusal → Type 0
+IsUnrun plan got asked workers refused.BadWorkers = ¬ AreWorkers workers
+IsUnrun plan got asked workers refused.RoundsNeeded =
+    AreWorkers workers × (is_bounded asked plan.graph.nodes ≡ false)
+IsUnrun plan got asked workers refusal =
+    AreWorkers workers × (is_bounded asked plan.graph.nodes ≡ true)
+    × IsWorkedRefusal (need_of plan (unwrap_or asked 0)) got workers refusal
+
+-- how the rounds of a plan are answered: the outcome is the same for each number of workers
+abbrev pub IsRunOf : Planning → List ℤ → (asked : Option ℕ) → (workers : ℕ)
+    → Result Outcome RunRefusal → Type 0
+IsRunOf plan input asked workers (Ok outcome) =
+    AreWorkers workers × RunsRounds plan input asked outcome
+IsRunOf plan input asked workers (Err refusal) =
+    IsUnrun plan (length input) asked workers refusal

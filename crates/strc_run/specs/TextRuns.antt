@@ -11,7 +11,7 @@ use Rattle.strc_outcome.specs.declared.refusal.RunRefusal.{RunRefusal}
 use Rattle.strc_outcome.specs.declared.refusal.RunRefusal.TheVariants as refused
 use Rattle.strc_stage.specs.Plans.{Planning}
 use Rattle.strc_run.specs.Accepts.{Accepts}
-use Rattle.strc_run.specs.Rounds.{IsCount, is_bounded, need_of}
+use Rattle.strc_run.specs.Rounds.{AreWorkers, IsCount, is_bounded, need_of}
 
 -- whether a stream has a reader of the program's input
 abbrev pub has_reader : Stream → Bool
@@ -44,21 +44,35 @@ pub record NeedsRounds (text : List ℕ) (main : Option (List ℕ)) (plan : Plan
   pub accepted : Accepts text main plan
   pub unbounded : is_bounded asked (nodes_of accepted.stream) ≡ false
 
--- the text is accepted, its rounds could be run over the input, and memory runs out
-pub record LacksMemory (text : List ℕ) (main : Option (List ℕ)) (plan : Planning) (input : List ℤ)
+-- the text is accepted, and its rounds could be run over the input
+pub record HasInput (text : List ℕ) (main : Option (List ℕ)) (plan : Planning) (input : List ℤ)
     (asked : Option ℕ) : Type 0 where
   pub accepted : Accepts text main plan
   pub bounded : is_bounded asked (nodes_of accepted.stream) ≡ true
   pub enough : need_of plan (unwrap_or asked 0) ≤ length input
 
--- how the rounds of an accepted text are answered: with their outcome, or with why they aren't run
-abbrev pub IsTextRun : List ℕ → Option (List ℕ) → Planning → List ℤ → (asked : Option ℕ)
-    → Result Outcome RunRefusal → Type 0
-IsTextRun text main plan input asked (Ok outcome) = RunsText text main plan input asked outcome
-IsTextRun text main plan input asked (Err (refused.InputShort need got)) =
+-- why the rounds of an accepted text aren't run by so many workers, which can run rounds: the input
+-- is too short, nobody says how many there are, or they could be run, and memory runs out or a
+-- worker of several can't be started
+abbrev pub IsTextUnrun : List ℕ → Option (List ℕ) → Planning → List ℤ → (asked : Option ℕ)
+    → (workers : ℕ) → RunRefusal → Type 0
+IsTextUnrun text main plan input asked workers (refused.InputShort need got) =
     LacksInput text main plan input asked need got
-IsTextRun text main plan input asked (Err refused.RoundsNeeded) =
+IsTextUnrun text main plan input asked workers refused.RoundsNeeded =
     NeedsRounds text main plan asked
-IsTextRun text main plan input asked (Err refused.NoMemory) =
-    LacksMemory text main plan input asked
-IsTextRun text main plan input asked (Err refusal) = ⊥
+IsTextUnrun text main plan input asked workers refused.NoMemory =
+    HasInput text main plan input asked
+IsTextUnrun text main plan input asked workers refused.NoWorker =
+    (1 < workers) × HasInput text main plan input asked
+IsTextUnrun text main plan input asked workers refused.BadWorkers = ⊥
+
+-- how the rounds of an accepted text are answered by so many workers: with their outcome, which is
+-- the same for each number of them, or with why they aren't run
+abbrev pub IsTextRun : List ℕ → Option (List ℕ) → Planning → List ℤ → (asked : Option ℕ)
+    → (workers : ℕ) → Result Outcome RunRefusal → Type 0
+IsTextRun text main plan input asked workers (Ok outcome) =
+    AreWorkers workers × RunsText text main plan input asked outcome
+IsTextRun text main plan input asked workers (Err refused.BadWorkers) =
+    Accepts text main plan × (¬ AreWorkers workers)
+IsTextRun text main plan input asked workers (Err refusal) =
+    AreWorkers workers × IsTextUnrun text main plan input asked workers refusal

@@ -1,50 +1,104 @@
 // The rounds of a plan.
 
-ghost use Rattle.std.specs.Prelude.{◌≡◌, None};
+ghost use Rattle.std.specs.Prelude.{◌≡◌, ◌≤◌, None, IfErr, IfOk, length};
+ghost use Rattle.strc_sched.specs.Plain.{AnswersGraph};
 ghost use Rattle.strc_stage.specs.Plans.{planning_of};
-ghost use Rattle.strc_run.specs.Rounds.{IsRunOf, plan_reads};
+ghost use Rattle.strc_run.specs.Rounds.{AreWorkers, IsRunOf, IsWorkedRefusal, need_of, plan_reads};
 
 use std::alloc::Global;
+use std::sync::Wait;
+use std::thread::Threads;
 pub use strc_outcome::outcome::{Outcome, Round};
 pub use strc_outcome::refusal::RunRefusal;
-use strc_sched::plain::run_plain;
+use strc_parallel::running::run_stages;
+use strc_sched::plain::{input_needed, run_plain};
 use strc_sched::serving;
 use strc_sched::serving::rounds_served;
 use strc_stage::plan::Plan;
+use strc_stages::Stage;
+use strc_worker::Gate;
 
-/// Start-up and so many rounds of a plan, on one thread; without a number as many as the input
-/// serves, at most 4,294,967,295. The outcome is the answer of the stream equations of whatever
-/// stream the plan's graph is the flat graph of.
+/// The most workers that rounds are run by.
+pub const WORKER_LIMIT: u32 = 64;
+
+/// Start-up and so many rounds of a plan, by so many workers; without a number of rounds as many as
+/// the input serves, at most 4,294,967,295. Where there are two workers or more, each stage of the
+/// plan runs in a thread of its own, each of its steps is the gate's, and this call waits for them.
+/// The outcome is the answer of the stream equations of whatever stream the plan's graph is the
+/// flat graph of, and so the same for each number of workers.
 ///
-/// `RoundsNeeded` comes where no number is given and the graph has no reader; then `InputShort`
-/// where the input has fewer items than these rounds read, or than start-up reads where no number
-/// is given; `NoMemory` where memory runs out.
-pub fn run(
+/// `BadWorkers` comes where the number of workers isn't one from 1 to 64; then `RoundsNeeded` where
+/// no number of rounds is given and the graph has no reader; then `InputShort` where the input has
+/// fewer items than these rounds read, or than start-up reads where no number is given; `NoMemory`
+/// where memory runs out, and `NoWorker` where a thread is refused.
+pub fn run<G: Gate<Stage>, R: Threads + Wait + Sync>(
+    rt: &R,
     alloc: Global,
     plan: &Plan,
     input: &[i32],
     rounds: Option<u32>,
+    workers: u32,
+    gate: &G,
 ) -> Result<Outcome, RunRefusal>
-    ensures { IsRunOf (planning_of plan.now) input.now rounds result }
+    ensures { IsRunOf (planning_of plan.now) input.now rounds workers result }
 {
+    if workers == 0 || workers > WORKER_LIMIT {
+        return Err(RunRefusal::BadWorkers);
+    }
     match rounds {
-        Some(count) => run_plain(alloc, plan.graph(), plan.schedule(), input, count),
-        None => run_served(alloc, plan, input),
+        Some(count) => run_rounds(rt, alloc, plan, input, count, workers, gate),
+        None => run_served(rt, alloc, plan, input, workers, gate),
     }
 }
 
 /// As many rounds as the input serves.
-fn run_served(alloc: Global, plan: &Plan, input: &[i32]) -> Result<Outcome, RunRefusal>
-    ensures { IsRunOf (planning_of plan.now) input.now None result }
+fn run_served<G: Gate<Stage>, R: Threads + Wait + Sync>(
+    rt: &R,
+    alloc: Global,
+    plan: &Plan,
+    input: &[i32],
+    workers: u32,
+    gate: &G,
+) -> Result<Outcome, RunRefusal>
+    requires workers { AreWorkers workers }
+    ensures { IsRunOf (planning_of plan.now) input.now None workers result }
 {
     if !reads_input(plan) {
         return Err(RunRefusal::RoundsNeeded);
     }
+    // An input that doesn't serve start-up is refused as one that doesn't serve 0 rounds.
+    let served = rounds_served(plan.graph(), plan.schedule(), input.len() as u64);
+    run_rounds(rt, alloc, plan, input, served.unwrap_or(0), workers, gate)
+}
+
+/// So many rounds: on one thread where there is nothing to divide among workers, else by stages.
+fn run_rounds<G: Gate<Stage>, R: Threads + Wait + Sync>(
+    rt: &R,
+    alloc: Global,
+    plan: &Plan,
+    input: &[i32],
+    rounds: u32,
+    workers: u32,
+    gate: &G,
+) -> Result<Outcome, RunRefusal>
+    requires workers { AreWorkers workers }
+    ensures answer { IfOk result (AnswersGraph (planning_of plan.now).graph plan.now.schedule
+        input.now rounds) }
+    ensures enough { IfOk result (λ _. need_of (planning_of plan.now) rounds ≤ length input.now) }
+    ensures refused { IfErr result (IsWorkedRefusal (need_of (planning_of plan.now) rounds)
+        (length input.now) workers) }
+{
     let graph = plan.graph();
     let schedule = plan.schedule();
-    // An input that doesn't serve start-up is refused as one that doesn't serve 0 rounds.
-    let count = rounds_served(graph, schedule, input.len() as u64).unwrap_or(0);
-    run_plain(alloc, graph, schedule, input, count)
+    if workers == 1 || rounds == 0 || graph.nodes().is_empty() {
+        return run_plain(alloc, graph, schedule, input, rounds);
+    }
+    let need = input_needed(graph, schedule, rounds);
+    let got = input.len() as u64;
+    if got < need {
+        return Err(RunRefusal::InputShort { need, got });
+    }
+    run_stages(rt, alloc, plan, input, rounds, workers, gate)
 }
 
 /// Whether a node of the plan's graph reads the program's input.

@@ -12,9 +12,14 @@ fn reported(alloc: Global, line: &Line) -> Result<String, AllocError> {
     match &line.command {
         Command::Run {
             rounds: Some(rounds),
+            workers,
             main,
-        } => format!(in alloc; "run {file} {rounds} {}", name_of(main)),
-        Command::Run { rounds: None, main } => format!(in alloc; "run {file} - {}", name_of(main)),
+        } => format!(in alloc; "run {file} {rounds} {workers} {}", name_of(main)),
+        Command::Run {
+            rounds: None,
+            workers,
+            main,
+        } => format!(in alloc; "run {file} - {workers} {}", name_of(main)),
         Command::Check { main } => format!(in alloc; "check {file} {}", name_of(main)),
         Command::Plan { main } => format!(in alloc; "plan {file} {}", name_of(main)),
         Command::Graph { main } => format!(in alloc; "graph {file} {}", name_of(main)),
@@ -39,11 +44,14 @@ fn words_of(alloc: Global, line: &str) -> Result<Vec<&str>, AllocError> {
 
 // A row a line: the words, and what is asked for.
 const UNDERSTOOD: &str = "\
-strc => run - 5 -
-strc run a.str => run a.str - -
-strc run a.str --rounds=0 => run a.str 0 -
-strc run --main M a.str => run a.str - M
-strc run --rounds 4294967295 a.str --main M => run a.str 4294967295 M
+strc => run - 5 1 -
+strc run a.str => run a.str - 1 -
+strc run a.str --rounds=0 => run a.str 0 1 -
+strc run --main M a.str => run a.str - 1 M
+strc run a.str --workers 0 => run a.str - 0 -
+strc run --workers=64 a.str => run a.str - 64 -
+strc run --rounds 4294967295 a.str --main M => run a.str 4294967295 1 M
+strc run --workers 4294967295 a.str --main M --rounds 2 => run a.str 2 4294967295 M
 strc check a.str => check a.str -
 strc check a.str --main M => check a.str M
 strc plan a.str => plan a.str -
@@ -72,9 +80,15 @@ strc run a.str --rounds 4294967296
 strc run a.str --rounds -1
 strc run a.str --rounds many
 strc run a.str --rounds
+strc run a.str --workers 4294967296
+strc run a.str --workers -1
+strc run a.str --workers many
+strc run a.str --workers
+strc run a.str --workers 2 --workers 2
 strc run a.str --ways 2
 strc check
 strc check a.str --rounds 2
+strc check a.str --workers 2
 strc plan --main M
 strc plan a.str b.str
 ";
@@ -100,6 +114,7 @@ fn other_words_are_not(rt: HostRuntime) -> Result<(), Fail> {
 const HELPFUL: &str = "\
 strc --help => Usage: strc <COMMAND>
 strc run --help => --rounds <N>
+strc run --help => --workers <N>
 strc graph -h => Graphviz
 ";
 

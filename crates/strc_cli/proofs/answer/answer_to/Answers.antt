@@ -57,5 +57,5 @@ returns-in-Run-clause-unread g c =
       | inr reads ↦ inr (subst (ReadsInput text) (sym c.in-Run.is)
           (reads_text text _ plan
           (subst (λ (main : Option (List ℕ)). IsPlanOf text main plan) (ap main_of c.in-Run.is)
-          is) c.in-Run.rounds (g.I.Source.remaining c.args.input.now) reads))
+          is) c.in-Run.rounds c.in-Run.workers (g.I.Source.remaining c.args.input.now) reads))
     ]

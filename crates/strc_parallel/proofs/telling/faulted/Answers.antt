@@ -1,5 +1,4 @@
-use Rattle.std.proofs.Common.{◌∙◌, refl, ap, map, vec_items, Vec, List}
-use Rattle.strc_semantics.specs.declared.word.Word.{Word}
+use Rattle.std.proofs.Common.{◌∙◌, refl, ap, map, vec_items}
 use Rattle.strc_graph.specs.NodeView.{node_view}
 use Rattle.strc_parallel.specs.Telling.{tapes_by}
 use Rattle.strc_parallel.proofs.Tapes.{no_words}

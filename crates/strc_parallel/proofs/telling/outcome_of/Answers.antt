@@ -1,6 +1,5 @@
-use Rattle.std.proofs.Common.{◌≡◌, subst, map, Some, Option, sym, IfOk, Ok, Err, Result}
+use Rattle.std.proofs.Common.{map}
 use Rattle.strc_graph.specs.NodeView.{node_view}
-use Rattle.strc_parcel.specs.declared.stop.Stop.{Stop}
 use Rattle.strc_stages.specs.Collectors.{total_of}
 use Rattle.strc_parallel.proofs.Endings.{ends_done, with_told}
 use Rattle.strc_parallel.proofs.telling.outcome_of.Goals as goal

@@ -1,5 +1,5 @@
 use Rattle.std.proofs.Common.{◌≡◌, ◌++◌, ◌∙◌, sym, ap, arith, map, length, vec_items, get_or, []}
-use Rattle.std.proofs.Common.{◌<◌, List}
+use Rattle.std.proofs.Common.{◌<◌}
 use Rattle.std.proofs.lemmas.List.{length-map, get_or-map}
 use Rattle.strc_graph.specs.Graphs.{NodeCode, Identity}
 use Rattle.strc_graph.specs.NodeView.{node_view}
