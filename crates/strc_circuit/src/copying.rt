@@ -2,13 +2,13 @@
 
 ghost use Rattle.std.specs.Prelude.{◌≡◌, IfOk, map, if◌then◌else◌};
 ghost use Rattle.strc_graph.specs.Graphs as graphs;
-ghost use Rattle.strc_graph.specs.NodeView.{node_view, splitter_view};
+ghost use Rattle.strc_graph.specs.NodeView.{node_view, copied_view, splitter_view};
 ghost use Rattle.strc_circuit.specs.Parts.{part_codes};
 
 use crate::range::is_within;
 use std::alloc::{AllocError, Global};
 use strc_base::memory::NoMemory;
-use strc_graph::graph::{Node, Splitter};
+use strc_graph::graph::{Copied, Node, Splitter};
 
 /// The nodes from `first` up to `next`, and identities in place of the others.
 pub(crate) fn part_nodes(
@@ -52,8 +52,18 @@ fn copy_node(alloc: Global, node: &Node) -> Result<Node, NoMemory>
         Node::Splitter(splitter) => Ok(Node::Splitter(copy_splitter(alloc, splitter)?)),
         Node::Joiner(weights) => Ok(Node::Joiner(weights.to_vec(alloc)?)),
         Node::Scatter(fission) => Ok(Node::Scatter(*fission)),
-        Node::Copy(instance, fission) => Ok(Node::Copy(instance.copy(alloc)?, *fission)),
+        Node::Copy(copied, fission) => Ok(Node::Copy(copy_copied(alloc, copied)?, *fission)),
         Node::Gather(fission) => Ok(Node::Gather(*fission)),
+    }
+}
+
+/// What is copied, once more.
+fn copy_copied(alloc: Global, copied: &Copied) -> Result<Copied, NoMemory>
+    ensures { IfOk result (λ copy. copied_view copy ≡ copied_view copied.now) }
+{
+    match copied {
+        Copied::Filter(instance) => Ok(Copied::Filter(instance.copy(alloc)?)),
+        Copied::Identity => Ok(Copied::Identity),
     }
 }
 

@@ -15,7 +15,7 @@ abbrev pub IsInstance : NodeCode → Type 0
 IsInstance (Filter name filter) = (place : Place) × (source : filters.Filter)
     × (instance_of place source ≡ Ok filter)
 IsInstance (Scatter fission) = ⊥
-IsInstance (Copy name filter fission) = ⊥
+IsInstance (Copy copied fission) = ⊥
 IsInstance (Gather fission) = ⊥
 IsInstance _ = Unit {0}
 

@@ -23,7 +23,7 @@ no_copy (graphs.FileWriter text) alone = refl
 no_copy (graphs.Splitter splitter) alone = refl
 no_copy (graphs.Joiner weights) alone = refl
 no_copy (graphs.Scatter fission) alone = refl
-no_copy (graphs.Copy name filter fission) alone = absurd (cc)
+no_copy (graphs.Copy copied fission) alone = absurd (cc)
 no_copy (graphs.Gather fission) alone = refl
 
 module _ (graph : Graph) (schedule : ScheduleParts) (planned : IsPlanned graph schedule) where

@@ -119,7 +119,7 @@ node_keeps_rates (graphs.Joiner weights) alone pushes =
     at_0 (one_cycle weights 0 seen) (sum weights) (cycle_length weights 0 seen
     (λ i less. ap (λ (port : ℕ). length (seen port)) (omega arith) ∙ whole i less)))
 node_keeps_rates (graphs.Scatter fission) alone pushes = absurd (cc)
-node_keeps_rates (graphs.Copy name filter fission) alone pushes = absurd (cc)
+node_keeps_rates (graphs.Copy copied fission) alone pushes = absurd (cc)
 node_keeps_rates (graphs.Gather fission) alone pushes = absurd (cc)
 
 -- ---- windows
@@ -135,7 +135,7 @@ takes_within (graphs.FileWriter text) alone firing port = omega arith
 takes_within (graphs.Splitter splitter) alone firing port = omega arith
 takes_within (graphs.Joiner weights) alone firing port = omega arith
 takes_within (graphs.Scatter fission) alone firing port = absurd (cc)
-takes_within (graphs.Copy name filter fission) alone firing port = absurd (cc)
+takes_within (graphs.Copy copied fission) alone firing port = absurd (cc)
 takes_within (graphs.Gather fission) alone firing port = absurd (cc)
 
 abbrev port_with : (front ahead : List ℤ) → (room : ℕ) → Port
@@ -184,7 +184,7 @@ windows_settle (graphs.FileWriter text) firing port = refl
 windows_settle (graphs.Splitter splitter) firing port = refl
 windows_settle (graphs.Joiner weights) firing port = refl
 windows_settle (graphs.Scatter fission) firing port = refl
-windows_settle (graphs.Copy name filter fission) firing port = refl
+windows_settle (graphs.Copy copied fission) firing port = refl
 windows_settle (graphs.Gather fission) firing port = refl
 
 -- takes what that one takes
@@ -197,7 +197,7 @@ pops_settle (graphs.FileWriter text) alone firing port = refl
 pops_settle (graphs.Splitter splitter) alone firing port = refl
 pops_settle (graphs.Joiner weights) alone firing port = refl
 pops_settle (graphs.Scatter fission) alone firing port = refl
-pops_settle (graphs.Copy name filter fission) alone firing port = absurd (cc)
+pops_settle (graphs.Copy copied fission) alone firing port = absurd (cc)
 pops_settle (graphs.Gather fission) alone firing port = refl
 
 -- and gives what it gives
@@ -210,5 +210,5 @@ pushes_settle (graphs.FileWriter text) firing port = refl
 pushes_settle (graphs.Splitter splitter) firing port = refl
 pushes_settle (graphs.Joiner weights) firing port = refl
 pushes_settle (graphs.Scatter fission) firing port = refl
-pushes_settle (graphs.Copy name filter fission) firing port = refl
+pushes_settle (graphs.Copy copied fission) firing port = refl
 pushes_settle (graphs.Gather fission) firing port = refl

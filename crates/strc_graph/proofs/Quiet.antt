@@ -432,7 +432,10 @@ node_silent (graphs.FileWriter text) firing fields seen silent = absurd (cc)
 node_silent (graphs.Splitter splitter) firing fields seen silent = refl
 node_silent (graphs.Joiner weights) firing fields seen silent = refl
 node_silent (graphs.Scatter fission) firing fields seen silent = refl
-node_silent (graphs.Copy name filter fission) firing fields seen silent = refl
+node_silent (graphs.Copy (graphs.OfFilter name filter) fission) firing fields seen silent =
+    fired_silent (fired filter (body_at firing) fields (seen 0))
+    (firing_quiet filter (body_at firing) fields (seen 0) silent)
+node_silent (graphs.Copy graphs.OfIdentity fission) firing fields seen silent = refl
 node_silent (graphs.Gather fission) firing fields seen silent = refl
 
 -- a firing of a node that can't write words has none

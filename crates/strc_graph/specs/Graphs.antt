@@ -19,6 +19,11 @@ pub data SplitterCode : Type 0 where
   Duplicate : (carried : List Bool) → SplitterCode
   Roundrobin : (weights : List ℕ) → SplitterCode
 
+-- what a copy is a copy of
+pub data CopiedCode : Type 0 where
+  OfFilter : (name : Option (List ℕ)) (filter : filters.Filter) → CopiedCode
+  OfIdentity : CopiedCode
+
 -- what a node is
 pub data NodeCode : Type 0 where
   Filter : (name : Option (List ℕ)) (filter : filters.Filter) → NodeCode
@@ -28,13 +33,23 @@ pub data NodeCode : Type 0 where
   Splitter : (splitter : SplitterCode) → NodeCode
   Joiner : (weights : List ℕ) → NodeCode
   Scatter : (fission : Fission) → NodeCode
-  Copy : (name : Option (List ℕ)) (filter : filters.Filter) (fission : Fission) → NodeCode
+  Copy : (copied : CopiedCode) (fission : Fission) → NodeCode
   Gather : (fission : Fission) → NodeCode
+
+-- the node that is copied
+abbrev pub original : CopiedCode → NodeCode
+original (OfFilter name filter) = Filter name filter
+original OfIdentity = Identity
 
 -- the name of a filter
 abbrev pub filter_name : Option (List ℕ) → List ℕ
 filter_name (Some name) = name
 filter_name None = codes "filter"
+
+-- the name of a copy
+abbrev pub copied_name : CopiedCode → List ℕ
+copied_name (OfFilter name filter) = filter_name name
+copied_name OfIdentity = codes "Identity"
 
 -- the name of a node
 abbrev pub node_name : NodeCode → List ℕ
@@ -45,7 +60,7 @@ node_name (FileWriter text) = codes "FileWriter"
 node_name (Splitter splitter) = codes "split"
 node_name (Joiner weights) = codes "join"
 node_name (Scatter fission) = codes "scatter"
-node_name (Copy name filter fission) = filter_name name
+node_name (Copy copied fission) = copied_name copied
 node_name (Gather fission) = codes "gather"
 
 -- ports
@@ -55,6 +70,15 @@ abbrev pub ports_of : ItemType → ℕ
 ports_of item.Int = 1
 ports_of item.Void = 0
 
+-- those of a copy
+abbrev pub copied_inputs : CopiedCode → ℕ
+copied_inputs (OfFilter name filter) = ports_of filter.input
+copied_inputs OfIdentity = 1
+
+abbrev pub copied_outputs : CopiedCode → ℕ
+copied_outputs (OfFilter name filter) = ports_of filter.output
+copied_outputs OfIdentity = 1
+
 abbrev pub input_ports : NodeCode → ℕ
 input_ports (Filter name filter) = ports_of filter.input
 input_ports Identity = 1
@@ -63,7 +87,7 @@ input_ports (FileWriter text) = 1
 input_ports (Splitter splitter) = 1
 input_ports (Joiner weights) = length weights
 input_ports (Scatter fission) = 1
-input_ports (Copy name filter fission) = ports_of filter.input
+input_ports (Copy copied fission) = copied_inputs copied
 input_ports (Gather fission) = fission.ways
 
 abbrev pub splitter_ports : SplitterCode → ℕ
@@ -78,7 +102,7 @@ output_ports (FileWriter text) = 0
 output_ports (Splitter splitter) = splitter_ports splitter
 output_ports (Joiner weights) = 1
 output_ports (Scatter fission) = fission.ways
-output_ports (Copy name filter fission) = ports_of filter.output
+output_ports (Copy copied fission) = copied_outputs copied
 output_ports (Gather fission) = 1
 
 -- the number of ports of a node by its number; none where there is no node
@@ -95,10 +119,15 @@ abbrev pub reads_input : NodeCode → Bool
 reads_input (FileReader text) = true
 reads_input _ = false
 
+-- whether a firing of a copy can write words
+abbrev pub copied_prints : CopiedCode → Bool
+copied_prints (OfFilter name filter) = filter_prints filter
+copied_prints OfIdentity = false
+
 -- whether a firing of a node can write words
 abbrev pub gives_words : NodeCode → Bool
 gives_words (Filter name filter) = filter_prints filter
-gives_words (Copy name filter fission) = filter_prints filter
+gives_words (Copy copied fission) = copied_prints copied
 gives_words (FileWriter text) = true
 gives_words _ = false
 

@@ -6,12 +6,19 @@ use Rattle.strc_graph.specs.declared.graph.Splitter.{Splitter}
 use Rattle.strc_graph.specs.declared.graph.Splitter.TheVariants as splitter
 use Rattle.strc_graph.specs.declared.graph.Node.{Node}
 use Rattle.strc_graph.specs.declared.graph.Node.TheVariants as node
+use Rattle.strc_graph.specs.declared.graph.Copied.{Copied}
+use Rattle.strc_graph.specs.declared.graph.Copied.TheVariants as copied
 use Rattle.strc_graph.specs.declared.graph.Channel.{Channel}
 
 -- how a splitter deals its items
 abbrev pub splitter_view : Splitter → graphs.SplitterCode
 splitter_view (splitter.Duplicate carried) = graphs.Duplicate carried.items
 splitter_view (splitter.Roundrobin weights) = graphs.Roundrobin weights.items
+
+-- what a copy is a copy of
+abbrev pub copied_view : Copied → graphs.CopiedCode
+copied_view (copied.Filter instance) = graphs.OfFilter instance.name (filter_of instance.code)
+copied_view copied.Identity = graphs.OfIdentity
 
 -- a node
 abbrev pub node_view : Node → graphs.NodeCode
@@ -22,7 +29,7 @@ node_view (node.FileWriter text) = graphs.FileWriter text
 node_view (node.Splitter splitter) = graphs.Splitter (splitter_view splitter)
 node_view (node.Joiner weights) = graphs.Joiner weights.items
 node_view (node.Scatter fission) = graphs.Scatter fission
-node_view (node.Copy instance fission) = graphs.Copy instance.name (filter_of instance.code) fission
+node_view (node.Copy copied fission) = graphs.Copy (copied_view copied) fission
 node_view (node.Gather fission) = graphs.Gather fission
 
 -- a channel

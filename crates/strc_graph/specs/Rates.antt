@@ -15,7 +15,7 @@ use Rattle.strc_graph.specs.Graphs.{NodeCode, SplitterCode, Duplicate, Roundrobi
 -- scatters, copies and gathers fire by rounds that are known before
 abbrev pub fires_by_rounds : NodeCode → Bool
 fires_by_rounds (graphs.Scatter fission) = true
-fires_by_rounds (graphs.Copy name filter fission) = true
+fires_by_rounds (graphs.Copy copied fission) = true
 fires_by_rounds (graphs.Gather fission) = true
 fires_by_rounds _ = false
 
@@ -91,7 +91,7 @@ window_at (graphs.Splitter splitter) firing port = rate_at_0 (splitter_pops spli
 window_at (graphs.Joiner weights) firing port = slice_index weights port
 window_at (graphs.Scatter fission) firing port =
     rate_at_0 (reach fission (fission.ways * fission.firings)) port
-window_at (graphs.Copy name filter fission) firing port = rate_at_0 fission.window port
+window_at (graphs.Copy copied fission) firing port = rate_at_0 fission.window port
 window_at (graphs.Gather fission) firing port =
     at_ports fission.ways (fission.firings * fission.push) port
 
@@ -104,7 +104,7 @@ pops_at (graphs.FileWriter text) firing port = rate_at_0 1 port
 pops_at (graphs.Splitter splitter) firing port = rate_at_0 (splitter_pops splitter) port
 pops_at (graphs.Joiner weights) firing port = slice_index weights port
 pops_at (graphs.Scatter fission) firing port = rate_at_0 (round_pops fission) port
-pops_at (graphs.Copy name filter fission) firing port = rate_at_0 (copy_pops fission firing) port
+pops_at (graphs.Copy copied fission) firing port = rate_at_0 (copy_pops fission firing) port
 pops_at (graphs.Gather fission) firing port =
     at_ports fission.ways (fission.firings * fission.push) port
 
@@ -118,5 +118,5 @@ pushes_at (graphs.Splitter splitter) firing port = splitter_pushes splitter port
 pushes_at (graphs.Joiner weights) firing port = rate_at_0 (sum weights) port
 pushes_at (graphs.Scatter fission) firing port =
     at_ports fission.ways (reach fission fission.firings) port
-pushes_at (graphs.Copy name filter fission) firing port = rate_at_0 fission.push port
+pushes_at (graphs.Copy copied fission) firing port = rate_at_0 fission.push port
 pushes_at (graphs.Gather fission) firing port = rate_at_0 (round_pushes fission) port

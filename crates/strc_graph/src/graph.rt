@@ -2,7 +2,7 @@
 
 ghost use Rattle.std.specs.Prelude.{◌≡◌};
 ghost use Rattle.strc_graph.specs.Graphs as graphs;
-ghost use Rattle.strc_graph.specs.NodeView.{node_view};
+ghost use Rattle.strc_graph.specs.NodeView.{node_view, copied_view};
 
 use crate::instance::Instance;
 use std::marker::Model;
@@ -24,10 +24,10 @@ pub enum Node {
     Splitter(Splitter),
     /// It takes so many items of each port in turn.
     Joiner(Vec<u32>),
-    /// It deals a round's windows of a filter to the copies.
+    /// It deals a round's windows of a node to the copies.
     Scatter(Fission),
-    /// One of several copies of a filter.
-    Copy(Instance, Fission),
+    /// One of several copies of a node.
+    Copy(Copied, Fission),
     /// It puts the copies' items in order.
     Gather(Fission),
 }
@@ -48,6 +48,21 @@ impl Drop for Node {
     }
 }
 
+/// What a copy is a copy of, and so how it fires.
+pub enum Copied {
+    Filter(Instance),
+    /// The builtin that gives each item that comes in.
+    Identity,
+}
+
+impl Drop for Copied {
+    fn drop(self) {
+        match self {
+            Copied::Filter(_) | Copied::Identity => {}
+        }
+    }
+}
+
 /// How a splitter deals its items.
 pub enum Splitter {
     /// Each item to each port that carries items; whether a port does.
@@ -64,14 +79,14 @@ impl Drop for Splitter {
     }
 }
 
-/// How a filter's firings in a round are dealt to copies of it.
+/// How a node's firings in a round are dealt to copies of it.
 #[derive(Clone, Copy)]
 pub struct Fission {
     /// How many copies there are.
     pub ways: u32,
     /// How often each fires in a round.
     pub firings: u32,
-    /// How many items the filter pops.
+    /// How many items a firing pops.
     pub pop: u32,
     /// How many items it looks at.
     pub window: u32,
@@ -205,14 +220,25 @@ fn name_of(node: &Node) -> &[u8]
     ensures { result.now ≡ graphs.node_name (node_view node.now) }
 {
     match node {
-        Node::Filter(instance) | Node::Copy(instance, _) => instance_name(instance),
+        Node::Filter(instance) => instance_name(instance),
         Node::Identity => b"Identity",
         Node::FileReader(_) => b"FileReader",
         Node::FileWriter(_) => b"FileWriter",
         Node::Splitter(_) => b"split",
         Node::Joiner(_) => b"join",
         Node::Scatter(_) => b"scatter",
+        Node::Copy(copied, _) => copied_name(copied),
         Node::Gather(_) => b"gather",
+    }
+}
+
+/// The name of a copy.
+fn copied_name(copied: &Copied) -> &[u8]
+    ensures { result.now ≡ graphs.copied_name (copied_view copied.now) }
+{
+    match copied {
+        Copied::Filter(instance) => instance_name(instance),
+        Copied::Identity => b"Identity",
     }
 }
 
@@ -231,10 +257,11 @@ pub fn input_ports(node: &Node) -> usize
     ensures { result ≡ graphs.input_ports (node_view node.now) }
 {
     match node {
-        Node::Filter(instance) | Node::Copy(instance, _) => ports_of(instance.code.tree().input),
+        Node::Filter(instance) => ports_of(instance.code.tree().input),
         Node::FileReader(_) => 0,
         Node::Identity | Node::FileWriter(_) | Node::Splitter(_) | Node::Scatter(_) => 1,
         Node::Joiner(weights) => weights.len(),
+        Node::Copy(copied, _) => copied_inputs(copied),
         Node::Gather(fission) => fission.ways as usize,
     }
 }
@@ -244,12 +271,33 @@ pub fn output_ports(node: &Node) -> usize
     ensures { result ≡ graphs.output_ports (node_view node.now) }
 {
     match node {
-        Node::Filter(instance) | Node::Copy(instance, _) => ports_of(instance.code.tree().output),
+        Node::Filter(instance) => ports_of(instance.code.tree().output),
         Node::FileWriter(_) => 0,
         Node::Identity | Node::FileReader(_) | Node::Joiner(_) | Node::Gather(_) => 1,
         Node::Splitter(Splitter::Duplicate(carried)) => carried.len(),
         Node::Splitter(Splitter::Roundrobin(weights)) => weights.len(),
         Node::Scatter(fission) => fission.ways as usize,
+        Node::Copy(copied, _) => copied_outputs(copied),
+    }
+}
+
+/// How many input ports a copy has.
+fn copied_inputs(copied: &Copied) -> usize
+    ensures { result ≡ graphs.copied_inputs (copied_view copied.now) }
+{
+    match copied {
+        Copied::Filter(instance) => ports_of(instance.code.tree().input),
+        Copied::Identity => 1,
+    }
+}
+
+/// How many output ports a copy has.
+fn copied_outputs(copied: &Copied) -> usize
+    ensures { result ≡ graphs.copied_outputs (copied_view copied.now) }
+{
+    match copied {
+        Copied::Filter(instance) => ports_of(instance.code.tree().output),
+        Copied::Identity => 1,
     }
 }
 

@@ -145,7 +145,7 @@ step_many (graphs.Splitter splitter) number fields inputs outputs input rings =
 step_many (graphs.Joiner weights) number fields inputs outputs input rings =
     joiner_many rings weights inputs (at_port outputs 0)
 step_many (graphs.Scatter fission) number fields inputs outputs input rings = tt
-step_many (graphs.Copy name filter fission) number fields inputs outputs input rings = tt
+step_many (graphs.Copy copied fission) number fields inputs outputs input rings = tt
 step_many (graphs.Gather fission) number fields inputs outputs input rings = tt
 
 maybe_many : (code : Option NodeCode) (number : ℕ) (fields : List ℤ)

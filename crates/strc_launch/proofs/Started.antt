@@ -35,7 +35,8 @@ all_start graph schedule planned number code less =
     by_code (graphs.Splitter splitter) there = tt
     by_code (graphs.Joiner weights) there = tt
     by_code (graphs.Scatter fission) there = tt
-    by_code (graphs.Copy name filter fission) there = tt
+    by_code (graphs.Copy copied fission) there =
+        let alone = planned.unfissioned number (graphs.Copy copied fission) there in absurd (cc)
     by_code (graphs.Gather fission) there = tt
 
 -- the names in each filter are known

@@ -23,7 +23,7 @@ pops_before_last fission firing less =
     (ne_eqb (firing % fission.firings + 1) fission.firings (λ same. omega (arith, same, less)))
 
 pub copies_pop_by_round : CopiesPopByRound
-copies_pop_by_round name filter fission firing port less =
+copies_pop_by_round copied fission firing port less =
     ap (λ rate. rate_at_0 rate port) (pops_before_last fission firing less)
 
 -- until the last one all pop the same

@@ -42,7 +42,7 @@ pushes_alike (graphs.FileWriter text) port none = refl
 pushes_alike (graphs.Splitter splitter) port none = refl
 pushes_alike (graphs.Joiner weights) port none = refl
 pushes_alike (graphs.Scatter fission) port none = refl
-pushes_alike (graphs.Copy name filter fission) port none = refl
+pushes_alike (graphs.Copy copied fission) port none = refl
 pushes_alike (graphs.Gather fission) port none = refl
 
 pops_alike : (node : NodeCode) (port : ℕ) → has_prework node ≡ false
@@ -55,7 +55,7 @@ pops_alike (graphs.FileWriter text) port none each = refl
 pops_alike (graphs.Splitter splitter) port none each = refl
 pops_alike (graphs.Joiner weights) port none each = refl
 pops_alike (graphs.Scatter fission) port none each = refl
-pops_alike (graphs.Copy name filter fission) port none each = absurd (true≢false each)
+pops_alike (graphs.Copy copied fission) port none each = absurd (true≢false each)
 pops_alike (graphs.Gather fission) port none each = refl
 
 windows_alike : (node : NodeCode) (port : ℕ) → has_prework node ≡ false
@@ -68,7 +68,7 @@ windows_alike (graphs.FileWriter text) port none = refl
 windows_alike (graphs.Splitter splitter) port none = refl
 windows_alike (graphs.Joiner weights) port none = refl
 windows_alike (graphs.Scatter fission) port none = refl
-windows_alike (graphs.Copy name filter fission) port none = refl
+windows_alike (graphs.Copy copied fission) port none = refl
 windows_alike (graphs.Gather fission) port none = refl
 
 -- a node with a prework has fired

@@ -57,7 +57,7 @@ pops_alike (graphs.FileWriter text) port other = refl
 pops_alike (graphs.Splitter splitter) port other = refl
 pops_alike (graphs.Joiner weights) port other = refl
 pops_alike (graphs.Scatter fission) port other = refl
-pops_alike (graphs.Copy name filter fission) port other = absurd cc
+pops_alike (graphs.Copy copied fission) port other = absurd cc
 pops_alike (graphs.Gather fission) port other = refl
 
 -- what holds of all nodes holds of one

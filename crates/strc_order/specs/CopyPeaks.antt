@@ -1,9 +1,8 @@
 -- The items before a copy of a filter while a round fires: those by the rates of a round are right
 -- until the copy's last firing, and so is their greatest number.
 use Rattle.std.specs.Prelude.{◌≡◌, ◌≢◌, ℕ, zero, suc, ◌+◌, ◌-◌, ◌<◌, ◌%◌, max, List, [], ◌∷◌, ◌++◌}
-use Rattle.std.specs.Prelude.{Option}
-use Rattle.strc_semantics.specs.Filters as filters
 use Rattle.strc_graph.specs.Graphs as graphs
+use Rattle.strc_graph.specs.Graphs.{CopiedCode}
 use Rattle.strc_graph.specs.Rates.{copy_pops, pops_at}
 use Rattle.strc_graph.specs.declared.graph.Fission.{Fission}
 use Rattle.strc_startup.specs.Startup.{supply}
@@ -32,10 +31,10 @@ exact_peak pops rates counts (node ∷ order) =
 -- with each firing of a round but its last a copy pops what it pops by the rates of a round
 abbrev pub CopiesPopByRound : Type 0
 CopiesPopByRound =
-    (name : Option (List ℕ)) (filter : filters.Filter) (fission : Fission) (firing port : ℕ)
+    (copied : CopiedCode) (fission : Fission) (firing port : ℕ)
     → suc (firing % fission.firings) < fission.firings
-    → pops_at (graphs.Copy name filter fission) firing port
-    ≡ pops_in_round (graphs.Copy name filter fission) port
+    → pops_at (graphs.Copy copied fission) firing port
+    ≡ pops_in_round (graphs.Copy copied fission) port
 
 -- where a copy fires at most as often as in a round, and nothing comes after its last firing
 abbrev pub RoundPeaksAreExact : Type 0

@@ -12,7 +12,7 @@ use Rattle.strc_startup.specs.declared.channel_rates.ChannelRates.{ChannelRates}
 -- how many items a firing takes at an input port: a copy what its filter pops. What is left of its
 -- list when the round ends is dropped then, and the channel holds no more after it than before.
 abbrev pub pops_in_round : NodeCode → (port : ℕ) → ℕ
-pops_in_round (graphs.Copy name filter fission) port = rate_at_0 fission.pop port
+pops_in_round (graphs.Copy copied fission) port = rate_at_0 fission.pop port
 pops_in_round node port = pops_at node 1 port
 
 abbrev pub round_pop : List NodeCode → Port → ℕ
@@ -44,7 +44,7 @@ round_rates_of graph = map (round_rates_of_channel graph.nodes) graph.channels
 
 -- whether a node is one of several copies of a filter
 abbrev pub is_copy : NodeCode → Bool
-is_copy (graphs.Copy name filter fission) = true
+is_copy (graphs.Copy copied fission) = true
 is_copy _ = false
 
 -- in a graph without copies these are the rates of its channels

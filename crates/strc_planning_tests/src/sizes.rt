@@ -12,7 +12,7 @@ use std::alloc::{AllocError, Global};
 use std::process::Abort;
 use std::test::Fail;
 use strc_check::constants::Constants;
-use strc_graph::graph::{Fission, Graph, Node};
+use strc_graph::graph::{Copied, Fission, Graph, Node};
 use strc_graph::instance::Instance;
 use strc_order::error::ScheduleError;
 use strc_order::sizing::sizes;
@@ -63,7 +63,10 @@ fn copy_of(alloc: Global) -> Result<Node, Fail> {
         members,
     };
     match lower(alloc, &tree, &Constants::new(alloc)) {
-        Ok(code) => Ok(Node::Copy(Instance { name: None, code }, FISSION)),
+        Ok(code) => Ok(Node::Copy(
+            Copied::Filter(Instance { name: None, code }),
+            FISSION,
+        )),
         Err(_) => Err(Fail::from("lower")),
     }
 }

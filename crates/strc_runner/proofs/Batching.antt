@@ -66,7 +66,7 @@ passing_keeps (graphs.FileWriter text) passing = absurd passing
 passing_keeps (graphs.Splitter splitter) passing = absurd passing
 passing_keeps (graphs.Joiner weights) passing = absurd passing
 passing_keeps (graphs.Scatter fission) passing = absurd passing
-passing_keeps (graphs.Copy name filter fission) passing = absurd passing
+passing_keeps (graphs.Copy copied fission) passing = absurd passing
 passing_keeps (graphs.Gather fission) passing = absurd passing
 
 -- what does what an identity does passes its items on

@@ -306,7 +306,7 @@ module _ (from to : ℕ) (apart : from ≢ to) where
       at_output some = absurd passing
   step_moves (graphs.Scatter fission) passing firing inputs outputs input rings at_input
       at_output some = absurd passing
-  step_moves (graphs.Copy name filter fission) passing firing inputs outputs input rings at_input
+  step_moves (graphs.Copy copied fission) passing firing inputs outputs input rings at_input
       at_output some = absurd passing
   step_moves (graphs.Gather fission) passing firing inputs outputs input rings at_input
       at_output some = absurd passing

@@ -292,7 +292,7 @@ passive_fields code actor passive is = by_actor actor is
         no_filter (graphs.Splitter splitter) passive is = is
         no_filter (graphs.Joiner weights) passive is = is
         no_filter (graphs.Scatter fission) passive is = is
-        no_filter (graphs.Copy name filter fission) passive is = is
+        no_filter (graphs.Copy copied fission) passive is = is
         no_filter (graphs.Gather fission) passive is = is
     by_actor kinds.Passive is = refl
 
@@ -329,8 +329,8 @@ nothing_fields (graphs.Joiner weights) actor none is =
     passive_fields (graphs.Joiner weights) actor tt is
 nothing_fields (graphs.Scatter fission) actor none is =
     passive_fields (graphs.Scatter fission) actor tt is
-nothing_fields (graphs.Copy name filter fission) actor none is =
-    passive_fields (graphs.Copy name filter fission) actor tt is
+nothing_fields (graphs.Copy copied fission) actor none is =
+    passive_fields (graphs.Copy copied fission) actor tt is
 nothing_fields (graphs.Gather fission) actor none is =
     passive_fields (graphs.Gather fission) actor tt is
 

@@ -1,6 +1,7 @@
 pub mod Fronts
 pub mod Ports
 pub mod Firsts
+pub mod Startable
 pub mod Starting
 pub mod WordLists
 pub mod Done

@@ -9,6 +9,7 @@ use Rattle.strc_semantics.specs.declared.body.Body.TheVariants as body
 use Rattle.strc_work.specs.States.{IsStateOf, IsFrameOf}
 use Rattle.strc_graph.specs.Graphs as graphs
 use Rattle.strc_graph.specs.Graphs.{NodeCode}
+use Rattle.strc_graph.specs.Meaning.{copied_fields}
 use Rattle.strc_admissible.specs.Steps.{look_by}
 use Rattle.strc_runner.specs.declared.filter.Taking.{Taking}
 use Rattle.strc_runner.specs.declared.filter.FilterActor.{FilterActor}
@@ -50,9 +51,11 @@ pub record AreActors (codes : List NodeCode) (actors : List Actor) : Type 0 wher
   pub kept : (node : ℕ) (code : NodeCode) (actor : Actor) → slice_get codes node ≡ Some code
       → slice_get actors node ≡ Some actor → IsActorOf code actor
 
--- a node that is a filter starts, and its names are known
+-- a node that is a filter starts, and its names are known; a copy, for which nothing is kept, has
+-- no fields
 abbrev pub CanStartNode : NodeCode → Type 0
 CanStartNode (graphs.Filter name filter) = CanStart filter
+CanStartNode (graphs.Copy copied fission) = copied_fields copied ≡ []
 CanStartNode code = Unit {0}
 
 abbrev pub IsClosedNode : NodeCode → Type 0

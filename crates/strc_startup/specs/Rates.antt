@@ -4,15 +4,20 @@ use Rattle.std.specs.Prelude.{if◌then◌else◌}
 use Rattle.std.specs.Option.{option_map_or}
 use Rattle.strc_semantics.specs.Filters.{prework_block}
 use Rattle.strc_graph.specs.Graphs as graphs
-use Rattle.strc_graph.specs.Graphs.{NodeCode, Channel, Graph}
+use Rattle.strc_graph.specs.Graphs.{NodeCode, CopiedCode, Channel, Graph}
 use Rattle.strc_graph.specs.Rates.{window_at, pops_at, pushes_at}
 use Rattle.strc_graph.specs.declared.graph.Port.{Port}
 use Rattle.strc_startup.specs.declared.channel_rates.ChannelRates.{ChannelRates}
 
+-- whether what is copied has a prework
+abbrev pub copied_prework : CopiedCode → Bool
+copied_prework (graphs.OfFilter name filter) = is_some (prework_block filter.members)
+copied_prework graphs.OfIdentity = false
+
 -- whether a node has a prework
 abbrev pub has_prework : NodeCode → Bool
 has_prework (graphs.Filter name filter) = is_some (prework_block filter.members)
-has_prework (graphs.Copy name filter fission) = is_some (prework_block filter.members)
+has_prework (graphs.Copy copied fission) = copied_prework copied
 has_prework _ = false
 
 -- how often a node fires at least: its prework fires once

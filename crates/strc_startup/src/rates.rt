@@ -3,13 +3,13 @@
 ghost use Rattle.std.specs.Prelude.{◌≡◌, ◌<◌, ◌≤◌, ◌^◌, All, IfOk, length, map};
 ghost use Rattle.strc_balance.specs.Rates.{IsRated, equations_of};
 ghost use Rattle.strc_graph.specs.Graphs.{JoinsPorts};
-ghost use Rattle.strc_graph.specs.NodeView.{graph_view, node_view, channel_view};
+ghost use Rattle.strc_graph.specs.NodeView.{graph_view, node_view, copied_view, channel_view};
 ghost use Rattle.strc_startup.specs.Rates as spec;
 ghost use Rattle.strc_startup.specs.Waiting.{HasEnds, IsBounded, Pushes};
 
 use crate::channel_rates::ChannelRates;
 use std::alloc::{AllocError, Global};
-use strc_graph::graph::{Channel, Graph, Node};
+use strc_graph::graph::{Channel, Copied, Graph, Node};
 use strc_graph::rates::{pops_at, pushes_at, window_at};
 
 /// The rates of each channel of a graph; at both ends they are at least 1 by `work`.
@@ -108,8 +108,19 @@ fn has_prework(node: &Node) -> bool
     ensures { result ≡ spec.has_prework (node_view node.now) }
 {
     match node {
-        Node::Filter(instance) | Node::Copy(instance, _) => instance.code.has_prework(),
+        Node::Filter(instance) => instance.code.has_prework(),
+        Node::Copy(copied, _) => copied_prework(copied),
         _ => false,
+    }
+}
+
+/// Whether what is copied has a prework.
+fn copied_prework(copied: &Copied) -> bool
+    ensures { result ≡ spec.copied_prework (copied_view copied.now) }
+{
+    match copied {
+        Copied::Filter(instance) => instance.code.has_prework(),
+        Copied::Identity => false,
     }
 }
 

@@ -5,6 +5,7 @@ use Rattle.strc_admissible.specs.Machine.{whole_run}
 use Rattle.strc_admissible.specs.Planned.{items_read}
 use Rattle.strc_admissible.proofs.RingRuns.{ring_runs}
 use Rattle.strc_circuit.specs.Circuits.{circuit_view}
+use Rattle.strc_runner.proofs.Startable.{all_start}
 use Rattle.strc_sched.specs.Plain.{AnswersGraph, IsPlainRefusal, ReportsRun, need_of}
 use Rattle.strc_sched.proofs.Endings.{closed_known, outcome_so, memory_so}
 use Rattle.strc_sched.proofs.plain.run_plain.Goals as goal
@@ -21,6 +22,10 @@ returns-in_default-clause-refused c =
 
 pub run_circuit-requires-clause-circuit : goal.run_circuit-requires-clause-circuit
 run_circuit-requires-clause-circuit c = c.in-Ok.ensures.circuit
+
+pub run_circuit-requires-clause-starts : goal.run_circuit-requires-clause-starts
+run_circuit-requires-clause-starts c =
+    all_start (graph_view c.args.graph.now) c.args.schedule.now c.requires.planned
 
 pub run_circuit-requires-clause-ready : goal.run_circuit-requires-clause-ready
 run_circuit-requires-clause-ready c = c.in-Ok.ensures.ready
