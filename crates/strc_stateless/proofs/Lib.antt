@@ -1,0 +1,4 @@
+pub mod Kept
+pub mod Walks
+pub mod Growth
+pub mod Started

@@ -1,0 +1,4 @@
+pub mod Stateless
+pub mod Walk
+pub mod Promises
+pub mod Rows
