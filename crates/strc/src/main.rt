@@ -9,11 +9,15 @@ use std::sync::Wait;
 use std::thread::{Builder, Threads};
 use std::{env, thread};
 use strc_cli::device::Told;
-use strc_cli::execute::CliError;
+use strc_cli::execute::{CliError, Status};
 use strc_cli::program_text::{TextFault, read_text};
-use strc_command::line::{Line, LineFault};
+use strc_command::line::{Command, Line, LineFault};
 use strc_command::words::{VERSION, asks_for_help, asks_for_version, command, usage_error};
-use strc_explain::explain::execute_explained;
+use strc_explain::explain::{Explained, execute_explained};
+use strc_explain::stages::times_message;
+use strc_stages::Stage;
+use strc_times::StageTimes;
+use strc_worker::{Gate, OpenGate};
 
 // The exit statuses that no answer of `execute_explained` has.
 const DONE: u8 = 0;
@@ -115,7 +119,8 @@ fn run_line<T: Threads + Wait + Sync>(rt: &HostRuntime, threads: &T, line: &Line
     }
 }
 
-// Executes it, and tells a person on standard error what is wrong with it.
+// Executes it, and tells a person on standard error what is wrong with it, and how long the stages
+// of its plan took, where that is asked for and there is memory to measure them.
 fn execute_text<T: Threads + Wait + Sync>(
     rt: &HostRuntime,
     threads: &T,
@@ -123,20 +128,55 @@ fn execute_text<T: Threads + Wait + Sync>(
     line: &Line,
     text: &[u8],
 ) -> u8 {
+    if let Command::Run {
+        workers,
+        stats: true,
+        ..
+    } = &line.command
+    {
+        if let Ok(times) = StageTimes::new(rt.alloc(), rt) {
+            let explained = explained_by(rt, threads, name, line, text, &times);
+            if let Some(plan) = &explained.plan {
+                let lines = times_message(rt.alloc(), plan, *workers, &times);
+                let _ = rt.stderr().write_all(&lines);
+            }
+            return status_of(rt, explained.result);
+        }
+    }
+    status_of(
+        rt,
+        explained_by(rt, threads, name, line, text, &OpenGate).result,
+    )
+}
+
+// Executes it, each step of a stage by the gate, and tells a person what is wrong with it.
+fn explained_by<G: Gate<Stage>, T: Threads + Wait + Sync>(
+    rt: &HostRuntime,
+    threads: &T,
+    name: &str,
+    line: &Line,
+    text: &[u8],
+    gate: &G,
+) -> Explained {
     let mut input = Told::new(rt.stdin());
     let mut output = Told::new(rt.stdout());
-    let command = &line.command;
     let explained = execute_explained(
         threads,
         rt.alloc(),
         name,
         text,
-        command,
+        &line.command,
         &mut input,
         &mut output,
+        gate,
     );
     let _ = rt.stderr().write_all(&explained.message);
-    match explained.result {
+    explained
+}
+
+// The exit status of a call, and what a person reads where it failed.
+fn status_of(rt: &HostRuntime, told: Result<Status, CliError>) -> u8 {
+    match told {
         Ok(status) => status.number(),
         Err(CliError::Memory) => out_of_memory(rt),
         Err(CliError::Read) => {

@@ -9,6 +9,7 @@ use strc_cli::device::{Sink, Source, Told};
 use strc_cli::execute::{CliError, Status, execute};
 use strc_cli::program_text::{TextFault, read_text};
 use strc_command::line::Command;
+use strc_worker::OpenGate;
 
 // A source and a printer in a pipeline.
 const MINIMAL: &str = "void->int filter IntSource { int x; work push 1 { push(x++); } }
@@ -21,6 +22,8 @@ fn rounds(count: u32) -> Command {
     Command::Run {
         rounds: Some(count),
         workers: 1,
+        fuse: 0,
+        stats: false,
         main: None,
     }
 }
@@ -140,7 +143,15 @@ fn goes_on_after_partial_writes<T: Threads + Wait + Sync>(
     let mut input = Told::new(nothing);
     let mut output = told_writer(alloc, 3, 1000, true)?;
     let text = MINIMAL.as_bytes();
-    let outcome = execute(threads, alloc, text, &rounds(5), &mut input, &mut output);
+    let outcome = execute(
+        threads,
+        alloc,
+        text,
+        &rounds(5),
+        &mut input,
+        &mut output,
+        &OpenGate,
+    );
     let is_quiet = !output.failed() && !input.failed() && input.left() == 4294967296;
     let taken = output.into_device().taken;
     Ok(outcome == Ok(Status::Done) && is_quiet && taken.as_slice() == b"0\n1\n2\n3\n4\n".as_slice())
@@ -157,7 +168,15 @@ fn reports_failed_writes<T: Threads + Wait + Sync>(
         let mut input = Told::new(nothing);
         let mut output = told_writer(alloc, 3, calls, fails)?;
         let text = MINIMAL.as_bytes();
-        let outcome = execute(threads, alloc, text, &rounds(5), &mut input, &mut output);
+        let outcome = execute(
+            threads,
+            alloc,
+            text,
+            &rounds(5),
+            &mut input,
+            &mut output,
+            &OpenGate,
+        );
         let is_reported = outcome == Err(CliError::Write) && output.failed();
         if !is_reported || output.write(b"x").is_ok() || !output.failed() {
             return Ok(false);
@@ -233,6 +252,8 @@ fn takes_input_in_pieces<T: Threads + Wait + Sync>(
     let all = Command::Run {
         rounds: None,
         workers: 1,
+        fuse: 0,
+        stats: false,
         main: None,
     };
     for at_once in [1, 2, 3, 5, 1000] {
@@ -249,6 +270,7 @@ fn takes_input_in_pieces<T: Threads + Wait + Sync>(
             &all,
             &mut input,
             &mut output,
+            &OpenGate,
         );
         let taken = output.into_device().taken;
         if outcome != Ok(Status::Done) || taken.as_slice() != b"12\n-345\n6\n".as_slice() {
@@ -271,7 +293,15 @@ fn reports_failed_inputs<T: Threads + Wait + Sync>(
         });
         let mut output = told_writer(alloc, 1000, 1000, true)?;
         let text = ECHO.as_bytes();
-        let outcome = execute(threads, alloc, text, &rounds(1), &mut input, &mut output);
+        let outcome = execute(
+            threads,
+            alloc,
+            text,
+            &rounds(1),
+            &mut input,
+            &mut output,
+            &OpenGate,
+        );
         let is_reported = input.failed() && !output.failed();
         let is_empty = output.into_device().taken.is_empty();
         if outcome != Err(CliError::Read) || !is_reported || !is_empty {

@@ -3,7 +3,8 @@
 // Takes the files of the folder that it runs in. A case is a text NAME.str and its words NAME.args,
 // the command first; its input NAME.in, if it has one; what it writes, NAME.out; the status it ends
 // with, NAME.status, if that isn't 0; and what a person reads of it, NAME.message, if there is one.
-// Where a case's text is run by one worker, it is to come to the same by several.
+// Where a case's text is run by one worker, it is to come to the same by several, and with fused
+// units.
 // Gives a line for each case that differs, and at the end how many do; and the same of devices that
 // fail or take little at a time.
 // There is no theorem here; the values are those of the language's rules.
@@ -22,12 +23,15 @@ use strc_cli::device::Told;
 use strc_command::line::{Command, LineFault};
 use strc_command::words::command;
 use strc_explain::explain::execute_explained;
+use strc_times::StageTimes;
+use strc_worker::OpenGate;
 
 // The status of a command line that isn't understood, as of the program's.
 const WORDS: u8 = 1;
 
-// The numbers of workers by which a case is run besides one: it comes to the same by each.
-const WORKERS: [&str; 3] = ["2", "3", "64"];
+// By how many workers a case is run besides, and with how many entries in the list of a fused unit:
+// it comes to the same.
+const RUNS: [(&str, &str); 4] = [("2", "0"), ("3", "2"), ("64", "8"), ("1", "1000")];
 
 // The statuses of this program where not all cases are as they are to be.
 const DIFFERENT: u8 = 1;
@@ -143,29 +147,30 @@ fn compare<T: Threads + Wait + Sync>(
     if !comes_to_a_run(&given, &wanted) {
         return Ok(true);
     }
-    is_same_by_workers(rt, threads, name, &given, &wanted)
+    is_same_otherwise(rt, threads, name, &given, &wanted)
 }
 
-/// Whether a case's words leave the number of workers open, and its text comes to a run: one that
-/// is refused is so before there are workers.
+/// Whether a case's words leave workers and fusion open, and its text comes to a run: one that is
+/// refused is so before there are workers.
 fn comes_to_a_run(given: &str, wanted: &Answer) -> bool {
     given.split_whitespace().next() == Some("run")
         && !given.contains("--workers")
+        && !given.contains("--fuse")
         && wanted.status != WORDS
         && !wanted.output.starts_with(b"refused E")
 }
 
-/// Whether several workers come to the same.
-fn is_same_by_workers<T: Threads + Wait + Sync>(
+/// Whether several workers, and fused units, come to the same.
+fn is_same_otherwise<T: Threads + Wait + Sync>(
     rt: &HostRuntime,
     threads: &T,
     name: &str,
     given: &str,
     wanted: &Answer,
 ) -> io::Result<bool> {
-    for workers in WORKERS {
-        let words = format!(in rt.alloc(); "{given} --workers {workers}")?;
-        let title = format!(in rt.alloc(); "{name} by {workers} workers")?;
+    for (workers, fuse) in RUNS {
+        let words = format!(in rt.alloc(); "{given} --workers {workers} --fuse {fuse}")?;
+        let title = format!(in rt.alloc(); "{name} by {workers} workers, fuse {fuse}")?;
         if !is_answer(
             rt,
             &title,
@@ -254,15 +259,31 @@ fn run<T: Threads + Wait + Sync>(
     let mut input = Told::new(input.as_slice());
     let mut output = Told::new(Vec::new(alloc));
     let file = format!(in alloc; "{name}.str")?;
-    let explained = execute_explained(
-        threads,
-        alloc,
-        &file,
-        &text,
-        command,
-        &mut input,
-        &mut output,
-    );
+    // The gate that measures lets each step through as the open one does.
+    let explained = if let Command::Run { stats: true, .. } = command {
+        let times = StageTimes::new(alloc, rt)?;
+        execute_explained(
+            threads,
+            alloc,
+            &file,
+            &text,
+            command,
+            &mut input,
+            &mut output,
+            &times,
+        )
+    } else {
+        execute_explained(
+            threads,
+            alloc,
+            &file,
+            &text,
+            command,
+            &mut input,
+            &mut output,
+            &OpenGate,
+        )
+    };
     match explained.result {
         Ok(status) => Ok(Answer {
             output: output.into_device(),

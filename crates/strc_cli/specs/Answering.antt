@@ -10,6 +10,7 @@ use Rattle.strc_stream.specs.Instances.{Stream}
 use Rattle.strc_picture.specs.Pictures.{picture_text}
 use Rattle.strc_stage.specs.Plans.{Planning, PlanParts, planning_of}
 use Rattle.strc_run.specs.Accepts.{Accepts}
+use Rattle.strc_run.specs.Choices.{Choice}
 use Rattle.strc_run.specs.Plans.{IsPlanOf}
 use Rattle.strc_run.specs.Streams.{IsStreamOf}
 use Rattle.strc_run.specs.Refuses.{IsTrueOf}
@@ -20,9 +21,20 @@ use Rattle.strc_cli.specs.declared.answer.Answer.{Answer}
 use Rattle.strc_cli.specs.declared.answer.Answer.TheVariants as answer
 use Rattle.strc_output.specs.declared.stop.Stop.{Stop}
 use Rattle.strc_output.specs.declared.stop.Stop.TheVariants as stop
-use Rattle.strc_command.specs.Lines.{main_of}
 use Rattle.strc_command.specs.declared.line.Command.{Command}
 use Rattle.strc_command.specs.declared.line.Command.TheVariants as command
+
+-- a text is compiled for the main stream of this name, where there is one, with so many entries in
+-- the list of a fused unit
+abbrev pub chosen : (main : Option (String Global)) → (fuse : ℕ) → Choice
+chosen main fuse = record { main = option_map string_bytes main; fuse = fuse }
+
+-- how a command's text is compiled: only to run it units are fused
+abbrev pub choice_of : Command → Choice
+choice_of (command.Run rounds workers fuse stats main) = chosen main fuse
+choice_of (command.Check main) = chosen main 0
+choice_of (command.Plan main) = chosen main 0
+choice_of (command.Graph main) = chosen main 0
 
 -- the input of a program that reads one is what the bytes write; that of another one is empty
 abbrev pub IsInput : (reads : Bool) → (bytes : Option (List ℕ)) → List ℤ → Type 0
@@ -32,65 +44,66 @@ IsInput false bytes input = input ≡ []
 -- the text is accepted, and its rounds by so many workers over the input that the bytes write end
 -- so: with the answer of the stream equations of its main stream, which is the same for each number
 -- of workers, or with why they aren't run
-pub record RunsText (text : List ℕ) (main : Option (List ℕ)) (rounds : Option ℕ) (workers : ℕ)
+pub record RunsText (text : List ℕ) (choice : Choice) (rounds : Option ℕ) (workers : ℕ)
     (bytes : Option (List ℕ)) (result : Result Outcome RunRefusal) : Type 0 where
   pub plan : Planning
-  pub accepted : Accepts text main plan
+  pub accepted : Accepts text choice plan
   pub input : List ℤ
   pub given : IsInput (has_reader accepted.stream) bytes input
-  pub ends : IsTextRun text main plan input rounds workers result
+  pub ends : IsTextRun text choice plan input rounds workers result
 
 -- the text is accepted, and its main stream has a reader of the input
-pub record ReadsText (text : List ℕ) (main : Option (List ℕ)) : Type 0 where
+pub record ReadsText (text : List ℕ) (choice : Choice) : Type 0 where
   pub plan : Planning
-  pub accepted : Accepts text main plan
+  pub accepted : Accepts text choice plan
   pub reads : has_reader accepted.stream ≡ true
 
 -- the text is accepted, and its flat graph has so many nodes and channels
-pub record HasSize (text : List ℕ) (main : Option (List ℕ))
+pub record HasSize (text : List ℕ) (choice : Choice)
     (node_count channel_count : ℕ) : Type 0 where
   pub plan : Planning
-  pub accepted : Accepts text main plan
+  pub accepted : Accepts text choice plan
   pub nodes : node_count ≡ length plan.graph.nodes
   pub channels : channel_count ≡ length plan.graph.channels
 
 -- the text is accepted, and this is the picture of its flat graph, with the counts and the sizes of
 -- its plan, in boxes as its main stream has split-joins and feedback loops
-pub record HasPicture (text : List ℕ) (main : Option (List ℕ)) (picture : List ℕ) : Type 0 where
+pub record HasPicture (text : List ℕ) (choice : Choice) (picture : List ℕ) : Type 0 where
   pub plan : PlanParts
-  pub planned : IsPlanOf text main (planning_of plan)
+  pub planned : IsPlanOf text choice (planning_of plan)
   pub stream : Stream
-  pub means : IsStreamOf text main stream
+  pub means : IsStreamOf text choice.main stream
   pub drawn : picture
       ≡ picture_text stream plan.graph plan.startup_counts plan.round_counts plan.schedule.sizes
 
 -- an answer is what a command asks of the text: the outcome of its rounds, with its plan, the size
 -- of its graph, its plan, or the picture of its graph
 abbrev pub IsAsked : List ℕ → Command → (bytes : Option (List ℕ)) → Answer → Type 0
-IsAsked text (command.Run rounds workers main) bytes (answer.Ran plan outcome) =
-    IsPlanOf text (option_map string_bytes main) (planning_of plan)
-    × RunsText text (option_map string_bytes main) rounds workers bytes (Ok outcome)
+IsAsked text (command.Run rounds workers fuse stats main) bytes (answer.Ran plan outcome) =
+    IsPlanOf text (chosen main fuse) (planning_of plan)
+    × RunsText text (chosen main fuse) rounds workers bytes (Ok outcome)
 IsAsked text (command.Check main) bytes (answer.Checked nodes channels) =
-    HasSize text (option_map string_bytes main) nodes channels
+    HasSize text (chosen main 0) nodes channels
 IsAsked text (command.Plan main) bytes (answer.Planned plan) =
-    IsPlanOf text (option_map string_bytes main) (planning_of plan)
+    IsPlanOf text (chosen main 0) (planning_of plan)
 IsAsked text (command.Graph main) bytes (answer.Drawn picture) =
-    HasPicture text (option_map string_bytes main) picture.items
+    HasPicture text (chosen main 0) picture.items
 IsAsked text _ bytes _ = ⊥
 
 -- a command asks for a run, which reads the input
 abbrev pub ReadsInput : List ℕ → Command → Type 0
-ReadsInput text (command.Run rounds workers main) = ReadsText text (option_map string_bytes main)
+ReadsInput text (command.Run rounds workers fuse stats main) =
+    ReadsText text (chosen main fuse)
 ReadsInput text _ = ⊥
 
 -- a command has no answer, for this reason: the text is refused; a word of its input writes no
 -- number; its rounds aren't run
 abbrev pub IsStopped : List ℕ → Command → (bytes : Option (List ℕ)) → Stop → Type 0
-IsStopped text command bytes (stop.Refused refused) = IsTrueOf text (main_of command) refused
+IsStopped text command bytes (stop.Refused refused) = IsTrueOf text (choice_of command) refused
 IsStopped text command bytes (stop.BadInput word) =
     ReadsInput text command × WritesNumbers bytes (Err word)
-IsStopped text (command.Run rounds workers main) bytes (stop.NotRun refused) =
-    RunsText text (option_map string_bytes main) rounds workers bytes (Err refused)
+IsStopped text (command.Run rounds workers fuse stats main) bytes (stop.NotRun refused) =
+    RunsText text (chosen main fuse) rounds workers bytes (Err refused)
 IsStopped text _ bytes (stop.NotRun refused) = ⊥
 
 -- a command is answered, or has no answer; or the input fails, or memory runs out while it is read
@@ -106,6 +119,6 @@ IsAnswered text command bytes (Err error.Write) = ⊥
 abbrev pub AnswersPlan : Planning → (rounds : Option ℕ) → (workers : ℕ)
     → (bytes : Option (List ℕ)) → Result (Result Answer Stop) CliError → Type 0
 AnswersPlan plan rounds workers bytes result =
-    (text : List ℕ) (main : Option (String Global))
-    → IsPlanOf text (option_map string_bytes main) plan
-    → IsAnswered text (command.Run rounds workers main) bytes result
+    (text : List ℕ) (main : Option (String Global)) (fuse : ℕ) (stats : Bool)
+    → IsPlanOf text (chosen main fuse) plan
+    → IsAnswered text (command.Run rounds workers fuse stats main) bytes result

@@ -3,10 +3,9 @@
 ghost use Rattle.std.specs.Prelude.{◌≡◌, ◌≢◌, ◌⊎◌, true, Err, IfOk};
 ghost use Rattle.std.specs.Option.{option_map};
 ghost use Rattle.strc_stage.specs.Plans.{planning_of};
-ghost use Rattle.strc_run.specs.Plans as plans;
+ghost use Rattle.strc_run.specs.Choices as choices;
 ghost use Rattle.strc_run.specs.Rounds.{plan_reads};
-ghost use Rattle.strc_cli.specs.Answering.{AnswersPlan, IsAnswered, ReadsInput};
-ghost use Rattle.strc_command.specs.Lines.{main_of};
+ghost use Rattle.strc_cli.specs.Answering.{AnswersPlan, IsAnswered, ReadsInput, choice_of};
 ghost use Rattle.strc_cli.specs.Input as spec;
 ghost use Rattle.strc_cli.specs.Input.{IsInputOf, IsRunAnswer};
 
@@ -24,7 +23,8 @@ use strc_run::laws::plans_answer_texts;
 use strc_run::options::Options;
 use strc_run::refusal::Refusal;
 use strc_run::run::{Outcome, RunRefusal, reads_input, run};
-use strc_worker::OpenGate;
+use strc_stages::Stage;
+use strc_worker::Gate;
 
 /// What a command asks of an accepted text.
 #[derive(Drop)]
@@ -41,12 +41,14 @@ pub enum Answer {
 
 /// The answer to a command. A refusal of the text comes before the input is read, and one of the
 /// input before one of the run. The input is read where the text is run and its graph has a reader.
-pub fn answer_to<R: Threads + Wait + Sync, I: Source>(
+/// Each step of a stage is the gate's.
+pub fn answer_to<G: Gate<Stage>, R: Threads + Wait + Sync, I: Source>(
     rt: &R,
     alloc: Global,
     text: &[u8],
     command: &Command,
     input: &mut I,
+    gate: &G,
 ) -> Result<Result<Answer, Stop>, CliError>
     ensures answered { IsAnswered text.now command.now (I.remaining input.old) result }
     ensures failed { result ≡ Err CliError.Read → I.has_failed input.new ≡ true }
@@ -64,8 +66,10 @@ pub fn answer_to<R: Threads + Wait + Sync, I: Source>(
         Command::Run {
             rounds,
             workers,
+            fuse: _,
+            stats: _,
             main: _,
-        } => run_plan(rt, alloc, plan, *rounds, *workers, input),
+        } => run_plan(rt, alloc, plan, *rounds, *workers, input, gate),
         Command::Check { main: _ } => Ok(Ok(Answer::Checked {
             nodes: plan.graph().nodes().len(),
             channels: plan.graph().channels().len(),
@@ -76,13 +80,14 @@ pub fn answer_to<R: Threads + Wait + Sync, I: Source>(
 }
 
 // The outcome of so many rounds of a plan by so many workers, for whatever text's plan this is.
-fn run_plan<R: Threads + Wait + Sync, I: Source>(
+fn run_plan<G: Gate<Stage>, R: Threads + Wait + Sync, I: Source>(
     rt: &R,
     alloc: Global,
     plan: Plan,
     rounds: Option<u32>,
     workers: u32,
     input: &mut I,
+    gate: &G,
 ) -> Result<Result<Answer, Stop>, CliError>
     ensures run { AnswersPlan (planning_of plan) rounds workers (I.remaining input.old)
         result }
@@ -94,7 +99,7 @@ fn run_plan<R: Threads + Wait + Sync, I: Source>(
     // The answer for the plan is the answer for its text.
     plans_answer_texts();
     match input_of(alloc, &plan, input) {
-        Ok(numbers) => Ok(run_numbers(rt, alloc, plan, rounds, workers, &numbers)),
+        Ok(numbers) => Ok(run_numbers(rt, alloc, plan, rounds, workers, &numbers, gate)),
         Err(stop) => unread(stop),
     }
 }
@@ -127,17 +132,18 @@ fn input_of<I: Source>(alloc: Global, plan: &Plan, input: &mut I) -> Result<Vec<
 }
 
 // The outcome of rounds by so many workers over this input.
-fn run_numbers<R: Threads + Wait + Sync>(
+fn run_numbers<G: Gate<Stage>, R: Threads + Wait + Sync>(
     rt: &R,
     alloc: Global,
     plan: Plan,
     rounds: Option<u32>,
     workers: u32,
     input: &[i32],
+    gate: &G,
 ) -> Result<Answer, Stop>
     ensures { IsRunAnswer (planning_of plan) input.now rounds workers result }
 {
-    match run(rt, alloc, &plan, input, rounds, workers, &OpenGate) {
+    match run(rt, alloc, &plan, input, rounds, workers, gate) {
         Ok(outcome) => Ok(Answer::Ran(plan, outcome)),
         Err(refusal) => Err(Stop::NotRun(refusal)),
     }
@@ -145,24 +151,41 @@ fn run_numbers<R: Threads + Wait + Sync>(
 
 // How the command's text is to be compiled.
 fn options_of(alloc: Global, command: &Command) -> Result<Options, AllocError>
-    ensures { IfOk result (λ options. plans.main_of options ≡ main_of command.now) }
+    ensures main { IfOk result (λ options. (choices.choice_of options).main
+        ≡ (choice_of command.now).main) }
+    ensures fuse { IfOk result (λ options. (choices.choice_of options).fuse
+        ≡ (choice_of command.now).fuse) }
 {
+    let fuse = fuse_of(command);
     match main_name(command) {
         Some(name) => Ok(Options {
             main: Some(String::from_str(alloc, name)?),
+            fuse,
         }),
-        None => Ok(Options { main: None }),
+        None => Ok(Options { main: None, fuse }),
+    }
+}
+
+// How many entries the list of a fused unit may have.
+fn fuse_of(command: &Command) -> u32
+    ensures { result ≡ (choice_of command.now).fuse }
+{
+    match command {
+        Command::Run { fuse, .. } => *fuse,
+        Command::Check { main: _ } | Command::Plan { main: _ } | Command::Graph { main: _ } => 0,
     }
 }
 
 /// The main stream that a command names.
 pub fn main_name(command: &Command) -> Option<&str>
-    ensures { option_map (λ name. name.now) result ≡ main_of command.now }
+    ensures { option_map (λ name. name.now) result ≡ (choice_of command.now).main }
 {
     let main = match command {
         Command::Run {
             rounds: _,
             workers: _,
+            fuse: _,
+            stats: _,
             main,
         } => main,
         Command::Check { main } => main,

@@ -1,7 +1,7 @@
 // The picture of a text's flat graph.
 
 ghost use Rattle.strc_stage.specs.Plans.{planning_of};
-ghost use Rattle.strc_run.specs.Plans as plans;
+ghost use Rattle.strc_run.specs.Choices as choices;
 ghost use Rattle.strc_cli.specs.Drawing.{IsDrawn};
 
 use crate::answer::Answer;
@@ -19,7 +19,7 @@ pub(crate) fn drawn(
     options: &Options,
     plan: &Plan,
 ) -> Result<Answer, Stop>
-    ensures { IsDrawn text.now (plans.main_of options.now) plan.now result }
+    ensures { IsDrawn text.now (choices.choice_of options.now) plan.now result }
 {
     let stream = match stream_of(alloc, text, options) {
         Ok(stream) => stream,

@@ -17,6 +17,8 @@ use strc_output::output::{check_text, plan_text, stop_text};
 use strc_output::stop::Stop;
 use strc_run::refusal::Refusal;
 use strc_run::run::{Outcome, RunRefusal};
+use strc_stages::Stage;
+use strc_worker::Gate;
 use thiserror::Error;
 
 /// How a call of `execute` went: what the program's exit status tells.
@@ -61,14 +63,16 @@ pub enum CliError {
 }
 
 /// Runs a program's text over the input, and writes what it prints; or writes how large its graph
-/// is, or how often its nodes fire; or one line that names a refusal.
-pub fn execute<R: Threads + Wait + Sync, I: Source, O: Sink>(
+/// is, or how often its nodes fire; or one line that names a refusal. Each step of a stage is the
+/// gate's.
+pub fn execute<G: Gate<Stage>, R: Threads + Wait + Sync, I: Source, O: Sink>(
     rt: &R,
     alloc: Global,
     text: &[u8],
     command: &Command,
     input: &mut I,
     output: &mut O,
+    gate: &G,
 ) -> Result<Status, CliError>
     ensures reported { Executes text.now command.now (I.remaining input.old) result
         (device_of (O.contents output.old) (O.has_failed output.old))
@@ -79,7 +83,7 @@ pub fn execute<R: Threads + Wait + Sync, I: Source, O: Sink>(
     // The input is read only for a run of a text whose stream has a reader.
     ensures unread { (input.new ≡ input.old) ⊎ ReadsInput text.now command.now }
 {
-    match answer_to(rt, alloc, text, command, input) {
+    match answer_to(rt, alloc, text, command, input, gate) {
         Ok(answered) => tell(alloc, &answered, output),
         Err(failure) => Err(failure),
     }

@@ -1,5 +1,5 @@
 -- Words that have no fault leave rows of one value each, a number of 32 bits for `--rounds`
--- and `--workers`.
+-- and `--workers`, and one of at most 65,536 for `--fuse`.
 use Rattle.std.proofs.Common.{append-nil, ◌≡◌, ◌∙◌, ℕ, zero, suc, Bool, true, false, cond, not}
 use Rattle.std.proofs.Common.{◌&&◌, refl, sym, ap, subst, List, [], ◌∷◌, ◌++◌, length, Option, Some}
 use Rattle.std.proofs.Common.{None, is_some, ◌⊎◌, inl, inr, arith, codes}
@@ -18,7 +18,8 @@ use Rattle.clap.specs.Walk.{more_values, most_values, option_met, option_word}
 use Rattle.clap.specs.Walk.{plain_word, positional_held, reacted, reading_by, settled, settled_rows}
 use Rattle.clap.specs.Walk.{short_met, short_or_plain, subcommand_met, subcommand_or_other}
 use Rattle.clap.specs.Walk.{takes_several, takes_values, to_positional, used, used_by_id}
-use Rattle.clap.specs.Walk.{values_or_missing, walked, walked_from, with_values, word_met}
+use Rattle.clap.specs.Walk.{values_or_missing, walked, walked_from, with_default, with_values}
+use Rattle.clap.specs.Walk.{default_rows, word_met}
 use Rattle.clap.specs.Walk as walking
 use Rattle.clap.specs.Simple.{Shape}
 use Rattle.clap.specs.Kinds.{Kinds, or_else, range_kinds, values_kinds, value_kinds}
@@ -31,11 +32,13 @@ use Rattle.clap.specs.Faults.{word_fault}
 use Rattle.clap.specs.declared.builder.action.ArgAction.TheVariants as action
 use Rattle.clap.specs.declared.error.kind.ErrorKind.TheVariants as kind
 use Rattle.std.specs.Prelude.{if◌then◌else◌}
-use Rattle.clap.specs.declared.parser.matches.ValueSource.TheVariants.{CommandLine}
+use Rattle.clap.specs.declared.parser.matches.ValueSource.{ValueSource}
+use Rattle.clap.specs.declared.parser.matches.ValueSource.TheVariants.{CommandLine, DefaultValue}
 use Rattle.clap.specs.declared.builder.value_parser.Reading.{Reading}
 use Rattle.clap.specs.declared.builder.value_parser.Reading.TheVariants.{WithoutMinus}
 use Rattle.clap.specs.declared.builder.value_parser.ValueParser.{ValueParser}
 use Rattle.clap.specs.declared.builder.value_parser.ValueParser.TheVariants.{Signed}
+use Rattle.strc_command.specs.Lines.{most_fused}
 
 -- ---- faults of two steps
 
@@ -84,32 +87,48 @@ no_row id change missing (row ∷ rows) none = go (bytes_eq row.id id) none
 
 -- ---- one use of an argument
 
--- the value is read as a number of 32 bits
-abbrev IsRead : Reading → Text → Type 0
-IsRead reading value = (reading ≡ WithoutMinus) ×
-    (accepts false (Signed (pos 0) (pos 4294967295)) value ≡ true)
+-- the value is read as a number that is at most this one
+abbrev pub IsRead : (most : ℕ) → Reading → Text → Type 0
+IsRead most reading value = (reading ≡ WithoutMinus) ×
+    (accepts false (Signed (pos 0) (pos most)) value ≡ true)
 
--- whether an option takes a number
+-- whether an option takes a number of 32 bits
 abbrev pub takes_number : Text → Bool
 takes_number id = bytes_eq id (codes "rounds") || bytes_eq id (codes "workers")
+
+-- whether an option takes a number of entries
+abbrev pub takes_entries : Text → Bool
+takes_entries id = bytes_eq id (codes "fuse")
+
+-- a value of the option with this id is a number where the option takes one
+pub record IsValueFor (id : Text) (reading : Reading) (value : Text) : Type 0 where
+  pub number : takes_number id ≡ true → IsRead 4294967295 reading value
+  pub entries : takes_entries id ≡ true → IsRead most_fused reading value
 
 -- a row of one value, which is a number where the row is that of an option that takes one
 pub record IsGood (row : Row) : Type 0 where
   pub value : Text
   pub values : row.values ≡ value ∷ []
-  pub number : takes_number row.id ≡ true → IsRead row.reading value
+  pub fits : IsValueFor row.id row.reading value
 
 -- an argument that one use gives one value
 pub record TakesOne (rule : Rule) : Type 0 where
   pub action : rule.action ≡ Some action.Set
   pub range : rule.range ≡ Some (record { start_inclusive = 1; end_inclusive = 1 })
-  pub number : takes_number rule.id ≡ true → (value : Text) → accepts rule.ignore_case
-      (parser_of_value rule.parser) value ≡ true
-      → IsRead (reading_by rule) value
+  pub fits : (value : Text) → accepts rule.ignore_case (parser_of_value rule.parser) value ≡ true
+      → IsValueFor rule.id (reading_by rule) value
 
--- an argument of one value, or one that shows the help
+-- an argument of no value that one use turns to one, and that takes no number
+pub record SetsFlag (rule : Rule) : Type 0 where
+  pub action : rule.action ≡ Some action.SetTrue
+  pub range : rule.range ≡ Some (record { start_inclusive = 0; end_inclusive = 0 })
+  pub missing : rule.missing ≡ codes "true" ∷ []
+  pub number : takes_number rule.id ≡ false
+  pub entries : takes_entries rule.id ≡ false
+
+-- an argument of one value, a flag, or one that shows the help
 abbrev pub IsPlainRule : Rule → Type 0
-IsPlainRule rule = TakesOne rule ⊎ (rule.action ≡ Some action.Help)
+IsPlainRule rule = TakesOne rule ⊎ (SetsFlag rule ⊎ (rule.action ≡ Some action.Help))
 
 repeats_none : (id : Text) (rows : List Row) → repeat_fault false id rows ≡ [] → has_row id rows ≡
     false
@@ -128,36 +147,51 @@ passes_none again parser value none = go (accepts again parser value)
     go true none = refl
     go false none = cc
 
+-- the row of one value
+abbrev row_with : Rule → ValueSource → Text → Row
+row_with rule source value = record {
+  id = rule.id;
+  values = value ∷ [];
+  count = None;
+  source = Some source;
+  reading = reading_by rule;
+}
+
 -- the row of one use, after those before it
-used_once : (rule : Rule) → rule.action ≡ Some action.Set → (value : Text) (rows : List Row) →
-    has_row rule.id rows ≡ false
-    → used rule (value ∷ []) rows
-    ≡ rows ++ record {
-      id = rule.id;
-      values = value ∷ [];
-      count = None;
-      source = Some CommandLine;
-      reading = reading_by rule;
-    } ∷ []
-used_once rule set value rows new =
-    let row : Row = record {
-      id = rule.id;
-      values = value ∷ [];
-      count = None;
-      source = Some CommandLine;
-      reading =
-          reading_by rule;
-    } in
-    rw set (ap (λ (all : List Row). with_values rule.id (reading_by rule) CommandLine (value ∷ [])
-    all)
+row_once : (rule : Rule) (value : Text) (rows : List Row) → has_row rule.id rows ≡ false
+    → with_values rule.id (reading_by rule) CommandLine (value ∷ [])
+    (at_row rule.id (λ _. []) [] rows) ≡ rows ++ row_with rule CommandLine value ∷ []
+row_once rule value rows new =
+    ap (λ (all : List Row). with_values rule.id (reading_by rule) CommandLine (value ∷ []) all)
     (no_row rule.id (λ _. []) [] rows new ∙ append-nil rows)
-    ∙ no_row rule.id (more_values CommandLine (value ∷ [])) (row ∷ []) rows new)
+    ∙ no_row rule.id (more_values CommandLine (value ∷ []))
+    (row_with rule CommandLine value ∷ []) rows new
+
+used_once : (rule : Rule) → rule.action ≡ Some action.Set → (value : Text) (rows : List Row)
+    → has_row rule.id rows ≡ false
+    → used rule (value ∷ []) rows ≡ rows ++ row_with rule CommandLine value ∷ []
+used_once rule set value rows new = rw set (row_once rule value rows new)
+
+flag_once : (rule : Rule) → SetsFlag rule → (rows : List Row) → has_row rule.id rows ≡ false
+    → used rule [] rows ≡ rows ++ row_with rule CommandLine (codes "true") ∷ []
+flag_once rule flag rows new =
+    rw (flag.action, flag.missing) (row_once rule (codes "true") rows new)
+
+-- any value is good for an option that takes no number
+other_value : (rule : Rule) → takes_number rule.id ≡ false → takes_entries rule.id ≡ false
+    → (value : Text) → IsValueFor rule.id (reading_by rule) value
+other_value rule number entries value = record { number = λ is. cc; entries = λ is. cc }
 
 two_values : (count : ℕ) → range_kinds 1 1 (suc (suc count)) ≡ [] → ⊥
 two_values count none =
     let some : (suc (suc count) == 0) ≡ false = ne_eqb _ _ (λ e. omega arith) in
     let not_one : (1 == suc (suc count)) ≡ false = ne_eqb _ _ (λ e. omega arith) in
     let bad = rw (some, not_one) at none in cc
+
+one_value : (count : ℕ) → range_kinds 0 0 (suc count) ≡ [] → ⊥
+one_value count none =
+    let some : (0 == suc count) ≡ false = ne_eqb _ _ (λ e. omega arith) in
+    let bad = rw some at none in cc
 
 set_good : (rule : Rule) → TakesOne rule → (values : List Text) (rows : List Row) → use_fault false
     rule values rows ≡ [] → Each IsGood rows → Each IsGood (used rule values rows)
@@ -168,17 +202,9 @@ set_good rule one (value ∷ []) rows none good =
     (none_first (repeat_fault false rule.id rows) (values_fault rule (value ∷ [])) set) in
     let passes = passes_none rule.ignore_case (parser_of_value rule.parser) value
     (none_second (repeat_fault false rule.id rows) (values_fault rule (value ∷ [])) set) in
-    let row : Row = record {
-      id = rule.id;
-      values = value ∷ [];
-      count = None;
-      source = Some CommandLine;
-      reading =
-          reading_by rule;
-    } in
     subst (Each IsGood) (sym (used_once rule one.action value rows new))
-    (each_more IsGood rows row good
-    (record { value = value; values = refl; number = λ is. one.number is value passes }))
+    (each_more IsGood rows (row_with rule CommandLine value) good
+    (record { value = value; values = refl; fits = one.fits value passes }))
 set_good rule one (value ∷ next ∷ more) rows none good =
     let values = value ∷ next ∷ more in
     let counts = none_first
@@ -186,6 +212,26 @@ set_good rule one (value ∷ next ∷ more) rows none good =
     (length values))
     (action_fault (action_of rule) false rule (values_or_missing rule values) rows) none in
     absurd (two_values (length more) (rw one.range at counts))
+
+flag_good : (rule : Rule) → SetsFlag rule → (values : List Text) (rows : List Row)
+    → use_fault false rule values rows ≡ [] → Each IsGood rows
+    → Each IsGood (used rule values rows)
+flag_good rule flag [] rows none good =
+    let set = rw (flag.range, flag.action, flag.missing) at none in
+    let value = codes "true" in
+    let new = repeats_none rule.id rows
+    (none_first (repeat_fault false rule.id rows) (values_fault rule (value ∷ [])) set) in
+    let fits = other_value rule flag.number flag.entries value in
+    subst (Each IsGood) (sym (flag_once rule flag rows new))
+    (each_more IsGood rows (row_with rule CommandLine value) good
+    (record { value = value; values = refl; fits = fits }))
+flag_good rule flag (value ∷ more) rows none good =
+    let values = value ∷ more in
+    let counts = none_first
+    (range_kinds (unwrap_or_range rule.range).start_inclusive (most_values rule)
+    (length values))
+    (action_fault (action_of rule) false rule (values_or_missing rule values) rows) none in
+    absurd (one_value (length more) (rw flag.range at counts))
 
 help_bad : (rule : Rule) → rule.action ≡ Some action.Help → (values : List Text) (rows : List Row)
     → use_fault false rule values rows ≡ [] → Each IsGood (used rule values rows)
@@ -199,7 +245,47 @@ help_bad rule help values rows none =
 use_good : (rule : Rule) → IsPlainRule rule → (values : List Text) (rows : List Row) → use_fault
     false rule values rows ≡ [] → Each IsGood rows → Each IsGood (used rule values rows)
 use_good rule (inl one) values rows none good = set_good rule one values rows none good
-use_good rule (inr help) values rows none good = help_bad rule help values rows none
+use_good rule (inr (inl flag)) values rows none good = flag_good rule flag values rows none good
+use_good rule (inr (inr help)) values rows none good = help_bad rule help values rows none
+
+-- ---- defaults
+
+-- the argument has a default, and takes no number
+pub record HasDefault (rule : Rule) : Type 0 where
+  pub value : Text
+  pub is : rule.defaults ≡ value ∷ []
+  pub number : takes_number rule.id ≡ false
+  pub entries : takes_entries rule.id ≡ false
+
+-- the argument has no default, or takes no number
+abbrev pub HasPlainDefault : Rule → Type 0
+HasPlainDefault rule = (rule.defaults ≡ []) ⊎ HasDefault rule
+
+default_good : (rule : Rule) → HasPlainDefault rule → (rows : List Row) → Each IsGood rows
+    → Each IsGood (with_default rows rule)
+default_good rule plain rows good = go (has_row rule.id rows) refl plain
+  where
+    go : (b : Bool) → has_row rule.id rows ≡ b → HasPlainDefault rule
+        → Each IsGood
+        (if b then rows else default_rows rule.id (reading_by rule) rule.defaults rows)
+    go true new is = good
+    go false new (inl none) = rw none good
+    go false new (inr one) =
+        let row = row_with rule DefaultValue one.value in
+        rw one.is (subst (Each IsGood) (sym (no_row rule.id
+        (more_values DefaultValue (one.value ∷ [])) (row ∷ []) rows new))
+        (each_more IsGood rows row good
+        (record {
+          value = one.value;
+          values = refl;
+          fits = other_value rule one.number one.entries one.value;
+        })))
+
+pub defaults_good : (rules : List Rule) → Each HasPlainDefault rules → (rows : List Row)
+    → Each IsGood rows → Each IsGood (fold with_default rows rules)
+defaults_good [] plain rows good = good
+defaults_good (rule ∷ rest) plain rows good =
+    defaults_good rest plain.1 (with_default rows rule) (default_good rule plain.0 rows good)
 
 -- ---- one word
 

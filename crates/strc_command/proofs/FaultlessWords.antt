@@ -1,9 +1,9 @@
--- Words that have no fault name a subcommand, its FILE, and for `run` a number where they give one.
+-- Words that have no fault name a subcommand, its FILE, and for `run` numbers where they give some.
 use Rattle.std.proofs.Common.{◌≡◌, ◌∙◌, ℕ, Bool, true, false, cond, not, refl, sym, ap, subst, List}
 use Rattle.std.proofs.Common.{[], ◌∷◌, Option, Some, None, is_some, ◌⊎◌, inl, inr, arith, codes}
 use Rattle.std.proofs.Common.{rules}
 use Rattle.std.specs.Prelude.{slice_get, option_map, option_and_then, fold, find, pos, IfSome}
-use Rattle.std.specs.Prelude.{IsSome, unwrap_or, ◌||◌, ◌==◌, ◌<◌, ◌^◌, drop}
+use Rattle.std.specs.Prelude.{IsSome, unwrap_or, ◌||◌, ◌==◌, ◌<◌, ◌≤◌, ◌^◌, drop}
 use Rattle.std.specs.Str.{bytes_eq}
 use Rattle.std.specs.Str.Parse.{IsNumeral, digits_value, starts_with_minus, without_leading_plus}
 use Rattle.std.proofs.lemmas.Bool.{ne_eqb}
@@ -29,11 +29,14 @@ use Rattle.clap.specs.Values.{IsSignedIn}
 use Rattle.clap.specs.Faults.{check_fault, defaults_fault, entered_fault, level_fault, other_fault}
 use Rattle.clap.specs.Faults.{settle_fault, step_fault, turn_fault, walk_fault, word_fault}
 use Rattle.std.specs.Prelude.{if◌then◌else◌}
+use Rattle.clap.specs.declared.builder.value_parser.Reading.{Reading}
 use Rattle.clap.specs.declared.builder.value_parser.ValueParser.TheVariants.{Signed}
-use Rattle.strc_command.specs.Lines.{IsCommand, IsNumber, Writes32, check_app, faults, graph_app}
-use Rattle.strc_command.specs.Lines.{plan_app, run_app, strc_app}
+use Rattle.strc_command.specs.Lines.{IsCommand, IsNumber, IsUpTo, Writes32, check_app, faults}
+use Rattle.strc_command.specs.Lines.{graph_app, most_fused, plan_app, run_app, strc_app}
 use Rattle.strc_command.proofs.FaultlessRows.{none_first, none_second, Each, find_each, IsGood}
-use Rattle.strc_command.proofs.FaultlessRows.{IsPlainRule, settled_good, takes_number, walk_good}
+use Rattle.strc_command.proofs.FaultlessRows.{HasPlainDefault, IsPlainRule, IsRead, IsValueFor}
+use Rattle.strc_command.proofs.FaultlessRows.{defaults_good, settled_good, takes_entries}
+use Rattle.strc_command.proofs.FaultlessRows.{takes_number, walk_good}
 
 -- ---- where the program's words stop
 
@@ -184,48 +187,92 @@ walk_at_name (word ∷ words) w none at_name =
 abbrev shape_of : App → Shape
 shape_of app = built_leaf (inherited (with_leaf_noted (marked_built strc_app.top)) app.top)
 
+-- FILE and NAME, which are no numbers
+text_fits : {id : Text} {reading : Reading} {value : Text} → takes_number id ≡ false
+    → takes_entries id ≡ false → IsValueFor id reading value
+text_fits number entries = record { number = λ is. cc; entries = λ is. cc }
+
 plain_run : Each IsPlainRule (shape_of run_app).rules
 plain_run = (
-  inl (record { action = refl; range = refl; number = λ is value passes. cc }),
+  inl (record { action = refl; range = refl; fits = λ value passes. text_fits refl refl }),
   (
-    inl (record { action = refl; range = refl; number = λ is value passes. (refl, passes) }),
+    inl (record {
+      action = refl;
+      range = refl;
+      fits = λ value passes. record { number = λ is. (refl, passes); entries = λ is. cc };
+    }),
     (
-      inl (record { action = refl; range = refl; number = λ is value passes. (refl, passes) }),
+      inl (record {
+        action = refl;
+        range = refl;
+        fits = λ value passes. record { number = λ is. (refl, passes); entries = λ is. cc };
+      }),
       (
-        inl (record { action = refl; range = refl; number = λ is value passes. cc }),
-        (inr refl, tt),
+        inl (record {
+          action = refl;
+          range = refl;
+          fits = λ value passes. record { number = λ is. cc; entries = λ is. (refl, passes) };
+        }),
+        (
+          inr (inl (record {
+            action = refl;
+            range = refl;
+            missing = refl;
+            number = refl;
+            entries = refl;
+          })),
+          (
+            inl (record {
+              action = refl;
+              range = refl;
+              fits = λ value passes. text_fits refl refl;
+            }),
+            (inr (inr refl), tt),
+          ),
+        ),
       ),
     ),
   ),
 )
 
-plain_check : Each IsPlainRule (shape_of check_app).rules
-plain_check = (
-  inl (record { action = refl; range = refl; number = λ is value passes. cc }),
-  (inl (record { action = refl; range = refl; number = λ is value passes. cc }), (inr refl, tt)),
+default_run : Each HasPlainDefault (shape_of run_app).rules
+default_run = (
+  inl refl,
+  (
+    inl refl,
+    (
+      inl refl,
+      (
+        inl refl,
+        (
+          inr (record {
+            value = codes "false";
+            is = refl;
+            number = refl;
+            entries = refl;
+          }),
+          (inl refl, (inl refl, tt)),
+        ),
+      ),
+    ),
+  ),
 )
 
-plain_plan : Each IsPlainRule (shape_of plan_app).rules
-plain_plan = (
-  inl (record { action = refl; range = refl; number = λ is value passes. cc }),
-  (inl (record { action = refl; range = refl; number = λ is value passes. cc }), (inr refl, tt)),
+-- the words of the other subcommands have these rules
+abbrev other_rules : List Rule
+other_rules = (shape_of check_app).rules
+
+plain_other : Each IsPlainRule other_rules
+plain_other = (
+  inl (record { action = refl; range = refl; fits = λ value passes. text_fits refl refl }),
+  (
+    inl (record { action = refl; range = refl; fits = λ value passes. text_fits refl refl }),
+    (inr (inr refl), tt),
+  ),
 )
 
-plain_graph : Each IsPlainRule (shape_of graph_app).rules
-plain_graph = (
-  inl (record { action = refl; range = refl; number = λ is value passes. cc }),
-  (inl (record { action = refl; range = refl; number = λ is value passes. cc }), (inr refl, tt)),
-)
-
-no_defaults : (rules : List Rule) → Each (λ rule. rule.defaults ≡ []) rules → (rows : List Row) →
-    fold with_default rows rules ≡ rows
-no_defaults [] none rows = refl
-no_defaults (rule ∷ rest) none rows = ap (λ (all : List Row). fold with_default all rest)
-    (rw none.0 (go (has_row rule.id rows))) ∙ no_defaults rest none.1 rows
-  where
-    go : (b : Bool) → (if b then rows else rows) ≡ rows
-    go true = refl
-    go false = refl
+default_other : Each HasPlainDefault other_rules
+default_other = (inl refl, (inl refl, (inl refl, tt)))
 
 without_minus-cond : (text : Text) → without_minus text ≡ cond (starts_with_minus text)
     (drop 1 text) text
@@ -244,33 +291,42 @@ no_plus (digit ∷ digits) numeral =
     (λ e. omega (arith, digit_from_value digit numeral.1.0)) in
     ap (λ (b : Bool). drop (cond b 1 0) (digit ∷ digits)) plus
 
--- what passes the bounds of 32 bits is read as a number of 32 bits
-is_number : (text : Text) → accepts false (Signed (pos 0) (pos 4294967295)) text ≡ true →
-    (number : ℕ) × Writes32 (without_minus text) number
-is_number text passes = go (starts_with_minus text) refl
+-- what passes such bounds is read as a number of 32 bits within them
+is_number : (most : ℕ) → most < 2 ^ 32 → (text : Text)
+    → accepts false (Signed (pos 0) (pos most)) text ≡ true
+    → (number : ℕ) × (Writes32 (without_minus text) number × (number ≤ most))
+is_number most bound text passes = go (starts_with_minus text) refl
   where
-    passed : IsSignedIn (pos 0) (pos 4294967295) text
-    passed = accepts-Accepts false (Signed (pos 0) (pos 4294967295)) text passes
+    passed : IsSignedIn (pos 0) (pos most) text
+    passed = accepts-Accepts false (Signed (pos 0) (pos most)) text passes
 
-    go : (b : Bool) → starts_with_minus text ≡ b → (number : ℕ) × Writes32 (without_minus text)
-        number
+    go : (b : Bool) → starts_with_minus text ≡ b
+        → (number : ℕ) × (Writes32 (without_minus text) number × (number ≤ most))
     go true minus =
         let least = rw minus at passed.2 in
         let numeral : IsNumeral 10 (drop 1 text) = rw minus at passed.0 in
-        let small : digits_value 10 (drop 1 text) < 2 ^ 32 = omega (arith, ints) in
+        let low : digits_value 10 (drop 1 text) ≤ most = omega (arith, ints) in
+        let small : digits_value 10 (drop 1 text) < 2 ^ 32 = omega (arith, low, bound) in
         let is : without_minus text ≡ drop 1 text = without_minus-cond text ∙ ap
         (λ (b : Bool). cond b (drop 1 text) text) minus in (
           digits_value 10 (drop 1 text),
-          rw (is, no_plus (drop 1 text) numeral)
-              (numeral, refl, small),
+          (rw (is, no_plus (drop 1 text) numeral) (numeral, refl, small), low),
         )
     go false minus =
-        let most = rw minus at passed.3 in
+        let most_is = rw minus at passed.3 in
         let numeral : IsNumeral 10 (without_leading_plus text) = rw minus at passed.0 in
-        let small : digits_value 10 (without_leading_plus text) < 2 ^ 32 = omega (arith, ints) in
+        let low : digits_value 10 (without_leading_plus text) ≤ most = omega (arith, ints) in
+        let small : digits_value 10 (without_leading_plus text) < 2 ^ 32 =
+        omega (arith, low, bound) in
         let is : without_minus text ≡ text = without_minus-cond text ∙ ap
         (λ (b : Bool). cond b (drop 1 text) text) minus in
-        (digits_value 10 (without_leading_plus text), rw is (numeral, refl, small))
+        (digits_value 10 (without_leading_plus text), (rw is (numeral, refl, small), low))
+
+-- a text writes one number
+one_number : (most : ℕ) (text : Text) (written : ℕ) → Writes32 text written → written ≤ most
+    → (number : ℕ) → Writes32 text number → number ≤ most
+one_number most text written writes small number is =
+    subst (λ (n : ℕ). n ≤ most) (sym writes.1 ∙ is.1) small
 
 given_file : (rows : List Row) → Each IsGood rows → is_given (codes "FILE") rows ≡ true → IsSome
     (first_of (codes "FILE") rows)
@@ -284,31 +340,52 @@ given_file rows good = go (find (λ row. bytes_eq row.id (codes "FILE")) rows)
     go None is given = cc
     go (Some row) is given = rw is.0.values refl
 
-number_read : (option : Text) → ((id : Text) → bytes_eq id option ≡ true → takes_number id ≡ true)
-    → (rows : List Row) → Each IsGood rows → IsNumber (one_of option rows)
-number_read option takes rows good = go (find (λ row. bytes_eq row.id option) rows)
+-- what the option of this id takes is a number, at most this one
+abbrev Takes : Text → ℕ → Type 0
+Takes option most = (id : Text) (reading : Reading) (value : Text) → bytes_eq id option ≡ true
+    → IsValueFor id reading value → IsRead most reading value
+
+row_number : (most : ℕ) → most < 2 ^ 32 → (row : Row) (value : Text) → row.values ≡ value ∷ []
+    → IsRead most row.reading value
+    → IsNumber (row_text row) × IsUpTo most (row_text row)
+row_number most bound row value values read =
+    let writes = is_number most bound value read.1 in (
+      (Some writes.0, rw (values, read.0) writes.1.0),
+      rw (values, read.0)
+          (one_number most (without_minus value) writes.0 writes.1.0 writes.1.1),
+    )
+
+number_read : (option : Text) (most : ℕ) → most < 2 ^ 32 → Takes option most → (rows : List Row)
+    → Each IsGood rows → IsNumber (one_of option rows) × IsUpTo most (one_of option rows)
+number_read option most bound takes rows good = go (find (λ row. bytes_eq row.id option) rows)
     (find_each IsGood (λ row. bytes_eq row.id option) rows good)
   where
     go : (found : Option Row) → IfSome found
         (λ row. IsGood row × (bytes_eq row.id option ≡ true))
-        → IsNumber (option_and_then row_text found)
-    go None is = (None, tt)
+        → IsNumber (option_and_then row_text found) × IsUpTo most (option_and_then row_text found)
+    go None is = ((None, tt), λ number zero. omega (arith, zero))
     go (Some row) is =
-        let read = is.0.number (takes row.id is.1) in
-        let writes = is_number is.0.value read.1 in
-        (Some writes.0, rw (is.0.values, read.0) writes.1)
+        row_number most bound row is.0.value is.0.values
+        (takes row.id row.reading is.0.value is.1 is.0.fits)
 
 or_second : (first second : Bool) → second ≡ true → (first || second) ≡ true
 or_second true second is = refl
 or_second false second is = is
 
 rounds_read : (rows : List Row) → Each IsGood rows → IsNumber (one_of (codes "rounds") rows)
-rounds_read = number_read (codes "rounds")
-    (λ id is. ap (λ (b : Bool). b || bytes_eq id (codes "workers")) is)
+rounds_read rows good = (number_read (codes "rounds") 4294967295 (omega arith)
+    (λ id reading value is fits.
+    fits.number (ap (λ (b : Bool). b || bytes_eq id (codes "workers")) is)) rows good).0
 
 workers_read : (rows : List Row) → Each IsGood rows → IsNumber (one_of (codes "workers") rows)
-workers_read = number_read (codes "workers")
-    (λ id is. or_second (bytes_eq id (codes "rounds")) _ is)
+workers_read rows good = (number_read (codes "workers") 4294967295 (omega arith)
+    (λ id reading value is fits. fits.number (or_second (bytes_eq id (codes "rounds")) _ is))
+    rows good).0
+
+fuse_read : (rows : List Row) → Each IsGood rows
+    → IsNumber (one_of (codes "fuse") rows) × IsUpTo most_fused (one_of (codes "fuse") rows)
+fuse_read = number_read (codes "fuse") most_fused (omega arith)
+    (λ id reading value is fits. fits.entries is)
 
 file_given : (given : Bool) → check_kinds false false (not given || false) ≡ [] → given ≡ true
 file_given true none = refl
@@ -342,17 +419,16 @@ faultless_level shape names words has below none =
     }
 
 -- the rows of the words after a subcommand, where they have no fault
-rows_good : (shape : Shape) → Each IsPlainRule shape.rules
-    → Each (λ (rule : Rule). rule.defaults ≡ []) shape.rules
+rows_good : (shape : Shape) → Each IsPlainRule shape.rules → Each HasPlainDefault shape.rules
     → shape.args_override_self ≡ false → (words : List Text)
     → IsFaultless shape [] words false [] → Each IsGood (rows_after shape.rules [] words)
-rows_good shape plain bare once words faultless =
+rows_good shape plain defaults once words faultless =
     let end = (walk shape.rules [] nothing_held words).held in
     let met = walk_good shape plain once words (walk_from nothing_held) faultless.walks tt in
     let settles =
     subst (λ (again : Bool). settle_fault shape.rules again end ≡ []) once faultless.settles in
-    let good = settled_good shape.rules plain end settles met in
-    subst (Each IsGood) (sym (no_defaults shape.rules bare (settled shape.rules end).rows)) good
+    defaults_good shape.rules defaults (settled shape.rules end).rows
+    (settled_good shape.rules plain end settles met)
 
 -- the words after `run`
 runs : (words : List Text) → level_fault (shape_of run_app) [] nothing_held words false [] ≡ []
@@ -361,13 +437,13 @@ runs words none =
     let run = shape_of run_app in
     let faultless = faultless_level run [] words false [] none in
     let rows = rows_after run.rules [] words in
-    let good =
-    rows_good run plain_run (refl, (refl, (refl, (refl, (refl, tt))))) refl words faultless in
+    let good = rows_good run plain_run default_run refl words faultless in
+    let fuse = fuse_read rows good in
     record {
       name = codes "run";
       rows = rows;
       is = refl;
-      known = inl (refl, (rounds_read rows good, workers_read rows good));
+      known = inl (refl, (rounds_read rows good, workers_read rows good, fuse.0, fuse.1));
       file = given_file rows good (file_given (is_given (codes "FILE") rows) faultless.checks);
     }
 
@@ -378,7 +454,7 @@ checks words none =
     let check = shape_of check_app in
     let faultless = faultless_level check [] words false [] none in
     let rows = rows_after check.rules [] words in
-    let good = rows_good check plain_check (refl, (refl, (refl, tt))) refl words faultless in
+    let good = rows_good check plain_other default_other refl words faultless in
     record {
       name = codes "check";
       rows = rows;
@@ -394,7 +470,7 @@ plans words none =
     let plan = shape_of plan_app in
     let faultless = faultless_level plan [] words false [] none in
     let rows = rows_after plan.rules [] words in
-    let good = rows_good plan plain_plan (refl, (refl, (refl, tt))) refl words faultless in
+    let good = rows_good plan plain_other default_other refl words faultless in
     record {
       name = codes "plan";
       rows = rows;
@@ -410,7 +486,7 @@ graphs words none =
     let graph = shape_of graph_app in
     let faultless = faultless_level graph [] words false [] none in
     let rows = rows_after graph.rules [] words in
-    let good = rows_good graph plain_graph (refl, (refl, (refl, tt))) refl words faultless in
+    let good = rows_good graph plain_other default_other refl words faultless in
     record {
       name = codes "graph";
       rows = rows;

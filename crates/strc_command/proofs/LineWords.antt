@@ -1,16 +1,19 @@
 -- What the reading of a line's matches has found.
-use Rattle.std.proofs.Common.{◌≡◌, ◌∙◌, ◌^◌, ◌<◌, ℕ, refl, sym, subst, true, List, Option, Some}
-use Rattle.std.proofs.Common.{None, Result, Ok, Err, is_some, codes, inl, inr}
+use Rattle.std.proofs.Common.{◌≡◌, ◌∙◌, ◌^◌, ◌<◌, ℕ, Bool, true, false, refl, sym, ap, subst}
+use Rattle.std.proofs.Common.{List, Option, Some, None, Result, Ok, Err, is_some, codes, inl, inr}
 use Rattle.std.specs.Prelude.{option_map, unwrap_or}
-use Rattle.std.specs.Str.Parse.{ExplainsUnsignedError, HasUnsignedDigitsIfOk, ParsesUnsigned}
+use Rattle.std.specs.Str.Parse.{ExplainsUnsignedError, HasUnsignedDigitsIfOk, ParsesBool}
+use Rattle.std.specs.Str.Parse.{ParsesUnsigned}
 use Rattle.std.specs.declared.num.ParseIntError.{ParseIntError}
+use Rattle.std.specs.declared.str.ParseBoolError.{ParseBoolError}
 use Rattle.std.specs.Box.{box_value}
-use Rattle.clap.specs.Matches.{TriesOne, found_of, subcommand_name_of}
+use Rattle.clap.specs.Matches.{ReadsOne, TriesOne, found_of, subcommand_name_of}
 use Rattle.clap.specs.Simple.{subcommand_rows_of}
 use Rattle.clap.specs.declared.parser.matches.ArgMatches.{ArgMatches}
 use Rattle.clap.specs.declared.parser.matches.ArgMatches.TheViews.{out-ArgMatches, out-SubCommand}
 use Rattle.clap.specs.Walk.{Row, Text, first_of, rows_of}
-use Rattle.strc_command.specs.Lines.{HasNumbers, IsCommand, IsKnown, IsNumberOf, IsNumberOr}
+use Rattle.strc_command.specs.Lines.{HasNumbers, IsCommand, IsFlagOf, IsKnown, IsNumberOf}
+use Rattle.strc_command.specs.Lines.{IsNumberOr}
 
 some_same : {A : Type 0} (one other : A) → Some one ≡ Some other → one ≡ other
 some_same one other is = cc
@@ -34,7 +37,7 @@ subcommand_met matches name rows =
     (λ b. rows_of (found_of (out-SubCommand (box_value b)).matches)) name rows
 
 -- a command that was met is one that has this name and these rows
-same_met : (met : Option (Text × List Row)) (name : Text) (found : List Row)
+pub same_met : (met : Option (Text × List Row)) (name : Text) (found : List Row)
     → met ≡ Some (name, found)
     → (command : IsCommand met)
     → ◌≡◌ {A = Text × List Row} (command.name, command.rows) (name, found)
@@ -98,3 +101,24 @@ reads_none None error none some number is = let bad = none refl in cc
 reads_none (Some text) error none some (Some number) is =
     (some text refl).0 (is.0, subst (λ (n : ℕ). n < 2 ^ 32) (sym is.1) is.2)
 reads_none (Some text) error none some None is = is
+
+-- how a text is read as a flag
+abbrev pub GivesFlag : Text → Result Bool ParseBoolError → Type 0
+GivesFlag text result = ParsesBool text result
+
+two_texts : (text : Text) → text ≡ codes "true" → text ≡ codes "false" → ⊥
+two_texts text is_true is_false = cc
+
+-- a flag that isn't given is not set
+pub flag_set : (text : Option Text) (flag : Option Bool) → (text ≡ None → flag ≡ None)
+    → ((given : Text) → text ≡ Some given → ReadsOne GivesFlag given flag)
+    → IsFlagOf text (unwrap_or flag false)
+flag_set None None none some = ((λ is. cc), λ is. cc)
+flag_set None (Some flag) none some = let bad = none refl in cc
+flag_set (Some text) (Some true) none some = ((λ is. ap Some (some text refl)), λ is. refl)
+flag_set (Some text) (Some false) none some = (
+  (λ is. cc),
+  λ is. absurd (two_texts text (some_same _ _ is) (some text refl)),
+)
+flag_set (Some text) None none some =
+    ((λ is. cc), λ is. absurd ((some text refl).1.0 (some_same _ _ is)))

@@ -1,8 +1,8 @@
 -- What the words of a command line ask for. After the program's name they are
--- `run FILE [--rounds N] [--workers N] [--main NAME]`, `check FILE [--main NAME]`,
--- `plan FILE [--main NAME]` or `graph FILE [--main NAME]`, and are read as the crate `clap` reads
--- the words of a command: `strc_app` describes ours.
-use Rattle.std.specs.Prelude.{◌≡◌, ◌⊎◌, ℕ, ◌<◌, ◌^◌, pos, true, List, []}
+-- `run FILE [--rounds N] [--workers N] [--fuse N] [--stats] [--main NAME]`,
+-- `check FILE [--main NAME]`, `plan FILE [--main NAME]` or `graph FILE [--main NAME]`, and are read
+-- as the crate `clap` reads the words of a command: `strc_app` describes ours.
+use Rattle.std.specs.Prelude.{◌≡◌, ◌⊎◌, ◌↔◌, ℕ, ◌<◌, ◌≤◌, ◌^◌, pos, Bool, true, false, List, []}
 use Rattle.std.specs.Prelude.{Option, Some, None, IsSome, option_map, string_bytes, codes}
 use Rattle.std.specs.Str.Parse.{IsNumeral, digits_value, without_leading_plus}
 use Rattle.clap.specs.Walk.{Row, Rule, Text, first_of, one_of}
@@ -10,6 +10,7 @@ use Rattle.clap.specs.Simple.{App, new_app, new_rule, on_top, subcommand_of, wit
 use Rattle.clap.specs.Simple.{with_subcommand}
 use Rattle.clap.specs.Faults.{fault_of}
 use Rattle.clap.specs.Kinds.{Kinds}
+use Rattle.clap.specs.declared.builder.action.ArgAction.TheVariants.{SetTrue}
 use Rattle.clap.specs.declared.builder.value_parser.ValueParser.TheVariants.{Signed}
 use Rattle.clap.specs.declared.error.kind.ErrorKind.{ErrorKind}
 use Rattle.clap.specs.declared.error.kind.ErrorKind.TheVariants.{OutOfMemory}
@@ -21,14 +22,15 @@ use Rattle.strc_command.specs.declared.line.Command.TheVariants as command
 
 -- the name of the main stream that a command gives
 abbrev pub main_of : Command → Option (List ℕ)
-main_of (command.Run rounds workers main) = option_map string_bytes main
+main_of (command.Run rounds workers fuse stats main) = option_map string_bytes main
 main_of (command.Check main) = option_map string_bytes main
 main_of (command.Plan main) = option_map string_bytes main
 main_of (command.Graph main) = option_map string_bytes main
 
--- without words the text comes from standard input, and five rounds are run by one worker
+-- without words the text comes from standard input, and five rounds are run by one worker, whose
+-- units aren't fused
 abbrev pub default_line : Line
-default_line = record { file = None; command = command.Run (Some 5) 1 None }
+default_line = record { file = None; command = command.Run (Some 5) 1 0 false None }
 
 -- FILE, which has to be given
 abbrev pub file_rule : Rule
@@ -50,15 +52,32 @@ rounds_rule = number_rule (codes "rounds")
 abbrev pub workers_rule : Rule
 workers_rule = number_rule (codes "workers")
 
+-- the greatest length of a fused unit's list that can be asked for
+abbrev pub most_fused : ℕ
+most_fused = 65536
+
+-- `--fuse N`
+abbrev pub fuse_rule : Rule
+fuse_rule = record (number_rule (codes "fuse")) { parser = Some (Signed (pos 0) (pos most_fused)) }
+
+-- `--stats`
+abbrev pub stats_rule : Rule
+stats_rule =
+    record (new_rule (codes "stats")) { long = Some (codes "stats"); action = Some SetTrue }
+
 -- `--main NAME`
 abbrev pub main_rule : Rule
 main_rule = record (new_rule (codes "main")) { long = Some (codes "main"); value_names = 1 }
 
+-- the words of `run` that give its file and its numbers
+abbrev pub numbers_app : App
+numbers_app =
+    with_rule (with_rule (with_rule (with_rule (new_app (codes "run")) file_rule) rounds_rule)
+    workers_rule) fuse_rule
+
 -- the words of `run`
 abbrev pub run_app : App
-run_app =
-    with_rule (with_rule (with_rule (with_rule (new_app (codes "run")) file_rule) rounds_rule)
-    workers_rule) main_rule
+run_app = with_rule (with_rule numbers_app stats_rule) main_rule
 
 -- the words of `check`
 abbrev pub check_app : App
@@ -101,12 +120,22 @@ abbrev pub IsNumberOr : (absent : ℕ) → Option Text → ℕ → Type 0
 IsNumberOr absent None number = number ≡ absent
 IsNumberOr absent (Some text) number = Writes32 text number
 
+-- whatever number a text writes is at most this one
+abbrev pub IsUpTo : (most : ℕ) → Option Text → Type 0
+IsUpTo most text = (number : ℕ) → IsNumberOr 0 text number → number ≤ most
+
+-- a flag is set just where the text is `true`
+abbrev pub IsFlagOf : Option Text → Bool → Type 0
+IsFlagOf text flag = (flag ≡ true) ↔ (text ≡ Some (codes "true"))
+
 -- this command is that of the name and of what was found for its options, whatever its main stream;
--- `run` alone has a number of rounds, and one of workers, which is 1 where none is given
+-- `run` alone has a number of rounds, one of workers, which is 1 where none is given, one of
+-- entries, which is 0 there, and a flag
 abbrev pub IsCommandOf : Text → List Row → Command → Type 0
-IsCommandOf name rows (command.Run rounds workers main) =
+IsCommandOf name rows (command.Run rounds workers fuse stats main) =
     (name ≡ codes "run") × IsNumberOf (one_of (codes "rounds") rows) rounds
     × IsNumberOr 1 (one_of (codes "workers") rows) workers
+    × IsNumberOr 0 (one_of (codes "fuse") rows) fuse × IsFlagOf (one_of (codes "stats") rows) stats
 IsCommandOf name rows (command.Check main) = name ≡ codes "check"
 IsCommandOf name rows (command.Plan main) = name ≡ codes "plan"
 IsCommandOf name rows (command.Graph main) = name ≡ codes "graph"
@@ -127,6 +156,12 @@ IsLineIn met line =
 abbrev pub HasNumbers : List Row → Type 0
 HasNumbers rows =
     IsNumber (one_of (codes "rounds") rows) × IsNumber (one_of (codes "workers") rows)
+    × IsNumber (one_of (codes "fuse") rows) × IsUpTo most_fused (one_of (codes "fuse") rows)
+
+-- what a command fuses has a list of at most so many entries
+abbrev pub FusesUpTo : (most : ℕ) → Command → Type 0
+FusesUpTo most (command.Run rounds workers fuse stats main) = fuse ≤ most
+FusesUpTo most command = Unit {0}
 
 -- the name is that of a subcommand: `run`, with its numbers, `check`, `plan` or `graph`
 abbrev pub IsKnown : Text → List Row → Type 0
@@ -151,6 +186,7 @@ faults words = fault_of strc_app words
 pub record AsksFor (words : List Text) (line : Line) : Type 0 where
   pub faultless : faults words ≡ []
   pub asked : IsLineIn (subcommand_of strc_app words) line
+  pub fuses : FusesUpTo most_fused line.command
 
 -- how a kind of error is reported
 abbrev pub fault_by : ErrorKind → LineFault

@@ -11,6 +11,11 @@ pub enum Command {
         rounds: Option<u32>,
         /// 0 to 4,294,967,295 workers: those from 1 to 64 can run it.
         workers: u32,
+        /// Two neighbouring units become one where their list has at most so many entries, 0 to
+        /// 65,536.
+        fuse: u32,
+        /// Is the time of each stage to be written to standard error?
+        stats: bool,
         /// The name of the main stream, where one is given.
         main: Option<String>,
     },

@@ -9,13 +9,14 @@ ghost use Rattle.clap.specs.Walk.{one_of, texts};
 ghost use Rattle.clap.specs.declared.builder.command.Command.TheViews.{out-Command as fields_of};
 ghost use Rattle.strc_command.specs.Lines.{AsksFor, HasNumbers, IsCommand, IsCommandOf, IsKnown};
 ghost use Rattle.strc_command.specs.Lines.{IsLineIn, IsNumber, IsNumberOf, check_app, default_line};
-ghost use Rattle.strc_command.specs.Lines.{fault_by, faults, file_rule, graph_app, main_rule};
-ghost use Rattle.strc_command.specs.Lines.{number_rule, plan_app, rounds_rule, run_app, strc_app};
-ghost use Rattle.strc_command.specs.Lines.{workers_rule, main_of};
+ghost use Rattle.strc_command.specs.Lines.{IsFlagOf, fault_by, faults, file_rule, fuse_rule};
+ghost use Rattle.strc_command.specs.Lines.{graph_app, main_of, main_rule, number_rule};
+ghost use Rattle.strc_command.specs.Lines.{numbers_app, plan_app, rounds_rule, run_app, stats_rule};
+ghost use Rattle.strc_command.specs.Lines.{strc_app, workers_rule};
 
 use crate::line::{Command, Line, LineFault};
 use clap::error::ErrorKind;
-use clap::{Arg, ArgMatches, Error, value_parser};
+use clap::{Arg, ArgAction, ArgMatches, Error, value_parser};
 use std::alloc::{AllocError, Global};
 
 /// What `--version` says after the program's name.
@@ -26,6 +27,12 @@ const BARE_ROUNDS: u32 = 5;
 
 // How many workers run it where no number is given.
 const BARE_WORKERS: u32 = 1;
+
+// How long the list of a fused unit may be where no number is given: no units are fused.
+const BARE_FUSE: u32 = 0;
+
+/// The greatest length of a fused unit's list that can be asked for.
+pub const FUSE_LIMIT: u32 = 65_536;
 
 /// Reads the words of a command line, the program's name first.
 ///
@@ -42,6 +49,8 @@ pub fn command<'a>(alloc: Global, words: &'a [&'a str]) -> Result<Line, LineFaul
             command: Command::Run {
                 rounds: Some(BARE_ROUNDS),
                 workers: BARE_WORKERS,
+                fuse: BARE_FUSE,
+                stats: false,
                 main: None,
             },
         });
@@ -115,15 +124,25 @@ fn with_last<T: Drop>(
     Ok(items)
 }
 
-// The words `run FILE [--rounds N] [--workers N] [--main NAME]`.
+// The words `run FILE [--rounds N] [--workers N] [--fuse N] [--stats] [--main NAME]`.
 fn run_command<'a>(alloc: Global) -> Result<clap::Command<'a>, AllocError>
     ensures app { IfOk result (λ run. app_of run ≡ run_app) }
+    ensures local { IfOk result (λ run. (fields_of run).has_globals ≡ false) }
+{
+    numbers_command(alloc)?
+        .arg(stats_option(alloc))?
+        .arg(main_option(alloc))
+}
+
+// The words `run FILE [--rounds N] [--workers N] [--fuse N]`.
+fn numbers_command<'a>(alloc: Global) -> Result<clap::Command<'a>, AllocError>
+    ensures app { IfOk result (λ run. app_of run ≡ numbers_app) }
     ensures local { IfOk result (λ run. (fields_of run).has_globals ≡ false) }
 {
     file_command(alloc, "run", "Runs a StreamIt program")?
         .arg(rounds_option(alloc))?
         .arg(workers_option(alloc))?
-        .arg(main_option(alloc))
+        .arg(fuse_option(alloc))
 }
 
 // The words `check FILE [--main NAME]`.
@@ -203,6 +222,25 @@ fn workers_option<'a>(alloc: Global) -> Arg<'a>
     number_option(alloc, "workers").help("How many workers run them, 1 to 64")
 }
 
+fn fuse_option<'a>(alloc: Global) -> Arg<'a>
+    ensures rule { rule_of result ≡ fuse_rule }
+    ensures local { result.global ≡ false }
+{
+    number_option(alloc, "fuse")
+        .value_parser(value_parser!(u32).range(..=i64::from(FUSE_LIMIT)))
+        .help("Two neighbouring units become one where their list has at most N entries")
+}
+
+fn stats_option<'a>(alloc: Global) -> Arg<'a>
+    ensures rule { rule_of result ≡ stats_rule }
+    ensures local { result.global ≡ false }
+{
+    Arg::new(alloc, "stats")
+        .long("stats")
+        .action(ArgAction::SetTrue)
+        .help("Write the steps and the time of each stage to standard error")
+}
+
 fn number_option<'a>(alloc: Global, name: &'a str) -> Arg<'a>
     ensures rule { rule_of result ≡ number_rule name.entry.now }
     ensures local { result.global ≡ false }
@@ -270,9 +308,13 @@ fn run_of(found: &ArgMatches, main: Option<String>) -> Result<Command, LineFault
 {
     let rounds = number_of(found, "rounds")?;
     let workers = number_of(found, "workers")?.unwrap_or(BARE_WORKERS);
+    let fuse = number_of(found, "fuse")?.unwrap_or(BARE_FUSE);
+    let stats = is_set(found, "stats");
     Ok(Command::Run {
         rounds,
         workers,
+        fuse,
+        stats,
         main,
     })
 }
@@ -287,6 +329,13 @@ fn number_of(found: &ArgMatches, option: &str) -> Result<Option<u32>, LineFault>
         Ok(number) => Ok(number),
         Err(_) => Err(LineFault::Words),
     }
+}
+
+// Whether a flag was found to be set.
+fn is_set(found: &ArgMatches, flag: &str) -> bool
+    ensures { IsFlagOf (one_of flag.now (rows_of (found_of found.now))) result }
+{
+    found.get_one::<bool>(flag).unwrap_or(false)
 }
 
 fn owned_if_given(alloc: Global, text: Option<&str>) -> Result<Option<String>, LineFault>

@@ -20,6 +20,7 @@ use Rattle.strc_admissible.proofs.Codes.{code_is}
 use Rattle.strc_admissible.proofs.Supplies.{element, target_node}
 use Rattle.strc_admissible.proofs.Windows.{rates_there}
 use Rattle.strc_stage.specs.Plans.{Planning, IsPlan}
+use Rattle.strc_stage.proofs.Fused.{fused_startup, fused_round}
 use Rattle.strc_order.specs.Order.{firing_count}
 use Rattle.strc_staging.proofs.Fits.{block_at_rate}
 use Rattle.strc_staging.proofs.Rewired.{stream_is_staging}
@@ -81,12 +82,12 @@ module _ (plan : Planning) (is : IsPlan plan) (number : ℕ) (channel : Channel)
         | inr same ↦ inr (sym (push_is 0) ∙ same ∙ push_is 1)
       ]
 
-  startup_is : firing_count (startup_order plan.schedule) channel.source.node
+  startup_is : firing_count (startup_order plan.fused) channel.source.node
       ≡ count_at plan.startup_counts channel.source.node
-  startup_is = is.schedule.is.startup_order.all channel.source.node
+  startup_is = fused_startup plan is channel.source.node
 
   rate_at : (firing : ℕ)
-      → firing_count (startup_order plan.schedule) channel.source.node ≤ firing
+      → firing_count (startup_order plan.fused) channel.source.node ≤ firing
       → pushes_at (flat_code channel.source.node) firing channel.source.port
       ≡ pushes_at (flat_code channel.source.node) 1 channel.source.port
   rate_at firing more =
@@ -118,7 +119,7 @@ blocks_have_round_rates plan is input rounds bound last b t blocks words number 
     (plans_are_staged plan is input rounds bound last known supplied cut)).1 in
     let u = channel.source.node in
     let q = channel.source.port in
-    let startup = firing_count (startup_order plan.schedule) u in
+    let startup = firing_count (startup_order plan.fused) u in
     let code = flat_code plan is number channel there u in
     block_at_rate (staging_of staged) b t blocks words channel.target.node channel.target.port u q
     staging
@@ -126,7 +127,7 @@ blocks_have_round_rates plan is input rounds bound last b t blocks words number 
     ∙ sym (rate_at plan is number channel there startup (omega arith)))
     is_round moved after_it (port_is plan is number channel there)
     (origin_is plan is number channel there) before_it
-    ∙ ap (λ (n : ℕ). n * pushes_at code startup q) (is.schedule.is.round_order.all u)
+    ∙ ap (λ (n : ℕ). n * pushes_at code startup q) (fused_round plan is u)
     ∙ ap (λ (n : ℕ). count_at plan.round_counts u * n)
     (rate_at plan is number channel there startup (omega arith)
     ∙ sym (push_is plan is number channel there 1))

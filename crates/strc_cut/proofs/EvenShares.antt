@@ -2,20 +2,23 @@
 use Rattle.std.proofs.Common.{◌≡◌, refl, sym, ap, ◌∙◌, subst, ℕ, zero, suc, ◌+◌, ◌*◌, ◌/◌, ◌<◌, ◌≤◌}
 use Rattle.std.proofs.Common.{List, [], ◌∷◌, length, get_or, Bool, true, false, cond, Option}
 use Rattle.std.proofs.Common.{Some, None, arith, inl, inr}
-use Rattle.std.specs.Prelude.{filter, nat_le}
+use Rattle.std.specs.Prelude.{filter, ◌&&◌, not}
 use Rattle.std.specs.List.{range_with_len}
 use Rattle.std.proofs.Math.Nat.{suc-mul, zero-mul, zero-div, div-mul-le_self, min-le_left, le-min}
 use Rattle.std.proofs.lemmas.Nat.{div_below, le-div, row_fits_turned}
 use Rattle.std.proofs.lemmas.Bool.{cases_lt, leb-true, le-leb, false≢true}
 use Rattle.std.proofs.lemmas.Option.{get_or_from_slice_get, slice_get_within}
 use Rattle.std.proofs.lemmas.List.Elements.{filter_passes}
-use Rattle.strc_graph.specs.Graphs.{Graph}
-use Rattle.strc_stage.specs.Plans.{IsWhole}
-use Rattle.strc_cut.specs.Cuts.{BeginsGroup, IsCut}
+use Rattle.strc_rounds.specs.FusedUnits.{RoundUnit}
+use Rattle.strc_fuse.specs.Units.{round_units}
+use Rattle.strc_stage.specs.Plans.{IsPlan, Planning}
+use Rattle.strc_stage.proofs.Fused.{nodes_of_fused}
+use Rattle.strc_cut.specs.Cuts.{BeginsGroup, IsBetweenUnits, IsCut}
 use Rattle.strc_cut.specs.Bounds.{begins, begins_at, group_starts, stage_count, first_group}
-use Rattle.strc_cut.specs.Bounds.{stage_bound}
+use Rattle.strc_cut.specs.Bounds.{parts_unit, stage_bound}
 use Rattle.strc_cut.specs.Laws.{BoundsAreACut}
 use Rattle.strc_cut.proofs.Beginnings.{groups_begin_between}
+use Rattle.strc_cut.proofs.Between.{between, between_past, parts_none_at_0}
 use Rattle.strc_cut.proofs.Shares.{bound_within, bound_past, each_has_loop}
 
 -- numbers from one on and before another, in rising order
@@ -68,22 +71,40 @@ head_kept true numbers e = (omega arith, refl)
 head_kept false numbers e = absurd (false≢true e)
 
 -- node 0 begins a group
-first_begins : (loops : List (Option ℕ)) → 0 < length loops
-    → (0 < length (group_starts loops)) × (get_or (group_starts loops) 0 0 ≡ 0)
-first_begins [] some = absurd (omega (arith, some))
-first_begins (None ∷ loops) some = (omega arith, refl)
-first_begins (Some loop ∷ loops) some =
-    head_kept (nat_le 0 loop)
-    (filter (begins_at (Some loop ∷ loops)) (range_with_len 1 (length loops)))
-    (le-leb 0 loop (omega arith))
+both_pass : (one other : Bool) → one ≡ true → other ≡ false → one && not other ≡ true
+both_pass true false a b = refl
+both_pass true true a b = absurd (false≢true (sym b))
+both_pass false other a b = absurd (false≢true a)
 
-begins_here : (loops : List (Option ℕ)) (number : ℕ) → begins_at loops number ≡ true
-    → BeginsGroup loops number
-begins_here loops number is loop here =
-    leb-true number loop (
-    ap (λ l. begins l number)
-    (sym (get_or_from_slice_get loops number (Some loop) None here))
-    ∙ is
+begins_at_0 : (loop : Option ℕ) → begins loop 0 ≡ true
+begins_at_0 None = refl
+begins_at_0 (Some loop) = le-leb 0 loop (omega arith)
+
+first_begins : (loops : List (Option ℕ)) (order : List RoundUnit) → 0 < length loops
+    → (0 < length (group_starts loops order)) × (get_or (group_starts loops order) 0 0 ≡ 0)
+first_begins [] order some = absurd (omega (arith, some))
+first_begins (loop ∷ loops) order some =
+    head_kept (begins loop 0 && not (parts_unit order 0))
+    (filter (begins_at (loop ∷ loops) order) (range_with_len 1 (length loops)))
+    (both_pass (begins loop 0) (parts_unit order 0) (begins_at_0 loop) (parts_none_at_0 order))
+
+both_of : (one other : Bool) → one && not other ≡ true → (one ≡ true) × (other ≡ false)
+both_of true false e = (refl, refl)
+both_of true true e = absurd (false≢true e)
+both_of false other e = absurd (false≢true e)
+
+begins_here : (loops : List (Option ℕ)) (order : List RoundUnit) (number : ℕ)
+    → begins_at loops order number ≡ true
+    → BeginsGroup loops number × IsBetweenUnits order number
+begins_here loops order number is =
+    let (begun, whole) = both_of (begins (get_or loops number None) number)
+    (parts_unit order number) is in (
+      λ loop here. leb-true number loop (
+          ap (λ l. begins l number)
+          (sym (get_or_from_slice_get loops number (Some loop) None here))
+          ∙ begun
+          ),
+      between order number whole,
     )
 
 module _ (groups stages : ℕ) (some : 0 < stages) (few : stages ≤ groups) where
@@ -105,51 +126,57 @@ module _ (groups stages : ℕ) (some : 0 < stages) (few : stages ≤ groups) whe
       )) in
       omega (arith, at_least)
 
-module _ (graph : Graph) (workers : ℕ) (whole : IsWhole graph) (works : 0 < workers)
-    (some : 0 < length graph.nodes) where
+module _ (plan : Planning) (workers : ℕ) (is : IsPlan plan) (works : 0 < workers)
+    (some : 0 < length plan.graph.nodes) where
   abbrev loops : List (Option ℕ)
-  loops = graph.outer_loops
+  loops = plan.graph.outer_loops
+
+  abbrev order : List RoundUnit
+  order = round_units plan.fused.round
 
   abbrev nodes : ℕ
-  nodes = length graph.outer_loops
+  nodes = length plan.graph.outer_loops
 
   abbrev starts : List ℕ
-  starts = group_starts graph.outer_loops
+  starts = group_starts plan.graph.outer_loops (round_units plan.fused.round)
 
   abbrev stages : ℕ
-  stages = stage_count graph.outer_loops workers
+  stages = stage_count plan.graph.outer_loops (round_units plan.fused.round) workers
 
-  looped : 0 < length graph.outer_loops
-  looped = omega (arith, some, each_has_loop graph whole)
+  each : length plan.graph.outer_loops ≡ length plan.graph.nodes
+  each = each_has_loop plan.graph is.whole
+
+  looped : 0 < length plan.graph.outer_loops
+  looped = omega (arith, some, each)
 
   are : AreRising 0 nodes starts
-  are = kept_rising (begins_at loops) 0 nodes nodes (omega arith)
+  are = kept_rising (begins_at loops order) 0 nodes nodes (omega arith)
 
   few : stages ≤ length starts
   few = min-le_left (length starts) workers
 
   staged : 0 < stages
-  staged = le-min (first_begins loops looped).0 works
+  staged = le-min (first_begins loops order looped).0 works
 
-  begun : (stage : ℕ) → stage < stages → stage_bound loops workers stage
+  begun : (stage : ℕ) → stage < stages → stage_bound loops order workers stage
       ≡ get_or starts (first_group (length starts) stages stage) 0
   begun = bound_within nodes starts stages
 
-  ended : stage_bound loops workers stages ≡ nodes
+  ended : stage_bound loops order workers stages ≡ nodes
   ended = bound_past nodes starts stages
 
   less_here : (stage : ℕ) → stage < stages
       → first_group (length starts) stages stage < length starts
   less_here = group_below (length starts) stages staged few
 
-  first_is : stage_bound loops workers 0 ≡ 0
+  first_is : stage_bound loops order workers 0 ≡ 0
   first_is =
       let here : first_group (length starts) stages 0 ≡ 0 =
       ap (λ n. n / stages) (zero-mul (length starts)) ∙ zero-div stages in
-      begun 0 staged ∙ ap (λ n. get_or starts n 0) here ∙ (first_begins loops looped).1
+      begun 0 staged ∙ ap (λ n. get_or starts n 0) here ∙ (first_begins loops order looped).1
 
   rises : (stage : ℕ) → stage < stages
-      → stage_bound loops workers stage < stage_bound loops workers (suc stage)
+      → stage_bound loops order workers stage < stage_bound loops order workers (suc stage)
   rises stage less = elim (cases_lt (suc stage) stages) [
     | inl before ↦ omega (
       arith,
@@ -165,35 +192,52 @@ module _ (graph : Graph) (workers : ℕ) (whole : IsWhole graph) (works : 0 < wo
           arith,
           begun stage less,
           (are.within (first_group (length starts) stages stage) (less_here stage less)).1,
-          ap (stage_bound loops workers) (sym last) ∙ ended,
+          ap (stage_bound loops order workers) (sym last) ∙ ended,
         )
   ]
 
+  begins_within : (stage : ℕ) → stage < stages
+      → BeginsGroup loops (stage_bound loops order workers stage)
+      × IsBetweenUnits order (stage_bound loops order workers stage)
+  begins_within stage before =
+      subst (λ (n : ℕ). BeginsGroup loops n × IsBetweenUnits order n) (sym (begun stage before))
+      (begins_here loops order (get_or starts (first_group (length starts) stages stage) 0)
+      (filter_passes (begins_at loops order) (range_with_len 0 nodes)
+      (first_group (length starts) stages stage) 0 (less_here stage before)))
+
+  ends_past : IsBetweenUnits order nodes
+  ends_past =
+      subst (IsBetweenUnits order) (sym each)
+      (between_past plan.fused.round (length plan.graph.nodes) (nodes_of_fused plan is))
+
   begins_there : (stage : ℕ) → stage ≤ stages
-      → BeginsGroup loops (stage_bound loops workers stage)
+      → BeginsGroup loops (stage_bound loops order workers stage)
+      × IsBetweenUnits order (stage_bound loops order workers stage)
   begins_there stage less = elim (cases_lt stage stages) [
-    | inl before ↦ subst (BeginsGroup loops) (sym (begun stage before))
-        (begins_here loops (get_or starts (first_group (length starts) stages stage) 0)
-        (filter_passes (begins_at loops) (range_with_len 0 nodes)
-        (first_group (length starts) stages stage) 0 (less_here stage before)))
+    | inl before ↦ begins_within stage before
     | inr past ↦
         let last : stages ≡ stage = omega (arith, less, past) in
-        subst (BeginsGroup loops) (sym ended ∙ ap (stage_bound loops workers) last)
-        (λ loop here. absurd (omega (arith, slice_get_within loops nodes (Some loop) here)))
+        subst (λ (n : ℕ). BeginsGroup loops n × IsBetweenUnits order n)
+        (sym ended ∙ ap (stage_bound loops order workers) last) (
+          λ loop here. absurd (omega (arith, slice_get_within loops nodes (Some loop) here)),
+          ends_past,
+        )
   ]
 
-  is_cut : IsCut graph (stage_bound loops workers) stages
+  is_cut : IsCut plan (stage_bound loops order workers) stages
   is_cut = record {
     first = first_is;
-    all = ended ∙ each_has_loop graph whole;
+    all = ended ∙ each;
     rising = λ stage less. omega (arith, rises stage less);
-    between = λ stage less. (groups_begin_between graph (stage_bound loops workers stage) whole).0
-        (begins_there stage less);
+    between = λ stage less.
+        (groups_begin_between plan.graph (stage_bound loops order workers stage) is.whole).0
+        (begins_there stage less).0;
+    units = λ stage less. (begins_there stage less).1;
   }
 
 pub bounds_are_a_cut : BoundsAreACut
-bounds_are_a_cut graph workers whole works some = (
-  staged graph workers whole works some,
-  is_cut graph workers whole works some,
-  rises graph workers whole works some,
+bounds_are_a_cut plan workers is works some = (
+  staged plan workers is works some,
+  is_cut plan workers is works some,
+  rises plan workers is works some,
 )

@@ -1,7 +1,8 @@
 pub mod GroupBounds
 pub mod Forward
 pub mod Segments
-pub mod Firings
+pub mod FusedSplits
+pub mod Between
 pub mod Ranged
 pub mod Staged
 pub mod Beginnings

@@ -1,13 +1,16 @@
 -- The firings of each range, in an order that goes range by range.
-use Rattle.std.proofs.Common.{◌≡◌, refl, ap, ◌∙◌, ℕ, zero, suc, ◌<◌, ◌≤◌, Bool, true}
+use Rattle.std.proofs.Common.{◌≡◌, refl, sym, ap, ◌∙◌, ℕ, zero, suc, ◌<◌, ◌≤◌, Bool, true}
 use Rattle.std.proofs.Common.{false, List, [], ◌∷◌, ◌++◌, ◌⊎◌, inl, inr, arith, le-leb, lt-ltb}
-use Rattle.std.proofs.Common.{le-ltb, append-nil}
+use Rattle.std.proofs.Common.{le-ltb}
 use Rattle.std.specs.Prelude.{◌&&◌, nat_le, nat_lt, if◌then◌else◌}
-use Rattle.std.proofs.lemmas.Bool.{cases_lt, leb-true}
+use Rattle.std.proofs.lemmas.Bool.{cases_lt, leb-true, ltb-true, false≢true}
+use Rattle.strc_rounds.specs.Fused.{repeated}
+use Rattle.strc_rounds.specs.FusedUnits.{RoundUnit, firings_of}
 use Rattle.strc_staging.specs.Ranges.{AllWithin}
 use Rattle.strc_staging.specs.Staging.{joined}
 use Rattle.strc_staging.proofs.Ranges.{bounds_from}
 use Rattle.strc_cut.specs.Cuts.{firings_within}
+use Rattle.strc_cut.proofs.FusedSplits.{Below, From, AllFrom, IsSplit, each_append, each_repeated}
 
 -- from one number on, and before another
 abbrev pub AreIn : (first next : ℕ) → List ℕ → Type 0
@@ -19,13 +22,13 @@ in_append first next [] ys all more = more
 in_append first next (node ∷ xs) ys (from, below, rest) more =
     (from, below, in_append first next xs ys rest more)
 
-test_inside : (first next node : ℕ) → first ≤ node → node < next
+pub test_inside : (first next node : ℕ) → first ≤ node → node < next
     → nat_le first node && nat_lt node next ≡ true
 test_inside first next node from below =
     ap (λ (test : Bool). test && nat_lt node next) (le-leb first node from)
     ∙ lt-ltb node next below
 
-test_outside : (first next node : ℕ) → (node < first) ⊎ (next ≤ node)
+pub test_outside : (first next node : ℕ) → (node < first) ⊎ (next ≤ node)
     → nat_le first node && nat_lt node next ≡ false
 test_outside first next node (inl before) = by_test (nat_le first node) refl
   where
@@ -46,17 +49,6 @@ kept_all first next (node ∷ xs) (from, below, rest) =
     else firings_within first next xs) (test_inside first next node from below)
     ∙ ap (λ (l : List ℕ). node ∷ l) (kept_all first next xs rest)
 
-kept_none : (first next low high : ℕ) (xs : List ℕ) → AreIn low high xs
-    → (high ≤ first) ⊎ (next ≤ low) → firings_within first next xs ≡ []
-kept_none first next low high [] all apart = refl
-kept_none first next low high (node ∷ xs) (from, below, rest) apart =
-    ap (λ (test : Bool). if test then node ∷ firings_within first next xs
-    else firings_within first next xs) (test_outside first next node (elim apart [
-      | inl before ↦ inl (omega (arith, before, below))
-      | inr past ↦ inr (omega (arith, past, from))
-    ]))
-    ∙ kept_none first next low high xs rest apart
-
 if_append : (test : Bool) (node : ℕ) (xs ys : List ℕ)
     → (if test then node ∷ (xs ++ ys) else xs ++ ys) ≡ (if test then node ∷ xs else xs) ++ ys
 if_append true node xs ys = refl
@@ -71,57 +63,138 @@ kept_append first next (node ∷ xs) ys =
     ∙ if_append (nat_le first node && nat_lt node next) node (firings_within first next xs)
     (firings_within first next ys)
 
-pub joined_same : (p q : ℕ → List ℕ) (count : ℕ) → ((a : ℕ) → a < count → p a ≡ q a)
-    → joined p count ≡ joined q count
-unfolding joined
-joined_same p q zero same = refl
-joined_same p q (suc count) same =
-    ap (λ (l : List ℕ). l ++ p count)
-    (joined_same p q count (λ a less. same a (omega (arith, less))))
-    ∙ ap (λ (l : List ℕ). joined q count ++ l) (same count (omega arith))
+-- what is kept is in the range
+in_range : (first next node : ℕ) → nat_le first node && nat_lt node next ≡ true
+    → (first ≤ node) × (node < next)
+in_range first next node is = by_tests (nat_le first node) (nat_lt node next) refl refl is
+  where
+    by_tests : (one other : Bool) → nat_le first node ≡ one → nat_lt node next ≡ other
+        → one && other ≡ true → (first ≤ node) × (node < next)
+    by_tests true true a b e = (leb-true first node a, ltb-true node next b)
+    by_tests true false a b e = absurd (false≢true e)
+    by_tests false other a b e = absurd (false≢true e)
 
+pub within_range : (first next : ℕ) (xs : List ℕ) → AreIn first next (firings_within first next xs)
+within_range first next [] = tt
+within_range first next (node ∷ xs) =
+    by_test (nat_le first node && nat_lt node next) refl (within_range first next xs)
+  where
+    by_test : (test : Bool) → nat_le first node && nat_lt node next ≡ test
+        → AreIn first next (firings_within first next xs)
+        → AreIn first next
+        (if test then node ∷ firings_within first next xs else firings_within first next xs)
+    by_test true e rest =
+        let (from, below) = in_range first next node e in (from, below, rest)
+    by_test false e rest = rest
+
+-- an order goes through the nodes below a number, and then through others
+abbrev pub IsSplitAt : (bound : ℕ) → List ℕ → Type 0
+IsSplitAt bound [] = Unit {0}
+IsSplitAt bound (node ∷ order) =
+    ((node < bound) × IsSplitAt bound order) ⊎ ((bound ≤ node) × From bound order)
+
+from_on : (bound : ℕ) (xs : List ℕ) → From bound xs → IsSplitAt bound xs
+from_on bound [] all = tt
+from_on bound (node ∷ xs) (own, rest) = inr (own, rest)
+
+below_then : (bound : ℕ) (xs ys : List ℕ) → Below bound xs → IsSplitAt bound ys
+    → IsSplitAt bound (xs ++ ys)
+below_then bound [] ys all split = split
+below_then bound (node ∷ xs) ys (own, rest) split =
+    inl (own, below_then bound xs ys rest split)
+
+firings_from : (bound : ℕ) (order : List RoundUnit) → AllFrom bound order
+    → From bound (firings_of order)
+firings_from bound [] all = tt
+firings_from bound (unit ∷ order) (own, rest) =
+    each_append (λ node. bound ≤ node) (repeated unit.turns unit.nodes) (firings_of order)
+    (each_repeated (λ node. bound ≤ node) unit.turns unit.nodes own)
+    (firings_from bound order rest)
+
+-- as its units do
+pub firings_split : (bound : ℕ) (order : List RoundUnit) → IsSplit bound order
+    → IsSplitAt bound (firings_of order)
+firings_split bound [] split = tt
+firings_split bound (unit ∷ order) (inl (own, rest)) =
+    below_then bound (repeated unit.turns unit.nodes) (firings_of order)
+    (each_repeated (λ node. node < bound) unit.turns unit.nodes own)
+    (firings_split bound order rest)
+firings_split bound (unit ∷ order) (inr (own, rest)) =
+    from_on bound (firings_of (unit ∷ order)) (firings_from bound (unit ∷ order) (own, rest))
+
+-- a node of one of two ranges that meet
+one_of : (first second third : Bool) (node : ℕ) (all low high : List ℕ) → first ≡ second
+    → third ≡ false → all ≡ low ++ high
+    → (if first then node ∷ all else all)
+    ≡ (if second then node ∷ low else low) ++ (if third then node ∷ high else high)
+one_of first second true node all low high same none e = absurd (false≢true (sym none))
+one_of true true false node all low high same none e = ap (λ (l : List ℕ). node ∷ l) e
+one_of true false false node all low high same none e = absurd (false≢true (sym same))
+one_of false true false node all low high same none e = absurd (false≢true same)
+one_of false false false node all low high same none e = e
+
+both_or : (test one other : Bool) → one ≡ true → other ≡ true → test && one ≡ test && other
+both_or test one other a b = ap (λ (t : Bool). test && t) (a ∙ sym b)
+
+either_or : (one other test : Bool) → one ≡ true → other ≡ true → one && test ≡ other && test
+either_or one other test a b = ap (λ (t : Bool). t && test) (a ∙ sym b)
+
+none_here : (first next : ℕ) (xs : List ℕ) → next ≤ first → firings_within first next xs ≡ []
+none_here first next [] less = refl
+none_here first next (node ∷ xs) less =
+    ap (λ (test : Bool). if test then node ∷ firings_within first next xs
+    else firings_within first next xs) (test_outside first next node (elim (cases_lt node first) [
+      | inl before ↦ inl before
+      | inr past ↦ inr (omega (arith, past, less))
+    ]))
+    ∙ none_here first next xs less
+
+module _ (low middle high : ℕ) (first : low ≤ middle) (second : middle ≤ high) where
+  none_above : (xs : List ℕ) → From middle xs → firings_within low middle xs ≡ []
+  none_above [] all = refl
+  none_above (node ∷ xs) (own, rest) =
+      ap (λ (test : Bool). if test then node ∷ firings_within low middle xs
+      else firings_within low middle xs) (test_outside low middle node (inr own))
+      ∙ none_above xs rest
+
+  all_above : (xs : List ℕ) → From middle xs
+      → firings_within low high xs ≡ firings_within middle high xs
+  all_above [] all = refl
+  all_above (node ∷ xs) (own, rest) =
+      ap (λ (l : List ℕ). if nat_le low node && nat_lt node high then node ∷ l else l)
+      (all_above xs rest)
+      ∙ ap (λ (test : Bool). if test then node ∷ firings_within middle high xs
+      else firings_within middle high xs)
+      (either_or (nat_le low node) (nat_le middle node) (nat_lt node high)
+      (le-leb low node (omega (arith, first, own))) (le-leb middle node own))
+
+  -- the firings of two ranges that meet where an order is split
+  pub both_ranges : (xs : List ℕ) → IsSplitAt middle xs → firings_within low high xs
+      ≡ firings_within low middle xs ++ firings_within middle high xs
+  both_ranges [] split = refl
+  both_ranges (node ∷ xs) (inl (own, rest)) =
+      one_of (nat_le low node && nat_lt node high) (nat_le low node && nat_lt node middle)
+      (nat_le middle node && nat_lt node high) node (firings_within low high xs)
+      (firings_within low middle xs) (firings_within middle high xs)
+      (both_or (nat_le low node) (nat_lt node high) (nat_lt node middle)
+      (lt-ltb node high (omega (arith, own, second))) (lt-ltb node middle own))
+      (test_outside middle high node (inl own)) (both_ranges xs rest)
+  both_ranges (node ∷ xs) (inr (own, rest)) =
+      all_above (node ∷ xs) (own, rest)
+      ∙ ap (λ (l : List ℕ). l ++ firings_within middle high (node ∷ xs))
+      (sym (none_above (node ∷ xs) (own, rest)))
+
+-- an order that is split at each bound is its ranges' firings, one after another
 module _ (bound : ℕ → ℕ) (count : ℕ)
-    (rising : (a : ℕ) → a < count → bound a ≤ bound (suc a)) (parts : ℕ → List ℕ)
-    (each : (a : ℕ) → a < count → AreIn (bound a) (bound (suc a)) (parts a)) where
-  kept_part : (a b : ℕ) → a < count → b < count → (b < a) ⊎ (a < b)
-      → firings_within (bound a) (bound (suc a)) (parts b) ≡ []
-  kept_part a b less within apart =
-      kept_none (bound a) (bound (suc a)) (bound b) (bound (suc b)) (parts b) (each b within)
-      (elim apart [
-        | inl before ↦ inl (bounds_from bound count rising (suc b) a (omega (arith, before))
-            (omega (arith, less)))
-        | inr past ↦ inr (bounds_from bound count rising (suc a) b (omega (arith, past))
-            (omega (arith, within)))
-      ])
-
-  kept_before : (a n : ℕ) → a < count → n ≤ a
-      → firings_within (bound a) (bound (suc a)) (joined parts n) ≡ []
+    (rising : (a : ℕ) → a < count → bound a ≤ bound (suc a)) (order : List ℕ)
+    (split : (a : ℕ) → a ≤ count → IsSplitAt (bound a) order) where
+  pub ranges_joined : (n : ℕ) → n ≤ count → firings_within (bound 0) (bound n) order
+      ≡ joined (λ a. firings_within (bound a) (bound (suc a)) order) n
   unfolding joined
-  kept_before a zero less most = refl
-  kept_before a (suc n) less most =
-      kept_append (bound a) (bound (suc a)) (joined parts n) (parts n)
-      ∙ ap (λ (l : List ℕ). l ++ firings_within (bound a) (bound (suc a)) (parts n))
-      (kept_before a n less (omega (arith, most)))
-      ∙ kept_part a n less (omega (arith, less, most)) (inl (omega (arith, most)))
-
-  -- the firings of a range are its part
-  pub kept_joined : (a n : ℕ) → a < n → n ≤ count
-      → firings_within (bound a) (bound (suc a)) (joined parts n) ≡ parts a
-  unfolding joined
-  kept_joined a zero less within = absurd (omega (arith, less))
-  kept_joined a (suc n) less within =
-      kept_append (bound a) (bound (suc a)) (joined parts n) (parts n) ∙ elim (cases_lt a n) [
-        | inl before ↦
-            ap (λ (l : List ℕ). l ++ firings_within (bound a) (bound (suc a)) (parts n))
-            (kept_joined a n before (omega (arith, within)))
-            ∙ ap (λ (l : List ℕ). parts a ++ l)
-            (kept_part a n (omega (arith, less, within)) (omega (arith, within)) (inr before))
-            ∙ append-nil (parts a)
-        | inr past ↦
-            let e : n ≡ a = omega (arith, less, past) in
-            ap (λ (l : List ℕ). l ++ firings_within (bound a) (bound (suc a)) (parts n))
-            (kept_before a n (omega (arith, less, within)) (omega (arith, past)))
-            ∙ ap (λ (b : ℕ). firings_within (bound a) (bound (suc a)) (parts b)) e
-            ∙ kept_all (bound a) (bound (suc a)) (parts a)
-            (each a (omega (arith, less, within)))
-      ]
+  ranges_joined zero less = none_here (bound 0) (bound 0) order (omega arith)
+  ranges_joined (suc n) less =
+      both_ranges (bound 0) (bound n) (bound (suc n))
+      (bounds_from bound count rising 0 n (omega arith) (omega (arith, less)))
+      (rising n less) order (split n (omega (arith, less)))
+      ∙ ap (λ (l : List ℕ). l ++ firings_within (bound n) (bound (suc n)) order)
+      (ranges_joined n (omega (arith, less)))

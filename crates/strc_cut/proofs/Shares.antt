@@ -11,6 +11,7 @@ use Rattle.std.proofs.lemmas.List.FromFn.{get_or-map-range_with_len}
 use Rattle.strc_graph.specs.Graphs.{Graph}
 use Rattle.strc_graph.specs.NodeView.{GraphParts, graph_view, node_view}
 use Rattle.strc_wiring.proofs.Nodes.{nodes_are_codes}
+use Rattle.strc_rounds.specs.FusedUnits.{RoundUnit}
 use Rattle.strc_stage.specs.Plans.{IsWhole}
 use Rattle.strc_cut.specs.Bounds.{first_group, bound_at, group_starts, stage_count}
 use Rattle.strc_cut.specs.Bounds.{stage_bound, stage_bounds}
@@ -66,18 +67,19 @@ module _ (nodes : ℕ) (starts : List ℕ) (stages : ℕ) where
       ∙ ap (λ b. map (bound_at nodes starts stages) (range_with_len 0 stages) ++ b ∷ []) bound_past
 
 -- the bounds of the stages that share a graph's groups, and the number of its nodes
-pub bounds_are_shared : (loops : List (Option ℕ)) (workers nodes stages : ℕ)
-    (starts bounds : List ℕ)
-    → length loops ≡ nodes → starts ≡ group_starts loops → stages ≡ min (length starts) workers
+pub bounds_are_shared : (loops : List (Option ℕ)) (order : List RoundUnit)
+    (workers nodes stages : ℕ) (starts bounds : List ℕ)
+    → length loops ≡ nodes → starts ≡ group_starts loops order
+    → stages ≡ min (length starts) workers
     → bounds ≡ map (bound_at nodes starts stages) (range_with_len 0 stages) ++ nodes ∷ []
-    → bounds ≡ stage_bounds loops workers
-bounds_are_shared loops workers nodes stages starts bounds many are count e =
-    let counted : stages ≡ stage_count loops workers =
+    → bounds ≡ stage_bounds loops order workers
+bounds_are_shared loops order workers nodes stages starts bounds many are count e =
+    let counted : stages ≡ stage_count loops order workers =
     count ∙ ap (λ l. min (length l) workers) are in
     e ∙ sym (all_bounds nodes starts stages)
     ∙ ap (λ n. map (bound_at n starts stages) (range_with_len 0 (suc stages))) (sym many)
     ∙ ap (λ l. map (bound_at (length loops) l stages) (range_with_len 0 (suc stages))) are
-    ∙ ap (λ n. map (bound_at (length loops) (group_starts loops) n) (range_with_len 0 (suc n)))
+    ∙ ap (λ n. map (bound_at (length loops) (group_starts loops order) n) (range_with_len 0 (suc n)))
     counted
 
 -- a program's graph says of each of its nodes in which outermost loop it is
@@ -96,9 +98,9 @@ each_node_has_loop graph whole =
     each_has_loop (graph_view graph) whole ∙ length-map graph.nodes node_view
 
 pub bounds_are_listed : BoundsAreListed
-bounds_are_listed loops workers =
-    let many = suc (stage_count loops workers) in (
-      length-map-range_with_len (stage_bound loops workers) 0 many,
-      λ stage less. get_or-map-range_with_len (stage_bound loops workers) 0 many stage stage 0
-          (omega (arith, less)) (omega arith),
+bounds_are_listed loops order workers =
+    let many = suc (stage_count loops order workers) in (
+      length-map-range_with_len (stage_bound loops order workers) 0 many,
+      λ stage less. get_or-map-range_with_len (stage_bound loops order workers) 0 many stage stage
+          0 (omega (arith, less)) (omega arith),
     )

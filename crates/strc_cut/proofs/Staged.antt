@@ -28,18 +28,18 @@ plans_are_staged plan is input rounds bound last known supplied cut =
     let ranged = plans_are_ranged plan bound last is cut in
     let graph = meaning_of is.whole.stream in
     record {
-      keeps = nodes_keep_rates tree plan.graph plan.schedule is.whole.program.flat is.planned known;
+      keeps = nodes_keep_rates tree plan.graph plan.fused is.whole.program.flat is.planned known;
       takes_within =
-          nodes_take_within tree plan.graph plan.schedule is.whole.program.flat is.planned;
+          nodes_take_within tree plan.graph plan.fused is.whole.program.flat is.planned;
       schedule =
-          orders_find plan.graph plan.schedule is.planned tree input rounds is.whole.program
+          orders_find plan.graph plan.fused is.planned tree input rounds is.whole.program
           supplied;
       rewiring = record {
         same = λ node port e. refl;
         idle = λ node port. idle_at (graph.code node) port;
       };
       cut = ranges_are_stages (rewired graph graph.source) bound
-          (segment_of bound (round_order plan.schedule)) last (round_order plan.schedule)
+          (segment_of bound (round_order plan.fused)) last (round_order plan.fused)
           (record {
             rising = ranged.rising;
             own = ranged.own;

@@ -2,14 +2,16 @@
 -- 2006: coarse-grained software pipelining).
 use Rattle.std.specs.Prelude.{◌≡◌, ℕ, suc, ◌<◌, ◌≤◌, Bool, ◌&&◌, ◌||◌, nat_le}
 use Rattle.std.specs.Prelude.{nat_lt, if◌then◌else◌, ℤ, List, [], ◌∷◌, length, Option, Some}
-use Rattle.std.specs.Prelude.{slice_get, slice_index}
+use Rattle.std.specs.Prelude.{slice_get, slice_index, All, ◌⊎◌}
 use Rattle.strc_semantics.specs.declared.fault.Cause.{Cause}
 use Rattle.strc_semantics.specs.declared.word.Word.{Word}
-use Rattle.strc_graph.specs.Graphs.{NodeCode, Graph, reads_input}
+use Rattle.strc_graph.specs.Graphs.{NodeCode, reads_input}
 use Rattle.strc_graph.specs.Carriers.{carries_in}
 use Rattle.strc_graph.specs.Meaning.{node_meaning}
 use Rattle.strc_stream.specs.Instances.{Stream}
 use Rattle.strc_stream.specs.Flattening.{meaning_of, tree_of}
+use Rattle.strc_rounds.specs.FusedUnits.{RoundUnit}
+use Rattle.strc_fuse.specs.Units.{round_units}
 use Rattle.strc_order.specs.declared.unit as units
 use Rattle.strc_order.specs.Order.{firing_count}
 use Rattle.strc_admissible.specs.Laws.{startup_order, round_order}
@@ -29,13 +31,22 @@ abbrev pub BeginsGroup : (loops : List (Option ℕ)) → (number : ℕ) → Type
 BeginsGroup loops number =
     (loop : ℕ) → slice_get loops number ≡ Some (Some loop) → number ≤ loop
 
+-- a number is between units: no unit has nodes on both of its sides
+abbrev pub IsBetweenUnits : List RoundUnit → (bound : ℕ) → Type 0
+IsBetweenUnits order bound =
+    All (λ unit. All (λ node. node < bound) unit.nodes ⊎ All (λ node. bound ≤ node) unit.nodes)
+    order
+
 -- bounds of stages: a stage has the nodes from its bound up to the next one's, all stages have
--- all nodes, and each bound is between groups
-pub record IsCut (graph : Graph) (bound : (stage : ℕ) → ℕ) (stages : ℕ) : Type 0 where
+-- all nodes, and each bound is between groups, and between the units of the round
+pub record IsCut (plan : Planning) (bound : (stage : ℕ) → ℕ) (stages : ℕ) : Type 0 where
   pub first : bound 0 ≡ 0
-  pub all : bound stages ≡ length graph.nodes
+  pub all : bound stages ≡ length plan.graph.nodes
   pub rising : (stage : ℕ) → stage < stages → bound stage ≤ bound (suc stage)
-  pub between : (stage : ℕ) → stage ≤ stages → IsBetweenGroups graph.outer_loops (bound stage)
+  pub between : (stage : ℕ) → stage ≤ stages
+      → IsBetweenGroups plan.graph.outer_loops (bound stage)
+  pub units : (stage : ℕ) → stage ≤ stages
+      → IsBetweenUnits (round_units plan.fused.round) (bound stage)
 
 -- the firings of an order that are of nodes from one number on, and before another
 abbrev pub firings_within : (first next : ℕ) → (order : List ℕ) → List ℕ
@@ -60,21 +71,21 @@ units_within first next (unit ∷ order) =
 abbrev pub takes_items : NodeCode → (port : ℕ) → Bool
 takes_items code port = reads_input code || carries_in code port
 
--- the stream of a plan, its graph and its schedule, with stages from these bounds on
+-- the stream of a plan, its graph and its schedule after fusion, with stages from these bounds on
 abbrev pub staged_stream : Planning → Stream → (input : List ℤ) → (rounds : ℕ)
     → (bound : (stage : ℕ) → ℕ) → (last : ℕ) → StagedStream NodeCode (List ℤ) Cause Word
 staged_stream plan stream input rounds bound last = record {
   meaning = node_meaning;
   stream = tree_of stream;
   input = input;
-  startup = firing_count (startup_order plan.schedule);
-  round = firing_count (round_order plan.schedule);
-  startup_order = startup_order plan.schedule;
-  round_order = round_order plan.schedule;
+  startup = firing_count (startup_order plan.fused);
+  round = firing_count (round_order plan.fused);
+  startup_order = startup_order plan.fused;
+  round_order = round_order plan.fused;
   rounds = rounds;
   source = (meaning_of stream).source;
   carries = λ node port. takes_items ((meaning_of stream).code node) port;
   stage_of = stage_within bound last;
-  segment = segment_of bound (round_order plan.schedule);
+  segment = segment_of bound (round_order plan.fused);
   stages = suc last;
 }

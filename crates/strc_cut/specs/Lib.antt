@@ -2,3 +2,4 @@ pub mod Bounds
 pub mod Cuts
 pub mod Laws
 pub mod Rows
+pub mod Spans

@@ -1,46 +1,68 @@
 // Bounds of stages: a plan's groups, shared among workers.
 
 ghost use Rattle.std.specs.Prelude.{◌≡◌, ◌*◌, ◌/◌, ◌<◌, ◌≤◌, ◌++◌, ◌∷◌, [], length, map, min, IfOk};
+ghost use Rattle.std.specs.Prelude.{All, ◌&&◌, false, get_or, None, not, slice_index_or};
 ghost use Rattle.std.specs.List.{range_with_len};
+ghost use Rattle.strc_order.specs.Peaks.{HasNodes};
+ghost use Rattle.strc_fuse.specs.Units.{round_units};
 ghost use Rattle.strc_cut.specs.Bounds as spec;
 
+use crate::parting::parted_units;
 use std::alloc::{AllocError, Global};
 use strc_graph::graph::Graph;
+use strc_order::unit::Unit;
 use strc_stage::plan::Plan;
 
 /// The bounds of a plan's stages for so many workers: the node with which each stage begins, and
 /// the number of nodes.
 ///
-/// There are as many stages as workers, or as groups where these are fewer. A stage has the groups
-/// that fall to it when stages share them evenly, by number.
+/// A group is all nodes of an outermost feedback loop, or those of one unit of the round outside
+/// feedback loops. There are as many stages as workers, or as groups where these are fewer. A stage
+/// has the groups that fall to it when stages share them evenly, by number.
 pub fn stage_bounds(alloc: Global, plan: &Plan, workers: u32) -> Result<Vec<usize>, AllocError>
     ensures { IfOk result (λ bounds. bounds.items
-        ≡ spec.stage_bounds plan.now.graph.outer_loops workers) }
+        ≡ spec.stage_bounds plan.now.graph.outer_loops (round_units plan.now.fused.round)
+        workers) }
 {
     let graph = plan.graph();
-    let starts = group_starts(alloc, graph)?;
+    let starts = group_starts(alloc, graph, plan.transformed_schedule().round())?;
     let stages = starts.len().min(workers as usize);
     shared(alloc, graph.nodes().len(), &starts, stages)
 }
 
 /// The nodes with which groups begin.
-fn group_starts(alloc: Global, graph: &Graph) -> Result<Vec<usize>, AllocError>
-    requires { length graph.now.outer_loops ≡ length graph.now.nodes }
-    ensures { IfOk result (λ starts. starts.items ≡ spec.group_starts graph.now.outer_loops) }
+fn group_starts(alloc: Global, graph: &Graph, round: &[Unit]) -> Result<Vec<usize>, AllocError>
+    requires loops { length graph.now.outer_loops ≡ length graph.now.nodes }
+    requires nodes { All (HasNodes (length graph.now.nodes)) round.now }
+    ensures { IfOk result (λ starts. starts.items
+        ≡ spec.group_starts graph.now.outer_loops (round_units round.now)) }
 {
+    let nodes = graph.nodes().len();
+    let parted = parted_units(alloc, nodes, round)?;
     let mut starts = Vec::new(alloc);
-    for node in 0..graph.nodes().len() {
-        if begins_group(graph, node) {
+    for node in 0..nodes {
+        if begins_group(graph, &parted, node) {
             starts.push(node)?;
         }
     }
     Ok(starts)
 }
 
-/// Whether a group begins with a node: a loop has its joiner's number.
-fn begins_group(graph: &Graph, node: usize) -> bool
+/// Whether a group begins with a node: it is within no loop and no unit.
+fn begins_group(graph: &Graph, parted: &[bool], node: usize) -> bool
+    requires node { node < length graph.now.nodes }
+    requires marks { node < length parted.now }
+    ensures { result ≡ (spec.begins (get_or graph.now.outer_loops node None) node
+        && not (slice_index_or parted.now node false)) }
+{
+    begins_loop(graph, node) && !parted[node]
+}
+
+/// Whether a node isn't past the beginning of its outermost loop, where it is in one: a loop has
+/// its joiner's number.
+fn begins_loop(graph: &Graph, node: usize) -> bool
     requires { node < length graph.now.nodes }
-    ensures { result ≡ spec.begins_at graph.now.outer_loops node }
+    ensures { result ≡ spec.begins (get_or graph.now.outer_loops node None) node }
 {
     match graph.outer_loop(node) {
         Some(joiner) => node <= joiner as usize,

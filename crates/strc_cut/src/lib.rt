@@ -1,9 +1,11 @@
 // Takes: a plan, and a number of workers.
-// Gives: bounds of stages between the groups of its nodes, outermost feedback loops and other
-// nodes, and laws on such bounds, each the contract of a public function with an empty body.
+// Gives: bounds of stages between the groups of its nodes, outermost feedback loops and units of
+// the round after fusion, and laws on such bounds, each the contract of a public function with an
+// empty body.
 // The theorem to rely on: `plans_are_staged`: the round of a plan, cut at such bounds, is staged,
 // so that what a chain of workers makes of it is the answer of the stream equations.
 // Stands on strc_staging, whose laws it makes good for plans, on strc_stage, whose plans these are,
+// on strc_fuse, whose units their rounds have,
 // on strc_order, whose orders go range by range, and on strc_admissible, strc_wiring, strc_stream
 // and strc_graph.
 #![tactic(auto)]
@@ -12,9 +14,10 @@ ghost use Rattle.strc_cut.specs.Laws.{BoundsAreOfGroups, ChainGivesPlanAnswer, C
 ghost use Rattle.strc_cut.specs.Laws.{GroupsBeginBetween, PlansAreRanged, PlansAreStaged};
 ghost use Rattle.strc_cut.specs.Laws.{BlocksHaveRoundRates, BoundsAreACut, BoundsAreListed};
 ghost use Rattle.strc_cut.specs.Laws.{SegmentsAreUnits};
-ghost use Rattle.strc_cut.specs.Rows.{CutRoundALoop, BoundsRoundALoop};
+ghost use Rattle.strc_cut.specs.Rows.{BoundsRoundALoop, BoundsRoundAUnit, CutRoundALoop};
 
 pub mod bounds;
+mod parting;
 
 /// A number that is between the groups of a stream's nodes is where one of them begins, or where
 /// the last one ends.
@@ -66,6 +69,11 @@ pub fn chain_gives_plan_answer()
 /// A block that crosses by a channel has as many items as its source's firings in a round push.
 pub fn blocks_have_round_rates()
     ensures { BlocksHaveRoundRates }
+{}
+
+/// The bounds of two and nine workers where three nodes are fused.
+pub fn bounds_round_a_unit()
+    ensures { BoundsRoundAUnit }
 {}
 
 /// Three stages round a feedback loop, which no bound parts.

@@ -33,7 +33,10 @@ fn digits(bounds: &[usize]) -> usize {
 #[test]
 fn a_loop_stays_in_one_stage(rt: HostRuntime) -> Result<(), Fail> {
     let alloc = rt.alloc();
-    let options = Options { main: None };
+    let options = Options {
+        main: None,
+        fuse: 0,
+    };
     let plan = compile(alloc, TEXT, &options).ok().ok_or("no plan")?;
     assert_eq!(rt; digits(&stage_bounds(alloc, &plan, 0)?), 16);
     assert_eq!(rt; digits(&stage_bounds(alloc, &plan, 1)?), 106);

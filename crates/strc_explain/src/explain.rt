@@ -16,18 +16,23 @@ use strc_input::device::{Sink, Source};
 use strc_messages::fault::{FaultSite, bad_input_message, fault_message, not_run_message};
 use strc_messages::refusal::refusal_message;
 use strc_output::stop::Stop;
+use strc_run::compile::Plan;
 use strc_run::run::Outcome;
+use strc_stages::Stage;
+use strc_worker::Gate;
 
 /// How a call went, and what a person reads of it; no bytes where there is nothing to say.
 #[derive(Drop)]
 pub struct Explained {
     pub result: Result<Status, CliError>,
     pub message: Vec<u8>,
+    /// The plan that was run, where one was.
+    pub plan: Option<Plan>,
 }
 
 /// As `execute`; and where the text, its input or its run is refused, or a firing faults, what a
 /// person reads of it, with the place in the file of this name.
-pub fn execute_explained<R: Threads + Wait + Sync, I: Source, O: Sink>(
+pub fn execute_explained<G: Gate<Stage>, R: Threads + Wait + Sync, I: Source, O: Sink>(
     rt: &R,
     alloc: Global,
     file: &str,
@@ -35,6 +40,7 @@ pub fn execute_explained<R: Threads + Wait + Sync, I: Source, O: Sink>(
     command: &Command,
     input: &mut I,
     output: &mut O,
+    gate: &G,
 ) -> Explained
     ensures reported { Executes text.now command.now (I.remaining input.old) result.result
         (device_of (O.contents output.old) (O.has_failed output.old))
@@ -44,15 +50,25 @@ pub fn execute_explained<R: Threads + Wait + Sync, I: Source, O: Sink>(
         → I.has_failed input.new ≡ I.has_failed input.old }
     ensures unread { (input.new ≡ input.old) ⊎ ReadsInput text.now command.now }
 {
-    match answer_to(rt, alloc, text, command, input) {
+    match answer_to(rt, alloc, text, command, input, gate) {
         Ok(answered) => Explained {
             result: tell(alloc, &answered, output),
             message: message_of(alloc, file, text, main_name(command), &answered),
+            plan: plan_of(answered),
         },
         Err(failure) => Explained {
             result: Err(failure),
             message: Vec::new(alloc),
+            plan: None,
         },
+    }
+}
+
+// The plan that was run, where one was.
+fn plan_of(answered: Result<Answer, Stop>) -> Option<Plan> {
+    match answered {
+        Ok(Answer::Ran(plan, _)) => Some(plan),
+        _ => None,
     }
 }
 

@@ -1,1 +1,4 @@
+pub mod Copies
+pub mod GreedyOnce
+pub mod Exclusion
 pub mod Planned

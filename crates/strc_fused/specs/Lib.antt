@@ -1,1 +1,2 @@
+pub mod Fusions
 pub mod Laws

@@ -1,6 +1,6 @@
 // Planned schedules before fusion and after it.
 
-ghost use Rattle.strc_fused.specs.Laws.{PlannedAreFusible, FusedArePlanned};
+ghost use Rattle.strc_fused.specs.Laws.{PlannedAreFusible, FusedArePlanned, FusedOrRefused};
 
 /// A planned schedule whose units are placed has all that `fuse` keeps.
 pub fn planned_are_fusible()
@@ -10,4 +10,10 @@ pub fn planned_are_fusible()
 /// And what it leaves is planned, with the same counts.
 pub fn fused_are_planned()
     ensures { FusedArePlanned }
+{}
+
+/// Fusion of a graph's greedy schedule leaves a schedule, or a buffer passes the limit, and never
+/// both.
+pub fn fused_or_refused()
+    ensures { FusedOrRefused }
 {}

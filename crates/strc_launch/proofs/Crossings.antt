@@ -2,7 +2,7 @@
 use Rattle.std.proofs.Common.{◌≡◌, refl, sym, ap, ◌∙◌, ℕ, suc, ◌+◌, ◌≤◌, Bool, true}
 use Rattle.std.proofs.Common.{false, List, [], ◌∷◌, length, map, arith}
 use Rattle.std.specs.Prelude.{eqb, if◌then◌else◌, ◌&&◌}
-use Rattle.strc_graph.specs.Graphs.{Channel, Graph, NodeCode, gives_words}
+use Rattle.strc_graph.specs.Graphs.{Channel, NodeCode, gives_words}
 use Rattle.strc_graph.specs.Tapes.{tape_nodes_from}
 use Rattle.strc_circuit.specs.Parts.{is_within}
 use Rattle.strc_cut.specs.Cuts.{IsCut}
@@ -136,10 +136,10 @@ tapes_after first next from tape node (code ∷ codes) less =
     (λ t. tapes_after first next from t (suc node) codes (omega (arith, less)))
 
 -- a stage's are those of its nodes
-module _ (graph : Graph) (bound : ℕ → ℕ) (last : ℕ) (cut : IsCut graph bound (suc last))
+module _ (plan : Planning) (bound : ℕ → ℕ) (last : ℕ) (cut : IsCut plan bound (suc last))
     (stage : ℕ) (most : stage ≤ last) where
   pub tapes_are : (tape node : ℕ) (codes : List NodeCode)
-      → node + length codes ≤ length graph.nodes
+      → node + length codes ≤ length plan.graph.nodes
       → tapes_in (bound stage) (bound (suc stage)) tape (tape_nodes_from node codes)
       ≡ tapes_from bound last tape node stage codes
   tapes_are tape node [] within = refl
@@ -147,5 +147,5 @@ module _ (graph : Graph) (bound : ℕ → ℕ) (last : ℕ) (cut : IsCut graph b
       same_tape (bound stage) (bound (suc stage)) node (tape_nodes_from (suc node) codes)
       (gives_words code) (eqb (stage_within bound last node) stage) tape
       (λ t. tapes_from bound last t (suc node) stage codes)
-      (same_test graph bound last cut stage node most (omega (arith, within)))
+      (same_test plan bound last cut stage node most (omega (arith, within)))
       (λ t. tapes_are t (suc node) codes (omega (arith, within)))

@@ -1,33 +1,38 @@
 -- The bounds that workers share are a cut.
 use Rattle.std.proofs.Common.{◌≡◌, refl, sym, ap, ◌∙◌, subst, ℕ, suc, ◌<◌, ◌≤◌, List, []}
 use Rattle.std.proofs.Common.{◌∷◌, length, map, arith}
-use Rattle.strc_graph.specs.Graphs.{Graph, Channel}
-use Rattle.strc_stage.specs.Plans.{Planning, IsWhole}
+use Rattle.strc_graph.specs.Graphs.{Channel}
+use Rattle.strc_rounds.specs.FusedUnits.{RoundUnit}
+use Rattle.strc_fuse.specs.Units.{round_units}
+use Rattle.strc_stage.specs.Plans.{Planning, IsPlan}
 use Rattle.strc_cut.specs.Bounds.{stage_bound, stage_bounds, stage_count}
-use Rattle.strc_cut.specs.Cuts.{IsBetweenGroups, IsCut}
+use Rattle.strc_cut.specs.Cuts.{IsBetweenGroups, IsBetweenUnits, IsCut}
 use Rattle.strc_cut.proofs.EvenShares.{bounds_are_a_cut}
 use Rattle.strc_cut.proofs.Shares.{bounds_are_listed}
 use Rattle.strc_staged.specs.Beginnings.{round_pushes}
 use Rattle.strc_launch.specs.Bounds.{bound_in, last_of}
 use Rattle.strc_launch.specs.Links.{link_of, room_of}
 
-module _ (graph : Graph) (workers : ℕ) (whole : IsWhole graph) (some : 0 < workers)
-    (nodes : 0 < length graph.nodes) where
+module _ (plan : Planning) (workers : ℕ) (plan_is : IsPlan plan) (some : 0 < workers)
+    (nodes : 0 < length plan.graph.nodes) where
+  abbrev order : List RoundUnit
+  order = round_units plan.fused.round
+
   abbrev bounds : List ℕ
-  bounds = stage_bounds graph.outer_loops workers
+  bounds = stage_bounds plan.graph.outer_loops (round_units plan.fused.round) workers
 
   abbrev count : ℕ
-  count = stage_count graph.outer_loops workers
+  count = stage_count plan.graph.outer_loops (round_units plan.fused.round) workers
 
   long : length bounds ≡ suc count
-  long = (bounds_are_listed graph.outer_loops workers).0
+  long = (bounds_are_listed plan.graph.outer_loops order workers).0
 
   bound_is : (stage : ℕ) → stage ≤ count
-      → bound_in bounds stage ≡ stage_bound graph.outer_loops workers stage
-  bound_is stage less = (bounds_are_listed graph.outer_loops workers).1 stage less
+      → bound_in bounds stage ≡ stage_bound plan.graph.outer_loops order workers stage
+  bound_is stage less = (bounds_are_listed plan.graph.outer_loops order workers).1 stage less
 
   some_stage : 0 < count
-  some_stage = (bounds_are_a_cut graph workers whole some nodes).0
+  some_stage = (bounds_are_a_cut plan workers plan_is some nodes).0
 
   pub two_bounds : 2 ≤ length bounds
   two_bounds = omega (arith, long, some_stage)
@@ -35,9 +40,9 @@ module _ (graph : Graph) (workers : ℕ) (whole : IsWhole graph) (some : 0 < wor
   pub stages_are : suc (last_of bounds) ≡ count
   stages_are = omega (arith, long, some_stage)
 
-  counted : IsCut graph (bound_in bounds) count
+  counted : IsCut plan (bound_in bounds) count
   counted =
-      let is = (bounds_are_a_cut graph workers whole some nodes).1 in record {
+      let is = (bounds_are_a_cut plan workers plan_is some nodes).1 in record {
         first = bound_is 0 (omega arith) ∙ is.first;
         all = bound_is count (omega arith) ∙ is.all;
         rising = λ stage less. omega (
@@ -46,12 +51,14 @@ module _ (graph : Graph) (workers : ℕ) (whole : IsWhole graph) (some : 0 < wor
           bound_is (suc stage) (omega (arith, less)),
           is.rising stage less,
         );
-        between = λ stage less. subst (IsBetweenGroups graph.outer_loops)
+        between = λ stage less. subst (IsBetweenGroups plan.graph.outer_loops)
             (sym (bound_is stage less)) (is.between stage less);
+        units = λ stage less. subst (IsBetweenUnits order) (sym (bound_is stage less))
+            (is.units stage less);
       }
 
-  pub bounds_cut : IsCut graph (bound_in bounds) (suc (last_of bounds))
-  bounds_cut = subst (IsCut graph (bound_in bounds)) (sym stages_are) counted
+  pub bounds_cut : IsCut plan (bound_in bounds) (suc (last_of bounds))
+  bounds_cut = subst (IsCut plan (bound_in bounds)) (sym stages_are) counted
 
 -- the room of each channel
 pub link_rooms : (plan : Planning) (at_bounds : List ℕ) (channels : List Channel)

@@ -99,20 +99,20 @@ module _ (plan : Planning) (bounds : List ℕ) (circuit own : CircuitView) (room
   from node is = omega (
     arith,
     parted.first_is,
-    own_from plan.graph bound last parted.at.cut stage node is,
+    own_from plan bound last parted.at.cut stage node is,
   )
 
   below : (node : ℕ) → node < length plan.graph.nodes → IsOwn node → node < next
   below node less is = omega (
     arith,
     parted.next_is,
-    own_below plan.graph bound last parted.at.cut stage node less is,
+    own_below plan bound last parted.at.cut stage node less is,
   )
 
   outside : (node : ℕ) → (IsOwn node → ⊥) → IsOutside first next node
   outside node other = subst (λ (n : ℕ). IsOutside n next node) (sym parted.first_is)
       (subst (λ (n : ℕ). IsOutside (bound stage) n node) (sym parted.next_is)
-      (is_outside plan.graph bound last parted.at.cut stage node parted.most other))
+      (is_outside plan bound last parted.at.cut stage node parted.most other))
 
   -- ---- the circuit
 

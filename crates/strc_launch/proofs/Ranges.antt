@@ -4,7 +4,7 @@ use Rattle.std.proofs.Common.{Bool, true, false, cond, leb, arith, leb-true, leb
 use Rattle.std.proofs.Common.{length, true≢false}
 use Rattle.std.specs.Prelude.{eqb}
 use Rattle.std.proofs.lemmas.Bool.{cases_order, cases_lt, eq-eqb, eqb-true, le-leb, lt-leb}
-use Rattle.strc_graph.specs.Graphs.{Graph}
+use Rattle.strc_stage.specs.Plans.{Planning}
 use Rattle.strc_circuit.specs.Parts.{IsOutside, is_within}
 use Rattle.strc_circuit.proofs.PartLists.{within_true, within_false}
 use Rattle.strc_cut.specs.Cuts.{IsCut}
@@ -81,13 +81,13 @@ module _ (bound : ℕ → ℕ) where
         | inr other ↦ elim other [ inl under ↦ ih under | inr over ↦ absurd (omega arith) ]
       ]
 
-module _ (graph : Graph) (bound : ℕ → ℕ) (last : ℕ) (cut : IsCut graph bound (suc last)) where
+module _ (plan : Planning) (bound : ℕ → ℕ) (last : ℕ) (cut : IsCut plan bound (suc last)) where
   pub own_from : (stage node : ℕ) → stage_within bound last node ≡ stage → bound stage ≤ node
   own_from zero node is = omega (arith, cut.first)
   own_from (suc stage) node is =
       subst (λ (n : ℕ). bound n ≤ node) is (from_bound bound last node (omega (arith, is)))
 
-  pub own_below : (stage node : ℕ) → node < length graph.nodes
+  pub own_below : (stage node : ℕ) → node < length plan.graph.nodes
       → stage_within bound last node ≡ stage → node < bound (suc stage)
   own_below stage node less is = elim (cases_lt stage last) [
     | inl below ↦ subst (λ (n : ℕ). node < bound (suc n)) is
@@ -135,7 +135,7 @@ module _ (graph : Graph) (bound : ℕ → ℕ) (last : ℕ) (cut : IsCut graph b
   ]
 
   -- the two tests agree on nodes
-  pub same_test : (stage node : ℕ) → stage ≤ last → node < length graph.nodes
+  pub same_test : (stage node : ℕ) → stage ≤ last → node < length plan.graph.nodes
       → eqb (stage_within bound last node) stage
       ≡ is_within (bound stage) (bound (suc stage)) node
   same_test stage node most less = by_test (eqb (stage_within bound last node) stage) refl

@@ -14,11 +14,12 @@ use Rattle.strc_launch.proofs.Lists.{each_next}
 use Rattle.strc_launch.proofs.Ranges.{own_from}
 
 -- what is left after two parts
-pub rest_next : (graph : Graph) (bound : ℕ → ℕ) (last stage : ℕ)
-    (started before after : MachineView) → IsCut graph bound (suc last) → stage ≤ last
-    → IsRest graph (bound stage) started before → IsRest graph (bound (suc stage)) before after
-    → IsRest graph (bound (suc stage)) started after
-rest_next graph bound last stage started before after cut most was is =
+pub rest_next : (plan : Planning) (bound : ℕ → ℕ) (last stage : ℕ)
+    (started before after : MachineView) → IsCut plan bound (suc last) → stage ≤ last
+    → IsRest plan.graph (bound stage) started before
+    → IsRest plan.graph (bound (suc stage)) before after
+    → IsRest plan.graph (bound (suc stage)) started after
+rest_next plan bound last stage started before after cut most was is =
     let rises = cut.rising stage (omega (arith, most)) in record {
       fields = λ node from. is.fields node from ∙ was.fields node (omega (arith, from, rises));
       fired = λ node from. is.fired node from ∙ was.fired node (omega (arith, from, rises));
@@ -39,7 +40,7 @@ module _ (plan : Planning) (bounds : List ℕ) (circuit : CircuitView) (at : IsC
       → IsMade plan bounds circuit started rounds stage own
   made_since own rest made =
       let state = made.state in
-      let from = own_from plan.graph (bound_in bounds) (last_of bounds) at.cut stage in
+      let from = own_from plan (bound_in bounds) (last_of bounds) at.cut stage in
       record {
         state = record {
           circuit_is = record {

@@ -8,7 +8,6 @@ use Rattle.strc_graph.specs.Graphs as graphs
 use Rattle.strc_graph.specs.Graphs.{Graph, NodeCode}
 use Rattle.strc_graph.specs.NodeView.{GraphParts, graph_view}
 use Rattle.strc_semantics.specs.declared.word.Word.{Word}
-use Rattle.strc_order.specs.Schedules.{ScheduleParts}
 use Rattle.strc_admissible.specs.Circuits.{IsCircuit, IsFirst}
 use Rattle.strc_admissible.specs.Laws.{startup_order}
 use Rattle.strc_admissible.specs.Machine.{CircuitView, MachineView, order_run}
@@ -21,24 +20,6 @@ use Rattle.strc_stage.specs.Plans.{IsPlan, PlanParts, Planning, planning_of}
 use Rattle.strc_launch.specs.Launches.{IsFaultOf, IsLaunch, IsReadyFor}
 use Rattle.strc_launch.specs.declared.ringing.Launch.{Launch}
 
--- the filters of a plan start
-pub all_start : (graph : Graph) (schedule : ScheduleParts) → IsPlanned graph schedule
-    → AreStartable graph.nodes
-all_start graph schedule planned number code less =
-    by_code (get_or graph.nodes number code) (slice_get-get_or graph.nodes number code less)
-  where
-    by_code : (own : NodeCode) → slice_get graph.nodes number ≡ Some own → CanStartNode own
-    by_code (graphs.Filter name filter) there = planned.starts filter (number, name, there)
-    by_code graphs.Identity there = tt
-    by_code (graphs.FileReader text) there = tt
-    by_code (graphs.FileWriter text) there = tt
-    by_code (graphs.Splitter splitter) there = tt
-    by_code (graphs.Joiner weights) there = tt
-    by_code (graphs.Scatter fission) there = tt
-    by_code (graphs.Copy copied fission) there =
-        let alone = planned.unfissioned number (graphs.Copy copied fission) there in absurd (cc)
-    by_code (graphs.Gather fission) there = tt
-
 -- the names in each filter are known
 pub all_known : (graph : Graph) → AreClosed graph.nodes → AreKnown graph
 all_known graph closed filter is =
@@ -49,7 +30,7 @@ all_known graph closed filter is =
 -- before start-up
 pub all_ready : (parts : PlanParts) (graph : GraphParts) (sizes : List ℕ) (input : List ℤ)
     (circuit : CircuitView) (machine : MachineView) → IsPlan (planning_of parts)
-    → graph ≡ parts.graph → sizes ≡ parts.schedule.sizes
+    → graph ≡ parts.graph → sizes ≡ parts.fused.sizes
     → IsCircuit (graph_view graph) circuit → circuit.input ≡ input
     → IsFirst (graph_view graph) sizes machine → AreClosed (graph_view graph).nodes
     → IsReadyFor (planning_of parts) input circuit machine
@@ -68,7 +49,7 @@ pub fault_so : (plan : Planning) (input : List ℤ) (rounds workers : ℕ) (circ
     (machine after : MachineView) (before : List (List Word)) (stop : Stop)
     (result : Result Launch NoMemory)
     → IsReadyFor plan input circuit machine
-    → HasGone (order_run circuit (startup_order plan.schedule) machine) (Err stop) before after
+    → HasGone (order_run circuit (startup_order plan.fused) machine) (Err stop) before after
     → IfOk result (IsFaultOf stop) → IfOk result (IsLaunch plan input rounds workers)
 fault_so plan input rounds workers circuit machine after before (stops.Fault node firing cause)
     (Ok launch) ready gone told =

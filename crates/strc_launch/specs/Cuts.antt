@@ -14,7 +14,7 @@ pub record IsCutAt (plan : Planning) (bounds : List ℕ) : Type 0 where
   pub is : IsPlan plan
   pub graph : IsGraph plan.graph
   pub some : 2 ≤ length bounds
-  pub cut : IsCut plan.graph (bound_in bounds) (suc (last_of bounds))
+  pub cut : IsCut plan (bound_in bounds) (suc (last_of bounds))
 
 pub record IsCutting (plan : Planning) (cut : Cut) : Type 0 where
   pub at : IsCutAt plan cut.bounds.items

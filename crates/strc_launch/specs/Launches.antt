@@ -8,6 +8,7 @@ use Rattle.strc_admissible.specs.Planned.{AreKnown}
 use Rattle.strc_core.specs.States.{Start}
 use Rattle.strc_cut.specs.Bounds.{stage_bounds, stage_count}
 use Rattle.strc_cut.specs.Cuts.{IsCut}
+use Rattle.strc_fuse.specs.Units.{round_units}
 use Rattle.strc_parcel.specs.declared.stop as parcels
 use Rattle.strc_parcel.specs.Parcels.{Load}
 use Rattle.strc_runner.specs.declared.machine.Stop.{Stop}
@@ -34,14 +35,16 @@ start_of ring = record {
 
 -- The bounds of the stages that so many workers share.
 abbrev pub bounds_of : Planning → (workers : ℕ) → List ℕ
-bounds_of plan workers = stage_bounds plan.graph.outer_loops workers
+bounds_of plan workers =
+    stage_bounds plan.graph.outer_loops (round_units plan.fused.round) workers
 
 -- A ring of the stages of a plan, one for each worker or each group of nodes, before any event,
 -- with what start-up leaves.
 pub record IsRingOf (plan : Planning) (circuit : CircuitView) (started : MachineView)
     (rounds workers : ℕ) (ring : Ring) : Type 0 where
-  pub count : suc (last_of (bounds_of plan workers)) ≡ stage_count plan.graph.outer_loops workers
-  pub cut : IsCut plan.graph (bound_in (bounds_of plan workers))
+  pub count : suc (last_of (bounds_of plan workers))
+      ≡ stage_count plan.graph.outer_loops (round_units plan.fused.round) workers
+  pub cut : IsCut plan (bound_in (bounds_of plan workers))
       (suc (last_of (bounds_of plan workers)))
   pub beginning : IsBeginning plan (bound_in (bounds_of plan workers))
       (last_of (bounds_of plan workers)) circuit started rounds (start_of ring)
@@ -53,7 +56,7 @@ pub record IsReadyFor (plan : Planning) (input : List ℤ) (circuit : CircuitVie
   pub plan_is : IsPlan plan
   pub circuit_is : IsCircuit plan.graph circuit
   pub input_is : circuit.input ≡ input
-  pub machine_is : IsFirst plan.graph plan.schedule.sizes machine
+  pub machine_is : IsFirst plan.graph plan.fused.sizes machine
   pub known : AreKnown plan.graph
 
 -- Start-up went on to its end, and the ring begins with what it left.
@@ -63,7 +66,7 @@ pub record HasBegun (plan : Planning) (input : List ℤ) (rounds workers : ℕ) 
     pub machine : MachineView
     pub started : MachineView
     pub ready : IsReadyFor plan input circuit machine
-    pub went : order_run circuit (startup_order plan.schedule) machine ≡ Went started
+    pub went : order_run circuit (startup_order plan.fused) machine ≡ Went started
     pub ring_is : IsRingOf plan circuit started rounds workers ring
 
 -- A firing of start-up faulted.
@@ -72,7 +75,7 @@ pub record HasFaulted (plan : Planning) (input : List ℤ) (node firing : ℕ) (
     pub circuit : CircuitView
     pub machine : MachineView
     pub ready : IsReadyFor plan input circuit machine
-    pub stopped : order_run circuit (startup_order plan.schedule) machine
+    pub stopped : order_run circuit (startup_order plan.fused) machine
         ≡ Stopped node firing cause
 
 abbrev pub IsLaunch : Planning → (input : List ℤ) → (rounds workers : ℕ) → Launch → Type 0

@@ -2,9 +2,9 @@
 
 ghost use Rattle.std.specs.Prelude.{◌≡◌, ◌<◌, ◌≤◌, ◌-◌, IfOk, length, map};
 ghost use Rattle.strc_cut.specs.Bounds as bounds;
-ghost use Rattle.strc_graph.specs.Graphs.{IsGraph};
-ghost use Rattle.strc_graph.specs.NodeView.{channel_view, graph_view};
-ghost use Rattle.strc_stage.specs.Plans.{planning_of, IsPlan};
+ghost use Rattle.strc_fuse.specs.Units.{round_units};
+ghost use Rattle.strc_graph.specs.NodeView.{channel_view};
+ghost use Rattle.strc_stage.specs.Plans.{planning_of};
 ghost use Rattle.strc_staging.specs.Ranges.{stage_within};
 ghost use Rattle.strc_launch.specs.Bounds.{bound_in, last_of};
 ghost use Rattle.strc_launch.specs.Cuts.{IsCutting};
@@ -39,9 +39,10 @@ impl Cut {
         requires nodes { 0 < length plan.now.graph.nodes }
         ensures cut { IfOk result (IsCutting (planning_of plan.now)) }
         ensures bounds { IfOk result (λ cut. cut.bounds.items
-            ≡ bounds.stage_bounds plan.now.graph.outer_loops workers) }
+            ≡ bounds.stage_bounds plan.now.graph.outer_loops (round_units plan.now.fused.round)
+            workers) }
     {
-        known_plan(plan);
+        plan.known();
         let bounds = stage_bounds(alloc, plan, workers)?;
         let links = links_of(alloc, plan, &bounds)?;
         let rooms = rooms(alloc, &links)?;
@@ -53,17 +54,6 @@ impl Cut {
             tapes,
         })
     }
-}
-
-/// What is known of a plan, by its readers.
-pub(crate) fn known_plan(plan: &Plan)
-    ensures is { IsPlan (planning_of plan.now) }
-    ensures graph { IsGraph (graph_view plan.now.graph) }
-{
-    let _channels = plan.graph().channels();
-    let _startup = plan.startup_counts();
-    let _round = plan.round_counts();
-    let _schedule = plan.schedule();
 }
 
 /// The channels of a plan, by the stages that they join.

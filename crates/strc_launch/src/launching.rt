@@ -7,7 +7,6 @@ ghost use Rattle.strc_runner.specs.Batches.{IsOrderOf, units_of};
 ghost use Rattle.strc_stage.specs.Plans.{planning_of};
 ghost use Rattle.strc_launch.specs.Launches.{IsFaultOf, IsLaunch};
 
-use crate::cutting::known_plan;
 use crate::laws::runs_keep_rings;
 use crate::ringing::{Launch, ring_of};
 use std::alloc::{AllocError, Global};
@@ -37,9 +36,9 @@ pub fn launch(
     ensures { IfOk result (IsLaunch (planning_of plan.now) input.now rounds workers) }
 {
     runs_keep_rings();
-    known_plan(plan);
+    plan.known();
     let graph = plan.graph();
-    let schedule = plan.schedule();
+    let schedule = plan.transformed_schedule();
     let circuit = Circuit::new(alloc, graph, input)?;
     let startup = order_of(alloc, &circuit, schedule.startup())?;
     let mut machine = Machine::new(alloc, graph, &circuit, schedule.sizes())?;

@@ -79,7 +79,8 @@ fn stage_of(
     let first = cut.bounds[stage];
     let next = cut.bounds[stage + 1];
     let own = circuit.part_of(alloc, first, next)?;
-    let units = units_within(alloc, plan.schedule().round(), first, next)?;
+    let round = plan.transformed_schedule().round();
+    let units = units_within(alloc, round, first, next)?;
     let order = Order::new(alloc, &own, units)?;
     let part = machine.take_part(alloc, plan.graph(), &own, first, next, &cut.rooms)?;
     Ok(Stage::new(StageParts {

@@ -21,19 +21,19 @@ use Rattle.strc_launch.specs.Launches.{IsLaunch}
 use Rattle.strc_parallel.specs.Running.{HasEnded, IsBegun, IsEndOf}
 
 module _ (plan : Planning) (is : IsPlan plan) (input : List ℤ) (rounds : ℕ) (few : rounds < 2 ^ 32)
-    (supplied : items_read plan.graph.nodes (counts_at plan.schedule rounds) ≤ length input)
+    (supplied : items_read plan.graph.nodes (counts_at plan.fused rounds) ≤ length input)
     (outcome : Outcome) where
   pub ring_answers : (workers : ℕ) (ring : Ring) → HasBegun plan input rounds workers ring
       → HasEnded plan.graph.nodes (start_of ring) outcome
-      → AnswersGraph plan.graph plan.schedule input rounds outcome
+      → AnswersGraph plan.graph plan.fused input rounds outcome
   ring_answers workers ring begun (core, state, over, tells) = λ tree program.
       let ready = begun.ready in
       let bounds = bounds_of plan workers in
-      let whole = whole_run begun.circuit (startup_order plan.schedule) (round_order plan.schedule)
+      let whole = whole_run begun.circuit (startup_order plan.fused) (round_order plan.fused)
       rounds begun.machine in
       record {
         ending = whole;
-        answered = ring_runs tree plan.graph plan.schedule input rounds begun.circuit begun.machine
+        answered = ring_runs tree plan.graph plan.fused input rounds begun.circuit begun.machine
             program is.planned ready.known few supplied ready.circuit_is ready.input_is
             ready.machine_is;
         reported = tells whole
@@ -45,14 +45,14 @@ module _ (plan : Planning) (is : IsPlan plan) (input : List ℤ) (rounds : ℕ) 
 
   pub fault_answers : (node firing : ℕ) (cause : Cause) → HasFaulted plan input node firing cause
       → IsEnding plan.graph.nodes outcome (FaultedAtFirst node firing cause)
-      → AnswersGraph plan.graph plan.schedule input rounds outcome
+      → AnswersGraph plan.graph plan.fused input rounds outcome
   fault_answers node firing cause faulted reported = λ tree program.
       let ready = faulted.ready in
-      let start = startup_order plan.schedule in
-      let round = round_order plan.schedule in
+      let start = startup_order plan.fused in
+      let round = round_order plan.fused in
       record {
         ending = whole_run faulted.circuit start round rounds faulted.machine;
-        answered = ring_runs tree plan.graph plan.schedule input rounds faulted.circuit
+        answered = ring_runs tree plan.graph plan.fused input rounds faulted.circuit
             faulted.machine program is.planned ready.known few supplied ready.circuit_is
             ready.input_is ready.machine_is;
         reported = subst (IsEnding plan.graph.nodes outcome)
@@ -63,7 +63,7 @@ module _ (plan : Planning) (is : IsPlan plan) (input : List ℤ) (rounds : ℕ) 
   -- So of whatever start-up came to.
   pub launch_answers : (workers : ℕ) (launch : Launch) → IsLaunch plan input rounds workers launch
       → IsEndOf plan.graph.nodes launch outcome
-      → AnswersGraph plan.graph plan.schedule input rounds outcome
+      → AnswersGraph plan.graph plan.fused input rounds outcome
   launch_answers workers (launched.Going ring) begun ended = ring_answers workers ring begun ended
   launch_answers workers (launched.Faulted node firing cause) faulted reported =
       fault_answers node firing cause faulted reported
@@ -78,10 +78,10 @@ launch_begins plan input rounds workers (launched.Faulted node firing cause) fau
 -- What is told of a launch is so told of the run.
 pub answers_told : (plan : Planning) (is : IsPlan plan) (input : List ℤ) (rounds : ℕ)
     (few : rounds < 2 ^ 32)
-    (supplied : items_read plan.graph.nodes (counts_at plan.schedule rounds) ≤ length input)
+    (supplied : items_read plan.graph.nodes (counts_at plan.fused rounds) ≤ length input)
     (workers : ℕ) (launch : Launch) → IsLaunch plan input rounds workers launch
     → (result : Result Outcome RunRefusal) → IfOk result (IsEndOf plan.graph.nodes launch)
-    → IfOk result (AnswersGraph plan.graph plan.schedule input rounds)
+    → IfOk result (AnswersGraph plan.graph plan.fused input rounds)
 answers_told plan is input rounds few supplied workers launch launched (Ok outcome) ended =
     launch_answers plan is input rounds few supplied outcome workers launch launched ended
 answers_told plan is input rounds few supplied workers launch launched (Err refusal) ended = tt

@@ -4,7 +4,7 @@ ghost use Rattle.std.specs.Prelude.{◌<◌, ◌≤◌, length, map, IfOk, IfErr
 ghost use Rattle.strc_graph.specs.NodeView.{node_view};
 ghost use Rattle.strc_core.specs.States.{IsStart};
 ghost use Rattle.strc_sched.specs.Plain.{need_of, AnswersGraph};
-ghost use Rattle.strc_stage.specs.Plans.{IsPlan, planning_of};
+ghost use Rattle.strc_stage.specs.Plans.{planning_of};
 ghost use Rattle.strc_launch.specs.Launches.{start_of};
 ghost use Rattle.strc_parallel.specs.Running.{Drives, HasEnded, IsBegun, IsEndOf};
 ghost use Rattle.strc_parallel.specs.Running.{LacksMeans};
@@ -43,27 +43,17 @@ pub fn run_stages<G: Gate<Stage>, R: Threads + Wait + Sync>(
     requires rounds { 0 < rounds }
     requires workers { 0 < workers }
     requires nodes { 0 < length plan.now.graph.nodes }
-    requires enough { need_of (planning_of plan.now).graph plan.now.schedule rounds
+    requires enough { need_of (planning_of plan.now).graph plan.now.fused rounds
         ≤ length input.now }
-    ensures answer { IfOk result (AnswersGraph (planning_of plan.now).graph plan.now.schedule
+    ensures answer { IfOk result (AnswersGraph (planning_of plan.now).graph plan.now.fused
         input.now rounds) }
     ensures means { IfErr result LacksMeans }
 {
-    known_plan(plan);
+    plan.known();
     match launch(alloc, plan, input, rounds, workers) {
         Ok(launched) => run_launched(rt, alloc, plan, launched, gate),
         Err(_) => Err(RunRefusal::NoMemory),
     }
-}
-
-/// What a plan's readers tell of it, together.
-fn known_plan(plan: &Plan)
-    ensures { IsPlan (planning_of plan.now) }
-{
-    plan.graph();
-    plan.startup_counts();
-    plan.round_counts();
-    plan.schedule();
 }
 
 /// What comes of start-up, and of the rounds after it.

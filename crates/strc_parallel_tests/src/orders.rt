@@ -81,7 +81,7 @@ fn compare_case(rt: &impl Abort, alloc: Global, case: &Case<'_>) -> Result<(), F
     let outcome = run_plain(
         alloc,
         plan.graph(),
-        plan.schedule(),
+        plan.transformed_schedule(),
         &case.input,
         case.rounds,
     )?;

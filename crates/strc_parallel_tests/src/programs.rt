@@ -110,7 +110,10 @@ pub fn case_of(alloc: Global, row: &str) -> Result<Case<'_>, Fail> {
 /// The plan of a pipeline of these children.
 fn plan_of(alloc: Global, children: &str) -> Result<Plan, Fail> {
     let text = format!(in alloc; "{FILTERS}void->void pipeline Main {{ {children} }}\n")?;
-    let options = Options { main: None };
+    let options = Options {
+        main: None,
+        fuse: 0,
+    };
     let plan = compile(alloc, text.as_bytes(), &options).ok();
     Ok(plan.ok_or("no plan")?)
 }

@@ -27,7 +27,9 @@ fn outcome_of<R: Threads + Wait + Sync>(
     if plan.graph().nodes().is_empty() || case.rounds == 0 || workers == 0 {
         return Err("nothing to begin with".into());
     }
-    if (case.input.len() as u64) < input_needed(plan.graph(), plan.schedule(), case.rounds) {
+    if (case.input.len() as u64)
+        < input_needed(plan.graph(), plan.transformed_schedule(), case.rounds)
+    {
         return Err("the input is short".into());
     }
     Ok(run_stages(

@@ -84,7 +84,14 @@ fn plan_of(rt: &HostRuntime, peeks: Peeks) -> io::Result<Option<Plan>> {
          }}",
         peeks.filters, peeks.peek
     )?;
-    match compile(rt.alloc(), text.as_bytes(), &Options { main: None }) {
+    match compile(
+        rt.alloc(),
+        text.as_bytes(),
+        &Options {
+            main: None,
+            fuse: 0,
+        },
+    ) {
         Ok(plan) => Ok(Some(plan)),
         Err(Refusal::StartupUnbounded) => Ok(None),
         Err(_) => Err(io::Error::new(ErrorKind::InvalidData, "the text is refused")),

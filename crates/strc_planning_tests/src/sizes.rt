@@ -63,10 +63,7 @@ fn copy_of(alloc: Global) -> Result<Node, Fail> {
         members,
     };
     match lower(alloc, &tree, &Constants::new(alloc)) {
-        Ok(code) => Ok(Node::Copy(
-            Copied::Filter(Instance { name: None, code }),
-            FISSION,
-        )),
+        Ok(code) => Ok(Node::Copy(Copied::Filter(Instance { name: None, code }), FISSION)),
         Err(_) => Err(Fail::from("lower")),
     }
 }

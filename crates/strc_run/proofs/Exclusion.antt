@@ -4,10 +4,10 @@ use Rattle.std.proofs.Common.{subst, arith, inl, inr}
 use Rattle.strc_syntax.specs.Tree.{Declaration}
 use Rattle.strc_parse.specs.Texts.{Spells, SpellsOneProgram, SpelledTextsAreReadable}
 use Rattle.strc_elab.specs.Elaboration.{elaborated}
-use Rattle.strc_stream.specs.Flattening.{nodes_of, IsFlat}
+use Rattle.strc_stream.specs.Flattening.{nodes_of, outer_loops, IsFlat}
 use Rattle.strc_stream.specs.Instances.{Stream}
 use Rattle.strc_stream.specs.OneGraph.{HasOneGraph}
-use Rattle.strc_graph.specs.Graphs.{Graph}
+use Rattle.strc_graph.specs.Graphs.{Channel, Graph, NodeCode}
 use Rattle.strc_balance.specs.Balance.{count_at}
 use Rattle.strc_balance.specs.Rates.{equation_of}
 use Rattle.strc_balance.specs.Verdicts.{judged}
@@ -17,15 +17,18 @@ use Rattle.strc_startup.specs.Rates.{first_count, first_counts, rates_of, rates_
 use Rattle.strc_startup.specs.Startup.{IsLeast}
 use Rattle.strc_order.specs.Schedules.{ScheduleParts, IsSchedule}
 use Rattle.strc_scope.specs.declared.error.ElabError.{ElabError}
+use Rattle.strc_fused.specs.Fusions.{IsFusion}
+use Rattle.strc_fused.specs.Laws.{FusedOrRefused}
 use Rattle.strc_stage.specs.Laws.{OneStartup, ScheduledOrRefused}
 use Rattle.strc_stage.specs.Plans.{HasSchedule, HasStartup, Planning}
 use Rattle.strc_refusal.specs.declared.refusal.Refusal.{Refusal}
 use Rattle.strc_refusal.specs.declared.refusal.Refusal.TheVariants as refusal
 use Rattle.strc_run.specs.Accepts.{Accepts, CanRun, round_counts}
+use Rattle.strc_run.specs.Choices.{Choice}
 use Rattle.strc_run.specs.Laws.{AcceptedOrRefused, OneStream}
 use Rattle.strc_run.specs.Rates.{rates_checked}
 use Rattle.strc_run.specs.Refuses.{Breaks, CannotBalance, CannotRun, CannotSchedule, CannotStart}
-use Rattle.strc_run.specs.Refuses.{IsUnreadable}
+use Rattle.strc_run.specs.Refuses.{CannotFuse, IsUnreadable}
 
 one_result : (result : Result Stream ElabError) (stream : Stream) (broken : ElabError)
     → result ≡ Ok stream → result ≡ Err broken → ⊥
@@ -126,6 +129,25 @@ schedules_or_not law graph startup round schedule (refusal.BufferLimit channel) 
     (law graph startup round schedule has).1 channel past
 schedules_or_not law graph startup round schedule refused has cannot = cannot
 
+-- a schedule can be fused, or it can't
+fused_or_not : FusedOrRefused → (graph : Graph) (startup round : List ℕ) (threshold : ℕ)
+    (schedule fused : ScheduleParts) (refused : Refusal) → HasSchedule graph startup round schedule
+    → IsFusion graph threshold schedule fused → CannotFuse graph startup round threshold refused
+    → ⊥
+fused_or_not law graph startup round threshold schedule fused (refusal.BufferLimit channel) has is
+    cannot =
+    law graph (count_at startup) (count_at round) threshold schedule cannot.schedule fused channel
+    has.is cannot.has.is is cannot.passes
+fused_or_not law graph startup round threshold schedule fused refused has is cannot = cannot
+
+-- what fusion makes of a schedule of one graph it makes of it in an equal one
+same_graph : (one other : Graph) → one.nodes ≡ other.nodes → one.channels ≡ other.channels
+    → one.outer_loops ≡ other.outer_loops → one ≡ other
+same_graph one other nodes channels loops =
+    ap (λ (l : List NodeCode). record one { nodes = l }) nodes
+    ∙ ap (λ (l : List Channel). record one { nodes = other.nodes; channels = l }) channels
+    ∙ ap (λ (l : List (Option ℕ)). record other { outer_loops = l }) loops
+
 -- a text with a program can be read
 readable : SpelledTextsAreReadable → (text : List ℕ) (program : List Declaration)
     (refused : Refusal) → Spells text program → IsUnreadable text refused → ⊥
@@ -139,45 +161,45 @@ readable law text program refused spells never = never
 module _ (one_program : SpellsOneProgram) where
   -- the elaboration of the one program of a text is the only one
   pub only_stream : OneStream
-  only_stream text main plan other accepted again =
+  only_stream text choice plan other accepted again =
       let same = one_program text accepted.program again.program accepted.spells again.spells in
-      same_stream (elaborated again.program main) accepted.stream again.stream
-      (subst (λ (program : List Declaration). elaborated program main ≡ Ok accepted.stream) same
+      same_stream (elaborated again.program choice.main) accepted.stream again.stream
+      (subst (λ (program : List Declaration). elaborated program choice.main ≡ Ok accepted.stream) same
       accepted.elaborates) again.elaborates
 
   module _ (spelled : SpelledTextsAreReadable) (one_graph : HasOneGraph)
-      (one_startup : OneStartup) (scheduled : ScheduledOrRefused) where
-    module _ (text : List ℕ) (main : Option (List ℕ)) (plan : Planning)
-        (accepted : Accepts text main plan) (refused : Refusal) where
+      (one_startup : OneStartup) (scheduled : ScheduledOrRefused) (fused : FusedOrRefused) where
+    module _ (text : List ℕ) (choice : Choice) (plan : Planning)
+        (accepted : Accepts text choice plan) (refused : Refusal) where
       -- a program that means the accepted stream breaks no rule
-      breaks_none : (program : List Declaration) → elaborated program main ≡ Ok accepted.stream
-          → Breaks program main refused → ⊥
+      breaks_none : (program : List Declaration) → elaborated program choice.main ≡ Ok accepted.stream
+          → Breaks program choice refused → ⊥
       breaks_none program elaborates (Breaks.InElaboration broken is reported) =
-          one_result (elaborated program main) accepted.stream broken elaborates is
+          one_result (elaborated program choice.main) accepted.stream broken elaborates is
       breaks_none program elaborates (Breaks.InGraph other is cannot) =
-          let same = same_stream (elaborated program main) accepted.stream other elaborates is in
+          let same = same_stream (elaborated program choice.main) accepted.stream other elaborates is in
           runs_or_not other refused (subst CanRun same accepted.runs) cannot
       breaks_none program elaborates (Breaks.InRates other is runs broken) =
-          let same = same_stream (elaborated program main) accepted.stream other elaborates is in
+          let same = same_stream (elaborated program choice.main) accepted.stream other elaborates is in
           let both : ◌≡◌ {A = Result (Unit {0}) Refusal} (Ok tt) (Err refused) =
           sym accepted.rates ∙ ap (λ (s : Stream). rates_checked 0 (nodes_of s)) same ∙ broken in
           absurd (cc)
       breaks_none program elaborates (Breaks.InBalance other graph is runs rates flat cannot) =
-          let same = same_stream (elaborated program main) accepted.stream other elaborates is in
+          let same = same_stream (elaborated program choice.main) accepted.stream other elaborates is in
           let one = one_graph accepted.stream plan.graph graph accepted.flat
           (subst (λ (s : Stream). IsFlat s graph) (sym same) flat) in
           balances_or_not plan.round_counts plan.graph graph refused one.0 one.1 accepted.round
           cannot
       breaks_none program elaborates
           (Breaks.InStartup other graph counts is runs rates flat balances cannot) =
-          let same = same_stream (elaborated program main) accepted.stream other elaborates is in
+          let same = same_stream (elaborated program choice.main) accepted.stream other elaborates is in
           let one = one_graph accepted.stream plan.graph graph accepted.flat
           (subst (λ (s : Stream). IsFlat s graph) (sym same) flat) in
           starts_or_not graph plan.startup_counts refused
           (same_startup plan.graph graph plan.startup_counts one.0 one.1 accepted.startup) cannot
       breaks_none program elaborates
           (Breaks.InSchedule other graph counts startup is runs rates flat balances starts cannot) =
-          let same = same_stream (elaborated program main) accepted.stream other elaborates is in
+          let same = same_stream (elaborated program choice.main) accepted.stream other elaborates is in
           let one = one_graph accepted.stream plan.graph graph accepted.flat
           (subst (λ (s : Stream). IsFlat s graph) (sym same) flat) in
           let first = one_startup graph plan.startup_counts startup
@@ -188,12 +210,30 @@ module _ (one_program : SpellsOneProgram) where
           (same_schedule plan.graph graph plan.startup_counts startup plan.round_counts counts
           plan.schedule (same_rates plan.graph graph one.0 one.1) first round accepted.schedule)
           cannot
+      breaks_none program elaborates
+          (Breaks.InFusion other graph counts startup is runs rates flat balances starts loops
+          cannot) =
+          let same = same_stream (elaborated program choice.main) accepted.stream other elaborates
+          is in
+          let one = one_graph accepted.stream plan.graph graph accepted.flat
+          (subst (λ (s : Stream). IsFlat s graph) (sym same) flat) in
+          let first = one_startup graph plan.startup_counts startup
+          (same_startup plan.graph graph plan.startup_counts one.0 one.1 accepted.startup) starts in
+          let round = one_round plan.graph graph plan.round_counts counts one.0 one.1
+          accepted.round balances in
+          let whole = same_graph plan.graph graph one.0 one.1
+          (accepted.loops ∙ ap (λ (s : Stream). outer_loops 0 s) same ∙ sym loops) in
+          fused_or_not fused graph startup counts choice.fuse plan.schedule plan.fused refused
+          (same_schedule plan.graph graph plan.startup_counts startup plan.round_counts counts
+          plan.schedule (same_rates plan.graph graph one.0 one.1) first round accepted.schedule)
+          (subst (λ (g : Graph). IsFusion g choice.fuse plan.schedule plan.fused) whole
+          accepted.fused) cannot
 
     pub excluded : AcceptedOrRefused
-    excluded text main plan refused accepted (inl unreadable) =
+    excluded text choice plan refused accepted (inl unreadable) =
         readable spelled text accepted.program refused accepted.spells unreadable
-    excluded text main plan refused accepted (inr broken) =
+    excluded text choice plan refused accepted (inr broken) =
         let same = one_program text accepted.program broken.0 accepted.spells broken.1 in
-        breaks_none text main plan accepted refused broken.0
-        (subst (λ (program : List Declaration). elaborated program main ≡ Ok accepted.stream) same
+        breaks_none text choice plan accepted refused broken.0
+        (subst (λ (program : List Declaration). elaborated program choice.main ≡ Ok accepted.stream) same
         accepted.elaborates) broken.2

@@ -7,7 +7,7 @@ use Rattle.strc_syntax.specs.Tree.{Declaration}
 use Rattle.strc_parse.specs.Texts.{Spells}
 use Rattle.strc_scope.specs.Answers as elaboration
 use Rattle.strc_elab.specs.Elaboration.{elaborated}
-use Rattle.strc_stream.specs.Flattening.{nodes_of, codes_of, meaning_of, IsFlat}
+use Rattle.strc_stream.specs.Flattening.{nodes_of, codes_of, meaning_of, outer_loops, IsFlat}
 use Rattle.strc_stream.specs.Connections.{IsConnected}
 use Rattle.strc_flatten.specs.Verdicts.{IsRefused}
 use Rattle.strc_stream.specs.Instances.{Stream}
@@ -22,21 +22,25 @@ use Rattle.strc_balance.specs.declared.error.BalanceError.{BalanceError}
 use Rattle.strc_balance.specs.declared.error.BalanceError.TheVariants as unbalanced
 use Rattle.strc_order.specs.declared.error.ScheduleError.{ScheduleError}
 use Rattle.strc_order.specs.declared.error.ScheduleError.TheVariants as unscheduled
+use Rattle.strc_fuse.specs.declared.error.FuseError.{FuseError}
+use Rattle.strc_fuse.specs.declared.error.FuseError.TheVariants as unfused
 use Rattle.strc_startup.specs.declared.error.StartupError.{StartupError}
 use Rattle.strc_startup.specs.declared.error.StartupError.TheVariants as unprimed
 use Rattle.strc_scope.specs.declared.error.ElabError.{ElabError}
 use Rattle.strc_scope.specs.declared.error.ElabError.TheVariants as error
 use Rattle.strc_stage.specs.Plans.{HasStartup, IsDeadlocked, IsUnbounded, Overflows, PlanParts}
-use Rattle.strc_stage.specs.Plans.{planning_of}
+use Rattle.strc_stage.specs.Plans.{OverflowsFused, planning_of}
 use Rattle.strc_refusal.specs.declared.refusal.Refusal.{Refusal}
 use Rattle.strc_refusal.specs.declared.refusal.Refusal.TheVariants as refusal
 use Rattle.strc_run.specs.Accepts.{CanRun, round_counts}
+use Rattle.strc_run.specs.Choices.{Choice}
 use Rattle.strc_run.specs.Plans.{HasPlan, IsPlanOf}
 use Rattle.strc_run.specs.Refuses.{Breaks, HasNoBalance, IsTrueOf, IsReadRefusal}
 use Rattle.strc_run.specs.Rates.{rates_checked, node_checked, filter_checked, then_check}
 use Rattle.strc_run.specs.Rates.{rate_refusal_of}
 use Rattle.strc_refusal.specs.Reports.{refusal_of, balance_refusal_of, startup_refusal_of}
 use Rattle.strc_refusal.specs.Reports.{schedule_refusal_of}
+use Rattle.strc_run.specs.Reports.{fusion_refusal_of}
 use Rattle.strc_run.specs.Verdicts.{IsRefusal}
 
 -- a test of rates doesn't speak of the balance
@@ -73,20 +77,20 @@ not_of_rates node channel (code ∷ codes) e =
     (refusal.Inconsistent channel) (not_of_node node channel code)
     (not_of_rates (node + 1) channel codes) e
 
-module _ (text : List ℕ) (main : Option (List ℕ)) (program : List Declaration)
+module _ (text : List ℕ) (choice : Choice) (program : List Declaration)
     (spells : Spells text program) where
   -- the elaboration's refusal
   pub elaboration_refused : (broken : ElabError)
-      → elaboration.IsRefusal (elaborated program main) broken
-      → IsTrueOf text main (refusal_of broken)
+      → elaboration.IsRefusal (elaborated program choice.main) broken
+      → IsTrueOf text choice (refusal_of broken)
   elaboration_refused error.NoMemory e = tt
   elaboration_refused broken e = inr (program, spells, Breaks.InElaboration broken e refl)
 
-  module _ (stream : Stream) (elaborates : elaborated program main ≡ Ok stream) where
+  module _ (stream : Stream) (elaborates : elaborated program choice.main ≡ Ok stream) where
     -- the flat graph's
     pub graph_refused : (broken : ElabError)
         → IsRefused (codes_of stream) (IsConnected (meaning_of stream)) broken
-        → IsTrueOf text main (refusal_of broken)
+        → IsTrueOf text choice (refusal_of broken)
     graph_refused error.NodeLimit e =
         inr (program, spells, Breaks.InGraph stream elaborates e)
     graph_refused error.TwoInputs e =
@@ -100,7 +104,7 @@ module _ (text : List ℕ) (main : Option (List ℕ)) (program : List Declaratio
 
     -- the rates'
     pub rates_refused : (refused : Refusal) → CanRun stream
-        → IsRefusal (rates_checked 0 (nodes_of stream)) refused → IsTrueOf text main refused
+        → IsRefusal (rates_checked 0 (nodes_of stream)) refused → IsTrueOf text choice refused
     rates_refused refusal.NoMemory runs e = tt
     rates_refused (refusal.Inconsistent channel) runs e =
         absurd (not_of_rates 0 channel (nodes_of stream) e)
@@ -114,7 +118,7 @@ module _ (text : List ℕ) (main : Option (List ℕ)) (program : List Declaratio
           → balancing.IsRefusal (round_counts graph) broken
           → ((channel : ℕ) → broken ≡ unbalanced.Inconsistent channel → (counts : List ℕ)
           → ¬ Balances (size_of graph) (equations_of graph) counts)
-          → IsTrueOf text main (balance_refusal_of broken)
+          → IsTrueOf text choice (balance_refusal_of broken)
       balance_refused unbalanced.CountsTooLarge e none =
           inr (program, spells, Breaks.InBalance stream graph elaborates runs rates flat e)
       balance_refused (unbalanced.Inconsistent channel) e none = (
@@ -135,7 +139,7 @@ module _ (text : List ℕ) (main : Option (List ℕ)) (program : List Declaratio
         -- the start-up's
         pub startup_refused : (broken : StartupError)
             → (broken ≡ unprimed.Unbounded → IsUnbounded graph)
-            → IsTrueOf text main (startup_refusal_of broken)
+            → IsTrueOf text choice (startup_refusal_of broken)
         startup_refused unprimed.Unbounded unbounded = inr (
           program,
           spells,
@@ -151,7 +155,7 @@ module _ (text : List ℕ) (main : Option (List ℕ)) (program : List Declaratio
             → IsDeadlocked graph startup counts in_startup)
             → ((channel : ℕ) → broken ≡ unscheduled.BufferLimit channel
             → Overflows graph startup counts channel)
-            → IsTrueOf text main (schedule_refusal_of broken)
+            → IsTrueOf text choice (schedule_refusal_of broken)
         schedule_refused startup (unscheduled.Deadlock in_startup) starts deadlocked past =
             inr (
               program,
@@ -168,6 +172,21 @@ module _ (text : List ℕ) (main : Option (List ℕ)) (program : List Declaratio
             )
         schedule_refused startup unscheduled.NoMemory starts deadlocked past = tt
 
+        -- fusion's
+        pub fusion_refused : (startup : List ℕ) (broken : FuseError)
+            → HasStartup graph startup → graph.outer_loops ≡ outer_loops 0 stream
+            → ((channel : ℕ) → broken ≡ unfused.BufferLimit channel
+            → OverflowsFused graph startup counts choice.fuse channel)
+            → IsTrueOf text choice (fusion_refusal_of broken)
+        fusion_refused startup (unfused.BufferLimit channel) starts loops past =
+            inr (
+              program,
+              spells,
+              Breaks.InFusion stream graph counts startup elaborates runs
+                  rates flat balances starts loops (past channel refl),
+            )
+        fusion_refused startup unfused.NoMemory starts loops past = tt
+
 -- a deadlock is one of start-up, or one of a round
 pub which_deadlock : (graph : Graph) (startup round : List ℕ) (broken : ScheduleError)
     → (broken ≡ unscheduled.Deadlock true → IsDeadlocked graph startup round true)
@@ -178,28 +197,28 @@ which_deadlock graph startup round broken first later true is = first is
 which_deadlock graph startup round broken first later false is = later is
 
 -- the refusal that is reported
-pub refusal_reported : (text : List ℕ) (main : Option (List ℕ)) (result : Result PlanParts Refusal)
-    (refused : Refusal) → IsErrAnd result (λ found. found ≡ refused) → IsTrueOf text main refused
-    → HasPlan text main result
-refusal_reported text main (Ok plan) refused reported is = absurd reported
-refusal_reported text main (Err found) refused reported is =
-    subst (IsTrueOf text main) (sym reported) is
+pub refusal_reported : (text : List ℕ) (choice : Choice) (result : Result PlanParts Refusal)
+    (refused : Refusal) → IsErrAnd result (λ found. found ≡ refused) → IsTrueOf text choice refused
+    → HasPlan text choice result
+refusal_reported text choice (Ok plan) refused reported is = absurd reported
+refusal_reported text choice (Err found) refused reported is =
+    subst (IsTrueOf text choice) (sym reported) is
 
 -- the plan that is given
-pub plan_reported : (text : List ℕ) (main : Option (List ℕ)) (plan parts : PlanParts) → plan ≡ parts
-    → IsPlanOf text main (planning_of parts) → IsPlanOf text main (planning_of plan)
-plan_reported text main plan parts same is =
-    subst (λ (p : PlanParts). IsPlanOf text main (planning_of p)) (sym same) is
+pub plan_reported : (text : List ℕ) (choice : Choice) (plan parts : PlanParts) → plan ≡ parts
+    → IsPlanOf text choice (planning_of parts) → IsPlanOf text choice (planning_of plan)
+plan_reported text choice plan parts same is =
+    subst (λ (p : PlanParts). IsPlanOf text choice (planning_of p)) (sym same) is
 
 -- before there is a program
-pub read_refused : (text : List ℕ) (main : Option (List ℕ)) (refused : Refusal)
-    → IsReadRefusal text refused → IsTrueOf text main refused
-read_refused text main refusal.NoMemory e = tt
-read_refused text main (refusal.Inconsistent channel) e = absurd e
-read_refused text main refused e = inl e
+pub read_refused : (text : List ℕ) (choice : Choice) (refused : Refusal)
+    → IsReadRefusal text refused → IsTrueOf text choice refused
+read_refused text choice refusal.NoMemory e = tt
+read_refused text choice (refusal.Inconsistent channel) e = absurd e
+read_refused text choice refused e = inl e
 
 -- an inconsistent graph has no rounds
-pub none_balance : (text : List ℕ) (main : Option (List ℕ)) (result : Result PlanParts Refusal)
-    (channel : ℕ) → HasPlan text main result → result ≡ Err (refusal.Inconsistent channel)
-    → HasNoBalance text main
-none_balance text main result channel has is = (subst (HasPlan text main) is has).1
+pub none_balance : (text : List ℕ) (choice : Choice) (result : Result PlanParts Refusal)
+    (channel : ℕ) → HasPlan text choice result → result ≡ Err (refusal.Inconsistent channel)
+    → HasNoBalance text choice
+none_balance text choice result channel has is = (subst (HasPlan text choice) is has).1

@@ -47,7 +47,7 @@ module _ (plan : Planning) (input : List ℤ) (workers : ℕ) (are : AreWorkers 
 
   -- a number of rounds that is given
   pub given_run : (count : ℕ) (result : Result Outcome RunRefusal)
-      → IfOk result (AnswersGraph plan.graph plan.schedule input count)
+      → IfOk result (AnswersGraph plan.graph plan.fused input count)
       → IfOk result (λ _. need_of plan count ≤ length input)
       → IfErr result (IsWorkedRefusal (need_of plan count) (length input) workers)
       → IsRunOf plan input (Some count) workers result
@@ -67,7 +67,7 @@ module _ (plan : Planning) (input : List ℤ) (workers : ℕ) (are : AreWorkers 
   pub served_run : (served : Option ℕ) (result : Result Outcome RunRefusal)
       → list_any reads_input plan.graph.nodes ≡ true
       → IsServed (need_of plan) (length input) served
-      → IfOk result (AnswersGraph plan.graph plan.schedule input (unwrap_or served 0))
+      → IfOk result (AnswersGraph plan.graph plan.fused input (unwrap_or served 0))
       → IfOk result (λ _. need_of plan (unwrap_or served 0) ≤ length input)
       → IfErr result (IsWorkedRefusal (need_of plan (unwrap_or served 0)) (length input) workers)
       → IsRunOf plan input None workers result

@@ -9,19 +9,20 @@ use Rattle.strc_outcome.specs.declared.outcome.Outcome.{Outcome}
 use Rattle.strc_outcome.specs.declared.refusal.RunRefusal.{RunRefusal}
 use Rattle.strc_outcome.specs.declared.refusal.RunRefusal.TheVariants as refused
 use Rattle.strc_stage.specs.Plans.{Planning}
+use Rattle.strc_run.specs.Choices.{Choice}
 use Rattle.strc_run.specs.Laws.{PlansAnswerTexts}
 use Rattle.strc_run.specs.Plans.{IsPlanOf}
 use Rattle.strc_run.specs.Rounds.{IsUnrun, RunsRounds, is_bounded, need_of}
 use Rattle.strc_run.specs.TextRuns.{HasInput, IsTextRun, RunsText}
 
-module _ (text : List ℕ) (main : Option (List ℕ)) (plan : Planning)
-    (is : IsPlanOf text main plan) (input : List ℤ) (asked : Option ℕ) (workers : ℕ) where
+module _ (text : List ℕ) (choice : Choice) (plan : Planning)
+    (is : IsPlanOf text choice plan) (input : List ℤ) (asked : Option ℕ) (workers : ℕ) where
   -- the plan's nodes are the stream's
   same_bound : is_bounded asked plan.graph.nodes ≡ is_bounded asked (nodes_of is.accepted.stream)
   same_bound = ap (is_bounded asked) is.nodes
 
   runs_text : (outcome : Outcome) → RunsRounds plan input asked outcome
-      → RunsText text main plan input asked outcome
+      → RunsText text choice plan input asked outcome
   runs_text outcome runs = record {
     accepted = is.accepted;
     bounded = sym same_bound ∙ runs.bounded;
@@ -29,14 +30,14 @@ module _ (text : List ℕ) (main : Option (List ℕ)) (plan : Planning)
     count = runs.count;
     enough = runs.enough;
     answer =
-        subst (λ (nodes : List NodeCode). IsAnswer (tree_of is.accepted.stream) plan.schedule input
+        subst (λ (nodes : List NodeCode). IsAnswer (tree_of is.accepted.stream) plan.fused input
         runs.rounds nodes outcome) is.nodes
         (runs.answer (tree_of is.accepted.stream) is.whole);
   }
 
   -- rounds that could be run over the input
   has_input : is_bounded asked plan.graph.nodes ≡ true
-      → need_of plan (unwrap_or asked 0) ≤ length input → HasInput text main plan input asked
+      → need_of plan (unwrap_or asked 0) ≤ length input → HasInput text choice plan input asked
   has_input bounded enough = record {
     accepted = is.accepted;
     bounded = sym same_bound ∙ bounded;
@@ -44,7 +45,7 @@ module _ (text : List ℕ) (main : Option (List ℕ)) (plan : Planning)
   }
 
   unrun_text : (refusal : RunRefusal) → IsUnrun plan (length input) asked workers refusal
-      → IsTextRun text main plan input asked workers (Err refusal)
+      → IsTextRun text choice plan input asked workers (Err refusal)
   unrun_text refused.BadWorkers bad = (is.accepted, bad)
   unrun_text (refused.InputShort need got) (are, bounded, (needed, had, short)) = (
     are,
@@ -66,7 +67,7 @@ module _ (text : List ℕ) (main : Option (List ℕ)) (plan : Planning)
   )
 
 pub plans_answer : PlansAnswerTexts
-plans_answer text main plan input asked workers (Ok outcome) is (are, runs) =
-    (are, runs_text text main plan is input asked workers outcome runs)
-plans_answer text main plan input asked workers (Err refusal) is unrun =
-    unrun_text text main plan is input asked workers refusal unrun
+plans_answer text choice plan input asked workers (Ok outcome) is (are, runs) =
+    (are, runs_text text choice plan is input asked workers outcome runs)
+plans_answer text choice plan input asked workers (Err refusal) is unrun =
+    unrun_text text choice plan is input asked workers refusal unrun

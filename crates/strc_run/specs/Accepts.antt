@@ -1,17 +1,19 @@
 -- Which texts are accepted, and with which plan.
-use Rattle.std.specs.Prelude.{◌≡◌, ℕ, List, Option, Result, Ok}
+use Rattle.std.specs.Prelude.{◌≡◌, ℕ, List, Result, Ok}
 use Rattle.strc_syntax.specs.Tree.{Declaration}
 use Rattle.strc_parse.specs.Texts.{Spells}
 use Rattle.strc_elab.specs.Elaboration.{elaborated}
 use Rattle.strc_stream.specs.Connections.{IsConnected}
-use Rattle.strc_stream.specs.Flattening.{nodes_of, codes_of, meaning_of, IsFlat}
+use Rattle.strc_stream.specs.Flattening.{nodes_of, codes_of, meaning_of, outer_loops, IsFlat}
 use Rattle.strc_stream.specs.Instances.{Stream}
 use Rattle.strc_flatten.specs.Verdicts.{IsAccepted}
 use Rattle.strc_graph.specs.Graphs.{Graph}
 use Rattle.strc_balance.specs.Rates.{equations_of, size_of}
 use Rattle.strc_balance.specs.Verdicts.{judged}
 use Rattle.strc_balance.specs.declared.error.BalanceError.{BalanceError}
+use Rattle.strc_fused.specs.Fusions.{IsFusion}
 use Rattle.strc_stage.specs.Plans.{HasSchedule, HasStartup, Planning}
+use Rattle.strc_run.specs.Choices.{Choice}
 use Rattle.strc_run.specs.Rates.{rates_checked}
 
 -- a stream has no more nodes than are allowed, one of them at most takes the input and one at most
@@ -23,20 +25,22 @@ CanRun stream = IsAccepted (codes_of stream) (IsConnected (meaning_of stream))
 abbrev pub round_counts : Graph → Result (List ℕ) BalanceError
 round_counts graph = judged (size_of graph) (equations_of graph)
 
--- the text is accepted, with this plan
-pub record Accepts (text : List ℕ) (main : Option (List ℕ)) (plan : Planning) : Type 0 where
+-- the text is accepted, compiled so, with this plan
+pub record Accepts (text : List ℕ) (choice : Choice) (plan : Planning) : Type 0 where
   -- the text spells a program
   pub program : List Declaration
   pub spells : Spells text program
   -- whose main stream this is
   pub stream : Stream
-  pub elaborates : elaborated program main ≡ Ok stream
+  pub elaborates : elaborated program choice.main ≡ Ok stream
   -- which can be run, and each node of which keeps its rates
   pub runs : CanRun stream
   pub rates : rates_checked 0 (nodes_of stream) ≡ Ok tt
-  -- the plan's graph is the stream's flat graph
+  -- the plan's graph is the stream's flat graph, with the outermost loop of each node
   pub flat : IsFlat stream plan.graph
-  -- with its counts and its schedule
+  pub loops : plan.graph.outer_loops ≡ outer_loops 0 stream
+  -- with its counts, its schedule, and what fusion makes of it
   pub round : round_counts plan.graph ≡ Ok plan.round_counts
   pub startup : HasStartup plan.graph plan.startup_counts
   pub schedule : HasSchedule plan.graph plan.startup_counts plan.round_counts plan.schedule
+  pub fused : IsFusion plan.graph choice.fuse plan.schedule plan.fused

@@ -5,6 +5,7 @@ use Rattle.strc_outcome.specs.declared.refusal.RunRefusal.{RunRefusal}
 use Rattle.strc_stage.specs.Plans.{Planning}
 use Rattle.strc_refusal.specs.declared.refusal.Refusal.{Refusal}
 use Rattle.strc_run.specs.Accepts.{Accepts}
+use Rattle.strc_run.specs.Choices.{Choice}
 use Rattle.strc_run.specs.Plans.{IsPlanOf}
 use Rattle.strc_run.specs.Refuses.{Refuses}
 use Rattle.strc_run.specs.Rounds.{IsRunOf}
@@ -12,18 +13,18 @@ use Rattle.strc_run.specs.TextRuns.{IsTextRun}
 
 -- no text is both accepted and refused
 abbrev pub AcceptedOrRefused : Type 0
-AcceptedOrRefused = (text : List ℕ) (main : Option (List ℕ)) (plan : Planning) (refused : Refusal)
-    → Accepts text main plan → Refuses text main refused → ⊥
+AcceptedOrRefused = (text : List ℕ) (choice : Choice) (plan : Planning) (refused : Refusal)
+    → Accepts text choice plan → Refuses text choice refused → ⊥
 
 -- a text is accepted with one stream
 abbrev pub OneStream : Type 0
-OneStream = (text : List ℕ) (main : Option (List ℕ)) (plan other : Planning)
-    → (accepted : Accepts text main plan) → (again : Accepts text main other)
+OneStream = (text : List ℕ) (choice : Choice) (plan other : Planning)
+    → (accepted : Accepts text choice plan) → (again : Accepts text choice other)
     → accepted.stream ≡ again.stream
 
 -- what the rounds of a text's plan come to is what those of the text come to
 abbrev pub PlansAnswerTexts : Type 0
-PlansAnswerTexts = (text : List ℕ) (main : Option (List ℕ)) (plan : Planning) (input : List ℤ)
+PlansAnswerTexts = (text : List ℕ) (choice : Choice) (plan : Planning) (input : List ℤ)
     (asked : Option ℕ) (workers : ℕ) (result : Result Outcome RunRefusal)
-    → IsPlanOf text main plan → IsRunOf plan input asked workers result
-    → IsTextRun text main plan input asked workers result
+    → IsPlanOf text choice plan → IsRunOf plan input asked workers result
+    → IsTextRun text choice plan input asked workers result

@@ -1,8 +1,10 @@
 pub mod Accepts
+pub mod Choices
 pub mod Laws
 pub mod Plans
 pub mod Rates
 pub mod Refuses
+pub mod Reports
 pub mod Rounds
 pub mod Streams
 pub mod TextRuns

@@ -1,6 +1,6 @@
 -- Which texts are refused, and with which refusal: that of the first rule that is broken, of those
 -- on the text's tokens, its tree, its elaboration, its flat graph, its nodes' rates, their balance,
--- their start-up, their schedule.
+-- their start-up, their schedule, its fusion.
 use Rattle.std.specs.Prelude.{◌≡◌, ℕ, ◌⊎◌, List, Option, Ok, Err}
 use Rattle.strc_syntax.specs.Tree.{Declaration}
 use Rattle.strc_grammar.specs.declared.error.ParseError.TheVariants as parsing
@@ -9,7 +9,7 @@ use Rattle.strc_scope.specs.declared.error.ElabError.{ElabError}
 use Rattle.strc_scope.specs.declared.error.ElabError.TheVariants as error
 use Rattle.strc_elab.specs.Elaboration.{elaborated}
 use Rattle.strc_stream.specs.Connections.{IsConnected}
-use Rattle.strc_stream.specs.Flattening.{nodes_of, codes_of, meaning_of, IsFlat}
+use Rattle.strc_stream.specs.Flattening.{nodes_of, codes_of, meaning_of, outer_loops, IsFlat}
 use Rattle.strc_stream.specs.Instances.{Stream}
 use Rattle.strc_flatten.specs.Verdicts.{IsRefused}
 use Rattle.strc_graph.specs.Graphs.{Graph}
@@ -17,9 +17,11 @@ use Rattle.strc_balance.specs.Balance.{Balances}
 use Rattle.strc_balance.specs.Rates.{equations_of, size_of}
 use Rattle.strc_balance.specs.declared.error.BalanceError.TheVariants as unbalanced
 use Rattle.strc_stage.specs.Plans.{HasStartup, IsDeadlocked, IsUnbounded, Overflows}
+use Rattle.strc_stage.specs.Plans.{OverflowsFused}
 use Rattle.strc_refusal.specs.declared.refusal.Refusal.{Refusal}
 use Rattle.strc_refusal.specs.declared.refusal.Refusal.TheVariants as refusal
 use Rattle.strc_run.specs.Accepts.{CanRun, round_counts}
+use Rattle.strc_run.specs.Choices.{Choice}
 use Rattle.strc_run.specs.Rates.{rates_checked}
 use Rattle.strc_refusal.specs.Reports.{refusal_of}
 
@@ -63,61 +65,75 @@ CannotSchedule graph startup round (refusal.BufferLimit channel) =
     Overflows graph startup round channel
 CannotSchedule graph startup round refused = ⊥
 
+-- a schedule can't be fused into lists of at most so many entries, for this reason
+abbrev pub CannotFuse : Graph → (startup round : List ℕ) → (threshold : ℕ) → Refusal → Type 0
+CannotFuse graph startup round threshold (refusal.BufferLimit channel) =
+    OverflowsFused graph startup round threshold channel
+CannotFuse graph startup round threshold refused = ⊥
+
 -- the first rule that a program breaks
-pub data Breaks (program : List Declaration) (main : Option (List ℕ)) (refused : Refusal) : Type 0
+pub data Breaks (program : List Declaration) (choice : Choice) (refused : Refusal) : Type 0
   where
-    InElaboration : (broken : ElabError) → elaborated program main ≡ Err broken
-        → refused ≡ refusal_of broken → Breaks program main refused
-    InGraph : (stream : Stream) → elaborated program main ≡ Ok stream → CannotRun stream refused
-        → Breaks program main refused
-    InRates : (stream : Stream) → elaborated program main ≡ Ok stream → CanRun stream
-        → rates_checked 0 (nodes_of stream) ≡ Err refused → Breaks program main refused
-    InBalance : (stream : Stream) (graph : Graph) → elaborated program main ≡ Ok stream
+    InElaboration : (broken : ElabError) → elaborated program choice.main ≡ Err broken
+        → refused ≡ refusal_of broken → Breaks program choice refused
+    InGraph : (stream : Stream) → elaborated program choice.main ≡ Ok stream
+        → CannotRun stream refused → Breaks program choice refused
+    InRates : (stream : Stream) → elaborated program choice.main ≡ Ok stream → CanRun stream
+        → rates_checked 0 (nodes_of stream) ≡ Err refused → Breaks program choice refused
+    InBalance : (stream : Stream) (graph : Graph) → elaborated program choice.main ≡ Ok stream
         → CanRun stream
         → rates_checked 0 (nodes_of stream) ≡ Ok tt → IsFlat stream graph
         → CannotBalance graph refused
-        → Breaks program main refused
+        → Breaks program choice refused
     InStartup : (stream : Stream) (graph : Graph) (counts : List ℕ)
-        → elaborated program main ≡ Ok stream
+        → elaborated program choice.main ≡ Ok stream
         → CanRun stream
         → rates_checked 0 (nodes_of stream) ≡ Ok tt → IsFlat stream graph
         → round_counts graph ≡ Ok counts
         → CannotStart graph refused
-        → Breaks program main refused
+        → Breaks program choice refused
     InSchedule : (stream : Stream) (graph : Graph) (counts startup : List ℕ)
-        → elaborated program main ≡ Ok stream
+        → elaborated program choice.main ≡ Ok stream
         → CanRun stream
         → rates_checked 0 (nodes_of stream) ≡ Ok tt → IsFlat stream graph
         → round_counts graph ≡ Ok counts → HasStartup graph startup
         → CannotSchedule graph startup counts refused
-        → Breaks program main refused
+        → Breaks program choice refused
+    InFusion : (stream : Stream) (graph : Graph) (counts startup : List ℕ)
+        → elaborated program choice.main ≡ Ok stream
+        → CanRun stream
+        → rates_checked 0 (nodes_of stream) ≡ Ok tt → IsFlat stream graph
+        → round_counts graph ≡ Ok counts → HasStartup graph startup
+        → graph.outer_loops ≡ outer_loops 0 stream
+        → CannotFuse graph startup counts choice.fuse refused
+        → Breaks program choice refused
 
 -- the text spells a program that breaks this rule
-abbrev pub BreaksRule : List ℕ → Option (List ℕ) → Refusal → Type 0
-BreaksRule text main refused = (program : List Declaration) × Spells text program
-    × Breaks program main refused
+abbrev pub BreaksRule : List ℕ → Choice → Refusal → Type 0
+BreaksRule text choice refused = (program : List Declaration) × Spells text program
+    × Breaks program choice refused
 
 -- the text is refused so: it can't be read, or it breaks a rule
-abbrev pub Refuses : List ℕ → Option (List ℕ) → Refusal → Type 0
-Refuses text main refused = IsUnreadable text refused ⊎ BreaksRule text main refused
+abbrev pub Refuses : List ℕ → Choice → Refusal → Type 0
+Refuses text choice refused = IsUnreadable text refused ⊎ BreaksRule text choice refused
 
 -- no positive counts balance the flat graph of the text's main stream (Lee and Messerschmitt 1987)
-pub record HasNoBalance (text : List ℕ) (main : Option (List ℕ)) : Type 0 where
+pub record HasNoBalance (text : List ℕ) (choice : Choice) : Type 0 where
   pub program : List Declaration
   pub spells : Spells text program
   pub stream : Stream
-  pub elaborates : elaborated program main ≡ Ok stream
+  pub elaborates : elaborated program choice.main ≡ Ok stream
   pub graph : Graph
   pub flat : IsFlat stream graph
   pub none : (counts : List ℕ) → ¬ Balances (size_of graph) (equations_of graph) counts
 
 -- a refusal that was answered is the text's, and an inconsistent graph has no rounds at all; out of
 -- memory says nothing of the text
-abbrev pub IsTrueOf : List ℕ → Option (List ℕ) → Refusal → Type 0
-IsTrueOf text main refusal.NoMemory = Unit {0}
-IsTrueOf text main (refusal.Inconsistent channel) =
-    Refuses text main (refusal.Inconsistent channel) × HasNoBalance text main
-IsTrueOf text main refused = Refuses text main refused
+abbrev pub IsTrueOf : List ℕ → Choice → Refusal → Type 0
+IsTrueOf text choice refusal.NoMemory = Unit {0}
+IsTrueOf text choice (refusal.Inconsistent channel) =
+    Refuses text choice (refusal.Inconsistent channel) × HasNoBalance text choice
+IsTrueOf text choice refused = Refuses text choice refused
 
 -- the same before there is a program
 abbrev pub IsReadRefusal : List ℕ → Refusal → Type 0

@@ -23,7 +23,7 @@ plan_reads plan = list_any reads_input plan.graph.nodes
 
 -- how many items of the input start-up and so many rounds read
 abbrev pub need_of : Planning → (rounds : ℕ) → ℕ
-need_of plan rounds = plain.need_of plan.graph plan.schedule rounds
+need_of plan rounds = plain.need_of plan.graph plan.fused rounds
 
 -- how many rounds are run: so many as are asked for, or as many as so many items serve
 abbrev pub IsCount : (need : ℕ → ℕ) → (got : ℕ) → (asked : Option ℕ) → (rounds : ℕ) → Type 0
@@ -45,7 +45,7 @@ pub record RunsRounds (plan : Planning) (input : List ℤ) (asked : Option ℕ) 
   pub rounds : ℕ
   pub count : IsCount (need_of plan) (length input) asked rounds
   pub enough : need_of plan rounds ≤ length input
-  pub answer : AnswersGraph plan.graph plan.schedule input rounds outcome
+  pub answer : AnswersGraph plan.graph plan.fused input rounds outcome
 
 -- rounds that read so many items aren't run over an input by so many workers: it is shorter, and
 -- only then; or memory runs out, or a worker of several can't be started

@@ -7,6 +7,7 @@ use Rattle.strc_stream.specs.Instances as instances
 use Rattle.strc_stream.specs.View.{stream_view}
 use Rattle.strc_stream.specs.declared.stream.Stream.{Stream}
 use Rattle.strc_refusal.specs.declared.refusal.Refusal.{Refusal}
+use Rattle.strc_run.specs.Choices.{Choice}
 use Rattle.strc_run.specs.Refuses.{IsTrueOf}
 
 -- the text spells a program, and its main stream is this one
@@ -17,6 +18,6 @@ pub record IsStreamOf (text : List ℕ) (main : Option (List ℕ)) (stream : ins
     pub elaborates : elaborated program main ≡ Ok stream
 
 -- an answer is the text's main stream, or the refusal that holds
-abbrev pub HasStream : List ℕ → Option (List ℕ) → Result Stream Refusal → Type 0
-HasStream text main (Ok stream) = IsStreamOf text main (stream_view stream)
-HasStream text main (Err refused) = IsTrueOf text main refused
+abbrev pub HasStream : List ℕ → Choice → Result Stream Refusal → Type 0
+HasStream text choice (Ok stream) = IsStreamOf text choice.main (stream_view stream)
+HasStream text choice (Err refused) = IsTrueOf text choice refused

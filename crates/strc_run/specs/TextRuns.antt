@@ -11,6 +11,7 @@ use Rattle.strc_outcome.specs.declared.refusal.RunRefusal.{RunRefusal}
 use Rattle.strc_outcome.specs.declared.refusal.RunRefusal.TheVariants as refused
 use Rattle.strc_stage.specs.Plans.{Planning}
 use Rattle.strc_run.specs.Accepts.{Accepts}
+use Rattle.strc_run.specs.Choices.{Choice}
 use Rattle.strc_run.specs.Rounds.{AreWorkers, IsCount, is_bounded, need_of}
 
 -- whether a stream has a reader of the program's input
@@ -19,60 +20,60 @@ has_reader stream = list_any reads_input (nodes_of stream)
 
 -- the text is accepted, and the outcome is the answer of its stream's equations, at the counts and
 -- in the orders of its schedule, for so many rounds as are asked for or as the input serves
-pub record RunsText (text : List ℕ) (main : Option (List ℕ)) (plan : Planning) (input : List ℤ)
+pub record RunsText (text : List ℕ) (choice : Choice) (plan : Planning) (input : List ℤ)
     (asked : Option ℕ) (outcome : Outcome) : Type 0 where
-  pub accepted : Accepts text main plan
+  pub accepted : Accepts text choice plan
   pub bounded : is_bounded asked (nodes_of accepted.stream) ≡ true
   pub rounds : ℕ
   pub count : IsCount (need_of plan) (length input) asked rounds
   pub enough : need_of plan rounds ≤ length input
-  pub answer : IsAnswer (tree_of accepted.stream) plan.schedule input rounds
+  pub answer : IsAnswer (tree_of accepted.stream) plan.fused input rounds
       (nodes_of accepted.stream) outcome
 
 -- the text is accepted, and its rounds read so many items, where there are fewer
-pub record LacksInput (text : List ℕ) (main : Option (List ℕ)) (plan : Planning) (input : List ℤ)
+pub record LacksInput (text : List ℕ) (choice : Choice) (plan : Planning) (input : List ℤ)
     (asked : Option ℕ) (need got : ℕ) : Type 0 where
-  pub accepted : Accepts text main plan
+  pub accepted : Accepts text choice plan
   pub bounded : is_bounded asked (nodes_of accepted.stream) ≡ true
   pub needed : need ≡ need_of plan (unwrap_or asked 0)
   pub had : got ≡ length input
   pub short : got < need
 
 -- the text is accepted, and nobody says how many rounds are run, where a number is needed
-pub record NeedsRounds (text : List ℕ) (main : Option (List ℕ)) (plan : Planning)
+pub record NeedsRounds (text : List ℕ) (choice : Choice) (plan : Planning)
     (asked : Option ℕ) : Type 0 where
-  pub accepted : Accepts text main plan
+  pub accepted : Accepts text choice plan
   pub unbounded : is_bounded asked (nodes_of accepted.stream) ≡ false
 
 -- the text is accepted, and its rounds could be run over the input
-pub record HasInput (text : List ℕ) (main : Option (List ℕ)) (plan : Planning) (input : List ℤ)
+pub record HasInput (text : List ℕ) (choice : Choice) (plan : Planning) (input : List ℤ)
     (asked : Option ℕ) : Type 0 where
-  pub accepted : Accepts text main plan
+  pub accepted : Accepts text choice plan
   pub bounded : is_bounded asked (nodes_of accepted.stream) ≡ true
   pub enough : need_of plan (unwrap_or asked 0) ≤ length input
 
 -- why the rounds of an accepted text aren't run by so many workers, which can run rounds: the input
 -- is too short, nobody says how many there are, or they could be run, and memory runs out or a
 -- worker of several can't be started
-abbrev pub IsTextUnrun : List ℕ → Option (List ℕ) → Planning → List ℤ → (asked : Option ℕ)
+abbrev pub IsTextUnrun : List ℕ → Choice → Planning → List ℤ → (asked : Option ℕ)
     → (workers : ℕ) → RunRefusal → Type 0
-IsTextUnrun text main plan input asked workers (refused.InputShort need got) =
-    LacksInput text main plan input asked need got
-IsTextUnrun text main plan input asked workers refused.RoundsNeeded =
-    NeedsRounds text main plan asked
-IsTextUnrun text main plan input asked workers refused.NoMemory =
-    HasInput text main plan input asked
-IsTextUnrun text main plan input asked workers refused.NoWorker =
-    (1 < workers) × HasInput text main plan input asked
-IsTextUnrun text main plan input asked workers refused.BadWorkers = ⊥
+IsTextUnrun text choice plan input asked workers (refused.InputShort need got) =
+    LacksInput text choice plan input asked need got
+IsTextUnrun text choice plan input asked workers refused.RoundsNeeded =
+    NeedsRounds text choice plan asked
+IsTextUnrun text choice plan input asked workers refused.NoMemory =
+    HasInput text choice plan input asked
+IsTextUnrun text choice plan input asked workers refused.NoWorker =
+    (1 < workers) × HasInput text choice plan input asked
+IsTextUnrun text choice plan input asked workers refused.BadWorkers = ⊥
 
 -- how the rounds of an accepted text are answered by so many workers: with their outcome, which is
 -- the same for each number of them, or with why they aren't run
-abbrev pub IsTextRun : List ℕ → Option (List ℕ) → Planning → List ℤ → (asked : Option ℕ)
+abbrev pub IsTextRun : List ℕ → Choice → Planning → List ℤ → (asked : Option ℕ)
     → (workers : ℕ) → Result Outcome RunRefusal → Type 0
-IsTextRun text main plan input asked workers (Ok outcome) =
-    AreWorkers workers × RunsText text main plan input asked outcome
-IsTextRun text main plan input asked workers (Err refused.BadWorkers) =
-    Accepts text main plan × (¬ AreWorkers workers)
-IsTextRun text main plan input asked workers (Err refusal) =
-    AreWorkers workers × IsTextUnrun text main plan input asked workers refusal
+IsTextRun text choice plan input asked workers (Ok outcome) =
+    AreWorkers workers × RunsText text choice plan input asked outcome
+IsTextRun text choice plan input asked workers (Err refused.BadWorkers) =
+    Accepts text choice plan × (¬ AreWorkers workers)
+IsTextRun text choice plan input asked workers (Err refusal) =
+    AreWorkers workers × IsTextUnrun text choice plan input asked workers refusal

@@ -4,9 +4,11 @@ ghost use Rattle.std.specs.Prelude.{◌≡◌, ℕ, List, Err, IfOk, IfErr};
 ghost use Rattle.std.specs.Option.{option_map};
 ghost use Rattle.strc_syntax.specs.View.{program_view};
 ghost use Rattle.strc_parse.specs.Texts.{Spells};
-ghost use Rattle.strc_run.specs.Plans.{HasPlan, main_of};
+ghost use Rattle.strc_run.specs.Choices.{choice_of};
+ghost use Rattle.strc_run.specs.Plans.{HasPlan};
 ghost use Rattle.strc_run.specs.Streams.{HasStream};
 ghost use Rattle.strc_run.specs.Refuses.{HasNoBalance, IsReadRefusal};
+ghost use Rattle.strc_run.specs.Reports as spec;
 ghost use Rattle.strc_refusal.specs.declared.refusal.Refusal.TheVariants as refused;
 
 use crate::options::Options;
@@ -16,6 +18,9 @@ use std::alloc::Global;
 use strc_balance::balance::balance;
 use strc_elab::elaborate::elaborate;
 use strc_flatten::flatten::flatten;
+use strc_fuse::error::FuseError;
+use strc_fuse::laws::{programs_are_placed, schedules_can_be_fused};
+use strc_fused::fusion::fused_schedule;
 use strc_lex::error::LexError;
 use strc_lex::lexer::lex;
 use strc_order::planning::schedule;
@@ -29,16 +34,16 @@ use strc_syntax::tree::Program;
 /// The plan of the program's main stream.
 ///
 /// The first rule that is broken refuses the text: those of its tokens, its tree, its elaboration,
-/// its flat graph, its rates, its balance, its start-up, and its schedule. `NoMemory` can come in
-/// place of any answer.
+/// its flat graph, its rates, its balance, its start-up, its schedule, and the sizes after fusion.
+/// `NoMemory` can come in place of any answer.
 pub fn compile(alloc: Global, text: &[u8], options: &Options) -> Result<Plan, Refusal>
-    ensures plan { HasPlan text.now (main_of options.now) result }
+    ensures plan { HasPlan text.now (choice_of options.now) result }
     // No positive counts balance a graph that is answered to be inconsistent.
     ensures inconsistent { (channel : ℕ) → result ≡ Err (refused.Inconsistent channel)
-        → HasNoBalance text.now (main_of options.now) }
+        → HasNoBalance text.now (choice_of options.now) }
 {
     match read_program(alloc, text) {
-        Ok(program) => compile_program(alloc, &program, options.main_name()),
+        Ok(program) => compile_program(alloc, &program, options.main_name(), options.fuse),
         Err(refusal) => Err(refusal),
     }
 }
@@ -47,7 +52,7 @@ pub fn compile(alloc: Global, text: &[u8], options: &Options) -> Result<Plan, Re
 /// the way to it: of the text's tokens, its tree, its elaboration. `NoMemory` can come in place of
 /// any answer.
 pub fn stream_of(alloc: Global, text: &[u8], options: &Options) -> Result<Stream, Refusal>
-    ensures { HasStream text.now (main_of options.now) result }
+    ensures { HasStream text.now (choice_of options.now) result }
 {
     let program = match read_program(alloc, text) {
         Ok(program) => program,
@@ -60,19 +65,42 @@ pub fn stream_of(alloc: Global, text: &[u8], options: &Options) -> Result<Stream
 }
 
 // The plan of a program that was read, of whatever text spells it.
-fn compile_program(alloc: Global, program: &Program, main: Option<&str>) -> Result<Plan, Refusal>
+fn compile_program(
+    alloc: Global,
+    program: &Program,
+    main: Option<&str>,
+    fuse: u32,
+) -> Result<Plan, Refusal>
     ensures { (text : List ℕ) → Spells text (program_view program.now)
-        → HasPlan text (option_map (λ n. n.now) main.entry) result }
+        → HasPlan text (record { main = option_map (λ n. n.now) main.entry; fuse = fuse })
+        result }
 {
     // The nodes of a stream move items, which their rates stand on.
     nodes_deal();
+    // The units of a program's greedy round can be fused.
+    programs_are_placed();
+    schedules_can_be_fused();
     let stream = elaborate(alloc, program, main)?;
     let graph = flatten(alloc, &stream)?;
     check_rates(alloc, graph.nodes())?;
     let round_counts = balance(alloc, &graph)?;
     let startup_counts = startup(alloc, &graph, &round_counts)?;
     let schedule = schedule(alloc, &graph, &startup_counts, &round_counts)?;
-    Ok(Plan::new(graph, startup_counts, round_counts, schedule))
+    let fused = match fused_schedule(alloc, &graph, &schedule, fuse) {
+        Ok(fused) => fused,
+        Err(error) => return Err(fusion_refusal_of(error)),
+    };
+    Ok(Plan::new(graph, startup_counts, round_counts, schedule, fused))
+}
+
+// Why a schedule isn't fused.
+fn fusion_refusal_of(error: FuseError) -> Refusal
+    ensures { result ≡ spec.fusion_refusal_of error }
+{
+    match error {
+        FuseError::BufferLimit { channel } => Refusal::BufferLimit { channel },
+        FuseError::NoMemory => Refusal::NoMemory,
+    }
 }
 
 // The program that the text spells.

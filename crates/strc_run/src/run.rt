@@ -67,7 +67,11 @@ fn run_served<G: Gate<Stage>, R: Threads + Wait + Sync>(
         return Err(RunRefusal::RoundsNeeded);
     }
     // An input that doesn't serve start-up is refused as one that doesn't serve 0 rounds.
-    let served = rounds_served(plan.graph(), plan.schedule(), input.len() as u64);
+    let served = rounds_served(
+        plan.graph(),
+        plan.transformed_schedule(),
+        input.len() as u64,
+    );
     run_rounds(rt, alloc, plan, input, served.unwrap_or(0), workers, gate)
 }
 
@@ -82,14 +86,14 @@ fn run_rounds<G: Gate<Stage>, R: Threads + Wait + Sync>(
     gate: &G,
 ) -> Result<Outcome, RunRefusal>
     requires workers { AreWorkers workers }
-    ensures answer { IfOk result (AnswersGraph (planning_of plan.now).graph plan.now.schedule
+    ensures answer { IfOk result (AnswersGraph (planning_of plan.now).graph plan.now.fused
         input.now rounds) }
     ensures enough { IfOk result (λ _. need_of (planning_of plan.now) rounds ≤ length input.now) }
     ensures refused { IfErr result (IsWorkedRefusal (need_of (planning_of plan.now) rounds)
         (length input.now) workers) }
 {
     let graph = plan.graph();
-    let schedule = plan.schedule();
+    let schedule = plan.transformed_schedule();
     if workers == 1 || rounds == 0 || graph.nodes().is_empty() {
         return run_plain(alloc, graph, schedule, input, rounds);
     }

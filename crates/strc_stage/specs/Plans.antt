@@ -19,6 +19,8 @@ use Rattle.strc_order.specs.Firings.{none_fired}
 use Rattle.strc_order.specs.Order.{HasOrder}
 use Rattle.strc_order.specs.Schedules.{ScheduleParts, IsSchedule, PassesLimit}
 use Rattle.strc_admissible.specs.Planned.{IsPlanned}
+use Rattle.strc_fuse.specs.Fusion.{FusedPass}
+use Rattle.strc_fused.specs.Fusions.{IsFusion}
 
 -- what a plan keeps
 pub record PlanParts : Type 0 where
@@ -26,21 +28,26 @@ pub record PlanParts : Type 0 where
   pub startup_counts : List ℕ
   pub round_counts : List ℕ
   pub schedule : ScheduleParts
+  pub fused : ScheduleParts
 
-abbrev pub parts_of : GraphParts → (startup round : List ℕ) → ScheduleParts → PlanParts
-parts_of graph startup round schedule = record {
+abbrev pub parts_of : GraphParts → (startup round : List ℕ) → (schedule fused : ScheduleParts)
+    → PlanParts
+parts_of graph startup round schedule fused = record {
   graph = graph;
   startup_counts = startup;
   round_counts = round;
   schedule = schedule;
+  fused = fused;
 }
 
 -- a flat graph, how often each node fires before the first round and in each, and the schedule
+-- before fusion and after it
 pub record Planning : Type 0 where
   pub graph : Graph
   pub startup_counts : List ℕ
   pub round_counts : List ℕ
   pub schedule : ScheduleParts
+  pub fused : ScheduleParts
 
 -- a plan without where its nodes lie in memory
 abbrev pub planning_of : PlanParts → Planning
@@ -49,6 +56,7 @@ planning_of plan = record {
   startup_counts = plan.startup_counts;
   round_counts = plan.round_counts;
   schedule = plan.schedule;
+  fused = plan.fused;
 }
 
 -- the counts of a round: the least ones that balance the graph, within the limit
@@ -77,14 +85,22 @@ pub record IsWhole (graph : Graph) : Type 0 where
   pub connected : IsConnected graph
   pub loops : graph.outer_loops ≡ outer_loops 0 stream
 
--- a plan: its graph is a whole program's, and can be run by its schedule, which is that of its
--- least counts
+-- a schedule is what fusion makes of another one, with lists of at most so many entries
+abbrev pub IsFused : Graph → (schedule fused : ScheduleParts) → Type 0
+IsFused graph schedule fused = (threshold : ℕ) × IsFusion graph threshold schedule fused
+
+-- a plan: its graph is a whole program's, its schedule is that of its least counts, and it can be
+-- run by this schedule, and as well by what fusion makes of it, with the same counts
 pub record IsPlan (plan : Planning) : Type 0 where
   pub whole : IsWhole plan.graph
-  pub planned : IsPlanned plan.graph plan.schedule
   pub startup : HasStartup plan.graph plan.startup_counts
   pub round : HasRound plan.graph plan.round_counts
   pub schedule : HasSchedule plan.graph plan.startup_counts plan.round_counts plan.schedule
+  pub unfused : IsPlanned plan.graph plan.schedule
+  pub fusion : IsFused plan.graph plan.schedule plan.fused
+  pub planned : IsPlanned plan.graph plan.fused
+  pub startup_is : planned.startup ≡ plan.startup_counts
+  pub round_is : planned.round ≡ plan.round_counts
 
 -- no counts within the limit prime a graph
 abbrev pub IsUnbounded : Graph → Type 0
@@ -103,3 +119,11 @@ IsDeadlocked graph startup round false =
 abbrev pub Overflows : Graph → (startup round : List ℕ) → (channel : ℕ) → Type 0
 Overflows graph startup round channel =
     PassesLimit (rates_of graph) (count_at startup) (count_at round) channel
+
+-- the buffer of a channel would be larger than the limit after fusion of a greedy schedule, and none
+-- of a lower one
+pub record OverflowsFused (graph : Graph) (startup round : List ℕ) (threshold channel : ℕ) : Type 0
+  where
+    pub schedule : ScheduleParts
+    pub has : HasSchedule graph startup round schedule
+    pub passes : FusedPass graph threshold schedule channel

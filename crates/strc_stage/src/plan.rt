@@ -1,11 +1,13 @@
 // A plan: what a program is run by.
 
-ghost use Rattle.std.specs.Prelude.{◌≡◌, length};
+ghost use Rattle.std.specs.Prelude.{◌≡◌, All, length};
+ghost use Rattle.strc_graph.specs.Graphs.{IsGraph};
 ghost use Rattle.strc_graph.specs.NodeView.{graph_view};
+ghost use Rattle.strc_order.specs.Peaks.{HasNodes};
 ghost use Rattle.strc_admissible.specs.Planned.{IsPlanned};
 ghost use Rattle.strc_stage.specs.Origins.{origin_at};
-ghost use Rattle.strc_stage.specs.Plans.{HasRound, HasSchedule, HasStartup, IsPlan, IsWhole};
-ghost use Rattle.strc_stage.specs.Plans.{planning_of};
+ghost use Rattle.strc_stage.specs.Plans.{HasRound, HasSchedule, HasStartup, IsFused, IsPlan};
+ghost use Rattle.strc_stage.specs.Plans.{IsWhole, planning_of};
 
 use std::marker::Model;
 use strc_balance::counts::Counts;
@@ -14,13 +16,14 @@ use strc_order::parts::Schedule;
 
 /// A flat graph, how often each of its nodes fires before the first round and in each round, and
 /// the schedule of these firings (Lee and Messerschmitt 1987: a periodic admissible sequential
-/// schedule), as they are before and after fission and fusion. No node is split and no units are
-/// fused yet, so both are the same.
+/// schedule), before fusion and after it. No node is split yet, so the graph after fission is the
+/// one before it.
 pub struct Plan {
     graph: Graph,
     startup_counts: Counts,
     round_counts: Counts,
     schedule: Schedule,
+    fused: Schedule,
 }
 
 impl Drop for Plan {
@@ -30,6 +33,7 @@ impl Drop for Plan {
             startup_counts: _,
             round_counts: _,
             schedule: _,
+            fused: _,
         } = self;
     }
 }
@@ -44,10 +48,10 @@ impl Model for Plan {
 
     ghost coded = { Prim.hlevel (codes, node.the_row.coded, channel.the_row.coded) };
 
-    ghost view = { λ p. parts_of p.graph p.startup_counts p.round_counts p.schedule };
+    ghost view = { λ p. parts_of p.graph p.startup_counts p.round_counts p.schedule p.fused };
 
     ghost invariant = { λ p. IsPlan (planning_of (parts_of p.graph p.startup_counts p.round_counts
-        p.schedule)) };
+        p.schedule p.fused)) };
 }
 
 /// Where a node of the graph after fission comes from.
@@ -63,26 +67,30 @@ impl Plan {
     ghost use Rattle.strc_stage.specs.Plans.{parts_of};
 
     /// The plan of a graph whose nodes fire so often before the first round and in each, in the
-    /// order of this schedule.
+    /// order of this schedule, or as it is after fusion.
     ///
     /// The graph is the flat graph of a whole program, as `flatten` gives it. Its filters start
     /// without a fault, `check` is Ok for each, and there are no scatters, copies or gathers; the
-    /// counts are the graph's least ones, as `startup` and `balance` give them, and the schedule
-    /// is that of these counts, as `schedule` gives it.
+    /// counts are the graph's least ones, as `startup` and `balance` give them, the schedule is
+    /// that of these counts, as `schedule` gives it, and the fused one is what `fused_schedule`
+    /// makes of it.
     pub fn new(
         graph: Graph,
         startup_counts: Counts,
         round_counts: Counts,
         schedule: Schedule,
+        fused: Schedule,
     ) -> Plan
-        requires { IsPlan (planning_of (parts_of graph startup_counts round_counts schedule)) }
-        ensures { result ≡ parts_of graph startup_counts round_counts schedule }
+        requires { IsPlan (planning_of (parts_of graph startup_counts round_counts schedule
+            fused)) }
+        ensures { result ≡ parts_of graph startup_counts round_counts schedule fused }
     {
         Plan {
             graph,
             startup_counts,
             round_counts,
             schedule,
+            fused,
         }
     }
 
@@ -131,26 +139,28 @@ impl Plan {
         self.schedule.sizes()
     }
 
-    /// The graph after fission, which is what is run. No node is split, so it is `graph`.
+    /// The graph after fission, which is what is run. No node is split yet, so it is `graph`.
     pub fn transformed_graph(&self) -> &Graph
         ensures { result.now ≡ self.now.graph }
     {
         &self.graph
     }
 
-    /// The schedule of `transformed_graph`, after fission and fusion. No units are fused, so it is
-    /// `schedule`.
+    /// The schedule of `transformed_graph`, after fission and fusion, which is what is run: the
+    /// units of a round are those of `schedule`, fused from left to right.
     pub fn transformed_schedule(&self) -> &Schedule
-        ensures schedule { result.now ≡ self.now.schedule }
+        ensures schedule { result.now ≡ self.now.fused }
         ensures planned { IsPlanned (graph_view self.now.graph) result.now }
+        ensures fusion { IsFused (graph_view self.now.graph) self.now.schedule result.now }
+        ensures nodes { All (HasNodes (length self.now.graph.nodes)) result.now.round }
     {
-        &self.schedule
+        &self.fused
     }
 
     /// The size of the buffer of each channel of `transformed_graph` under `transformed_schedule`,
-    /// in items, from 0 to 16,777,216: that of `sizes`.
+    /// in items, from 0 to 16,777,216.
     pub fn transformed_sizes(&self) -> &[u32]
-        ensures sizes { result.now ≡ self.now.schedule.sizes }
+        ensures sizes { result.now ≡ self.now.fused.sizes }
         ensures channels { length result.now ≡ length self.now.graph.channels }
     {
         self.transformed_schedule().sizes()
@@ -169,5 +179,13 @@ impl Plan {
         } else {
             None
         }
+    }
+
+    /// What is known of each plan, together.
+    pub fn known(&self)
+        ensures is { IsPlan (planning_of self.now) }
+        ensures graph { IsGraph (graph_view self.now.graph) }
+    {
+        let _channels = self.graph.channels();
     }
 }

@@ -55,14 +55,14 @@ last_runs [] last running = running.0
 last_runs (p ∷ front) last running = last_runs front last running.1
 
 module _ (s : Setting) (machine started : MachineView)
-    (first : IsFirst s.plan.graph s.plan.schedule.sizes machine)
-    (ran : order_run s.circuit (startup_order s.plan.schedule) machine ≡ machines.Went started)
+    (first : IsFirst s.plan.graph s.plan.fused.sizes machine)
+    (ran : order_run s.circuit (startup_order s.plan.fused) machine ≡ machines.Went started)
     (start : Start StageState Load Stop Gathered)
     (beginning : IsBeginning s.plan s.bound s.last s.circuit started s.rounds start)
     (core : Core StageState Load Stop Gathered) (state : IsState stage_work start core)
     (over : is_over core ≡ true) where
   abbrev ending : Ending
-  ending = whole_run s.circuit (startup_order s.plan.schedule) (round_order s.plan.schedule)
+  ending = whole_run s.circuit (startup_order s.plan.fused) (round_order s.plan.fused)
       s.rounds machine
 
   abbrev count : ℕ
@@ -75,16 +75,16 @@ module _ (s : Setting) (machine started : MachineView)
       (collected s machine started first ran start beginning core state) ≡ Some outcome
       → Tells count outcome ending
   tells outcome e =
-      let (other, answers, ends) = ring_runs (tree s) s.plan.graph s.plan.schedule s.input
+      let (other, answers, ends) = ring_runs (tree s) s.plan.graph s.plan.fused s.input
       s.rounds s.circuit machine s.is.whole.program s.is.planned s.known s.few s.supplied
       s.is_circuit s.reads_it first in
       subst (λ (o : Outcome Cause Word). Tells count o ending)
       (stream_answer_is_one node_meaning (tree s) s.input
-      (firing_count (startup_order s.plan.schedule)) (firing_count (round_order s.plan.schedule))
-      (startup_order s.plan.schedule) (round_order s.plan.schedule) s.rounds
-      (nodes_keep_rates (tree s) s.plan.graph s.plan.schedule s.is.whole.program.flat s.is.planned
+      (firing_count (startup_order s.plan.fused)) (firing_count (round_order s.plan.fused))
+      (startup_order s.plan.fused) (round_order s.plan.fused) s.rounds
+      (nodes_keep_rates (tree s) s.plan.graph s.plan.fused s.is.whole.program.flat s.is.planned
       s.known)
-      (orders_find s.plan.graph s.plan.schedule s.is.planned (tree s) s.input s.rounds
+      (orders_find s.plan.graph s.plan.fused s.is.planned (tree s) s.input s.rounds
       s.is.whole.program s.supplied)
       other outcome answers
       (chain_answers s machine started first ran start beginning core state outcome e)) ends

@@ -84,8 +84,8 @@ none_stopped first rounds done (own ∷ stages) (suc k) stage fresh going there 
     none_stopped false rounds done stages k stage fresh.1 going there
 
 module _ (s : Setting) (machine started : MachineView)
-    (first : IsFirst s.plan.graph s.plan.schedule.sizes machine)
-    (ran : order_run s.circuit (startup_order s.plan.schedule) machine ≡ machines.Went started)
+    (first : IsFirst s.plan.graph s.plan.fused.sizes machine)
+    (ran : order_run s.circuit (startup_order s.plan.fused) machine ≡ machines.Went started)
   where
     -- ---- start-up
 
@@ -98,16 +98,16 @@ module _ (s : Setting) (machine started : MachineView)
     -- what start-up leaves, over queues
     pub record IsStarted : Type 0 where
       pub now : Queues
-      pub went : go (startup_order s.plan.schedule) at_first ≡ FifoWent now
-      pub simulates : Simulates s.plan.graph s.plan.schedule.sizes s.input now started
+      pub went : go (startup_order s.plan.fused) at_first ≡ FifoWent now
+      pub simulates : Simulates s.plan.graph s.plan.fused.sizes s.input now started
 
     started_by : (progress : FifoProgress (List ℤ) Cause Word) (its : machines.Progress)
-        → go (startup_order s.plan.schedule) at_first ≡ progress → its ≡ machines.Went started
-        → IsAlike s.plan.graph s.plan.schedule.sizes s.input progress its → IsStarted
+        → go (startup_order s.plan.fused) at_first ≡ progress → its ≡ machines.Went started
+        → IsAlike s.plan.graph s.plan.fused.sizes s.input progress its → IsStarted
     started_by (FifoWent now) (machines.Went other) went e alike = record {
       now = now;
       went = went;
-      simulates = subst (Simulates s.plan.graph s.plan.schedule.sizes s.input now)
+      simulates = subst (Simulates s.plan.graph s.plan.fused.sizes s.input now)
           (went_same other started e) alike;
     }
     started_by (FifoStopped why) (machines.Went other) went e alike = absurd alike
@@ -118,7 +118,7 @@ module _ (s : Setting) (machine started : MachineView)
         let program = s.is.whole.program in
         let planned = s.is.planned in
         let graph = s.plan.graph in
-        let schedule = s.plan.schedule in
+        let schedule = s.plan.fused in
         let parts = fit_split (flat (tree s)) graph.channels schedule.sizes
         (startup_order schedule) (repeated s.rounds (round_order schedule)) at_first
         (run_fits graph schedule planned (tree s) s.input s.rounds program s.known s.few
@@ -304,9 +304,9 @@ module _ (s : Setting) (machine started : MachineView)
       pub chain_answers : (outcome : Outcome Cause Word)
           → collects (staging s) s.rounds 0 (words_of now.runs) collected ≡ Some outcome
           → IsAnswer node_meaning (tree s) s.input
-          (firing_count (startup_order s.plan.schedule))
-          (firing_count (round_order s.plan.schedule))
-          (startup_order s.plan.schedule) (round_order s.plan.schedule) s.rounds outcome
+          (firing_count (startup_order s.plan.fused))
+          (firing_count (round_order s.plan.fused))
+          (startup_order s.plan.fused) (round_order s.plan.fused) s.rounds outcome
       chain_answers outcome e =
           chain_gives_plan_answer s.plan s.is s.input s.rounds s.bound s.last now given taken left
           outcome s.known s.supplied s.cut is_started.went chain

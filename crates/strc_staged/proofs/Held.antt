@@ -51,7 +51,7 @@ use Rattle.strc_staged.proofs.Setting.{forward, pushed_fits, arrived_by}
 -- how many items the ring of a channel has room for
 abbrev pub size : Setting → ℕ → ℕ → Channel → ℕ
 size s a number channel = cond (own s a channel.target.node)
-    (slice_index s.plan.schedule.sizes number) (round_pushes s.plan channel)
+    (slice_index s.plan.fused.sizes number) (round_pushes s.plan channel)
 
 -- a stage before a step, as the generic one
 abbrev pub IsHeld : Setting → ℕ → StageState → Queues → Type 0
@@ -173,7 +173,7 @@ module _ (s : Setting) where
               → slice_get s.plan.graph.channels number ≡ Some channel → Touches (own s a) channel
               → (test : Bool) → own s a channel.target.node ≡ test
               → length (next.queues channel.target.node channel.target.port)
-              ≤ cond test (slice_index s.plan.schedule.sizes number)
+              ≤ cond test (slice_index s.plan.fused.sizes number)
               (round_pushes s.plan channel)
           by_target fills sends number channel there touches true e =
               let filled = fills channel.target.node channel.target.port e
@@ -304,7 +304,7 @@ module _ (s : Setting) where
       ring_first number channel there touches true e =
           let v = channel.target.node in
           let port = channel.target.port in
-          let room = slice_index s.plan.schedule.sizes number in
+          let room = slice_index s.plan.fused.sizes number in
           let size_is : size s a number channel ≡ room = ap (λ (b : Bool). cond b room
           (round_pushes s.plan channel)) e in
           let items = entered_in v port e in
@@ -326,7 +326,7 @@ module _ (s : Setting) where
           ∙ ap (λ (l : List ℤ). buffer l (round_pushes s.plan channel))
           (sym (entered_out channel.target.node channel.target.port e))
           ∙ ap (λ (b : Bool). buffer (starts.queues channel.target.node channel.target.port)
-          (cond b (slice_index s.plan.schedule.sizes number) (round_pushes s.plan channel)))
+          (cond b (slice_index s.plan.fused.sizes number) (round_pushes s.plan channel)))
           (sym e)
 
       -- the machine is as the one over queues

@@ -80,9 +80,9 @@ module _ (s : Setting) (a t : ℕ) (is_stage : a < suc s.last) (is_round : t < s
 
   -- ---- what the order comes to
 
-  round_in : (node : ℕ) → 0 < firing_count (round_order s.plan.schedule) node
+  round_in : (node : ℕ) → 0 < firing_count (round_order s.plan.fused) node
       → node < length s.plan.graph.nodes
-  round_in = round_nodes s.plan.graph s.plan.schedule s.is.planned
+  round_in = round_nodes s.plan.graph s.plan.fused s.is.planned
 
   own_nodes : (order : List ℕ) → AllIn (own s a) order
       → ((node : ℕ) → 0 < firing_count order node → node < length s.plan.graph.nodes)
@@ -140,7 +140,7 @@ module _ (s : Setting) (a t : ℕ) (is_stage : a < suc s.last) (is_round : t < s
         → own s a channel.target.node ≡ true
         → ring_at (machine_left leaving tapes machine).rings number
         ≡ buffer (next.queues channel.target.node channel.target.port)
-        (slice_index s.plan.schedule.sizes number)
+        (slice_index s.plan.fused.sizes number)
     left_ending number channel there target =
         let to = in_is (stage_of s) a channel.target.node target in
         ring_not_left s.bound s.last a s.plan.graph.channels number channel there machine.rings
@@ -149,7 +149,7 @@ module _ (s : Setting) (a t : ℕ) (is_stage : a < suc s.last) (is_round : t < s
         (eqb-true (stage_of s channel.source.node) a begins ∙ sym to))
         ∙ simulates.rings number channel there (inr target)
         ∙ ap (λ (b : Bool). buffer (next.queues channel.target.node channel.target.port)
-        (cond b (slice_index s.plan.schedule.sizes number) (round_pushes s.plan channel))) target
+        (cond b (slice_index s.plan.fused.sizes number) (round_pushes s.plan channel))) target
 
     left_leaving : (number : ℕ) (channel : Channel)
         → slice_get s.plan.graph.channels number ≡ Some channel
@@ -164,7 +164,7 @@ module _ (s : Setting) (a t : ℕ) (is_stage : a < suc s.last) (is_round : t < s
         simulates.each_ring crossing (eq-eqb (stage_of s channel.source.node) a from)
         ∙ ap emptied_ring (simulates.rings number channel there (inl source))
         ∙ ap (λ (b : Bool). buffer []
-        (cond b (slice_index s.plan.schedule.sizes number) (round_pushes s.plan channel))) target
+        (cond b (slice_index s.plan.fused.sizes number) (round_pushes s.plan channel))) target
 
     left_held : IsHeld s a (with_machine state (Some (machine_left leaving tapes machine))) next
     left_held = record {
@@ -282,7 +282,7 @@ module _ (s : Setting) (a t : ℕ) (is_stage : a < suc s.last) (is_round : t < s
           let none = no_block s a t blocks words moved number channel
           there (omega (arith, at)) (omega (arith, at, later)) in
           let size_is : size s a number channel ≡ round_pushes s.plan channel =
-          ap (λ (c : Bool). cond c (slice_index s.plan.schedule.sizes number)
+          ap (λ (c : Bool). cond c (slice_index s.plan.fused.sizes number)
           (round_pushes s.plan channel)) target in
           let items : (ring_at machine.rings number).items ≡ queue =
           ap (λ (r : Ring). r.items) (simulates.rings number channel there (inl source)) in

@@ -336,8 +336,8 @@ module _ (s : Setting) where
     stays_last [] (part ∷ parts) some steps linked = absurd steps
 
 module _ (s : Setting) (machine started : MachineView)
-    (first : IsFirst s.plan.graph s.plan.schedule.sizes machine)
-    (ran : order_run s.circuit (startup_order s.plan.schedule) machine ≡ machines.Went started)
+    (first : IsFirst s.plan.graph s.plan.fused.sizes machine)
+    (ran : order_run s.circuit (startup_order s.plan.fused) machine ≡ machines.Went started)
     (start : Start StageState Load Stop Gathered)
     (beginning : IsBeginning s.plan s.bound s.last s.circuit started s.rounds start)
     (core : Core StageState Load Stop Gathered) (state : IsState stage_work start core) where

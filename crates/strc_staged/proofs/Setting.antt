@@ -40,6 +40,7 @@ use Rattle.strc_admissible.proofs.Rounds.{at_startup, in_round, past_prework, ba
 use Rattle.strc_admissible.proofs.Supplies.{element, target_node, fill_is}
 use Rattle.strc_admissible.proofs.Windows.{rates_there}
 use Rattle.strc_stage.specs.Plans.{Planning, IsPlan}
+use Rattle.strc_stage.proofs.Fused.{fused_startup, fused_round}
 use Rattle.strc_staging.specs.Ranges.{stage_within}
 use Rattle.strc_staging.specs.Rewired.{StagedStream, staging_of}
 use Rattle.strc_staging.specs.Staging.{Staging, joined, before, in_stage, IsStaging, IsFromUpTo}
@@ -63,8 +64,8 @@ pub record Setting : Type 0 where
   pub circuit : CircuitView
   pub known : AreKnown plan.graph
   pub few : rounds < 2 ^ 32
-  pub supplied : items_read plan.graph.nodes (counts_at plan.schedule rounds) ≤ length input
-  pub cut : IsCut plan.graph bound (suc last)
+  pub supplied : items_read plan.graph.nodes (counts_at plan.fused rounds) ≤ length input
+  pub cut : IsCut plan bound (suc last)
   pub is_circuit : IsCircuit plan.graph circuit
   pub reads_it : circuit.input ≡ input
 
@@ -146,7 +147,7 @@ module _ (s : Setting) where
       (plans_are_staged s.plan s.is s.input s.rounds s.bound s.last s.known s.supplied s.cut)).1
 
   abbrev pub round_of : ℕ → ℕ
-  round_of = firing_count (round_order s.plan.schedule)
+  round_of = firing_count (round_order s.plan.fused)
 
   -- ---- counts
 
@@ -193,7 +194,7 @@ module _ (s : Setting) where
   pub round_front : (a : ℕ) (done left : List ℕ) → a < suc s.last
       → done ++ left ≡ staging.segment a
       → (back : List ℕ)
-      × ((joined staging.segment a ++ done) ++ back ≡ round_order s.plan.schedule)
+      × ((joined staging.segment a ++ done) ++ back ≡ round_order s.plan.fused)
   unfolding joined
   round_front a done left is_stage same =
       let (rest, e) = joined_split a (s.last - a) in (
@@ -228,8 +229,8 @@ module _ (s : Setting) where
           most,
           ap (λ (n : ℕ). s.rounds * n) (planned.schedule.round_order.all v),
           planned.schedule.startup_order.all v,
-          number_bound (at_startup s.plan.graph s.plan.schedule planned v)
-              (in_round s.plan.graph s.plan.schedule planned v) s.rounds
+          number_bound (at_startup s.plan.graph s.plan.fused planned v)
+              (in_round s.plan.graph s.plan.fused planned v) s.rounds
               (planned.startup_within v) (planned.round_within v) s.few,
         )
 
@@ -238,21 +239,21 @@ module _ (s : Setting) where
     module _ (number : ℕ) (channel : Channel)
         (there : slice_get s.plan.graph.channels number ≡ Some channel) where
       round_peak : peak_fill (rates_of_channel s.plan.graph.nodes channel)
-          (rounds_on (at_startup s.plan.graph s.plan.schedule s.is.planned) t
-          (in_round s.plan.graph s.plan.schedule s.is.planned)) (round_order s.plan.schedule)
-          ≤ slice_index s.plan.schedule.sizes number
+          (rounds_on (at_startup s.plan.graph s.plan.fused s.is.planned) t
+          (in_round s.plan.graph s.plan.fused s.is.planned)) (round_order s.plan.fused)
+          ≤ slice_index s.plan.fused.sizes number
       round_peak =
           no_buffer_overflows (rates_of s.plan.graph)
-          (at_startup s.plan.graph s.plan.schedule s.is.planned)
-          (in_round s.plan.graph s.plan.schedule s.is.planned) s.plan.schedule
-          s.is.planned.schedule (past_prework s.plan.graph s.plan.schedule s.is.planned)
-          (balances s.plan.graph s.plan.schedule s.is.planned) t number
+          (at_startup s.plan.graph s.plan.fused s.is.planned)
+          (in_round s.plan.graph s.plan.fused s.is.planned) s.plan.fused
+          s.is.planned.schedule (past_prework s.plan.graph s.plan.fused s.is.planned)
+          (balances s.plan.graph s.plan.fused s.is.planned) t number
           (rates_of_channel s.plan.graph.nodes channel)
           (rates_there s.plan.graph number channel there)
 
       -- what is on a channel fits into its buffer
       pub fill_fits : orders.fill node_meaning (flat tree) s.input reached channel.target.node
-          channel.target.port ≤ slice_index s.plan.schedule.sizes number
+          channel.target.port ≤ slice_index s.plan.fused.sizes number
       fill_fits =
           let rates = rates_of_channel s.plan.graph.nodes channel in
           let planned = s.is.planned in
@@ -262,11 +263,11 @@ module _ (s : Setting) where
           planned.unfissioned number channel there reached
           ∙ ap (fill rates) (counted_is (counts staging t) xs)
           ∙ ap (λ (c : Firings). fill rates (after c xs))
-          (counts_are s.plan.graph s.plan.schedule planned t) in
+          (counts_are s.plan.graph s.plan.fused planned t) in
           let least = front_fill rates
-          (rounds_on (at_startup s.plan.graph s.plan.schedule planned) t
-          (in_round s.plan.graph s.plan.schedule planned)) xs back
-          (round_order s.plan.schedule) front in
+          (rounds_on (at_startup s.plan.graph s.plan.fused planned) t
+          (in_round s.plan.graph s.plan.fused planned)) xs back
+          (round_order s.plan.fused) front in
           omega (arith, filled, least, round_peak)
 
   module _ (number : ℕ) (channel : Channel)
@@ -300,12 +301,12 @@ module _ (s : Setting) where
         ]
 
     rate_at : (firing : ℕ)
-        → firing_count (startup_order s.plan.schedule) channel.source.node ≤ firing
+        → firing_count (startup_order s.plan.fused) channel.source.node ≤ firing
         → rate firing ≡ rate 1
     rate_at firing more =
         settled ((flat tree).code channel.source.node) channel.source.port
         (count_at s.plan.startup_counts channel.source.node) past firing
-        (omega (arith, more, s.is.schedule.is.startup_order.all channel.source.node))
+        (omega (arith, more, fused_startup s.plan s.is channel.source.node))
 
     pub origin_is : ((flat tree).source channel.target.node channel.target.port).origin
         ≡ Port channel.source.node channel.source.port
@@ -347,7 +348,7 @@ module _ (s : Setting) where
       pushed_fits many e =
           let u = channel.source.node in
           let q = channel.source.port in
-          let startup = firing_count (startup_order s.plan.schedule) u in
+          let startup = firing_count (startup_order s.plan.fused) u in
           let pushes : ℕ → ℕ → ℕ = pushes_at ((flat tree).code u) in
           let now : ℕ = counts staging t u in
           let here = subst (λ (origin : Origin).
@@ -366,7 +367,7 @@ module _ (s : Setting) where
           (λ i more. rate_at i more ∙ sym (rate_at startup (omega arith))) now (omega arith)
           (round_of u) in
           let rates : round_of u * pushes startup q ≡ round_pushes s.plan channel =
-          ap (λ (n : ℕ). n * pushes startup q) (s.is.schedule.is.round_order.all u)
+          ap (λ (n : ℕ). n * pushes startup q) (fused_round s.plan s.is u)
           ∙ ap (λ (n : ℕ). count_at s.plan.round_counts u * n)
           (rate_at startup (omega arith) ∙ sym (push_is 1)) in
           omega (arith, here, first, end, repeats, rates)

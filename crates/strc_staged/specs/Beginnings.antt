@@ -121,7 +121,7 @@ module _ (plan : Planning) (bound : (stage : ℕ) → ℕ) (last : ℕ) (circuit
   -- A stage before its first step.
   pub record IsStageOf (stage : ℕ) (state : StageState) : Type 0 where
     pub circuit_is : IsCircuitOf stage state.circuit
-    pub order_is : state.order ≡ segment_of bound (round_order plan.schedule) stage
+    pub order_is : state.order ≡ segment_of bound (round_order plan.fused) stage
     pub entering_is : state.entering ≡ entering_at bound last stage plan.graph.channels
     pub leaving_is : state.leaving ≡ leaving_at bound last stage plan.graph.channels
     pub tapes_are : state.tapes ≡ tapes_at bound last stage plan.graph.nodes

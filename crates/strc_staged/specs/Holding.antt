@@ -43,7 +43,7 @@ module _ (plan : Planning) (bound : (stage : ℕ) → ℕ) (last : ℕ) (circuit
   -- empty, and it has no words.
   pub record IsHeld (stage : ℕ) (state : StageState) (now : Queues) : Type 0 where
     pub agrees : (node : ℕ) → is_at stage node ≡ true → AgreeAt circuit state.circuit node
-    pub order_is : state.order ≡ segment_of bound (round_order plan.schedule) stage
+    pub order_is : state.order ≡ segment_of bound (round_order plan.fused) stage
     pub entering_is : state.entering ≡ entering_at bound last stage plan.graph.channels
     pub leaving_is : state.leaving ≡ leaving_at bound last stage plan.graph.channels
     pub tapes_are : state.tapes ≡ tapes_at bound last stage plan.graph.nodes
@@ -62,7 +62,7 @@ module _ (plan : Planning) (bound : (stage : ℕ) → ℕ) (last : ℕ) (circuit
         → is_at stage channel.target.node ≡ true
         → ring_at machine.rings number ≡ buffer
         (now.queues channel.target.node channel.target.port)
-        (slice_index plan.schedule.sizes number)
+        (slice_index plan.fused.sizes number)
     pub leaving : (number : ℕ) (channel : Channel)
         → slice_get plan.graph.channels number ≡ Some channel
         → is_at stage channel.source.node ≡ true → is_at stage channel.target.node ≡ false

@@ -49,15 +49,15 @@ StagesRunAlike =
     (bound : (stage : ℕ) → ℕ) (last : ℕ) (circuit : CircuitView) (machine started : MachineView)
     (start : Start StageState Load Stop Gathered) (core : Core StageState Load Stop Gathered)
     → AreKnown plan.graph → rounds < 2 ^ 32
-    → items_read plan.graph.nodes (counts_at plan.schedule rounds) ≤ length input
-    → IsCut plan.graph bound (suc last)
+    → items_read plan.graph.nodes (counts_at plan.fused rounds) ≤ length input
+    → IsCut plan bound (suc last)
     → IsCircuit plan.graph circuit → circuit.input ≡ input
-    → IsFirst plan.graph plan.schedule.sizes machine
-    → order_run circuit (startup_order plan.schedule) machine ≡ Went started
+    → IsFirst plan.graph plan.fused.sizes machine
+    → order_run circuit (startup_order plan.fused) machine ≡ Went started
     → IsBeginning plan bound last circuit started rounds start
     → IsState stage_work start core → is_over core ≡ true
     → TellsEnding plan.graph.nodes core.collector.total core.collector.stop
-    (whole_run circuit (startup_order plan.schedule) (round_order plan.schedule) rounds machine)
+    (whole_run circuit (startup_order plan.fused) (round_order plan.fused) rounds machine)
 
 -- In any state each parcel that waits for a stage, or for the collector, is stopped or has just
 -- what is to come there in its round.
@@ -67,11 +67,11 @@ ParcelsFit =
     (bound : (stage : ℕ) → ℕ) (last : ℕ) (circuit : CircuitView) (machine started : MachineView)
     (start : Start StageState Load Stop Gathered) (core : Core StageState Load Stop Gathered)
     → AreKnown plan.graph → rounds < 2 ^ 32
-    → items_read plan.graph.nodes (counts_at plan.schedule rounds) ≤ length input
-    → IsCut plan.graph bound (suc last)
+    → items_read plan.graph.nodes (counts_at plan.fused rounds) ≤ length input
+    → IsCut plan bound (suc last)
     → IsCircuit plan.graph circuit → circuit.input ≡ input
-    → IsFirst plan.graph plan.schedule.sizes machine
-    → order_run circuit (startup_order plan.schedule) machine ≡ Went started
+    → IsFirst plan.graph plan.fused.sizes machine
+    → order_run circuit (startup_order plan.fused) machine ≡ Went started
     → IsBeginning plan bound last circuit started rounds start
     → IsState stage_work start core
     → (actor : ℕ) (parcel : ParcelView) (rest : List ParcelView) → actor ≤ suc last
@@ -89,8 +89,8 @@ StageStepsAlike =
     (blocks : ℕ → ByPort) (words : ℕ → List Word) (state : StageState) (load : Load)
     (held : IsHeld plan bound last circuit stage state now)
     → AreKnown plan.graph → rounds < 2 ^ 32
-    → items_read plan.graph.nodes (counts_at plan.schedule rounds) ≤ length input
-    → IsCut plan.graph bound (suc last)
+    → items_read plan.graph.nodes (counts_at plan.fused rounds) ≤ length input
+    → IsCut plan bound (suc last)
     → IsCircuit plan.graph circuit → circuit.input ≡ input
     → stage < suc last → round < rounds
     → IsWorking (staging_of (staged_stream plan is.whole.stream input rounds bound last)) stage
@@ -102,7 +102,7 @@ StageStepsAlike =
     (staging_of (staged_stream plan is.whole.stream input rounds bound last)) stage state load
     blocks words
     (fifo_go node_meaning (meaning_of is.whole.stream)
-    (segment_of bound (round_order plan.schedule) stage)
+    (segment_of bound (round_order plan.fused) stage)
     (entered (staging_of (staged_stream plan is.whole.stream input rounds bound last)) stage now
     blocks))
     (stage_run state load held.machine)

@@ -13,13 +13,20 @@ fn reported(alloc: Global, line: &Line) -> Result<String, AllocError> {
         Command::Run {
             rounds: Some(rounds),
             workers,
+            fuse,
+            stats,
             main,
-        } => format!(in alloc; "run {file} {rounds} {workers} {}", name_of(main)),
+        } => format!(in alloc;
+            "run {file} {rounds} {workers} {fuse} {stats} {}",
+            name_of(main)
+        ),
         Command::Run {
             rounds: None,
             workers,
+            fuse,
+            stats,
             main,
-        } => format!(in alloc; "run {file} - {workers} {}", name_of(main)),
+        } => format!(in alloc; "run {file} - {workers} {fuse} {stats} {}", name_of(main)),
         Command::Check { main } => format!(in alloc; "check {file} {}", name_of(main)),
         Command::Plan { main } => format!(in alloc; "plan {file} {}", name_of(main)),
         Command::Graph { main } => format!(in alloc; "graph {file} {}", name_of(main)),
@@ -44,14 +51,19 @@ fn words_of(alloc: Global, line: &str) -> Result<Vec<&str>, AllocError> {
 
 // A row a line: the words, and what is asked for.
 const UNDERSTOOD: &str = "\
-strc => run - 5 1 -
-strc run a.str => run a.str - 1 -
-strc run a.str --rounds=0 => run a.str 0 1 -
-strc run --main M a.str => run a.str - 1 M
-strc run a.str --workers 0 => run a.str - 0 -
-strc run --workers=64 a.str => run a.str - 64 -
-strc run --rounds 4294967295 a.str --main M => run a.str 4294967295 1 M
-strc run --workers 4294967295 a.str --main M --rounds 2 => run a.str 2 4294967295 M
+strc => run - 5 1 0 false -
+strc run a.str => run a.str - 1 0 false -
+strc run a.str --rounds=0 => run a.str 0 1 0 false -
+strc run --main M a.str => run a.str - 1 0 false M
+strc run a.str --workers 0 => run a.str - 0 0 false -
+strc run --workers=64 a.str => run a.str - 64 0 false -
+strc run a.str --fuse 0 => run a.str - 1 0 false -
+strc run --fuse=65536 a.str => run a.str - 1 65536 false -
+strc run a.str --stats => run a.str - 1 0 true -
+strc run --stats a.str --rounds 3 => run a.str 3 1 0 true -
+strc run --rounds 4294967295 a.str --main M => run a.str 4294967295 1 0 false M
+strc run --workers 4294967295 a.str --main M --rounds 2 => run a.str 2 4294967295 0 false M
+strc run --stats --fuse 7 --main M a.str --workers 2 --rounds 5 => run a.str 5 2 7 true M
 strc check a.str => check a.str -
 strc check a.str --main M => check a.str M
 strc plan a.str => plan a.str -
@@ -85,10 +97,21 @@ strc run a.str --workers -1
 strc run a.str --workers many
 strc run a.str --workers
 strc run a.str --workers 2 --workers 2
+strc run a.str --fuse 65537
+strc run a.str --fuse 4294967296
+strc run a.str --fuse -1
+strc run a.str --fuse many
+strc run a.str --fuse
+strc run a.str --fuse 2 --fuse 2
+strc run a.str --stats=true
+strc run a.str --stats --stats
+strc run a.str --statistics
 strc run a.str --ways 2
 strc check
 strc check a.str --rounds 2
 strc check a.str --workers 2
+strc check a.str --fuse 2
+strc plan a.str --stats
 strc plan --main M
 strc plan a.str b.str
 ";
@@ -115,6 +138,8 @@ const HELPFUL: &str = "\
 strc --help => Usage: strc <COMMAND>
 strc run --help => --rounds <N>
 strc run --help => --workers <N>
+strc run --help => --fuse <N>
+strc run --help => --stats
 strc graph -h => Graphviz
 ";
 

@@ -1,11 +1,11 @@
-use Rattle.std.proofs.Common.{ℕ, List, Option, length, ap, subst, sym, inl, inr}
+use Rattle.std.proofs.Common.{ℕ, false, List, Option, length, ap, subst, sym, inl, inr}
 use Rattle.strc_stage.specs.Plans.{planning_of}
 use Rattle.strc_run.specs.Plans.{IsPlanOf}
-use Rattle.strc_cli.specs.Answering.{HasSize, IsAsked, IsAnswered, ReadsInput}
-use Rattle.strc_command.specs.Lines.{main_of}
+use Rattle.strc_cli.specs.Answering.{choice_of, HasSize, IsAsked, IsAnswered, ReadsInput}
+use Rattle.strc_run.specs.Choices.{Choice}
 use Rattle.strc_cli.specs.declared.answer.Answer.TheVariants as answer
 use Rattle.strc_command.specs.declared.line.Command.{Command}
-use Rattle.strc_cli.proofs.PlanAnswers.{plan_size, reads_text}
+use Rattle.strc_cli.proofs.PlanAnswers.{plan_size, reads_text, same_choice}
 use Rattle.strc_cli.proofs.answer.answer_to.Goals as goal
 
 pub returns-in-Check-clause-answered : goal.returns-in-Check-clause-answered
@@ -13,12 +13,12 @@ returns-in-Check-clause-answered g c =
     let text = c.args.text.now in
     let plan = c.in-Ok-compile.plan in
     let bytes = g.I.Source.remaining c.args.input.now in
-    let size : HasSize text (main_of c.args.command.now) (length plan.graph.nodes)
+    let size : HasSize text (choice_of c.args.command.now) (length plan.graph.nodes)
     (length plan.graph.channels) =
     subst
-    (λ (main : Option (List ℕ)). HasSize text main (length plan.graph.nodes)
+    (λ (choice : Choice). HasSize text choice (length plan.graph.nodes)
     (length plan.graph.channels))
-    c.in-Ok.ensures (plan_size text _ plan c.in-Ok-compile.ensures.plan) in
+    (same_choice _ _ c.in-Ok.ensures.main c.in-Ok.ensures.fuse) (plan_size text _ plan c.in-Ok-compile.ensures.plan) in
     subst
     (λ (command : Command). IsAsked text command bytes
     (answer.Checked (length c.nodes.result.now) (length c.channels.result.now)))
@@ -28,34 +28,35 @@ returns-in-Check-clause-answered g c =
       c.channels.ensures.channels,
       c.graph.ensures.graph,
       c.graph-in-Check.ensures.graph,
-      ← ap main_of c.in-Check.is,
+      ← ap choice_of c.in-Check.is,
     ) size)
 
 pub returns-in-Run-clause-answered : goal.returns-in-Run-clause-answered
 returns-in-Run-clause-answered g c =
     let text = c.args.text.now in
     let plan = planning_of c.in-Ok-compile.plan in
-    let is : IsPlanOf text (main_of c.args.command.now) plan =
-    subst (λ (main : Option (List ℕ)). IsPlanOf text main plan) c.in-Ok.ensures
-    c.in-Ok-compile.ensures.plan in
+    let is : IsPlanOf text (choice_of c.args.command.now) plan =
+    subst (λ (choice : Choice). IsPlanOf text choice plan)
+    (same_choice _ _ c.in-Ok.ensures.main c.in-Ok.ensures.fuse) c.in-Ok-compile.ensures.plan in
     subst
     (λ (command : Command). IsAnswered text command (g.I.Source.remaining c.args.input.now)
     c.run_plan.result)
     (sym c.in-Run.is)
-    (c.run_plan.ensures.run text _
-    (subst (λ (main : Option (List ℕ)). IsPlanOf text main plan) (ap main_of c.in-Run.is) is))
+    (c.run_plan.ensures.run text _ _ c.in-Run.stats
+    (subst (λ (choice : Choice). IsPlanOf text choice plan) (ap choice_of c.in-Run.is) is))
 
 pub returns-in-Run-clause-unread : goal.returns-in-Run-clause-unread
 returns-in-Run-clause-unread g c =
     let text = c.args.text.now in
     let plan = planning_of c.in-Ok-compile.plan in
-    let is : IsPlanOf text (main_of c.args.command.now) plan =
-    subst (λ (main : Option (List ℕ)). IsPlanOf text main plan) c.in-Ok.ensures
-    c.in-Ok-compile.ensures.plan in
+    let is : IsPlanOf text (choice_of c.args.command.now) plan =
+    subst (λ (choice : Choice). IsPlanOf text choice plan)
+    (same_choice _ _ c.in-Ok.ensures.main c.in-Ok.ensures.fuse) c.in-Ok-compile.ensures.plan in
     elim c.run_plan.ensures.unread [
       | inl same ↦ inl same
       | inr reads ↦ inr (subst (ReadsInput text) (sym c.in-Run.is)
-          (reads_text text _ plan
-          (subst (λ (main : Option (List ℕ)). IsPlanOf text main plan) (ap main_of c.in-Run.is)
-          is) c.in-Run.rounds c.in-Run.workers (g.I.Source.remaining c.args.input.now) reads))
+          (reads_text text _ _ plan
+          (subst (λ (choice : Choice). IsPlanOf text choice plan) (ap choice_of c.in-Run.is)
+          is) c.in-Run.rounds c.in-Run.workers false
+          (g.I.Source.remaining c.args.input.now) reads))
     ]

@@ -10,7 +10,8 @@ use Rattle.strc_circuit.specs.Circuits.{circuit_view}
 use Rattle.strc_circuit.specs.Parts.{IsPartCircuit}
 use Rattle.strc_circuit.specs.Units.{unit_views}
 use Rattle.strc_circuit.proofs.UnitLists.{same_firings}
-use Rattle.strc_cut.specs.Cuts.{firings_within, segment_of, units_within}
+use Rattle.strc_fuse.specs.Units.{round_units}
+use Rattle.strc_cut.specs.Cuts.{IsBetweenUnits, firings_within, segment_of, units_within}
 use Rattle.strc_cut.proofs.StageUnits.{segments_are_units}
 use Rattle.strc_admissible.specs.Laws.{round_order}
 use Rattle.strc_runner.specs.Actors.{fields_of}
@@ -81,21 +82,28 @@ parted c =
 order_is : (c : goal.After-new-2)
     → firings_of c.in_ok-order.order.units.items
     ≡ segment_of (bound_in c.args.cut.now.bounds.items)
-    (round_order (planning_of c.args.plan.now).schedule) c.args.stage
+    (round_order (planning_of c.args.plan.now).fused) c.args.stage
 order_is c =
     let plan = planning_of c.args.plan.now in
+    let at = c.requires.cut.at in
+    let between_first = subst (λ (n : ℕ). IsBetweenUnits (round_units plan.fused.round) n)
+    (sym (parted c).first_is)
+    (at.cut.units c.args.stage (omega (arith, c.requires.stage))) in
+    let between_next = subst (λ (n : ℕ). IsBetweenUnits (round_units plan.fused.round) n)
+    (sym (parted c).next_is)
+    (at.cut.units (suc c.args.stage) (omega (arith, c.requires.stage))) in
     let first = c.index-first.result.now in
     let next = c.index-next.result.now in
     let is = parted c in
     ap firings_of c.in_ok-order.ensures.units
-    ∙ same_firings c.in_ok-units.units.items (units_within first next plan.schedule.round)
+    ∙ same_firings c.in_ok-units.units.items (units_within first next plan.fused.round)
     (c.in_ok-units.ensures ∙ ap (λ (l : List units.Unit.Unit).
-    unit_views (units_within first next l)) (c.round.ensures
-    ∙ ap (λ (s : ScheduleParts). s.round) c.schedule.ensures.schedule))
-    ∙ segments_are_units plan first next c.requires.cut.at.is
-    ∙ ap (λ (n : ℕ). firings_within n next (round_order plan.schedule)) is.first_is
+    unit_views (units_within first next l)) (c.round-round.ensures
+    ∙ ap (λ (s : ScheduleParts). s.round) c.transformed_schedule.ensures.schedule))
+    ∙ segments_are_units plan.fused.round first next between_first between_next
+    ∙ ap (λ (n : ℕ). firings_within n next (round_order plan.fused)) is.first_is
     ∙ ap (λ (n : ℕ). firings_within (bound_in c.args.cut.now.bounds.items c.args.stage) n
-    (round_order plan.schedule)) is.next_is
+    (round_order plan.fused)) is.next_is
 
 pub returns-clause-made : goal.returns-clause-made
 returns-clause-made c =
@@ -126,7 +134,7 @@ returns-clause-made c =
             ∙ ap (λ (n : ℕ). tapes_in n next 0 (tape_nodes plan.graph.nodes)) is.first_is
             ∙ ap (λ (n : ℕ). tapes_in (bound_in bounds stage) n 0
             (tape_nodes plan.graph.nodes)) is.next_is
-            ∙ tapes_are plan.graph (bound_in bounds) (last_of bounds) c.requires.cut.at.cut stage
+            ∙ tapes_are plan (bound_in bounds) (last_of bounds) c.requires.cut.at.cut stage
             c.requires.stage 0 0 plan.graph.nodes (omega arith);
         machine = machine_view c.in_ok-part.part;
         machine_is = refl;

@@ -35,7 +35,7 @@ loop-stage-preserved c =
           own.made;
       rest = subst (λ (n : ℕ). IsRest plan.graph (bound_in bounds n) started
           (machine_view c.stage_of.new.machine)) e
-          (rest_next plan.graph (bound_in bounds) (last_of bounds) stage started before
+          (rest_next plan (bound_in bounds) (last_of bounds) stage started before
           (machine_view c.stage_of.new.machine) at.cut most so_far.rest own.rest);
       holds = subst (λ (n : ℕ). HoldsFrom plan.graph (bound_in bounds n)
           c.stage_of.new.machine) e own.holds;

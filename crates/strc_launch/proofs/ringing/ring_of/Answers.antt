@@ -37,7 +37,7 @@ returns c =
     let started = machine_view c.args.machine in
     let workers = c.args.workers in
     let stages = c.in_ok-stages.stages.items in
-    let whole = c.in_ok-cut.ensures.cut.at.is.whole in
+    let is = c.in_ok-cut.ensures.cut.at.is in
     let some = subst (λ n. 0 < n) (sym (length-map c.args.plan.now.graph.nodes node_view))
     c.requires.nodes in
     let same : bounds ≡ bounds_of plan workers = c.in_ok-cut.ensures.bounds in
@@ -62,8 +62,8 @@ returns c =
       free = c.in_ok-free.free;
       collector = collector;
     })) (sym c.new-2.ensures) (record {
-      count = stages_are plan.graph workers whole c.requires.workers some;
-      cut = bounds_cut plan.graph workers whole c.requires.workers some;
+      count = stages_are plan workers is c.requires.workers some;
+      cut = bounds_cut plan workers is c.requires.workers some;
       beginning = subst (λ (l : List ℕ). IsBeginning plan (bound_in l) (last_of l) circuit started
           c.args.rounds (start_of (record {
             stages = c.in_ok-stages.stages;

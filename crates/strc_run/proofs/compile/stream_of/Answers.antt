@@ -1,7 +1,7 @@
 use Rattle.std.proofs.Common.{subst, sym, ℕ, List, Option}
+use Rattle.strc_run.specs.Choices.{choice_of}
 use Rattle.strc_run.specs.Refuses.{IsTrueOf}
 use Rattle.strc_refusal.specs.Reports.{refusal_of}
-use Rattle.strc_run.specs.Plans.{main_of}
 use Rattle.strc_refusal.specs.declared.refusal.Refusal.{Refusal}
 use Rattle.strc_run.proofs.Refusals.{elaboration_refused}
 use Rattle.strc_run.proofs.compile.stream_of.Goals as goal
@@ -9,9 +9,11 @@ use Rattle.strc_run.proofs.compile.stream_of.Goals as goal
 pub returns : goal.returns
 returns c =
     let text = c.args.text.now in
-    subst (λ (refused : Refusal). IsTrueOf text (main_of c.args.options.now) refused)
+    let fuse = c.args.options.now.fuse in
+    subst (λ (refused : Refusal). IsTrueOf text (choice_of c.args.options.now) refused)
     (sym c.from.ensures)
     (subst (λ (main : Option (List ℕ)).
-    IsTrueOf text main (refusal_of c.in-Err-elaborate.error)) c.main_name.ensures
-    (elaboration_refused text _ _ c.in-Ok.ensures.read c.in-Err-elaborate.error
-    c.in-Err-elaborate.ensures.verdict))
+    IsTrueOf text (record { main = main; fuse = fuse }) (refusal_of c.in-Err-elaborate.error))
+    c.main_name.ensures
+    (elaboration_refused text (record { main = _; fuse = fuse }) _ c.in-Ok.ensures.read
+    c.in-Err-elaborate.error c.in-Err-elaborate.ensures.verdict))

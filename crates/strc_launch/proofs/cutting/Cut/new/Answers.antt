@@ -1,6 +1,6 @@
 use Rattle.std.proofs.Common.{◌∙◌, sym, ap, subst, length, map, ◌<◌, ◌≤◌, List, ℕ}
 use Rattle.std.proofs.lemmas.List.{length-map}
-use Rattle.strc_graph.specs.NodeView.{GraphParts, graph_view, node_view}
+use Rattle.strc_graph.specs.NodeView.{GraphParts, node_view}
 use Rattle.strc_graph.specs.Tapes.{tape_nodes}
 use Rattle.strc_stage.specs.Plans.{planning_of}
 use Rattle.strc_launch.specs.Cuts.{IsCutAt}
@@ -10,25 +10,25 @@ use Rattle.strc_launch.proofs.cutting.Cut.new.Goals as goal
 
 pub links_of-requires : goal.links_of-requires
 links_of-requires c =
-    let graph = graph_view c.args.plan.now.graph in
+    let plan = planning_of c.args.plan.now in
     let some = subst (λ n. 0 < n) (sym (length-map c.args.plan.now.graph.nodes node_view))
     c.requires.nodes in
     subst (λ (l : List ℕ). 2 ≤ length l) (sym (c.deref.ensures.value ∙ c.in_ok-bounds.ensures))
-    (two_bounds graph c.args.workers c.known_plan.ensures.is.whole c.requires.workers some)
+    (two_bounds plan c.args.workers c.known.ensures.is c.requires.workers some)
 
 pub returns-clause-cut : goal.returns-clause-cut
 returns-clause-cut c =
     let plan = planning_of c.args.plan.now in
     let some = subst (λ n. 0 < n) (sym (length-map c.args.plan.now.graph.nodes node_view))
     c.requires.nodes in
-    let whole = c.known_plan.ensures.is.whole in
+    let is = c.known.ensures.is in
     let links = c.in_ok-links.ensures ∙ ap (links_of plan) c.deref.ensures.value in
     record {
       at = subst (IsCutAt plan) (sym c.in_ok-bounds.ensures) (record {
-        is = c.known_plan.ensures.is;
-        graph = c.known_plan.ensures.graph;
-        some = two_bounds plan.graph c.args.workers whole c.requires.workers some;
-        cut = bounds_cut plan.graph c.args.workers whole c.requires.workers some;
+        is = c.known.ensures.is;
+        graph = c.known.ensures.graph;
+        some = two_bounds plan c.args.workers is c.requires.workers some;
+        cut = bounds_cut plan c.args.workers is c.requires.workers some;
       });
       links = links;
       rooms = c.in_ok-rooms.ensures ∙ ap (map room_of) (c.deref-2.ensures.value ∙ links)

@@ -1,0 +1,66 @@
+// What a person reads of the time that the stages of a plan took.
+
+use std::alloc::{AllocError, Global};
+use std::time::Clock;
+use strc_cut::bounds::stage_bounds;
+use strc_graph::graph::Graph;
+use strc_run::compile::Plan;
+use strc_times::{StageTimes, alone_line, stage_line};
+
+/// A line for each stage of a plan that so many workers ran, with its nodes, its steps and their
+/// time; or one line where the calling thread did all. No bytes where memory runs out.
+pub fn times_message<C: Clock>(
+    alloc: Global,
+    plan: &Plan,
+    workers: u32,
+    times: &StageTimes<'_, C>,
+) -> Vec<u8> {
+    match times_lines(alloc, plan, workers, times) {
+        Ok(lines) => lines,
+        Err(_) => Vec::new(alloc),
+    }
+}
+
+fn times_lines<C: Clock>(
+    alloc: Global,
+    plan: &Plan,
+    workers: u32,
+    times: &StageTimes<'_, C>,
+) -> Result<Vec<u8>, AllocError> {
+    if times.has_steps() {
+        return stage_lines(alloc, plan, workers, times);
+    }
+    match times.age() {
+        Some(age) => alone_line(alloc, age),
+        None => Ok(Vec::new(alloc)),
+    }
+}
+
+fn stage_lines<C: Clock>(
+    alloc: Global,
+    plan: &Plan,
+    workers: u32,
+    times: &StageTimes<'_, C>,
+) -> Result<Vec<u8>, AllocError> {
+    let bounds = stage_bounds(alloc, plan, workers)?;
+    let mut lines = Vec::new(alloc);
+    for at in 1..bounds.len() {
+        let names = names_of(alloc, plan.graph(), bounds[at - 1], bounds[at])?;
+        let stage = at - 1;
+        let line = stage_line(alloc, stage, times.stage(stage), times.run_time(), &names)?;
+        lines.extend_from_slice(&line)?;
+    }
+    Ok(lines)
+}
+
+// The names of the nodes from one number to before another one.
+fn names_of(alloc: Global, graph: &Graph, from: usize, to: usize) -> Result<Vec<u8>, AllocError> {
+    let mut names = Vec::new(alloc);
+    for node in from..to.min(graph.nodes().len()) {
+        if node > from {
+            names.extend_from_slice(b", ")?;
+        }
+        names.extend_from_slice(graph.name(node))?;
+    }
+    Ok(names)
+}
