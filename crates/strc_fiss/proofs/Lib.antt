@@ -1,0 +1,14 @@
+mod Bases
+mod Dividing
+mod Each
+mod FewFirings
+mod Grouped
+mod Joining
+mod Lookup
+mod Outcome
+mod Outcomes
+mod Pieced
+mod Planned
+mod Renaming
+mod Sequences
+mod Shares

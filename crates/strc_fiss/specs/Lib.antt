@@ -1,0 +1,11 @@
+pub mod Fissions
+pub mod Groups
+pub mod Laws
+pub mod Numbers
+pub mod Rows
+pub mod Sentences
+pub mod Splits
+pub mod Splitting
+pub mod Units
+pub mod Ways
+pub mod WireView
