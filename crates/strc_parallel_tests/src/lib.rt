@@ -7,6 +7,8 @@
 #![tactic(auto)]
 
 #[cfg(test)]
+mod counts;
+#[cfg(test)]
 mod dice;
 #[cfg(test)]
 mod gates;
