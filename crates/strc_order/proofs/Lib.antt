@@ -25,3 +25,4 @@ pub mod Ranges
 pub mod OuterNodes
 pub mod Runnable
 pub mod CopyPeaks
+pub mod Overflowing

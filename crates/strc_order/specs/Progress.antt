@@ -19,6 +19,10 @@ count_bound = 2 * count_limit
 abbrev pub AreCounts : List ℕ → Type 0
 AreCounts counts = (node : ℕ) → count_at counts node ≤ count_bound
 
+-- a node fires more often than that
+abbrev pub PassesBound : Firings → Type 0
+PassesBound counts = (node : ℕ) × (count_bound < counts node)
+
 -- a node has firings left and finds its windows
 abbrev pub IsReady : List ChannelRates → (counts left : Firings) → (node : ℕ) → Type 0
 IsReady channels counts left node = (0 < left node) × FindsWindows channels counts node

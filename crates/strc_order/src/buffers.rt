@@ -84,7 +84,10 @@ fn peaks_of(
 {
     let (counts, greatest) = after_startup(alloc, network, startup)?;
     let last = fills(alloc, network, &counts)?;
-    let (_counts, sizes) = after_units(network, round, counts, copy_of(alloc, &greatest)?);
+    let copy = copy_of(alloc, &greatest)?;
+    let Some((_counts, sizes)) = after_units(network, round, counts, copy) else {
+        unreachable!()
+    };
     Ok(Peaks {
         greatest,
         last,
@@ -97,7 +100,7 @@ fn after_startup(
     alloc: Global,
     network: &Network,
     startup: &[Unit],
-) -> Result<(Vec<u32>, Vec<u128>), AllocError>
+) -> Result<(Vec<u128>, Vec<u128>), AllocError>
     requires startup { All (HasNodes (size_of network.now)) startup.now }
     requires few { (node : ℕ) → firing_count (firings_of startup.now) node ≤ count_bound }
     ensures { IfOk result (λ state. IsAfterStartup network.now startup.now state.0.items
@@ -105,11 +108,14 @@ fn after_startup(
 {
     let counts = zeros(alloc, network.size())?;
     let enqueued = fills(alloc, network, &counts)?;
-    Ok(after_units(network, startup, counts, enqueued))
+    let Some(later) = after_units(network, startup, counts, enqueued) else {
+        unreachable!()
+    };
+    Ok(later)
 }
 
 /// So many zeros.
-pub(crate) fn zeros(alloc: Global, size: usize) -> Result<Vec<u32>, AllocError>
+pub(crate) fn zeros(alloc: Global, size: usize) -> Result<Vec<u128>, AllocError>
     ensures { IfOk result (λ zeros. zeros.items ≡ replicate size 0) }
 {
     let mut zeros = Vec::new(alloc);
@@ -118,7 +124,7 @@ pub(crate) fn zeros(alloc: Global, size: usize) -> Result<Vec<u32>, AllocError>
 }
 
 /// How many items are on each channel.
-fn fills(alloc: Global, network: &Network, counts: &[u32]) -> Result<Vec<u128>, AllocError>
+fn fills(alloc: Global, network: &Network, counts: &[u128]) -> Result<Vec<u128>, AllocError>
     requires each { length counts.now ≡ size_of network.now }
     requires few { AreCounts counts.now }
     ensures { IfOk result (λ fills. fills.items
@@ -127,7 +133,10 @@ fn fills(alloc: Global, network: &Network, counts: &[u32]) -> Result<Vec<u128>, 
     let channels = network.channels();
     let mut fills = Vec::with_capacity(alloc, channels.len())?;
     for rates in channels {
-        fills.push(fill(rates, counts))?;
+        let Some(items) = fill(rates, counts) else {
+            unreachable!()
+        };
+        fills.push(items)?;
     }
     Ok(fills)
 }

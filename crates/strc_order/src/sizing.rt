@@ -6,9 +6,7 @@ ghost use Rattle.strc_order.specs.Buffers.{size_limit};
 ghost use Rattle.strc_order.specs.Firings.{none_fired};
 ghost use Rattle.strc_order.specs.Greedy.{firings_of};
 ghost use Rattle.strc_order.specs.Network.{size_of};
-ghost use Rattle.strc_order.specs.Order.{firing_count};
 ghost use Rattle.strc_order.specs.Peaks.{AreRaised, HasNodes};
-ghost use Rattle.strc_order.specs.Progress.{count_bound};
 ghost use Rattle.strc_order.specs.Sizing.{round_rates_on, PassesOn, HasNoSizes};
 ghost use Rattle.strc_order.specs.declared.error.ScheduleError.TheVariants as refused;
 
@@ -27,10 +25,12 @@ use strc_graph::graph::Graph;
 /// and after the firings.
 ///
 /// The graph can have nodes of every kind, and the units several nodes. Each firing pushes and pops
-/// what it does by `work`; a copy pops what its filter pops. Each node fires at most 2,000,000
-/// times: counts and rates are multiplied in 128 bits, in which rates have 96. `BufferLimit` comes
-/// for the lowest channel whose greatest number is above 16,777,216. `NoMemory` can come in place
-/// of any answer, and comes where the graph has more than 4,294,967,296 nodes.
+/// what it does by `work`; a copy pops what its filter pops. `BufferLimit` comes for the lowest
+/// channel whose greatest number is above 16,777,216. `NoMemory` can come in place of any answer,
+/// and comes where the graph has more than 4,294,967,296 nodes. Memory apart, it comes else only
+/// where a node fires 2^128 times, or as many items come on a channel or leave it: at the rates of
+/// programs, which are below 2^52, that takes more than 2^75 firings, to which no list of units
+/// comes in the life of a machine.
 pub fn sizes(
     alloc: Global,
     graph: &Graph,
@@ -41,7 +41,6 @@ pub fn sizes(
     requires before { length before.now ≡ length graph.now.channels }
     requires fill { length fill.now ≡ length graph.now.channels }
     requires nodes { All (HasNodes (length graph.now.nodes)) round.now }
-    requires few { (node : ℕ) → firing_count (firings_of round.now) node ≤ count_bound }
     ensures channels { IfOk result (λ sizes. length sizes.items ≡ length graph.now.channels) }
     ensures within { IfOk result (λ sizes. All (λ size. size ≤ size_limit) sizes.items) }
     ensures sizes { IfOk result (λ sizes. AreRaised (round_rates_on (graph_view graph.now) fill.now)
@@ -79,7 +78,6 @@ fn sizes_on(
 ) -> Result<Vec<u32>, ScheduleError>
     requires before { length before.now ≡ length network.now.channels }
     requires nodes { All (HasNodes (size_of network.now)) round.now }
-    requires few { (node : ℕ) → firing_count (firings_of round.now) node ≤ count_bound }
     ensures channels { IfOk result (λ sizes. length sizes.items ≡ length network.now.channels) }
     ensures within { IfOk result (λ sizes. All (λ size. size ≤ size_limit) sizes.items) }
     ensures sizes { IfOk result (λ sizes. AreRaised network.now.channels none_fired
@@ -103,14 +101,15 @@ fn peaks_on(
 ) -> Result<Vec<u128>, AllocError>
     requires before { length before.now ≡ length network.now.channels }
     requires nodes { All (HasNodes (size_of network.now)) round.now }
-    requires few { (node : ℕ) → firing_count (firings_of round.now) node ≤ count_bound }
     ensures each { IfOk result (λ peaks. length peaks.items ≡ length network.now.channels) }
     ensures raised { IfOk result (λ peaks. AreRaised network.now.channels none_fired
         (firings_of round.now) before.now peaks.items) }
 {
     let counts = zeros(alloc, network.size())?;
     let peaks = peaks_from(alloc, network, before)?;
-    let (_counts, raised) = after_units(network, round, counts, peaks);
+    let Some((_counts, raised)) = after_units(network, round, counts, peaks) else {
+        return Err(AllocError);
+    };
     Ok(raised)
 }
 

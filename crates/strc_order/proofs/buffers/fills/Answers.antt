@@ -4,6 +4,7 @@ use Rattle.strc_balance.specs.Balance.{count_at}
 use Rattle.strc_startup.specs.Waiting.{HasEnds, IsBounded}
 use Rattle.strc_order.specs.Firings.{fill}
 use Rattle.strc_order.proofs.Networks.{nothing, map_more}
+use Rattle.strc_order.proofs.Overflowing.{none_passes}
 use Rattle.strc_order.proofs.buffers.fills.Goals as goal
 
 pub loop-rates-init : goal.loop-rates-init
@@ -22,13 +23,14 @@ fill-requires-clause-bounds c =
     c.channels-channels.ensures.network.bounds c.loop-rates.rates-index nothing
     c.loop-rates-test.true
 
-pub fill-requires-clause-few : goal.fill-requires-clause-few
-fill-requires-clause-few c = c.requires.few
+pub unreachable-requires : goal.unreachable-requires
+unreachable-requires c =
+    none_passes (count_at c.args.counts.now) c.requires.few c.in_default.ensures.none
 
 pub loop-rates-preserved : goal.loop-rates-preserved
 loop-rates-preserved c =
     let before = c.loop-rates.fills.items in
-    c.in_ok-push.ensures.items ∙ ap (λ v. before ++ v ∷ []) c.fill.ensures.fill
+    c.in_ok-push.ensures.items ∙ ap (λ v. before ++ v ∷ []) c.in-Some.ensures.fill
     ∙ map_more (λ rates. fill rates (count_at c.args.counts.now)) c.channels-channels.result.now
     c.loop-rates.rates-index nothing before c.loop-rates-test.true c.loop-rates.invariant
 

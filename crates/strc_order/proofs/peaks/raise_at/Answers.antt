@@ -41,7 +41,7 @@ loop-number-preserved c =
     let known = c.requires.numbers place 0 c.loop-number-test.true in
     let inside : number < length now = omega (arith, known, touches.each, c.requires.peaks) in
     subst (λ v. Touches channels numbers counts c.args.peaks.now (set now number v) (place + 1))
-    (sym (c.max.ensures ∙ ap (max (get_or now number 0)) c.fill.ensures.fill))
+    (sym (c.max.ensures ∙ ap (max (get_or now number 0)) c.in_ok-items.ensures.fill))
     (touches_more channels numbers counts c.args.peaks.now now place number c.channel.result.now
     (slice_get-get_or numbers place 0 c.loop-number-test.true) c.channel.ensures.rates inside
     touches)

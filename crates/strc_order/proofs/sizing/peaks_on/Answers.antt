@@ -1,4 +1,4 @@
-use Rattle.std.proofs.Common.{◌≡◌, ◌∙◌, sym, ap, subst, arith}
+use Rattle.std.proofs.Common.{◌≡◌, ◌∙◌, sym, ap, subst}
 use Rattle.strc_balance.specs.Balance.{count_at}
 use Rattle.strc_order.specs.Firings.{none_fired}
 use Rattle.strc_order.specs.Greedy.{firings_of}
@@ -7,14 +7,8 @@ use Rattle.strc_order.proofs.Buffering.{zero_counts}
 use Rattle.strc_order.proofs.Continuing.{raised_from, raised_known}
 use Rattle.strc_order.proofs.sizing.peaks_on.Goals as goal
 
-pub after_units-counts-requires-clause-few : goal.after_units-counts-requires-clause-few
-after_units-counts-requires-clause-few c node =
-    let zero : count_at c.in_ok-counts.counts.items ≡ none_fired =
-    ap count_at c.in_ok-counts.ensures ∙ zero_counts c.size.result in
-    omega (arith, ap (λ k. k node) zero, c.requires.few node)
-
-pub after_units-counts-requires-clause-known : goal.after_units-counts-requires-clause-known
-after_units-counts-requires-clause-known c =
+pub after_units-requires-clause-known : goal.after_units-requires-clause-known
+after_units-requires-clause-known c =
     let zero : count_at c.in_ok-counts.counts.items ≡ none_fired =
     ap count_at c.in_ok-counts.ensures ∙ zero_counts c.size.result in
     subst (λ k. AreBelow c.args.network.now.channels k c.in_ok-peaks.peaks.items) (sym zero)
@@ -22,16 +16,16 @@ after_units-counts-requires-clause-known c =
     c.in_ok-peaks.ensures.peaks)
 
 pub returns-clause-each : goal.returns-clause-each
-returns-clause-each c = c.after_units-counts.ensures.channel ∙ c.in_ok-peaks.ensures.each
+returns-clause-each c = c.in-Some.ensures.raises.channel ∙ c.in_ok-peaks.ensures.each
 
 pub returns-clause-raised : goal.returns-clause-raised
 returns-clause-raised c =
     let channels = c.args.network.now.channels in
     let order = firings_of c.args.round.now in
-    let sizes = c.after_units-counts.result.1.items in
+    let sizes = c.in-Some.raised.items in
     let zero : count_at c.in_ok-counts.counts.items ≡ none_fired =
     ap count_at c.in_ok-counts.ensures ∙ zero_counts c.size.result in
     raised_from channels order c.args.before.now c.in_ok-peaks.peaks.items sizes
     c.in_ok-peaks.ensures.peaks
     (subst (λ k. AreRaised channels k order c.in_ok-peaks.peaks.items sizes) zero
-    c.after_units-counts.ensures.peak)
+    c.in-Some.ensures.raises.peak)
