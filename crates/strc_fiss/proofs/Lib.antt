@@ -1,7 +1,6 @@
 mod Bases
 mod Dividing
 mod Each
-mod FewFirings
 mod Grouped
 mod Joining
 mod Lookup

@@ -1,5 +1,4 @@
--- The round after fission names nodes that are there, and none fires too often; and the shares of a
--- graph's nodes.
+-- The round after fission names nodes that are there; and the shares of a graph's nodes.
 use Rattle.std.proofs.Common.{◌≡◌, refl, sym, ap, ap₂, ◌∙◌, subst, ℕ, zero, suc, ◌+◌, ◌*◌, ◌/◌}
 use Rattle.std.proofs.Common.{◌%◌, ◌<◌, ◌≤◌, arith}
 use Rattle.std.proofs.Common.{List, [], ◌∷◌, All, Bool, true, false, cond, ◌&&◌}
@@ -13,13 +12,10 @@ use Rattle.strc_graph.specs.Graphs.{Splitter, Joiner, Scatter, Copy, Gather}
 use Rattle.strc_graph.specs.declared.graph.Fission.{Fission}
 use Rattle.strc_balance.specs.Balance.{count_at}
 use Rattle.strc_order.specs.declared.unit as units
-use Rattle.strc_order.specs.Greedy as order
-use Rattle.strc_order.specs.Order.{firing_count}
 use Rattle.strc_order.specs.Peaks.{HasNodes}
-use Rattle.strc_rounds.specs.FusedUnits.{RoundUnit, firings_of}
+use Rattle.strc_rounds.specs.FusedUnits.{RoundUnit}
 use Rattle.strc_rounds.specs.Pieces.{unit_of}
 use Rattle.strc_fuse.specs.Units.{round_unit, round_units}
-use Rattle.strc_fuse.proofs.Counting.{firings_same}
 use Rattle.strc_fiss.specs.Numbers.{up_to, is_dealt, last_part, base}
 use Rattle.strc_fiss.specs.Units.{renamed_unit, split_list, split_unit, split_units}
 use Rattle.strc_fiss.specs.Units.{is_whole, units_of_parts}
@@ -28,7 +24,6 @@ use Rattle.strc_fiss.proofs.Bases.{base_below}
 use Rattle.strc_fiss.proofs.Each.{Each, each_all, all_each, each_append, each_map, map_each}
 use Rattle.strc_fiss.proofs.Each.{each_more}
 use Rattle.strc_fiss.proofs.Each.{each_up_to}
-use Rattle.strc_fiss.proofs.FewFirings.{firings_few}
 use Rattle.strc_fiss.proofs.Joining.{both_true}
 use Rattle.strc_fiss.proofs.Renaming.{last_dealt}
 
@@ -101,18 +96,6 @@ module _ (share : ℕ → Fission) (size : ℕ) where
       (each_more (HasNodes size) (λ (unit : units.Unit.Unit). Below size (round_unit unit)) old
       (λ unit has. all_each (λ node. node < size) unit.nodes.items has)
       (all_each (HasNodes size) old all)))))))
-
--- no node fires more often than one did before
-pub few_there : (share : ℕ → Fission) (limit : ℕ) (old new : List units.Unit.Unit)
-    → ((v : ℕ) → is_dealt (share v) ≡ true → 0 < (share v).firings)
-    → round_units new ≡ split_units share (round_units old)
-    → ((node : ℕ) → firing_count (order.firings_of old) node ≤ limit)
-    → (node : ℕ) → firing_count (order.firings_of new) node ≤ limit
-few_there share limit old new some is few node =
-    subst (λ (l : List ℕ). firing_count l node ≤ limit)
-    (sym (firings_same new ∙ ap firings_of is))
-    (firings_few share some (round_units old) limit node
-    (λ v. subst (λ (l : List ℕ). firing_count l v ≤ limit) (firings_same old) (few v)))
 
 -- the firings of a node that is split
 

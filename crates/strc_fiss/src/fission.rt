@@ -8,9 +8,7 @@ ghost use Rattle.strc_graph.specs.NodeView.{graph_view, node_view};
 ghost use Rattle.strc_order.specs.Buffers.{size_limit};
 ghost use Rattle.strc_order.specs.Firings.{none_fired};
 ghost use Rattle.strc_order.specs.Greedy.{firings_of};
-ghost use Rattle.strc_order.specs.Order.{firing_count};
 ghost use Rattle.strc_order.specs.Peaks.{AreRaised, HasNodes};
-ghost use Rattle.strc_order.specs.Progress.{count_bound};
 ghost use Rattle.strc_order.specs.Sizing.{round_rates_on, PassesOn};
 ghost use Rattle.strc_order.specs.declared.error.ScheduleError.TheVariants as unsized;
 ghost use Rattle.strc_fiss.specs.Fissions.{IsFission, SplitPasses};
@@ -46,10 +44,10 @@ use strc_order::unit::Unit;
 /// Amarasinghe 2006: fission). Start-up is as before, and its order names nodes by their old
 /// numbers. The time is linear in the graph and its round, but for `ways` steps at a node.
 ///
-/// The schedule has an entry for each channel, its round names nodes of the graph, and each fires
-/// at most 2,000,000 times. `NodeLimit` comes where there would be more than 4,096 nodes.
-/// `BufferLimit` comes where that isn't so, for the lowest new channel that would hold more than
-/// 16,777,216 items. `NoMemory` can come in place of any answer.
+/// The schedule has an entry for each channel, and its round names nodes of the graph. `NodeLimit`
+/// comes where there would be more than 4,096 nodes. `BufferLimit` comes where that isn't so, for
+/// the lowest new channel that would hold more than 16,777,216 items. `NoMemory` can come in place
+/// of any answer, and comes where `sizes` of strc_order says.
 pub fn fission(
     alloc: Global,
     graph: &Graph,
@@ -60,7 +58,6 @@ pub fn fission(
     requires greatest { length schedule.now.greatest ≡ length graph.now.channels }
     requires last { length schedule.now.last ≡ length graph.now.channels }
     requires nodes { All (HasNodes (length graph.now.nodes)) schedule.now.round }
-    requires few { (node : ℕ) → firing_count (firings_of schedule.now.round) node ≤ count_bound }
     ensures split { IfOk result (IsFission
         (fission_of (graph_view graph.now) round_counts.now ways) (graph_view graph.now)
         schedule.now) }
@@ -86,14 +83,11 @@ fn split_by(
     requires greatest { length schedule.now.greatest ≡ length graph.now.channels }
     requires last { length schedule.now.last ≡ length graph.now.channels }
     requires nodes { All (HasNodes (length graph.now.nodes)) schedule.now.round }
-    requires few { (node : ℕ) → firing_count (firings_of schedule.now.round) node ≤ count_bound }
     requires shares { length shares.now ≡ length graph.now.nodes }
     requires bases { bases.now ≡ up_to (base (share_at shares.now)) (suc (length shares.now)) }
     requires within { base (share_at shares.now) (length shares.now) ≤ node_limit }
     requires alike { (node : ℕ) → is_dealt (share_at shares.now node) ≡ true
         → is_alike (slice_get (graph_view graph.now).nodes node) ≡ true }
-    requires dealt { (node : ℕ) → is_dealt (share_at shares.now node) ≡ true
-        → 0 < (share_at shares.now node).firings }
     ensures split { IfOk result (IsFission (share_at shares.now) (graph_view graph.now)
         schedule.now) }
     ensures nodes { ¬ (result ≡ Err refused.NodeLimit) }
@@ -159,7 +153,6 @@ fn sizes_of(
     requires before { length greatest.now ≡ length graph.now.channels }
     requires fill { length last.now ≡ length graph.now.channels }
     requires nodes { All (HasNodes (length graph.now.nodes)) round.now }
-    requires few { (node : ℕ) → firing_count (firings_of round.now) node ≤ count_bound }
     ensures channels { IfOk result (λ sizes. length sizes.items ≡ length graph.now.channels) }
     ensures within { IfOk result (λ sizes. All (λ size. size ≤ size_limit) sizes.items) }
     ensures sizes { IfOk result (λ sizes. AreRaised

@@ -74,7 +74,7 @@ counted_within counts node some = elim (cases_lt node (length counts)) [
 ]
 
 pub schedules_can_be_fused : SchedulesCanBeFused
-schedules_can_be_fused graph counts round schedule is few within = record {
+schedules_can_be_fused graph counts round schedule is few = record {
   before = ap length is.greatest
       ∙ length-map (rates_of graph)
       (λ rates. peak_fill rates none_fired (firings_of schedule.startup))
@@ -85,7 +85,6 @@ schedules_can_be_fused graph counts round schedule is few within = record {
   nodes = greedy_nodes (rates_of graph) (count_at round) (length graph.nodes)
       (λ node some. omega (arith, counted_within round node some, few)) schedule.round counts
       (count_at round) (λ node. omega arith) is.round_order.greedy;
-  few = λ node. omega (arith, is.round_order.all node, within node);
 }
 
 pub fused_row : FusedRow

@@ -5,15 +5,13 @@ use Rattle.strc_graph.specs.FlatGraphs.{IsProgram}
 use Rattle.strc_stream.specs.Instances.{Stream}
 use Rattle.strc_stream.specs.Types.{IsWellTyped}
 use Rattle.strc_stream.specs.Flattening.{tree_of, outer_loops}
-use Rattle.strc_balance.specs.Balance.{count_at, IsWithinLimit}
+use Rattle.strc_balance.specs.Balance.{count_at}
 use Rattle.strc_startup.specs.Rates.{rates_of}
 use Rattle.strc_startup.specs.declared.channel_rates.ChannelRates.{ChannelRates}
 use Rattle.strc_order.specs.Firings.{Firings}
-use Rattle.strc_order.specs.Greedy as greedy
 use Rattle.strc_order.specs.Greedy.{IsGreedyOrder}
 use Rattle.strc_order.specs.Order.{firing_count, IsOrder}
 use Rattle.strc_order.specs.Peaks.{HasNodes}
-use Rattle.strc_order.specs.Progress.{count_bound}
 use Rattle.strc_order.specs.Rounds.{IsPastPrework, RoundBalances}
 use Rattle.strc_order.specs.Schedules.{ScheduleParts, IsSchedule}
 use Rattle.strc_rounds.specs.FusedUnits.{RoundUnit, AreFused, firings_of}
@@ -75,12 +73,10 @@ pub record CanBeFused (graph : Graph) (schedule : ScheduleParts) : Type 0 where
   pub before : length schedule.greatest ≡ length graph.channels
   pub fill : length schedule.last ≡ length graph.channels
   pub nodes : All (HasNodes (length graph.nodes)) schedule.round
-  pub few : (node : ℕ) → firing_count (greedy.firings_of schedule.round) node ≤ count_bound
 
 -- a greedy schedule of a graph's counts has it
 abbrev pub SchedulesCanBeFused : Type 0
 SchedulesCanBeFused =
     (graph : Graph) (counts : Firings) (round : List ℕ) (schedule : ScheduleParts)
     → IsSchedule (rates_of graph) counts (count_at round) schedule
-    → length round ≤ length graph.nodes → IsWithinLimit round
-    → CanBeFused graph schedule
+    → length round ≤ length graph.nodes → CanBeFused graph schedule

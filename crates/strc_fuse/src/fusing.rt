@@ -14,7 +14,6 @@ ghost use Rattle.strc_order.specs.Firings.{Firings, none_fired};
 ghost use Rattle.strc_order.specs.Greedy.{firings_of};
 ghost use Rattle.strc_order.specs.Order.{firing_count, IsOrder};
 ghost use Rattle.strc_order.specs.Peaks.{AreRaised, HasNodes};
-ghost use Rattle.strc_order.specs.Progress.{count_bound};
 ghost use Rattle.strc_order.specs.RoundRates.{is_copy};
 ghost use Rattle.strc_order.specs.Rounds.{IsPastPrework, RoundBalances};
 ghost use Rattle.strc_order.specs.Sizing.{round_rates_on, PassesOn};
@@ -43,10 +42,10 @@ use strc_order::unit::Unit;
 /// one after it (Gordon, Thies and Amarasinghe 2006: fusion). With 0 nothing is fused. Start-up is
 /// as before.
 ///
-/// The schedule has an entry for each channel, its round names nodes of the graph, and each fires
-/// at most 2,000,000 times. `BufferLimit` comes for the lowest channel that would hold more than
-/// 16,777,216 items then; `NoMemory` can come in place of any answer. The schedule is then as
-/// before.
+/// The schedule has an entry for each channel, and its round names nodes of the graph.
+/// `BufferLimit` comes for the lowest channel that would hold more than 16,777,216 items then;
+/// `NoMemory` can come in place of any answer, and comes where `sizes` of strc_order says. The
+/// schedule is then as before.
 pub fn fuse(
     alloc: Global,
     graph: &Graph,
@@ -56,7 +55,6 @@ pub fn fuse(
     requires before { length schedule.old.greatest ≡ length graph.now.channels }
     requires fill { length schedule.old.last ≡ length graph.now.channels }
     requires nodes { All (HasNodes (length graph.now.nodes)) schedule.old.round }
-    requires few { (node : ℕ) → firing_count (firings_of schedule.old.round) node ≤ count_bound }
     ensures units { OnOk result (AreFused (is_free (graph_view graph.now)) threshold
         (round_units schedule.old.round) (round_units schedule.new.round)) }
     ensures counts { OnOk result ((node : ℕ) → firing_count (firings_of schedule.new.round) node
@@ -104,7 +102,6 @@ fn sizes_of(
     requires before { length schedule.now.greatest ≡ length graph.now.channels }
     requires fill { length schedule.now.last ≡ length graph.now.channels }
     requires nodes { All (HasNodes (length graph.now.nodes)) round.now }
-    requires few { (node : ℕ) → firing_count (firings_of round.now) node ≤ count_bound }
     ensures channels { IfOk result (λ sizes. length sizes.items ≡ length graph.now.channels) }
     ensures within { IfOk result (λ sizes. All (λ size. size ≤ size_limit) sizes.items) }
     ensures sizes { IfOk result (λ sizes. AreRaised

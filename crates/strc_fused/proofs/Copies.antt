@@ -14,7 +14,6 @@ use Rattle.strc_order.specs.Firings.{Firings, none_fired}
 use Rattle.strc_order.specs.Greedy.{firings_of}
 use Rattle.strc_order.specs.Order.{firing_count, IsOrder}
 use Rattle.strc_order.specs.Peaks.{AreRaised, HasNodes}
-use Rattle.strc_order.specs.Progress.{count_bound}
 use Rattle.strc_order.specs.RoundRates.{is_copy}
 use Rattle.strc_order.specs.Schedules.{ScheduleParts, IsOrderOf, IsRunnable}
 use Rattle.strc_order.specs.Sizing.{PassesOn, round_rates_on}
@@ -91,8 +90,6 @@ module _ (one other : ScheduleParts) (same : IsSame one other) where
     before = ap length same.greatest ∙ can.before;
     fill = ap length same.last ∙ can.fill;
     nodes = nodes_alike (length graph.nodes) one.round other.round same.round can.nodes;
-    few = λ node. subst (λ (l : List ℕ). firing_count l node ≤ count_bound) (sym later)
-        (can.few node);
   }
 
   pub pass_alike : (graph : Graph) (threshold channel : ℕ) → FusedPass graph threshold other channel

@@ -31,8 +31,7 @@ nodes_of_fused plan is =
     fused_nodes (is_free plan.graph) is.fusion.0 (length plan.graph.nodes) plan.schedule.round
     plan.fused.round is.fusion.1.round
     (schedules_can_be_fused plan.graph (count_at plan.startup_counts) plan.round_counts
-    plan.schedule is.schedule.is (omega (arith, is.round.least.balances.each))
-    is.round.within).nodes
+    plan.schedule is.schedule.is (omega (arith, is.round.least.balances.each))).nodes
 
 pub nodes_after : (graph : GraphParts) (startup round : List ℕ) (schedule fused : ScheduleParts)
     → HasRound (graph_view graph) round → HasSchedule (graph_view graph) startup round schedule
@@ -43,4 +42,4 @@ nodes_after graph startup round schedule fused counts has (threshold, is) =
     fused.round is.round
     (subst (λ (n : ℕ). All (HasNodes n) schedule.round) (length-map graph.nodes node_view)
     (schedules_can_be_fused (graph_view graph) (count_at startup) round schedule has.is
-    (omega (arith, counts.least.balances.each)) counts.within).nodes)
+    (omega (arith, counts.least.balances.each))).nodes)

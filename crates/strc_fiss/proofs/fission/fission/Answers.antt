@@ -1,22 +1,11 @@
-use Rattle.std.proofs.Common.{◌≡◌, ◌∙◌, ap, sym, subst, ℕ, List, true, IfOk, ◌<◌}
+use Rattle.std.proofs.Common.{◌≡◌, ◌∙◌, ap, subst, ℕ, List, IfOk}
 use mathlib.Core.Path.{fun_ext}
 use Rattle.strc_graph.specs.NodeView.{graph_view}
 use Rattle.strc_graph.specs.declared.graph.Fission.{Fission}
 use Rattle.strc_fiss.specs.Fissions.{IsFission, SplitPasses}
-use Rattle.strc_fiss.specs.Numbers.{share_at, is_dealt}
+use Rattle.strc_fiss.specs.Numbers.{share_at}
 use Rattle.strc_fiss.specs.Ways.{fission_of}
-use Rattle.strc_fiss.proofs.Planned.{some_firings}
 use Rattle.strc_fiss.proofs.fission.fission.Goals as goal
-
-pub split_by-requires-clause-dealt : goal.split_by-requires-clause-dealt
-split_by-requires-clause-dealt c node =
-    let graph = graph_view c.args.graph.now in
-    let e : share_at c.deref-2.result.now node
-    ≡ fission_of graph c.args.round_counts.now c.args.ways node =
-    ap (λ (l : List Fission). share_at l node) c.deref-2.ensures.value
-    ∙ c.in_ok-shares.ensures.shares node in
-    subst (λ (f : Fission). is_dealt f ≡ true → 0 < f.firings) (sym e)
-    (some_firings graph c.args.round_counts.now c.args.ways node)
 
 pub returns-clause-split : goal.returns-clause-split
 returns-clause-split c =

@@ -4,10 +4,7 @@ use Rattle.strc_graph.specs.Graphs.{JoinsPorts}
 use Rattle.strc_graph.specs.NodeView.{graph_view, node_view, channel_view}
 use Rattle.strc_order.specs.declared.unit as units
 use Rattle.strc_order.specs.Buffers.{size_limit}
-use Rattle.strc_order.specs.Greedy as order
-use Rattle.strc_order.specs.Order.{firing_count}
 use Rattle.strc_order.specs.Peaks.{HasNodes}
-use Rattle.strc_order.specs.Progress.{count_bound}
 use Rattle.strc_fuse.specs.Units.{round_units}
 use Rattle.strc_fiss.specs.Numbers.{share_at, base, each_part, origin_of}
 use Rattle.strc_fiss.specs.Splitting.{Wire, new_code, new_loop, split_graph}
@@ -20,7 +17,7 @@ use Rattle.strc_fiss.proofs.Bases.{base_many}
 use Rattle.strc_fiss.proofs.Joining.{wires_join}
 use Rattle.strc_fiss.proofs.Lookup.{part_many}
 use Rattle.strc_fiss.proofs.Outcome.{graph_is, raised_same, passes_there, passed_error}
-use Rattle.strc_fiss.proofs.Planned.{nodes_there, few_there}
+use Rattle.strc_fiss.proofs.Planned.{nodes_there}
 use Rattle.strc_fiss.proofs.fission.split_by.Goals as goal
 
 pub graph_of-requires-clause-joined : goal.graph_of-requires-clause-joined
@@ -54,17 +51,6 @@ sizes_of-requires-clause-nodes c =
     (subst (λ (n : ℕ). All (HasNodes n) c.in_ok-round.round.items) many
     (nodes_there share (length nodes) c.args.schedule.now.round c.in_ok-round.round.items
     c.requires.nodes round))
-
-pub sizes_of-requires-clause-few : goal.sizes_of-requires-clause-few
-sizes_of-requires-clause-few c node =
-    let share = share_at c.args.shares.now in
-    let round = c.in_ok-round.ensures
-    ∙ ap (λ (l : List units.Unit.Unit). split_units share (round_units l)) c.round.ensures in
-    subst (λ (l : List units.Unit.Unit). firing_count (order.firings_of l) node ≤ count_bound)
-    (sym c.deref-5.ensures.value)
-    (few_there share count_bound c.args.schedule.now.round c.in_ok-round.round.items
-    c.requires.dealt
-    round c.requires.few node)
 
 pub returns-in_err-sizes-clause-limit : goal.returns-in_err-sizes-clause-limit
 returns-in_err-sizes-clause-limit c channel is =

@@ -9,4 +9,4 @@ returns-in-Ok-schedule c =
     let nodes = c.args.graph.now.nodes in
     c.schedules_can_be_fused.ensures (graph_view c.args.graph.now) (count_at c.in-Ok-startup.before)
     c.in-Ok.round c.in-Ok-schedule.schedule c.in-Ok-schedule.ensures.schedule
-    (omega (arith, c.in-Ok.ensures.nodes, length-map nodes node_view)) c.in-Ok.ensures.within
+    (omega (arith, c.in-Ok.ensures.nodes, length-map nodes node_view))

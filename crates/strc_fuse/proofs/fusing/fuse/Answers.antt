@@ -1,11 +1,10 @@
-use Rattle.std.proofs.Common.{◌≡◌, sym, ap, ◌∙◌, subst, All, length, ◌≤◌, Err}
+use Rattle.std.proofs.Common.{◌≡◌, sym, ap, ◌∙◌, subst, All, length, Err}
 use Rattle.std.proofs.lemmas.List.{length-map}
 use Rattle.strc_graph.specs.NodeView.{graph_view, channel_view}
 use Rattle.strc_order.specs.Firings.{none_fired}
 use Rattle.strc_order.specs.Greedy.{firings_of}
 use Rattle.strc_order.specs.Order.{firing_count}
 use Rattle.strc_order.specs.Peaks.{AreRaised, HasNodes}
-use Rattle.strc_order.specs.Progress.{count_bound}
 use Rattle.strc_order.specs.Schedules.{ScheduleParts}
 use Rattle.strc_order.specs.Sizing.{round_rates_on, PassesOn}
 use Rattle.strc_rounds.specs.FusedUnits.{AreFused}
@@ -29,17 +28,6 @@ sizes_of-requires-clause-nodes c =
     (fused_nodes free c.args.threshold size old new
     (as_read free c.args.threshold c.round.result.now old new c.round.ensures
     c.in_ok-round.ensures) c.requires.nodes)
-
-pub sizes_of-requires-clause-few : goal.sizes_of-requires-clause-few
-sizes_of-requires-clause-few c node =
-    let free = is_free (graph_view c.args.graph.now) in
-    let old = c.args.schedule.now.round in
-    let new = c.in_ok-round.round.items in
-    let same = round_counts free c.args.threshold old new
-    (as_read free c.args.threshold c.round.result.now old new c.round.ensures
-    c.in_ok-round.ensures) node in
-    subst (λ l. firing_count (firings_of l) node ≤ count_bound) (sym c.deref.ensures.value)
-    (subst (λ n. n ≤ count_bound) (sym same) (c.requires.few node))
 
 pub returns-in_err-sizes-clause-limit : goal.returns-in_err-sizes-clause-limit
 returns-in_err-sizes-clause-limit c channel is =

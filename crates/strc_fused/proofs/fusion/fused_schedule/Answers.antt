@@ -14,11 +14,6 @@ fuse-requires-clause-nodes c =
     (can_alike c.args.schedule.now copy c.in_ok-fused.ensures (graph_view c.args.graph.now)
     c.requires.can).nodes
 
-pub fuse-requires-clause-few : goal.fuse-requires-clause-few
-fuse-requires-clause-few c =
-    (can_alike c.args.schedule.now c.in_ok-fused.fused c.in_ok-fused.ensures
-    (graph_view c.args.graph.now) c.requires.can).few
-
 pub returns-in_err-fuse-clause-limit : goal.returns-in_err-fuse-clause-limit
 returns-in_err-fuse-clause-limit c channel is =
     let own : refused.BufferLimit channel ≡ c.in_err-fuse.field-0.0 =

@@ -211,7 +211,7 @@ fused_schedule-requires-clause-can c =
     c.schedules_can_be_fused.ensures (graph_view c.in_ok-graph.graph)
     (count_at c.in_ok-startup_counts.startup_counts) c.in_ok-round_counts.round_counts
     c.in_ok-schedule.schedule c.in_ok-schedule.ensures.schedule
-    (omega (arith, counts.least.balances.each)) counts.within
+    (omega (arith, counts.least.balances.each))
 
 pub fused_schedule-requires-clause-sizes : goal.fused_schedule-requires-clause-sizes
 fused_schedule-requires-clause-sizes c =
