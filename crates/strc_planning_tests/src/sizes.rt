@@ -1,10 +1,7 @@
 // The sizes of buffers while given orders fire, in a graph in which a filter fires as two copies.
 
-ghost use Rattle.std.specs.Prelude.{◌≡◌, ℕ, ◌*◌, ◌<◌, ◌≤◌, length, All, IsTrue};
-ghost use Rattle.strc_order.specs.Greedy.{firings_of};
-ghost use Rattle.strc_order.specs.Order.{firing_count};
+ghost use Rattle.std.specs.Prelude.{◌≡◌, ◌<◌, All, IsTrue};
 ghost use Rattle.strc_order.specs.Peaks.{HasNodes};
-ghost use Rattle.strc_order.specs.Progress.{count_bound};
 
 use crate::small_graphs::Kind::{Reader, Writer};
 use crate::small_graphs::{ends_of, graph_of, node_of, row_of, shown};
@@ -49,9 +46,28 @@ const CASES: &str = "\
 0 0 0 0 0 0|2 0 0 0 0 16777212|4*0 1*1 2*2 2*3 1*4 4*5=6 4 4 2 2 16777216
 0 0 0 0 0 0|2 0 0 0 0 16777213|4*0 1*1 2*2 2*3 1*4 4*5=too many items on channel 5
 0 0 16777217 0 0 0|2 0 0 0 0 16777213|4*0 1*1 2*2 2*3 1*4 4*5=too many items on channel 2
+# Nodes that fire more often than in any round of a schedule: the source 8,000,000 times, while the
+# scatter takes what comes and gives each copy as much.
+0 0 0 0 0 0|2 0 0 0 0 0|4000000*0 1000000*1 4000000*0 1000000*1=4000002 8000000 8000000 0 0 0
+0 0 0 0 0 0|0 0 0 0 0 0|3000000*0 750000*1 3000000*2=3000000 3000000 3000000 3000000 0 0
+0 0 0 0 0 0|0 0 0 0 0 0|16777216*0 4194304*1=16777216 16777216 16777216 0 0 0
+0 0 0 0 0 0|0 0 0 0 0 0|16777216*0 4194304*1 4*0 1*1=too many items on channel 1
+0 0 0 0 0 0|0 0 0 0 0 0|16777217*0=too many items on channel 0
+# The sink takes more than 2^32 items, before the gather gives any.
+0 0 0 0 0 0|2 0 0 0 0 0|4294967295*5 1*5 1*4=2 0 0 0 0 0
+0 0 0 0 0 0|2 0 0 0 0 0|4294967295*5 1*5 1073741825*4=2 0 0 0 0 4
 0 0 0 0 0 0|2 0 0 0 0|4*0=outside the condition
 0 0 0 0 0 0|2 0 0 0 0 0|1*6=outside the condition
 ";
+
+/// A scatter of these takes nearly 2^96 items with a firing.
+const WIDE: Fission = Fission {
+    ways: u32::MAX,
+    firings: u32::MAX,
+    pop: u32::MAX,
+    window: u32::MAX,
+    push: 1,
+};
 
 /// A copy of the filter. What it does plays no part.
 fn copy_of(alloc: Global) -> Result<Node, Fail> {
@@ -92,28 +108,12 @@ fn are_below(nodes: &[u32], size: usize) -> bool
     true
 }
 
-/// Whether a unit is one of so many nodes, of at most 1,000 firings.
-fn is_small(unit: &Unit, size: usize) -> bool
-    ensures nodes { IsTrue result → HasNodes size unit.now }
-    ensures few { IsTrue result → unit.now.turns * length unit.now.nodes.items ≤ 1000 }
+/// Whether units are of so many nodes.
+fn have_nodes(units: &[Unit], size: usize) -> bool
+    ensures { IsTrue result → All (HasNodes size) units.now }
 {
-    if unit.turns > 10 || unit.nodes.len() > 100 {
-        return false;
-    }
-    are_below(&unit.nodes, size)
-}
-
-/// Whether units are of so many nodes, and at most 1,000 of at most 1,000 firings.
-fn are_small(units: &[Unit], size: usize) -> bool
-    ensures nodes { IsTrue result → All (HasNodes size) units.now }
-    ensures few { IsTrue result
-        → (node : ℕ) → firing_count (firings_of units.now) node ≤ count_bound }
-{
-    if units.len() > 1000 {
-        return false;
-    }
     for unit in units {
-        if !is_small(unit, size) {
+        if !are_below(&unit.nodes, size) {
             return false;
         }
     }
@@ -132,7 +132,7 @@ fn answer_of(
     if before.len() != channels || fill.len() != channels {
         return format!(in alloc; "outside the condition");
     }
-    if !are_small(round, graph.nodes().len()) {
+    if !have_nodes(round, graph.nodes().len()) {
         return format!(in alloc; "outside the condition");
     }
     match sizes(alloc, graph, before, fill, round) {
@@ -189,5 +189,22 @@ fn sizes_of_a_split_graph(rt: HostRuntime) -> Result<(), Fail> {
             "{line}"
         );
     }
+    Ok(())
+}
+
+// A scatter fires 2^32 - 1 times before the source does: its items fit into 128 bits. With twice as
+// many firings they don't.
+#[test]
+fn sizes_past_128_bits(rt: HostRuntime) -> Result<(), Fail> {
+    let alloc = rt.alloc();
+    let mut nodes = Vec::new(alloc);
+    nodes.push(node_of(alloc, Reader)?)?;
+    nodes.push(Node::Scatter(WIDE))?;
+    let graph = graph_of(&rt, alloc, nodes, &ends_of(alloc, "0.0-1.0")?, 0)?;
+    let units = units_of(alloc, "4294967295*1 1*0")?;
+    let sizes = answer_of(alloc, &graph, &[3], &[0], &units)?;
+    assert_eq!(rt; sizes.as_str().trim_end(), "3");
+    let units = units_of(alloc, "4294967295*1 4294967295*1 1*0")?;
+    assert!(rt; answer_of(alloc, &graph, &[3], &[0], &units).is_err());
     Ok(())
 }
