@@ -4,8 +4,6 @@ use Rattle.std.proofs.Common.{◌∷◌, ◌++◌, length, drop, get_or, arith, 
 use Rattle.std.proofs.Common.{subst, Ok, Err}
 use Rattle.strc_semantics.specs.declared.fault.Cause.{Cause}
 use Rattle.strc_semantics.specs.declared.word.Word.{Word}
-use Rattle.strc_order.specs.declared.unit as units
-use Rattle.strc_order.specs.Greedy.{firings_of}
 use Rattle.strc_order.specs.Order.{repeated}
 use Rattle.strc_admissible.specs.Machine.{CircuitView, MachineView, Progress, Went, Stopped}
 use Rattle.strc_admissible.specs.Machine.{then_go, order_run, after_step, next_step, step_at}
@@ -77,32 +75,12 @@ module _ (circuit : CircuitView) where
       by_progress (Went next) = refl
       by_progress (Stopped node firing cause) = refl
 
--- what is left of nodes, of turns and of units
-pub nodes_left : (nodes : List ℕ) (place d : ℕ) → place < length nodes
-    → drop place nodes ≡ (get_or nodes place d ∷ []) ++ drop (place + 1) nodes
-nodes_left [] place d less = absurd (omega arith)
-nodes_left (node ∷ nodes) zero d less = refl
-nodes_left (node ∷ nodes) (suc place) d less = nodes_left nodes place d (omega arith)
-    ∙ ap (λ n. get_or nodes place d ∷ drop n (node ∷ nodes))
-    (let e : suc (place + 1) ≡ suc place + 1 = omega arith in e)
-
+-- what is left of turns
 pub turns_left : (turns turn : ℕ) (nodes : List ℕ) → turn < turns
     → repeated (turns - turn) nodes ≡ nodes ++ repeated (turns - (turn + 1)) nodes
 turns_left turns turn nodes less =
     let e : turns - turn ≡ suc (turns - (turn + 1)) = omega arith in
     ap (λ n. repeated n nodes) e
-
-pub units_left : (all : List units.Unit.Unit) (place : ℕ) (unit : units.Unit.Unit)
-    → place < length all → unit ≡ get_or all place unit
-    → firings_of (drop place all) ≡ repeated unit.turns unit.nodes.items
-    ++ firings_of (drop (place + 1) all)
-units_left [] place unit less is = absurd (omega arith)
-units_left (first ∷ rest) zero unit less is =
-    ap (λ (u : units.Unit.Unit). repeated u.turns u.nodes.items ++ firings_of rest) (sym is)
-units_left (first ∷ rest) (suc place) unit less is =
-    units_left rest place unit (omega arith) is
-    ∙ ap (λ n. repeated unit.turns unit.nodes.items ++ firings_of (drop n (first ∷ rest)))
-    (let e : suc (place + 1) ≡ suc place + 1 = omega arith in e)
 
 -- nothing is left at the end
 pub none_left : {X : Type 0} (xs : List X) (place : ℕ) → length xs ≤ place → drop place xs ≡ []

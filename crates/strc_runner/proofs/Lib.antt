@@ -11,6 +11,7 @@ pub mod Identities
 pub mod Blocks
 pub mod Moves
 pub mod Batching
+pub mod BatchLists
 pub mod Turns
 pub mod TurnFirings
 pub mod PartLists

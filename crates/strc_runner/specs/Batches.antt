@@ -1,8 +1,10 @@
 -- What is known once about the units of an order.
-use Rattle.std.specs.Prelude.{◌≡◌, ◌≢◌, ℕ, ◌<◌, List, [], ◌∷◌, Option, Some, length, slice_get}
-use Rattle.std.specs.Prelude.{IfSome}
+use Rattle.std.specs.Prelude.{◌≡◌, ◌≢◌, ℕ, ◌<◌, nat_lt, List, [], ◌∷◌, ◌++◌, All, filter, length}
+use Rattle.std.specs.Prelude.{Option, Some, slice_get}
 use Rattle.strc_graph.specs.Graphs.{NodeCode}
 use Rattle.strc_order.specs.declared.unit as units
+use Rattle.strc_order.specs.Greedy.{firings_of}
+use Rattle.strc_order.specs.Order.{repeated}
 use Rattle.strc_admissible.specs.Machine.{CircuitView}
 use Rattle.strc_admissible.specs.Rings.{at_port}
 use Rattle.strc_admissible.specs.Wiring.{ports_at}
@@ -12,6 +14,8 @@ use Rattle.strc_runner.specs.declared.batches.Kind.{Kind}
 use Rattle.strc_runner.specs.declared.batches.Kind.TheVariants as kind
 use Rattle.strc_runner.specs.declared.batches.Batch.{Batch}
 use Rattle.strc_runner.specs.declared.batches.Order.{Order}
+use Rattle.strc_runner.specs.declared.batches.UnitBatches.{UnitBatches}
+use Rattle.strc_runner.specs.declared.batches.UnitBatches.TheVariants as unit
 
 -- a node is of a kind, by the rings at its ports
 abbrev pub FitsKind : NodeCode → (inputs outputs : List (Option ℕ)) → Kind → Type 0
@@ -37,26 +41,36 @@ pub record IsBatch (circuit : CircuitView) (batch : Batch) : Type 0 where
       → FitsKind code (ports_at circuit.inputs batch.node) (ports_at circuit.outputs batch.node)
       batch.kind
 
--- it is a unit's
-pub record IsBatchOf (circuit : CircuitView) (unit : units.Unit.Unit) (batch : Batch) : Type 0 where
-  pub is : IsBatch circuit batch
-  pub nodes : unit.nodes.items ≡ batch.node ∷ []
-  pub turns : unit.turns ≡ batch.turns
+-- the nodes of a list that a circuit has
+abbrev pub in_circuit : CircuitView → List ℕ → List ℕ
+in_circuit circuit nodes = filter (λ node. nat_lt node (length circuit.codes)) nodes
 
-abbrev pub FitsUnit : CircuitView → units.Unit.Unit → Option Batch → Type 0
-FitsUnit circuit unit found = IfSome found (IsBatchOf circuit unit)
+-- the firings of batches, one batch after another
+abbrev pub batch_firings : List Batch → List ℕ
+batch_firings [] = []
+batch_firings (batch ∷ batches) = repeated batch.turns (batch.node ∷ []) ++ batch_firings batches
 
--- one for each unit
-abbrev pub AreBatches : CircuitView → List units.Unit.Unit → List (Option Batch) → Type 0
-AreBatches circuit [] [] = Unit {0}
-AreBatches circuit (unit ∷ units) (batch ∷ batches) =
-    FitsUnit circuit unit batch × AreBatches circuit units batches
-AreBatches circuit _ _ = ⊥
+-- the firings of a unit's
+abbrev pub unit_firings : UnitBatches → List ℕ
+unit_firings (unit.One batch) = repeated batch.turns (batch.node ∷ [])
+unit_firings (unit.Listed turns batches) = repeated turns (batch_firings batches.items)
+
+-- the firings of all units'
+abbrev pub all_firings : List UnitBatches → List ℕ
+all_firings [] = []
+all_firings (batches ∷ later) = unit_firings batches ++ all_firings later
+
+-- a unit's are batches of a circuit
+abbrev pub AreBatches : CircuitView → UnitBatches → Type 0
+AreBatches circuit (unit.One batch) = IsBatch circuit batch
+AreBatches circuit (unit.Listed turns batches) = All (IsBatch circuit) batches.items
 
 -- the units of an order
 abbrev pub units_of : Order → List units.Unit.Unit
 units_of order = order.units.items
 
--- it is one for this circuit
-abbrev pub IsOrderOf : CircuitView → Order → Type 0
-IsOrderOf circuit order = AreBatches circuit order.units.items order.batches.items
+-- it is one for this circuit: its batches are the firings of its units, but for those of nodes that
+-- the circuit lacks
+pub record IsOrderOf (circuit : CircuitView) (order : Order) : Type 0 where
+  pub batches : All (AreBatches circuit) order.batches.items
+  pub firings : all_firings order.batches.items ≡ in_circuit circuit (firings_of (units_of order))

@@ -1,12 +1,15 @@
 // What is looked up once about the units of an order: in a round nothing is looked up again.
 
-ghost use Rattle.std.specs.Prelude.{◌≡◌, ◌<◌, IfSome, IfOk, Some, length, slice_get, true};
+ghost use Rattle.std.specs.Prelude.{◌≡◌, ◌<◌, All, IfOk, Some, [], ◌∷◌, ◌++◌, length, slice_get};
+ghost use Rattle.std.specs.Prelude.{true};
 ghost use Rattle.strc_graph.specs.Graphs.{NodeCode};
+ghost use Rattle.strc_order.specs.Order.{repeated};
 ghost use Rattle.strc_admissible.specs.Wiring.{ports_at};
 ghost use Rattle.strc_circuit.specs.Apart.{AreAllApart};
 ghost use Rattle.strc_circuit.specs.Circuits.{circuit_view, IsReady};
-ghost use Rattle.strc_runner.specs.Batches.{FitsKind, IsKindBetween, IsBatch, IsBatchOf};
-ghost use Rattle.strc_runner.specs.Batches.{IsOrderOf, units_of};
+ghost use Rattle.strc_runner.specs.Batches.{AreBatches, FitsKind, IsKindBetween, IsBatch};
+ghost use Rattle.strc_runner.specs.Batches.{IsOrderOf, batch_firings, in_circuit, unit_firings};
+ghost use Rattle.strc_runner.specs.Batches.{units_of};
 
 use crate::identity::is_identity;
 use crate::movers::ring_of;
@@ -39,15 +42,24 @@ pub(crate) enum Kind {
     Other,
 }
 
-/// The units of an order, with a batch for each that has one node.
+/// The firings of a unit, as batches.
+#[derive(Drop)]
+pub(crate) enum UnitBatches {
+    /// Firings of one node.
+    One(Batch),
+    /// The batches of a list of nodes, and how many times the whole list fires.
+    Listed { turns: u32, batches: Vec<Batch> },
+}
+
+/// The units of an order, and the batches of each.
 #[derive(Drop)]
 pub struct Order {
     pub(crate) units: Vec<Unit>,
-    pub(crate) batches: Vec<Option<Batch>>,
+    pub(crate) batches: Vec<UnitBatches>,
 }
 
 impl Order {
-    /// The order of these units, for a circuit.
+    /// The order of these units, for a circuit: in it a node that the circuit lacks never fires.
     pub fn new(alloc: Global, circuit: &Circuit, units: Vec<Unit>) -> Result<Order, AllocError>
         requires ready { IsReady circuit.now }
         ensures order { IfOk result (IsOrderOf (circuit_view circuit.now)) }
@@ -55,33 +67,88 @@ impl Order {
     {
         let mut batches = Vec::with_capacity(alloc, units.len())?;
         for unit in &units {
-            batches.push(batch_of(circuit, unit))?;
+            batches.push(batches_of(alloc, circuit, unit)?)?;
         }
         Ok(Order { units, batches })
     }
 }
 
-/// The batch of a unit that has one node.
-fn batch_of(circuit: &Circuit, unit: &Unit) -> Option<Batch>
-    requires inputs { length circuit.now.inputs ≡ length circuit.now.nodes.items }
-    requires outputs { length circuit.now.outputs ≡ length circuit.now.nodes.items }
-    requires apart { circuit.now.apart ≡ true → AreAllApart circuit.now.inputs circuit.now.outputs }
-    ensures { IfSome result (IsBatchOf (circuit_view circuit.now) unit.now) }
+/// The batches of a unit: one alone where its list is one node's firings, and 32 bits count them.
+fn batches_of(alloc: Global, circuit: &Circuit, unit: &Unit) -> Result<UnitBatches, AllocError>
+    requires ready { IsReady circuit.now }
+    ensures ready { IfOk result (AreBatches (circuit_view circuit.now)) }
+    ensures firings { IfOk result (λ batches. unit_firings batches
+        ≡ in_circuit (circuit_view circuit.now) (repeated unit.now.turns unit.now.nodes.items)) }
 {
-    if unit.nodes.len() == 1 && (unit.nodes[0] as usize) < circuit.nodes.len() {
-        let mut batch = batch_at(circuit, unit.nodes[0]);
-        batch.turns = unit.turns;
-        batch.kind = kind_at(circuit, unit.nodes[0] as usize);
-        Some(batch)
+    let batches = listed(alloc, circuit, &unit.nodes)?;
+    if batches.len() == 1 {
+        let only = batches[0];
+        if let Some(turns) = only.turns.checked_mul(unit.turns) {
+            return Ok(UnitBatches::One(Batch { turns, ..only }));
+        }
+    }
+    Ok(UnitBatches::Listed {
+        turns: unit.turns,
+        batches,
+    })
+}
+
+/// The batches of a list of nodes: of each that the circuit has, the firings in a row are one.
+fn listed(alloc: Global, circuit: &Circuit, nodes: &[u32]) -> Result<Vec<Batch>, AllocError>
+    requires ready { IsReady circuit.now }
+    ensures ready { IfOk result (λ batches. All (IsBatch (circuit_view circuit.now))
+        batches.items) }
+    ensures firings { IfOk result (λ batches. batch_firings batches.items
+        ≡ in_circuit (circuit_view circuit.now) nodes.now) }
+{
+    let mut batches = Vec::new(alloc);
+    for node in nodes {
+        add_node(circuit, &mut batches, *node)?;
+    }
+    Ok(batches)
+}
+
+/// One firing more, where the circuit has the node.
+fn add_node(circuit: &Circuit, batches: &mut Vec<Batch>, node: u32) -> Result<(), AllocError>
+    requires ready { IsReady circuit.now }
+    requires batches { All (IsBatch (circuit_view circuit.now)) batches.old.items }
+    ensures ready { IfOk result (λ done. All (IsBatch (circuit_view circuit.now))
+        batches.new.items) }
+    ensures firings { IfOk result (λ done. batch_firings batches.new.items
+        ≡ batch_firings batches.old.items ++ in_circuit (circuit_view circuit.now) (node ∷ [])) }
+{
+    if (node as usize) < circuit.nodes.len() {
+        add_firing(circuit, batches, node)
     } else {
-        None
+        Ok(())
     }
 }
 
-/// One firing of a node, of which nothing is known.
-pub(crate) fn batch_at(circuit: &Circuit, node: u32) -> Batch
-    requires inputs { length circuit.now.inputs ≡ length circuit.now.nodes.items }
-    requires outputs { length circuit.now.outputs ≡ length circuit.now.nodes.items }
+/// One firing more: of the last batch, where that is of the same node and can count it.
+fn add_firing(circuit: &Circuit, batches: &mut Vec<Batch>, node: u32) -> Result<(), AllocError>
+    requires ready { IsReady circuit.now }
+    requires node { node < length circuit.now.nodes.items }
+    requires batches { All (IsBatch (circuit_view circuit.now)) batches.old.items }
+    ensures ready { IfOk result (λ done. All (IsBatch (circuit_view circuit.now))
+        batches.new.items) }
+    ensures firings { IfOk result (λ done. batch_firings batches.new.items
+        ≡ batch_firings batches.old.items ++ node ∷ []) }
+{
+    if let Some(last) = batches.pop() {
+        if last.node == node && last.turns < u32::MAX {
+            let turns = last.turns + 1;
+            batches.push(Batch { turns, ..last })?;
+            return Ok(());
+        }
+        batches.push(last)?;
+    }
+    batches.push(batch_at(circuit, node))?;
+    Ok(())
+}
+
+/// One firing of a node.
+fn batch_at(circuit: &Circuit, node: u32) -> Batch
+    requires ready { IsReady circuit.now }
     requires node { node < length circuit.now.nodes.items }
     ensures batch { IsBatch (circuit_view circuit.now) result }
     ensures node { result.node ≡ node }
@@ -93,7 +160,7 @@ pub(crate) fn batch_at(circuit: &Circuit, node: u32) -> Batch
         turns: 1,
         input: ring_of(circuit.inputs.at(place), 0),
         output: ring_of(circuit.outputs.at(place), 0),
-        kind: Kind::Other,
+        kind: kind_at(circuit, place),
     }
 }
 

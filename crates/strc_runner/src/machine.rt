@@ -1,6 +1,6 @@
 // The machine that fires a graph's nodes over rings.
 
-ghost use Rattle.std.specs.Prelude.{◌≡◌, ◌<◌, [], ◌∷◌, IfOk, length, replicate};
+ghost use Rattle.std.specs.Prelude.{◌≡◌, ◌<◌, All, [], ◌∷◌, IfOk, length, replicate};
 ghost use Rattle.strc_graph.specs.NodeView.{graph_view};
 ghost use Rattle.strc_order.specs.Greedy.{firings_of};
 ghost use Rattle.strc_order.specs.Order.{repeated};
@@ -8,12 +8,13 @@ ghost use Rattle.strc_runner.specs.Actors.{AreActors, AreStartable, AreClosed};
 ghost use Rattle.strc_admissible.specs.Circuits.{IsCircuit, IsFirst};
 ghost use Rattle.strc_circuit.specs.Circuits.{circuit_view};
 ghost use Rattle.strc_admissible.specs.Machine as spec;
-ghost use Rattle.strc_runner.specs.Batches.{FitsUnit, IsBatch, IsOrderOf, units_of};
+ghost use Rattle.strc_runner.specs.Batches.{AreBatches, IsBatch, IsOrderOf, batch_firings};
+ghost use Rattle.strc_runner.specs.Batches.{unit_firings, units_of};
 ghost use Rattle.strc_runner.specs.Memory.{WantsWordOfOrder, WantsWordOfStep, prints_at};
 ghost use Rattle.strc_runner.specs.Running.{HasDone, HasGone, IsMachine, machine_view, words_of};
 
 use crate::actor::{Actor, start_actors};
-use crate::batches::{Batch, Order, batch_at};
+use crate::batches::{Batch, Order, UnitBatches};
 use crate::block::pass_at_once;
 use crate::filter::fire_filter;
 use crate::passing::fire_passive;
@@ -22,7 +23,6 @@ use std::alloc::{AllocError, Global};
 use strc_base::memory::NoMemory;
 use strc_circuit::circuit::Circuit;
 use strc_graph::graph::{Graph, Node};
-use strc_order::unit::Unit;
 use strc_semantics::fault::{Cause, Halt};
 use strc_semantics::word::Word;
 
@@ -94,8 +94,8 @@ impl Machine {
         ensures memory { WantsWordOfOrder (circuit_view circuit.now)
             (firings_of (units_of order.now)) (machine_view self.old) result }
     {
-        for place in 0..order.units.len() {
-            match self.fire_unit(circuit, &order.units[place], &order.batches[place]) {
+        for batches in &order.batches {
+            match self.fire_unit(circuit, batches) {
                 Ok(()) => {}
                 Err(stop) => return Err(stop),
             }
@@ -103,27 +103,20 @@ impl Machine {
         Ok(())
     }
 
-    /// Fires a unit's nodes in turn, and the whole list a number of times; as its batch, where it
-    /// has one.
+    /// Fires a unit's batches.
     #[inline]
-    fn fire_unit(
-        &mut self,
-        circuit: &Circuit,
-        unit: &Unit,
-        batch: &Option<Batch>,
-    ) -> Result<(), Stop>
+    fn fire_unit(&mut self, circuit: &Circuit, unit: &UnitBatches) -> Result<(), Stop>
         requires machine { IsMachine (circuit_view circuit.now) self.old }
-        requires batch { FitsUnit (circuit_view circuit.now) unit.now batch.now }
+        requires batches { AreBatches (circuit_view circuit.now) unit.now }
         ensures machine { IsMachine (circuit_view circuit.now) self.new }
-        ensures gone { HasGone (spec.order_run (circuit_view circuit.now)
-            (repeated unit.now.turns unit.now.nodes.items) (machine_view self.old)) result
-            (machine_view self.old).words (machine_view self.new) }
-        ensures memory { WantsWordOfOrder (circuit_view circuit.now)
-            (repeated unit.now.turns unit.now.nodes.items) (machine_view self.old) result }
+        ensures gone { HasGone (spec.order_run (circuit_view circuit.now) (unit_firings unit.now)
+            (machine_view self.old)) result (machine_view self.old).words (machine_view self.new) }
+        ensures memory { WantsWordOfOrder (circuit_view circuit.now) (unit_firings unit.now)
+            (machine_view self.old) result }
     {
-        match batch {
-            Some(batch) => self.fire_batch(circuit, batch),
-            None => self.fire_turns(circuit, unit),
+        match unit {
+            UnitBatches::One(batch) => self.fire_batch(circuit, batch),
+            UnitBatches::Listed { turns, batches } => self.fire_turns(circuit, *turns, batches),
         }
     }
 
@@ -168,18 +161,19 @@ impl Machine {
         Ok(())
     }
 
-    /// Fires a unit's nodes one by one.
-    fn fire_turns(&mut self, circuit: &Circuit, unit: &Unit) -> Result<(), Stop>
+    /// Fires batches one after another, and all of them a number of times.
+    fn fire_turns(&mut self, circuit: &Circuit, turns: u32, batches: &[Batch]) -> Result<(), Stop>
         requires machine { IsMachine (circuit_view circuit.now) self.old }
+        requires batches { All (IsBatch (circuit_view circuit.now)) batches.now }
         ensures machine { IsMachine (circuit_view circuit.now) self.new }
         ensures gone { HasGone (spec.order_run (circuit_view circuit.now)
-            (repeated unit.now.turns unit.now.nodes.items) (machine_view self.old)) result
+            (repeated turns (batch_firings batches.now)) (machine_view self.old)) result
             (machine_view self.old).words (machine_view self.new) }
         ensures memory { WantsWordOfOrder (circuit_view circuit.now)
-            (repeated unit.now.turns unit.now.nodes.items) (machine_view self.old) result }
+            (repeated turns (batch_firings batches.now)) (machine_view self.old) result }
     {
-        for _turn in 0..unit.turns {
-            match self.fire_nodes(circuit, &unit.nodes) {
+        for _turn in 0..turns {
+            match self.fire_batches(circuit, batches) {
                 Ok(()) => {}
                 Err(stop) => return Err(stop),
             }
@@ -187,39 +181,25 @@ impl Machine {
         Ok(())
     }
 
-    /// Fires nodes in turn.
-    fn fire_nodes(&mut self, circuit: &Circuit, nodes: &[u32]) -> Result<(), Stop>
+    /// Fires batches one after another.
+    #[inline]
+    fn fire_batches(&mut self, circuit: &Circuit, batches: &[Batch]) -> Result<(), Stop>
         requires machine { IsMachine (circuit_view circuit.now) self.old }
+        requires batches { All (IsBatch (circuit_view circuit.now)) batches.now }
         ensures machine { IsMachine (circuit_view circuit.now) self.new }
-        ensures gone { HasGone (spec.order_run (circuit_view circuit.now) nodes.now
-            (machine_view self.old)) result (machine_view self.old).words (machine_view self.new) }
-        ensures memory { WantsWordOfOrder (circuit_view circuit.now) nodes.now
-            (machine_view self.old) result }
-    {
-        for node in nodes {
-            match self.fire(circuit, *node) {
-                Ok(()) => {}
-                Err(stop) => return Err(stop),
-            }
-        }
-        Ok(())
-    }
-
-    /// Fires a node once, where there is one and it finds its windows.
-    fn fire(&mut self, circuit: &Circuit, node: u32) -> Result<(), Stop>
-        requires machine { IsMachine (circuit_view circuit.now) self.old }
-        ensures machine { IsMachine (circuit_view circuit.now) self.new }
-        ensures gone { HasGone (spec.after_step (machine_view self.old) node
-            (spec.next_step (circuit_view circuit.now) (machine_view self.old) node)) result
+        ensures gone { HasGone (spec.order_run (circuit_view circuit.now)
+            (batch_firings batches.now) (machine_view self.old)) result
             (machine_view self.old).words (machine_view self.new) }
-        ensures memory { WantsWordOfOrder (circuit_view circuit.now) (node ∷ [])
+        ensures memory { WantsWordOfOrder (circuit_view circuit.now) (batch_firings batches.now)
             (machine_view self.old) result }
     {
-        let place = node as usize;
-        if place >= circuit.nodes.len() {
-            return Ok(());
+        for batch in batches {
+            match self.fire_batch(circuit, batch) {
+                Ok(()) => {}
+                Err(stop) => return Err(stop),
+            }
         }
-        self.fire_alone(circuit, &batch_at(circuit, node))
+        Ok(())
     }
 
     /// Fires a batch's node once, where it finds its windows.

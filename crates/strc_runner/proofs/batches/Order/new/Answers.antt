@@ -1,20 +1,21 @@
-use Rattle.std.proofs.Common.{◌∙◌, ap, sym, subst, ◌∷◌, [], ◌++◌, take}
-use Rattle.std.proofs.lemmas.List.{take_more}
+use Rattle.std.proofs.Common.{◌∙◌, ap, sym, subst, All}
+use Rattle.std.proofs.lemmas.List.Elements.{All-push}
 use Rattle.strc_circuit.specs.Circuits.{circuit_view}
-use Rattle.strc_runner.specs.Batches.{AreBatches}
-use Rattle.strc_runner.proofs.Batching.{batches_next}
+use Rattle.strc_runner.specs.Batches.{AreBatches, all_firings}
+use Rattle.strc_runner.proofs.BatchLists.{units_next}
 use Rattle.strc_runner.proofs.batches.Order.new.Goals as goal
 
 pub loop-unit-preserved : goal.loop-unit-preserved
 loop-unit-preserved c =
     let circuit = circuit_view c.args.circuit.now in
-    let units = c.deref-unit-items.result.now in
-    let place = c.loop-unit.unit-index in
-    let unit = c.unit-item.result in
-    let before = take place units in
-    subst (λ l. AreBatches circuit l c.push.new.self.items)
-    (sym (take_more units place unit c.loop-unit-test.true
-    ∙ ap (λ u. before ++ u ∷ []) (sym c.unit-item.is)))
-    (subst (λ l. AreBatches circuit (before ++ unit ∷ []) l) (sym c.in_ok-push.ensures.items)
-    (batches_next circuit before c.loop-unit.batches.items unit c.batch_of.result
-    c.loop-unit.invariant c.batch_of.ensures))
+    let before = c.loop-unit.batches.items in
+    let own = c.in_ok-batches_of.field-0 in
+    record {
+      batches = subst (All (AreBatches circuit)) (sym c.in_ok-push.ensures.items)
+          (All-push (AreBatches circuit) before own c.loop-unit.invariant.batches
+          c.in_ok-batches_of.ensures.ready);
+      firings = ap all_firings c.in_ok-push.ensures.items
+          ∙ units_next circuit before own c.deref-unit-items.result.now c.loop-unit.unit-index
+          c.unit-item.result c.loop-unit-test.true c.unit-item.is c.loop-unit.invariant.firings
+          c.in_ok-batches_of.ensures.firings;
+    }

@@ -1,8 +1,12 @@
-use Rattle.std.proofs.Common.{take}
+use Rattle.std.proofs.Common.{◌≡◌, All, take}
+use Rattle.strc_order.specs.Greedy.{firings_of}
 use Rattle.strc_circuit.specs.Circuits.{circuit_view}
-use Rattle.strc_runner.specs.Batches.{AreBatches}
+use Rattle.strc_runner.specs.Batches.{AreBatches, all_firings, in_circuit}
 use Rattle.strc_runner.proofs.batches.Order.new.Given as goal
 
 abbrev pub invariant-loop-unit : goal.invariant-loop-unit
-invariant-loop-unit l = AreBatches (circuit_view l.circuit) (take l.unit-index l.unit-items)
-    l.batches.items
+invariant-loop-unit l = record {
+  batches : All (AreBatches (circuit_view l.circuit)) l.batches.items;
+  firings : all_firings l.batches.items
+      ≡ in_circuit (circuit_view l.circuit) (firings_of (take l.unit-index l.unit-items));
+}

@@ -1,84 +1,83 @@
-use Rattle.std.proofs.Common.{arith, sym, subst, drop, get_or, length, ◌+◌, ◌<◌}
-use Rattle.strc_order.specs.Greedy.{firings_of}
-use Rattle.strc_order.specs.Order.{repeated}
+use Rattle.std.proofs.Common.{◌≡◌, ap, subst, drop, get_or, length, ◌+◌, ◌<◌, ◌≤◌, Err, Ok}
 use Rattle.strc_circuit.specs.Circuits.{circuit_view}
 use Rattle.strc_runner.specs.Running.{machine_view}
-use Rattle.strc_runner.specs.Batches.{FitsUnit}
-use Rattle.strc_runner.proofs.Going.{goes_on, goes_so, stops_so, units_left, wants_so}
-use Rattle.strc_runner.proofs.Batching.{batches_each, batch_there}
+use Rattle.strc_runner.specs.Batches.{all_firings, unit_firings}
+use Rattle.strc_runner.proofs.BatchLists.{all_left, order_gone, order_wants}
+use Rattle.strc_runner.proofs.Going.{ends_so, goes_on, goes_so, none_left, stops_so, wants_so}
 use Rattle.strc_runner.proofs.machine.Machine.fire_order.Goals as goal
-
-pub index-requires-in-loop-place : goal.index-requires-in-loop-place
-index-requires-in-loop-place c =
-    let each = batches_each (circuit_view c.args.circuit.now) c.args.order.now.units.items
-    c.args.order.now.batches.items c.requires.order in
-    let less = c.loop-place-test.true in
-    let e = c.len-place-end.ensures in
-    omega (arith, each, less, e)
-
-pub fire_unit-requires-clause-batch : goal.fire_unit-requires-clause-batch
-fire_unit-requires-clause-batch c =
-    let circuit = circuit_view c.args.circuit.now in
-    let units = c.args.order.now.units.items in
-    let place = c.loop-place.place in
-    let less : place < length units = let test = c.loop-place-test.true in
-    let e = c.len-place-end.ensures in omega (arith, test, e) in
-    let batch = c.index-in-loop-place.result.now in
-    subst (λ u. FitsUnit circuit u batch) (sym c.index.ensures)
-    (subst (FitsUnit circuit (get_or units place c.index.result.now))
-    (sym c.index-in-loop-place.ensures)
-    (batch_there circuit units c.args.order.now.batches.items place c.index.result.now batch
-    c.requires.order less))
 
 pub returns-in-Err-clause-gone : goal.returns-in-Err-clause-gone
 returns-in-Err-clause-gone c =
     let circuit = circuit_view c.args.circuit.now in
-    let units = c.args.order.now.units.items in
-    let place = c.loop-place.place in
-    let less : place < length units = let test = c.loop-place-test.true in
-    let e = c.len-place-end.ensures in omega (arith, test, e) in
-    let unit = c.index.result.now in
-    stops_so circuit (firings_of units) (repeated unit.turns unit.nodes.items)
-    (firings_of (drop (place + 1) units)) (machine_view c.args.self.now)
-    (machine_view c.loop-place.self) (machine_view c.fire_unit.new.self) c.in-Err.stop
-    (goes_so circuit (firings_of units) (firings_of (drop place units)) _
-    (machine_view c.args.self.now) (machine_view c.loop-place.self)
-    (units_left units place unit less
-    c.index.ensures) c.loop-place.invariant.goes)
-    c.in-Err.ensures.gone
+    let order = c.args.order.now in
+    let all = order.batches.items in
+    let place = c.loop-batches.batches-index in
+    let unit = c.batches-item.result in
+    let less = subst (λ l. place < length l) c.deref-batches-items.ensures.value
+    c.loop-batches-test.true in
+    let is = subst (λ l. unit ≡ get_or l place unit) c.deref-batches-items.ensures.value
+    c.batches-item.is in
+    let before = machine_view c.args.self.now in
+    let now = machine_view c.loop-batches.self in
+    let after = machine_view c.fire_unit.new.self in
+    order_gone circuit order c.requires.order before after (Err c.in-Err.stop)
+    (stops_so circuit (all_firings all) (unit_firings unit) (all_firings (drop (place + 1) all))
+    before now after c.in-Err.stop
+    (goes_so circuit (all_firings all) (all_firings (drop place all)) _ before now
+    (all_left all place unit less is) c.loop-batches.invariant.goes)
+    c.in-Err.ensures.gone)
 
 pub returns-in-Err-clause-memory : goal.returns-in-Err-clause-memory
 returns-in-Err-clause-memory c =
     let circuit = circuit_view c.args.circuit.now in
-    let units = c.args.order.now.units.items in
-    let place = c.loop-place.place in
-    let less : place < length units = let test = c.loop-place-test.true in
-    let e = c.len-place-end.ensures in omega (arith, test, e) in
-    let unit = c.index.result.now in
-    wants_so circuit (firings_of units) (repeated unit.turns unit.nodes.items)
-    (firings_of (drop (place + 1) units)) (machine_view c.args.self.now)
-    (machine_view c.loop-place.self) c.in-Err.stop
-    (goes_so circuit (firings_of units) (firings_of (drop place units)) _
-    (machine_view c.args.self.now) (machine_view c.loop-place.self)
-    (units_left units place unit less c.index.ensures) c.loop-place.invariant.goes)
-    c.in-Err.ensures.memory
+    let order = c.args.order.now in
+    let all = order.batches.items in
+    let place = c.loop-batches.batches-index in
+    let unit = c.batches-item.result in
+    let less = subst (λ l. place < length l) c.deref-batches-items.ensures.value
+    c.loop-batches-test.true in
+    let is = subst (λ l. unit ≡ get_or l place unit) c.deref-batches-items.ensures.value
+    c.batches-item.is in
+    let before = machine_view c.args.self.now in
+    let now = machine_view c.loop-batches.self in
+    order_wants circuit order c.requires.order before (Err c.in-Err.stop)
+    (wants_so circuit (all_firings all) (unit_firings unit) (all_firings (drop (place + 1) all))
+    before now c.in-Err.stop
+    (goes_so circuit (all_firings all) (all_firings (drop place all)) _ before now
+    (all_left all place unit less is) c.loop-batches.invariant.goes)
+    c.in-Err.ensures.memory)
 
-pub loop-place-preserved : goal.loop-place-preserved
-loop-place-preserved c =
+pub loop-batches-preserved : goal.loop-batches-preserved
+loop-batches-preserved c =
     let circuit = circuit_view c.args.circuit.now in
-    let units = c.args.order.now.units.items in
-    let place = c.loop-place.place in
-    let less : place < length units = let test = c.loop-place-test.true in
-    let e = c.len-place-end.ensures in omega (arith, test, e) in
-    let unit = c.index.result.now in
+    let all = c.args.order.now.batches.items in
+    let place = c.loop-batches.batches-index in
+    let unit = c.batches-item.result in
+    let less = subst (λ l. place < length l) c.deref-batches-items.ensures.value
+    c.loop-batches-test.true in
+    let is = subst (λ l. unit ≡ get_or l place unit) c.deref-batches-items.ensures.value
+    c.batches-item.is in
+    let before = machine_view c.args.self.now in
+    let now = machine_view c.loop-batches.self in
     record {
       machine = c.fire_unit.ensures.machine;
-      goes = goes_on circuit (firings_of units) (repeated unit.turns unit.nodes.items)
-          (firings_of (drop (place + 1) units)) (machine_view c.args.self.now)
-          (machine_view c.loop-place.self) (machine_view c.fire_unit.new.self)
-          (goes_so circuit (firings_of units) (firings_of (drop place units)) _
-          (machine_view c.args.self.now) (machine_view c.loop-place.self)
-          (units_left units place unit less
-          c.index.ensures) c.loop-place.invariant.goes)
+      goes = goes_on circuit (all_firings all) (unit_firings unit)
+          (all_firings (drop (place + 1) all)) before now (machine_view c.fire_unit.new.self)
+          (goes_so circuit (all_firings all) (all_firings (drop place all)) _ before now
+          (all_left all place unit less is) c.loop-batches.invariant.goes)
           c.in-Ok.ensures.gone.0 c.in-Ok.ensures.gone.1;
     }
+
+pub returns-clause-gone : goal.returns-clause-gone
+returns-clause-gone c =
+    let circuit = circuit_view c.args.circuit.now in
+    let order = c.args.order.now in
+    let all = order.batches.items in
+    let place = c.loop-batches.batches-index in
+    let past = subst (λ l. length l ≤ place) c.deref-batches-items.ensures.value
+    c.loop-batches-test.false in
+    let before = machine_view c.args.self.now in
+    let now = machine_view c.loop-batches.self in
+    order_gone circuit order c.requires.order before now (Ok tt)
+    (ends_so circuit (all_firings all) (all_firings (drop place all)) before now
+    (ap all_firings (none_left all place past)) c.loop-batches.invariant.goes)
