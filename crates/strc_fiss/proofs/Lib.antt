@@ -1,13 +1,13 @@
-mod Bases
+pub mod Bases
 mod Dividing
-mod Each
+pub mod Each
 mod Grouped
-mod Joining
-mod Lookup
+pub mod Joining
+pub mod Lookup
 mod Outcome
 mod Outcomes
-mod Pieced
-mod Planned
-mod Renaming
+pub mod Pieced
+pub mod Planned
+pub mod Renaming
 mod Sequences
-mod Shares
+pub mod Shares

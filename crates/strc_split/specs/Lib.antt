@@ -1,0 +1,4 @@
+pub mod Divisors
+pub mod Laws
+pub mod Rounds
+pub mod Sources
