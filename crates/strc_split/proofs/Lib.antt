@@ -1,8 +1,15 @@
+pub mod Answered
 pub mod Divisors
 pub mod Ends
 pub mod Lawful
+pub mod Layouts
 pub mod Members
 pub mod NewChannels
+pub mod Orders
 pub mod OwnUnits
+pub mod Owners
+pub mod Rows
+pub mod Runs
 pub mod SplitParts
 pub mod Splits
+pub mod Trees

@@ -1,4 +1,8 @@
+pub mod Answers
 pub mod Divisors
 pub mod Laws
 pub mod Rounds
+pub mod Rows
+pub mod Runs
 pub mod Sources
+pub mod Trees

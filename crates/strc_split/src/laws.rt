@@ -1,8 +1,12 @@
 // What fission of planned graphs and of their rounds is worth.
 
+ghost use Rattle.strc_split.specs.Answers.{FissionKeepsAnswers};
 ghost use Rattle.strc_split.specs.Divisors.{GreatestDivisorDivides};
 ghost use Rattle.strc_split.specs.Laws.{SplitGraphsAreSplit};
 ghost use Rattle.strc_split.specs.Rounds.{GreedyRoundsAreOwn};
+ghost use Rattle.strc_split.specs.Rows.{SplitRow};
+ghost use Rattle.strc_split.specs.Runs.{FissionKeepsProgramRuns};
+ghost use Rattle.strc_split.specs.Trees.{ChannelRunsAreTreeRuns};
 
 /// A node is split among as many copies as can be: its firings are dealt evenly to so many, which
 /// are no more than were asked for, and to no greater number of these.
@@ -18,4 +22,25 @@ pub fn split_graphs_are_split()
 /// In the greedy round of a whole program each node that is split has all its firings in one unit.
 pub fn greedy_rounds_are_own()
     ensures { GreedyRoundsAreOwn }
+{}
+
+/// After start-up any number of rounds of a planned graph, and of the graph after fission, give the
+/// same words, or the same fault in the same round.
+pub fn fission_keeps_program_runs()
+    ensures { FissionKeepsProgramRuns }
+{}
+
+/// The graph of a program's channels runs as the flat graph of its tree does.
+pub fn channel_runs_are_tree_runs()
+    ensures { ChannelRunsAreTreeRuns }
+{}
+
+/// So the rounds after fission come to the answer of the program's stream equations.
+pub fn fission_keeps_answers()
+    ensures { FissionKeepsAnswers }
+{}
+
+/// A filter that is split in two ways: what comes to each port before and after it.
+pub fn split_row()
+    ensures { SplitRow }
 {}

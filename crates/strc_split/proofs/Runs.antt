@@ -1,0 +1,180 @@
+-- The rounds of a program's graph, and those of the graph after fission.
+use Rattle.std.proofs.Common.{◌≡◌, refl, sym, ap, ◌∙◌, subst, ℕ, ◌<◌, ◌≤◌, arith}
+use Rattle.std.proofs.Common.{ℤ, List, length}
+use mathlib.Core.Path.{fun_ext}
+use Rattle.strc_dataflow.specs.Flat as flat
+use Rattle.strc_dataflow.specs.Histories.{KeepsRates, initial_run}
+use Rattle.strc_dataflow.specs.Order as orders
+use Rattle.strc_dataflow.specs.Queues.{FifoProgress.FifoWent, fifo_go, fifo_at_first}
+use Rattle.strc_dataflow.specs.Queues.{TakesWithinWindow, fifo_rounds}
+use Rattle.strc_dataflow.specs.Streams.{Stream, any_code}
+use Rattle.strc_dataflow.specs.Streams as trees
+use Rattle.strc_graph.specs.Graphs.{NodeCode, Graph, IsGraph}
+use Rattle.strc_graph.specs.FlatGraphs.{IsProgram}
+use Rattle.strc_graph.specs.Meaning.{node_meaning}
+use Rattle.strc_order.specs.Order.{firing_count}
+use Rattle.strc_order.specs.Schedules.{ScheduleParts}
+use Rattle.strc_admissible.specs.Fits.{Queues}
+use Rattle.strc_admissible.specs.Laws.{startup_order, round_order, counts_at}
+use Rattle.strc_admissible.specs.Planned.{IsPlanned, AreKnown, items_read}
+use Rattle.strc_admissible.proofs.Keeping.{nodes_keep_rates, nodes_take_within}
+use Rattle.strc_admissible.proofs.Orders.{counted_is, firing_count_is}
+use Rattle.strc_admissible.proofs.Rounds.{orders_find, startup_nodes, round_nodes}
+use Rattle.strc_rounds.specs.Blocks.{Block, old_order, new_order}
+use Rattle.strc_rounds.specs.Counted.{IsCounted}
+use Rattle.strc_rounds.specs.FusedUnits.{firings_of}
+use Rattle.strc_rounds.specs.PieceBlocks.{blocks_of}
+use Rattle.strc_rounds.specs.Pieces.{Piece, ArePieces}
+use Rattle.strc_rounds.specs.Runs.{IsSameOutcome}
+use Rattle.strc_rounds.specs.Split.{Parts, IsSplitGraph, Agree}
+use Rattle.strc_rounds.proofs.Counted.{counted_first, counted_after}
+use Rattle.strc_rounds.proofs.Numbers.{starts_agree}
+use Rattle.strc_rounds.proofs.PieceBlocks.{blocks_are, before_same, after_same}
+use Rattle.strc_rounds.proofs.Runs.{fission_runs}
+use Rattle.strc_rounds.proofs.Still.{stays_still}
+use Rattle.strc_fuse.specs.Units.{round_units}
+use Rattle.strc_fuse.proofs.Counting.{firings_same}
+use Rattle.strc_fiss.specs.Laws.{AreOwn, pieces_of}
+use Rattle.strc_fiss.specs.Ways.{fission_of}
+use Rattle.strc_fiss.proofs.Pieced.{pieces_before, pieces_after, pieces_own}
+use Rattle.strc_split.specs.Runs.{graph_before, graph_after, parts_of, dealt_from}
+use Rattle.strc_split.specs.Laws.{split_order}
+use Rattle.strc_split.specs.Runs.{FissionKeepsProgramRuns}
+use Rattle.strc_split.proofs.Lawful.{graphs_are_split}
+use Rattle.strc_split.proofs.Orders.{ends_apart, codes_same, channel_order}
+use Rattle.strc_split.proofs.Owners.{owner_is}
+
+module _ (tree : Stream NodeCode) (old : Graph) (schedule : ScheduleParts) (round : List ℕ)
+    (ways : ℕ) (input : List ℤ) (rounds : ℕ) (started : Queues) (program : IsProgram tree old)
+    (is : IsGraph old) (planned : IsPlanned old schedule) (known : AreKnown old)
+    (own : AreOwn (fission_of old round ways) (round_units schedule.round))
+    (supplied : items_read old.nodes (counts_at schedule rounds) ≤ length input)
+    (went : fifo_go node_meaning (graph_before tree old schedule round ways)
+    (startup_order schedule)
+    (fifo_at_first node_meaning (graph_before tree old schedule round ways) input)
+    ≡ FifoWent started) where
+  abbrev before : flat.Graph NodeCode
+  before = graph_before tree old schedule round ways
+
+  abbrev after : flat.Graph NodeCode
+  after = graph_after tree old schedule round ways
+
+  abbrev parts : Parts
+  parts = parts_of tree old schedule round ways
+
+  abbrev startup : ℕ → ℕ
+  startup = firing_count (startup_order schedule)
+
+  abbrev in_round : ℕ → ℕ
+  in_round = firing_count (round_order schedule)
+
+  abbrev pieces : List Piece
+  pieces = pieces_of (fission_of old round ways) (round_units schedule.round)
+
+  abbrev blocks : List Block
+  blocks = blocks_of (pieces_of (fission_of old round ways) (round_units schedule.round))
+
+  -- ---- the graph before fission
+
+  keeps : (node : ℕ) → KeepsRates node_meaning (before.code node)
+  keeps node = subst (KeepsRates node_meaning) (codes_same tree old program.flat node)
+      (nodes_keep_rates tree old schedule program.flat planned known node)
+
+  within : TakesWithinWindow node_meaning before
+  within = subst (λ (code : ℕ → NodeCode). (node firing port : ℕ)
+      → port < node_meaning.ports (code node)
+      → node_meaning.popped (code node) firing port ≤ node_meaning.window (code node) firing port)
+      (fun_ext (codes_same tree old program.flat))
+      (nodes_take_within tree old schedule program.flat planned)
+
+  split : IsSplitGraph parts node_meaning before after
+  split = graphs_are_split (any_code tree) old schedule round ways startup is
+      (ends_apart tree old program.flat) planned known
+
+  -- ---- orders
+
+  finds : orders.IsSchedule node_meaning (trees.flat tree) input startup in_round
+      (startup_order schedule) (round_order schedule) rounds
+  finds = orders_find old schedule planned tree input rounds program supplied
+
+  pieces_are : ArePieces parts pieces
+  pieces_are = pieces_own (fission_of old round ways) startup (round_units schedule.round) own
+
+  before_is : round_order schedule ≡ old_order parts blocks
+  before_is =
+      firings_same schedule.round
+      ∙ ap firings_of (sym (pieces_before (fission_of old round ways) startup
+      (round_units schedule.round)))
+      ∙ before_same parts pieces
+
+  after_is : split_order old schedule round ways ≡ new_order parts blocks
+  after_is =
+      ap firings_of (sym (pieces_after (fission_of old round ways) startup
+      (round_units schedule.round)))
+      ∙ after_same parts pieces
+
+  startup_valid : orders.IsOrder node_meaning before input (λ node. 0) (startup_order schedule)
+  startup_valid = channel_order tree old program input (λ node. 0) (startup_order schedule)
+      (startup_nodes old schedule planned) finds.startup_finds
+
+  round_valid : (q : ℕ) → q < rounds
+      → orders.IsOrder node_meaning before input (orders.counts_after startup in_round q)
+      (old_order parts blocks)
+  round_valid q less =
+      subst (orders.IsOrder node_meaning before input (orders.counts_after startup in_round q))
+      before_is
+      (channel_order tree old program input (orders.counts_after startup in_round q)
+      (round_order schedule) (round_nodes old schedule planned) (finds.round_finds q less))
+
+  round_counts : (node : ℕ) → orders.firing_count (old_order parts blocks) node ≡ in_round node
+  round_counts node =
+      ap (λ (l : List ℕ). orders.firing_count l node) (sym before_is)
+      ∙ firing_count_is (round_order schedule) node
+
+  -- ---- after start-up
+
+  counted : IsCounted node_meaning before input startup started
+  counted =
+      let e : orders.counted (λ node. 0) (startup_order schedule) ≡ startup =
+      counted_is (λ node. 0) (startup_order schedule)
+      ∙ fun_ext (λ node. omega arith) in
+      subst (λ (counts : ℕ → ℕ). IsCounted node_meaning before input counts started) e
+      (counted_after node_meaning before input keeps within (startup_order schedule) (λ node. 0)
+      (fifo_at_first node_meaning before input) started
+      (counted_first node_meaning before input keeps within) startup_valid went)
+
+  agrees : Agree parts node_meaning before (λ v. 0) started
+      (dealt_from tree old schedule round ways started)
+  unfolding fifo_at_first initial_run
+  agrees =
+      starts_agree node_meaning before parts _ _ started
+      (owner_is (fission_of old round ways))
+      (λ v is_split.
+      let still = stays_still node_meaning before (parts.share v) v
+      (split.split v is_split).filter (startup_order schedule)
+      (fifo_at_first node_meaning before input) started refl refl went in
+      (counted.fired v, still.0, still.1))
+
+  pub same_runs : IsSameOutcome parts
+      (fifo_rounds node_meaning before input (round_order schedule) rounds 0 started)
+      (fifo_rounds node_meaning after input (split_order old schedule round ways) rounds 0
+      (dealt_from tree old schedule round ways started))
+  same_runs =
+      subst (λ (order : List ℕ). IsSameOutcome parts
+      (fifo_rounds node_meaning before input order rounds 0 started)
+      (fifo_rounds node_meaning after input (split_order old schedule round ways) rounds 0
+      (dealt_from tree old schedule round ways started))) (sym before_is)
+      (subst (λ (order : List ℕ). IsSameOutcome parts
+      (fifo_rounds node_meaning before input (old_order parts blocks) rounds 0 started)
+      (fifo_rounds node_meaning after input order rounds 0
+      (dealt_from tree old schedule round ways started))) (sym after_is)
+      (fission_runs node_meaning before after input parts split blocks
+      (blocks_are parts pieces pieces_are) startup in_round rounds keeps within round_counts
+      round_valid (λ v. 0) started (dealt_from tree old schedule round ways started) counted
+      agrees))
+
+pub program_runs_kept : FissionKeepsProgramRuns
+program_runs_kept tree old schedule round ways input rounds started program is planned known own
+    supplied went =
+    same_runs tree old schedule round ways input rounds started program is planned known own
+    supplied went

@@ -1,0 +1,81 @@
+-- The rounds of a program's graph, and those of the graph after fission.
+use Rattle.std.specs.Prelude.{◌≡◌, ℕ, zero, suc, ◌≤◌, nat_lt, ℤ, List, length, if◌then◌else◌}
+use Rattle.strc_dataflow.specs.Flat as flat
+use Rattle.strc_dataflow.specs.Queues.{FifoProgress.FifoWent, fifo_go, fifo_at_first}
+use Rattle.strc_dataflow.specs.Queues.{fifo_rounds}
+use Rattle.strc_dataflow.specs.Streams.{any_code}
+use Rattle.strc_dataflow.specs.Streams as trees
+use Rattle.strc_graph.specs.Graphs.{NodeCode, Graph, IsGraph}
+use Rattle.strc_graph.specs.FlatGraphs.{IsProgram}
+use Rattle.strc_graph.specs.Meaning.{node_meaning}
+use Rattle.strc_graph.specs.declared.graph.Fission.{Fission}
+use Rattle.strc_order.specs.Order.{firing_count}
+use Rattle.strc_order.specs.Schedules.{ScheduleParts}
+use Rattle.strc_admissible.specs.Fits.{Queues}
+use Rattle.strc_admissible.specs.Laws.{startup_order, round_order, counts_at}
+use Rattle.strc_admissible.specs.Planned.{IsPlanned, AreKnown, items_read}
+use Rattle.strc_rounds.specs.Runs.{IsSameOutcome}
+use Rattle.strc_rounds.specs.Split.{Parts}
+use Rattle.strc_rounds.specs.Starting.{state_dealt}
+use Rattle.strc_fuse.specs.Units.{round_units}
+use Rattle.strc_fiss.specs.Laws.{AreOwn}
+use Rattle.strc_fiss.specs.Numbers.{last_part, parts_after}
+use Rattle.strc_fiss.specs.Ways.{fission_of}
+use Rattle.strc_split.specs.Laws.{new_graph, split_order}
+use Rattle.strc_split.specs.Sources.{flat_graph}
+
+-- a part of a node
+pub record Owner : Type 0 where
+  pub node : ℕ
+  pub part : ℕ
+
+module _ (share : ℕ → Fission) where
+  -- the next part of the node, or after its last one the first part of the next node
+  abbrev pub next_owner : Owner → Owner
+  next_owner owner = if nat_lt owner.part (last_part share owner.node)
+      then record { node = owner.node; part = suc owner.part }
+      else record { node = suc owner.node; part = 0 }
+
+  -- the part that has a number
+  abbrev pub owner : (number : ℕ) → Owner
+  owner zero = record { node = 0; part = 0 }
+  owner (suc number) = next_owner (owner number)
+
+module _ (tree : trees.Stream NodeCode) (old : Graph) (schedule : ScheduleParts)
+    (round : List ℕ) (ways : ℕ) where
+  -- the flat graphs before and after fission
+  abbrev pub graph_before : flat.Graph NodeCode
+  graph_before = flat_graph (any_code tree) old
+
+  abbrev pub graph_after : flat.Graph NodeCode
+  graph_after = flat_graph (any_code tree) (new_graph old schedule round ways)
+
+  -- the parts of the nodes, which had fired in start-up
+  abbrev pub parts_of : Parts
+  parts_of = parts_after (fission_of old round ways) (firing_count (startup_order schedule))
+
+  -- the state that start-up came to, dealt out to the parts
+  abbrev pub dealt_from : Queues → Queues
+  dealt_from started = state_dealt parts_of node_meaning graph_before started
+      (λ number. (owner (fission_of old round ways) number).node)
+      (λ number. (owner (fission_of old round ways) number).part)
+
+-- After start-up so many rounds of a planned graph and of the graph after fission come to the same:
+-- all words of each node that isn't split; or a fault of the same cause in the same round, at the
+-- same firing of the same node or of the copy that has this firing.
+abbrev pub FissionKeepsProgramRuns : Type 0
+FissionKeepsProgramRuns =
+    (tree : trees.Stream NodeCode) (old : Graph) (schedule : ScheduleParts) (round : List ℕ)
+    (ways : ℕ) (input : List ℤ) (rounds : ℕ) (started : Queues)
+    → IsProgram tree old → IsGraph old → IsPlanned old schedule → AreKnown old
+    → AreOwn (fission_of old round ways) (round_units schedule.round)
+    → items_read old.nodes (counts_at schedule rounds) ≤ length input
+    → fifo_go node_meaning (graph_before tree old schedule round ways) (startup_order schedule)
+    (fifo_at_first node_meaning (graph_before tree old schedule round ways) input)
+    ≡ FifoWent started
+    → IsSameOutcome (parts_of tree old schedule round ways)
+    (fifo_rounds node_meaning (graph_before tree old schedule round ways) input
+    (round_order schedule) rounds 0 started)
+    (fifo_rounds node_meaning (graph_after tree old schedule round ways) input
+    (split_order old schedule round ways) rounds 0
+    (dealt_from tree old schedule round ways started))
