@@ -1,6 +1,8 @@
 pub mod Answered
 pub mod Divisors
 pub mod Ends
+pub mod Held
+pub mod HeldSplit
 pub mod Lawful
 pub mod Layouts
 pub mod Members
@@ -8,8 +10,11 @@ pub mod NewChannels
 pub mod Orders
 pub mod OwnUnits
 pub mod Owners
+pub mod RoundOrders
 pub mod Rows
 pub mod Runs
 pub mod SplitParts
+pub mod SplitRounds
 pub mod Splits
+pub mod Steady
 pub mod Trees

@@ -1,6 +1,7 @@
 pub mod Answers
 pub mod Divisors
 pub mod Laws
+pub mod Orders
 pub mod Rounds
 pub mod Rows
 pub mod Runs

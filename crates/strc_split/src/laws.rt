@@ -3,6 +3,7 @@
 ghost use Rattle.strc_split.specs.Answers.{FissionKeepsAnswers};
 ghost use Rattle.strc_split.specs.Divisors.{GreatestDivisorDivides};
 ghost use Rattle.strc_split.specs.Laws.{SplitGraphsAreSplit};
+ghost use Rattle.strc_split.specs.Orders.{SplitRoundsAreOrders};
 ghost use Rattle.strc_split.specs.Rounds.{GreedyRoundsAreOwn};
 ghost use Rattle.strc_split.specs.Rows.{SplitRow};
 ghost use Rattle.strc_split.specs.Runs.{FissionKeepsProgramRuns};
@@ -38,6 +39,11 @@ pub fn channel_runs_are_tree_runs()
 /// So the rounds after fission come to the answer of the program's stream equations.
 pub fn fission_keeps_answers()
     ensures { FissionKeepsAnswers }
+{}
+
+/// In the round after fission each firing finds its windows.
+pub fn split_rounds_are_orders()
+    ensures { SplitRoundsAreOrders }
 {}
 
 /// A filter that is split in two ways: what comes to each port before and after it.
