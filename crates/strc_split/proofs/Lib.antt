@@ -12,6 +12,7 @@ pub mod OwnUnits
 pub mod Owners
 pub mod RoundOrders
 pub mod Rows
+pub mod RunRows
 pub mod Runs
 pub mod SplitParts
 pub mod SplitRounds

@@ -4,6 +4,7 @@ pub mod Laws
 pub mod Orders
 pub mod Rounds
 pub mod Rows
+pub mod RunRows
 pub mod Runs
 pub mod Sources
 pub mod Trees

@@ -6,6 +6,7 @@ ghost use Rattle.strc_split.specs.Laws.{SplitGraphsAreSplit};
 ghost use Rattle.strc_split.specs.Orders.{SplitRoundsAreOrders};
 ghost use Rattle.strc_split.specs.Rounds.{GreedyRoundsAreOwn};
 ghost use Rattle.strc_split.specs.Rows.{SplitRow};
+ghost use Rattle.strc_split.specs.RunRows.{RunRow};
 ghost use Rattle.strc_split.specs.Runs.{FissionKeepsProgramRuns};
 ghost use Rattle.strc_split.specs.Trees.{ChannelRunsAreTreeRuns};
 
@@ -49,4 +50,9 @@ pub fn split_rounds_are_orders()
 /// A filter that is split in two ways: what comes to each port before and after it.
 pub fn split_row()
     ensures { SplitRow }
+{}
+
+/// Two rounds of such graphs before fission and after it: the same words, and the same fault.
+pub fn run_row()
+    ensures { RunRow }
 {}
