@@ -1,6 +1,7 @@
-pub mod Answered
 pub mod Divisors
 pub mod Ends
+pub mod FusedRuns
+pub mod Fusions
 pub mod Held
 pub mod HeldSplit
 pub mod Lawful
@@ -10,6 +11,7 @@ pub mod NewChannels
 pub mod Orders
 pub mod OwnUnits
 pub mod Owners
+pub mod PlannedRounds
 pub mod RoundOrders
 pub mod Rows
 pub mod RunRows

@@ -1,5 +1,6 @@
 pub mod Answers
 pub mod Divisors
+pub mod Fusions
 pub mod Laws
 pub mod Orders
 pub mod Rounds

@@ -25,7 +25,8 @@ flat_graph past graph = record {
   source = source_at graph;
 }
 
--- what comes by a channel is what comes to the port where it ends: no two channels end at one port
+-- what comes by a channel is what comes to the port where it ends: no two channels of different
+-- sources end at one port
 abbrev pub EndApart : Graph → Type 0
 EndApart graph = All (λ channel.
     source_in graph.channels channel.target.node channel.target.port ≡ source_of channel)

@@ -2,6 +2,7 @@
 
 ghost use Rattle.strc_split.specs.Answers.{FissionKeepsAnswers};
 ghost use Rattle.strc_split.specs.Divisors.{GreatestDivisorDivides};
+ghost use Rattle.strc_split.specs.Fusions.{FusionFollowsFission, FusedFissionKeepsAnswers};
 ghost use Rattle.strc_split.specs.Laws.{SplitGraphsAreSplit};
 ghost use Rattle.strc_split.specs.Orders.{SplitRoundsAreOrders};
 ghost use Rattle.strc_split.specs.Rounds.{GreedyRoundsAreOwn};
@@ -40,6 +41,16 @@ pub fn channel_runs_are_tree_runs()
 /// So the rounds after fission come to the answer of the program's stream equations.
 pub fn fission_keeps_answers()
     ensures { FissionKeepsAnswers }
+{}
+
+/// Fusion of the units after fission comes to the fission of fused units.
+pub fn fusion_follows_fission()
+    ensures { FusionFollowsFission }
+{}
+
+/// So fused rounds after fission come to the answer, too.
+pub fn fused_fission_keeps_answers()
+    ensures { FusedFissionKeepsAnswers }
 {}
 
 /// In the round after fission each firing finds its windows.
