@@ -1,10 +1,13 @@
 -- The part that has a number.
-use Rattle.std.proofs.Common.{◌≡◌, refl, ap, ◌∙◌, ℕ, zero, suc, ◌+◌, ◌<◌, ◌≤◌, arith, cond}
-use Rattle.std.proofs.Common.{Bool}
-use Rattle.std.proofs.lemmas.Bool.{lt-ltb, le-ltb}
+use Rattle.std.proofs.Common.{◌≡◌, refl, sym, ap, ap₂, ◌∙◌, ℕ, zero, suc, ◌+◌, ◌<◌, ◌≤◌, arith}
+use Rattle.std.proofs.Common.{Bool, cond, Some, slice_get, inl, inr}
+use Rattle.std.proofs.lemmas.Bool.{lt-ltb, le-ltb, cases_lt}
 use Rattle.strc_graph.specs.declared.graph.Fission.{Fission}
-use Rattle.strc_fiss.specs.Numbers.{last_part, base}
-use Rattle.strc_split.specs.Runs.{Owner, next_owner, owner}
+use Rattle.strc_rounds.proofs.Numbers as numbers
+use Rattle.strc_fiss.specs.Numbers.{last_part, base, each_part, origin_of, parts_after}
+use Rattle.strc_fiss.proofs.Bases.{base_up}
+use Rattle.strc_fiss.proofs.Lookup.{part_there}
+use Rattle.strc_split.specs.Owners.{Owner, next_owner, owner, OwnersAreOrigins}
 
 module _ (share : ℕ → Fission) where
   abbrev part : (v k : ℕ) → Owner
@@ -41,7 +44,27 @@ module _ (share : ℕ → Fission) where
       ∙ next_node v
 
   pub owner_is : (v k : ℕ) → k ≤ last_part share v
-      → ((owner share (base share v + k)).node ≡ v) × ((owner share (base share v + k)).part ≡ k)
+      → ((owner share (base share v + k)).node ≡ v)
+      × ((owner share (base share v + k)).part ≡ k)
   owner_is v k within =
       let e = parts_from v k within (first_part v) in
       (ap (λ (o : Owner). o.node) e, ap (λ (o : Owner). o.part) e)
+
+pub owners_have_origins : OwnersAreOrigins
+owners_have_origins share size number less =
+    let (v, k, is) = numbers.owner (parts_after share (λ w. 0)) (base share)
+    (record { first = refl; next = λ w. refl; names = λ w j. refl }) number in
+    let at : base share v + k ≡ number = is.is in
+    let there = owner_is share v k is.within in
+    let inside : v < size = inside_is v k at in
+    ap (slice_get (each_part share (origin_of share) size)) (sym at)
+    ∙ part_there share (origin_of share) size v k inside is.within
+    ∙ sym (ap (λ (n : ℕ). Some (origin_of share (owner share n).node (owner share n).part))
+    (sym at)
+    ∙ ap₂ (λ (node part : ℕ). Some (origin_of share node part)) there.0 there.1)
+  where
+    inside_is : (v k : ℕ) → base share v + k ≡ number → v < size
+    inside_is v k at = elim (cases_lt v size) [
+      | inl inside ↦ inside
+      | inr past ↦ absurd (omega (arith, at, less, base_up share size v past))
+    ]

@@ -3,6 +3,7 @@ pub mod Divisors
 pub mod Fusions
 pub mod Laws
 pub mod Orders
+pub mod Owners
 pub mod Rounds
 pub mod Rows
 pub mod RunRows

@@ -4,7 +4,7 @@ use Rattle.std.specs.Prelude.{◌≡◌, ℕ, []}
 use Rattle.strc_dataflow.specs.Flat.{Source, Origin.Port}
 use Rattle.strc_graph.specs.FlatGraphs.{program_input}
 use Rattle.strc_fiss.specs.Rows as fission
-use Rattle.strc_split.specs.Runs.{Owner, owner}
+use Rattle.strc_split.specs.Owners.{Owner, owner}
 use Rattle.strc_split.specs.Sources.{source_at}
 
 -- what a node gives at a port

@@ -29,7 +29,7 @@ use Rattle.strc_fiss.specs.Rows as fission
 use Rattle.strc_fiss.specs.Splitting.{split_graph}
 use Rattle.strc_fiss.specs.Units.{split_units}
 use Rattle.strc_fiss.specs.Ways.{fission_of}
-use Rattle.strc_split.specs.Runs.{owner}
+use Rattle.strc_split.specs.Owners.{owner}
 use Rattle.strc_split.specs.Sources.{flat_graph}
 
 abbrev rate_of : RateKind → ℤ → tree.Rate

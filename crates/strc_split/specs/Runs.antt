@@ -1,5 +1,5 @@
 -- The rounds of a program's graph, and those of the graph after fission.
-use Rattle.std.specs.Prelude.{◌≡◌, ℕ, zero, suc, ◌≤◌, nat_lt, ℤ, List, length, if◌then◌else◌}
+use Rattle.std.specs.Prelude.{◌≡◌, ℕ, ◌≤◌, ℤ, List, length}
 use Rattle.strc_dataflow.specs.Flat as flat
 use Rattle.strc_dataflow.specs.Queues.{FifoProgress.FifoWent, fifo_go, fifo_at_first}
 use Rattle.strc_dataflow.specs.Queues.{fifo_rounds}
@@ -8,7 +8,6 @@ use Rattle.strc_dataflow.specs.Streams as trees
 use Rattle.strc_graph.specs.Graphs.{NodeCode, Graph, IsGraph}
 use Rattle.strc_graph.specs.FlatGraphs.{IsProgram}
 use Rattle.strc_graph.specs.Meaning.{node_meaning}
-use Rattle.strc_graph.specs.declared.graph.Fission.{Fission}
 use Rattle.strc_order.specs.Order.{firing_count}
 use Rattle.strc_order.specs.Schedules.{ScheduleParts}
 use Rattle.strc_admissible.specs.Fits.{Queues}
@@ -19,27 +18,11 @@ use Rattle.strc_rounds.specs.Split.{Parts}
 use Rattle.strc_rounds.specs.Starting.{state_dealt}
 use Rattle.strc_fuse.specs.Units.{round_units}
 use Rattle.strc_fiss.specs.Laws.{AreOwn}
-use Rattle.strc_fiss.specs.Numbers.{last_part, parts_after}
+use Rattle.strc_fiss.specs.Numbers.{parts_after}
 use Rattle.strc_fiss.specs.Ways.{fission_of}
 use Rattle.strc_split.specs.Laws.{new_graph, split_order}
+use Rattle.strc_split.specs.Owners.{owner}
 use Rattle.strc_split.specs.Sources.{flat_graph}
-
--- a part of a node
-pub record Owner : Type 0 where
-  pub node : ℕ
-  pub part : ℕ
-
-module _ (share : ℕ → Fission) where
-  -- the next part of the node, or after its last one the first part of the next node
-  abbrev pub next_owner : Owner → Owner
-  next_owner owner = if nat_lt owner.part (last_part share owner.node)
-      then record { node = owner.node; part = suc owner.part }
-      else record { node = suc owner.node; part = 0 }
-
-  -- the part that has a number
-  abbrev pub owner : (number : ℕ) → Owner
-  owner zero = record { node = 0; part = 0 }
-  owner (suc number) = next_owner (owner number)
 
 module _ (tree : trees.Stream NodeCode) (old : Graph) (schedule : ScheduleParts)
     (round : List ℕ) (ways : ℕ) where

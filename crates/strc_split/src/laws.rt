@@ -5,6 +5,7 @@ ghost use Rattle.strc_split.specs.Divisors.{GreatestDivisorDivides};
 ghost use Rattle.strc_split.specs.Fusions.{FusionFollowsFission, FusedFissionKeepsAnswers};
 ghost use Rattle.strc_split.specs.Laws.{SplitGraphsAreSplit};
 ghost use Rattle.strc_split.specs.Orders.{SplitRoundsAreOrders};
+ghost use Rattle.strc_split.specs.Owners.{OwnersAreOrigins};
 ghost use Rattle.strc_split.specs.Rounds.{GreedyRoundsAreOwn};
 ghost use Rattle.strc_split.specs.Rows.{SplitRow};
 ghost use Rattle.strc_split.specs.RunRows.{RunRow};
@@ -25,6 +26,11 @@ pub fn split_graphs_are_split()
 /// In the greedy round of a whole program each node that is split has all its firings in one unit.
 pub fn greedy_rounds_are_own()
     ensures { GreedyRoundsAreOwn }
+{}
+
+/// The node and the part that a number has are those of the origins that fission gives.
+pub fn owners_are_origins()
+    ensures { OwnersAreOrigins }
 {}
 
 /// After start-up any number of rounds of a planned graph, and of the graph after fission, give the
