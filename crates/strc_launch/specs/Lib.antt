@@ -5,3 +5,4 @@ pub mod Cuts
 pub mod Made
 pub mod Launches
 pub mod Laws
+pub mod Stages

@@ -1,12 +1,14 @@
 // Start-up of a plan, and the ring of stages that it leaves.
 
-ghost use Rattle.std.specs.Prelude.{◌≡◌, ◌<◌, IfOk, length};
+ghost use Rattle.std.specs.Prelude.{◌≡◌, ◌<◌, IfOk};
 ghost use Rattle.strc_order.specs.Greedy.{firings_of};
 ghost use Rattle.strc_circuit.specs.Circuits.{circuit_view, IsReady};
 ghost use Rattle.strc_runner.specs.Batches.{IsOrderOf, units_of};
 ghost use Rattle.strc_stage.specs.Plans.{planning_of};
 ghost use Rattle.strc_launch.specs.Launches.{IsFaultOf, IsLaunch};
+ghost use Rattle.strc_launch.specs.Stages.{AreStages};
 
+use crate::cutting::Cut;
 use crate::laws::runs_keep_rings;
 use crate::ringing::{Launch, ring_of};
 use std::alloc::{AllocError, Global};
@@ -18,21 +20,18 @@ use strc_runner::batches::Order;
 use strc_runner::machine::{Machine, Stop};
 use strc_stage::plan::Plan;
 
-/// Start-up of a plan on this thread; then its nodes are parted among stages, one for each of so
-/// many workers, or for each group of nodes where these are fewer.
-///
-/// Err only where memory runs out, or where a channel carries more items in a round than memory can
-/// hold.
-pub fn launch(
+/// Start-up of a plan on this thread; then its nodes are parted among the stages that so many
+/// workers share.
+pub(crate) fn launched(
     alloc: Global,
     plan: &Plan,
+    cut: &Cut,
     input: &[i32],
     rounds: u32,
     workers: u32,
 ) -> Result<Launch, NoMemory>
-    requires workers { 0 < workers }
+    requires stages { AreStages plan.now workers cut.now }
     requires rounds { 0 < rounds }
-    requires nodes { 0 < length plan.now.graph.nodes }
     ensures { IfOk result (IsLaunch (planning_of plan.now) input.now rounds workers) }
 {
     runs_keep_rings();
@@ -44,7 +43,7 @@ pub fn launch(
     let mut machine = Machine::new(alloc, graph, &circuit, schedule.sizes())?;
     match machine.fire_order(&circuit, &startup) {
         Ok(()) => {
-            let ring = ring_of(alloc, plan, &circuit, machine, rounds, workers)?;
+            let ring = ring_of(alloc, plan, cut, &circuit, machine, rounds, workers)?;
             Ok(Launch::Going(ring))
         }
         Err(stop) => faulted(stop),

@@ -15,8 +15,9 @@ mod links;
 mod making;
 mod pushes;
 mod ringing;
+mod stages;
 mod tapes;
 mod units;
 
-pub use launching::launch;
 pub use ringing::{Launch, Ring};
+pub use stages::{Stages, cut, launch};

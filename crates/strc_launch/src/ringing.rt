@@ -7,6 +7,7 @@ ghost use Rattle.strc_circuit.specs.Circuits.{circuit_view, IsReady};
 ghost use Rattle.strc_runner.specs.Running.{IsMachine, machine_view};
 ghost use Rattle.strc_stage.specs.Plans.{planning_of};
 ghost use Rattle.strc_launch.specs.Launches.{IsRingOf};
+ghost use Rattle.strc_launch.specs.Stages.{AreStages};
 
 use crate::cutting::Cut;
 use crate::freeing::free_parcels;
@@ -45,14 +46,14 @@ pub enum Launch {
 pub(crate) fn ring_of(
     alloc: Global,
     plan: &Plan,
+    cut: &Cut,
     circuit: &Circuit,
     machine: Machine,
     rounds: u32,
     workers: u32,
 ) -> Result<Ring, NoMemory>
-    requires workers { 0 < workers }
+    requires stages { AreStages plan.now workers cut.now }
     requires rounds { 0 < rounds }
-    requires nodes { 0 < length plan.now.graph.nodes }
     requires circuit { IsCircuit (graph_view plan.now.graph) (circuit_view circuit.now) }
     requires ready { IsReady circuit.now }
     requires machine { IsMachine (circuit_view circuit.now) machine }
@@ -62,9 +63,8 @@ pub(crate) fn ring_of(
         (machine_view machine) rounds workers) }
 {
     whole_machines_hold();
-    let cut = Cut::new(alloc, plan, workers)?;
     let mut left = machine;
-    let stages = stages_of(alloc, plan, &cut, circuit, &mut left, rounds)?;
+    let stages = stages_of(alloc, plan, cut, circuit, &mut left, rounds)?;
     let free = free_parcels(alloc, &stages)?;
     let words = tape_words(alloc, plan.graph().nodes(), left.into_words())?;
     Ok(Ring {

@@ -1,3 +1,4 @@
 pub mod Telling
 pub mod Parting
 pub mod Running
+pub mod Piped

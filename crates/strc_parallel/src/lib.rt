@@ -9,5 +9,6 @@
 
 mod driving;
 mod parting;
+pub mod pipe;
 pub mod running;
 mod telling;

@@ -5,7 +5,7 @@ ghost use Rattle.strc_graph.specs.NodeView.{node_view};
 ghost use Rattle.strc_core.specs.States.{IsStart};
 ghost use Rattle.strc_sched.specs.Plain.{need_of, AnswersGraph};
 ghost use Rattle.strc_stage.specs.Plans.{planning_of};
-ghost use Rattle.strc_launch.specs.Launches.{start_of};
+ghost use Rattle.strc_launch.specs.Launches.{IsLaunch, start_of};
 ghost use Rattle.strc_parallel.specs.Running.{Drives, HasEnded, IsBegun, IsEndOf};
 ghost use Rattle.strc_parallel.specs.Running.{LacksMeans};
 
@@ -14,7 +14,8 @@ use crate::telling::{faulted, outcome_of};
 use std::alloc::Global;
 use std::sync::Wait;
 use std::thread::Threads;
-use strc_launch::{Launch, Ring, launch};
+use strc_base::memory::NoMemory;
+use strc_launch::{Launch, Ring, cut, launch};
 use strc_outcome::outcome::Outcome;
 use strc_outcome::refusal::RunRefusal;
 use strc_ring::{Failure, Start, run_ring};
@@ -50,10 +51,27 @@ pub fn run_stages<G: Gate<Stage>, R: Threads + Wait + Sync>(
     ensures means { IfErr result LacksMeans }
 {
     plan.known();
-    match launch(alloc, plan, input, rounds, workers) {
+    match begin(alloc, plan, input, rounds, workers) {
         Ok(launched) => run_launched(rt, alloc, plan, launched, gate),
         Err(_) => Err(RunRefusal::NoMemory),
     }
+}
+
+/// Start-up of a plan's stages for so many workers.
+fn begin(
+    alloc: Global,
+    plan: &Plan,
+    input: &[i32],
+    rounds: u32,
+    workers: u32,
+) -> Result<Launch, NoMemory>
+    requires rounds { 0 < rounds }
+    requires workers { 0 < workers }
+    requires nodes { 0 < length plan.now.graph.nodes }
+    ensures { IfOk result (IsLaunch (planning_of plan.now) input.now rounds workers) }
+{
+    let stages = cut(alloc, plan, workers)?;
+    launch(alloc, stages, input, rounds)
 }
 
 /// What comes of start-up, and of the rounds after it.

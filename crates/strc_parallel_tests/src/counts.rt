@@ -1,9 +1,10 @@
 // How many events a ring has until it is over, and where its parcels are then.
 
 use crate::programs::{PROGRAMS, case_of};
-use crate::rings::{Begun, begin};
+use crate::rings::begin;
 use crate::telling::told_collector;
 use std::test::Fail;
+use strc_parallel::pipe::State;
 use strc_pipe::Event;
 
 /// More events than the ring has.
@@ -15,9 +16,9 @@ const MOST: u32 = 1000;
 fn three_rounds_are_twenty_four_events(rt: HostRuntime) -> Result<(), Fail> {
     let alloc = rt.alloc();
     let case = case_of(alloc, PROGRAMS[1])?;
-    let mut pipe = match begin(alloc, &case, 3)? {
-        Begun::Going(pipe) => pipe,
-        Begun::Faulted(_) => return Err("start-up faults".into()),
+    let mut pipe = match begin(alloc, &case, 3)?.into_state() {
+        State::Going(pipe) => pipe,
+        State::Faulted { .. } => return Err("start-up faults".into()),
     };
     let mut events = 0u32;
     for _ in 0..MOST {

@@ -2,13 +2,14 @@
 
 use crate::dice::{Bent, Dice};
 use crate::programs::{Case, PROGRAMS, case_of};
-use crate::rings::{Begun, Stages, begin, random_events};
-use crate::telling::{told, told_collector};
+use crate::rings::{begin, random_events};
+use crate::telling::told;
 use std::alloc::Global;
 use std::process::Abort;
 use std::test::Fail;
+use strc_outcome::outcome::Outcome;
+use strc_parallel::pipe::Pipe;
 use strc_sched::plain::run_plain;
-use strc_stages::Collector;
 
 /// How many lists of events there are for each program and number of workers.
 const LISTS: u32 = 100;
@@ -19,13 +20,14 @@ const ACTORS: usize = 9;
 /// Each of these programs ends within far fewer events.
 const MOST: u32 = 100_000;
 
-/// The collector after random events, as many as it takes.
-fn ended(alloc: Global, pipe: Stages, dice: &mut Dice, bent: Bent) -> Result<Collector, Fail> {
+/// The outcome after random events, as many as it takes.
+fn ended(alloc: Global, pipe: Pipe, dice: &mut Dice, bent: Bent) -> Result<Outcome, Fail> {
     let mut pipe = pipe;
     for _ in 0..MOST {
         random_events(alloc, &mut pipe, dice, bent, ACTORS, 32)?;
-        pipe = match pipe.finish() {
-            Ok(collector) => return Ok(collector),
+        pipe = match pipe.finish(alloc) {
+            Ok(Ok(outcome)) => return Ok(outcome),
+            Ok(Err(_)) => return Err("out of memory".into()),
             Err(pipe) => pipe,
         };
     }
@@ -40,13 +42,8 @@ fn told_at_random(
     dice: &mut Dice,
     bent: Bent,
 ) -> Result<String, Fail> {
-    match begin(alloc, case, workers)? {
-        Begun::Going(pipe) => {
-            let collector = ended(alloc, pipe, dice, bent)?;
-            Ok(told_collector(alloc, &collector.into_parts())?)
-        }
-        Begun::Faulted(text) => Ok(text),
-    }
+    let pipe = begin(alloc, case, workers)?;
+    Ok(told(alloc, &ended(alloc, pipe, dice, bent)?)?)
 }
 
 /// Many lists of events come to this.

@@ -1,61 +1,27 @@
 // Rings of a program's stages, on one thread.
 
-ghost use Rattle.strc_core.specs.States.{IsStart};
-ghost use Rattle.strc_launch.specs.Launches.{start_of};
-
 use crate::dice::{Bent, Dice};
 use crate::programs::Case;
-use crate::telling::told_fault;
 use std::alloc::Global;
 use std::test::Fail;
-use strc_base::memory::NoMemory;
-use strc_launch::{Launch, Ring, launch};
-use strc_outcome::outcome::Round;
-use strc_pipe::{Event, Pipe};
-use strc_stages::{Collector, Stage};
+use strc_launch::cut;
+use strc_parallel::pipe::Pipe;
+use strc_pipe::Event;
 
-/// The stages of a program and its collector.
-pub type Stages = Pipe<Stage, Collector>;
-
-/// What start-up comes to: a ring, or a fault, as it is told.
-#[derive(Drop)]
-pub enum Begun {
-    Going(Stages),
-    Faulted(String),
-}
-
-/// Start-up of a case for so many workers.
-pub fn begin(alloc: Global, case: &Case<'_>, workers: u32) -> Result<Begun, Fail> {
+/// A case after start-up, cut into stages for so many workers.
+pub fn begin(alloc: Global, case: &Case<'_>, workers: u32) -> Result<Pipe, Fail> {
     if case.plan.graph().nodes().is_empty() || case.rounds == 0 || workers == 0 {
         return Err("nothing to begin with".into());
     }
-    match launch(alloc, &case.plan, &case.input, case.rounds, workers)? {
-        Launch::Going(ring) => Ok(Begun::Going(ring_of(alloc, ring)?)),
-        Launch::Faulted {
-            node,
-            firing,
-            cause,
-        } => Ok(Begun::Faulted(told_fault(alloc, node, firing, Round::Startup, cause)?)),
-    }
-}
-
-/// The ring before any event.
-fn ring_of(alloc: Global, ring: Ring) -> Result<Stages, NoMemory>
-    requires { IsStart (start_of ring) }
-{
-    let Ring {
-        stages,
-        free,
-        collector,
-    } = ring;
-    Pipe::new(alloc, stages, free, collector)
+    let stages = cut(alloc, &case.plan, workers)?;
+    Ok(Pipe::new(alloc, stages, &case.input, case.rounds)?)
 }
 
 /// How many of so many random events happen, of actors below this one. An event that has happened
 /// isn't allowed again: the actor's hand is full, or it is empty.
 pub fn random_events(
     alloc: Global,
-    pipe: &mut Stages,
+    pipe: &mut Pipe,
     dice: &mut Dice,
     bent: Bent,
     actors: usize,

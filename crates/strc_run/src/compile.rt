@@ -90,7 +90,8 @@ fn compile_program(
         Ok(fused) => fused,
         Err(error) => return Err(fusion_refusal_of(error)),
     };
-    Ok(Plan::new(graph, startup_counts, round_counts, schedule, fused))
+    let plan = Plan::new(alloc, graph, startup_counts, round_counts, schedule, fused)?;
+    Ok(plan)
 }
 
 // Why a schedule isn't fused.

@@ -1,5 +1,5 @@
 -- A plan's schedule after fusion: how often its nodes fire, and which they are.
-use Rattle.std.proofs.Common.{◌≡◌, ◌∙◌, ap, subst, ℕ, ◌≤◌, List, length, All, arith}
+use Rattle.std.proofs.Common.{◌≡◌, ◌∙◌, ap, subst, ℕ, List, length, All, arith}
 use Rattle.std.proofs.lemmas.List.{length-map}
 use Rattle.strc_graph.specs.NodeView.{GraphParts, graph_view, node_view}
 use Rattle.strc_balance.specs.Balance.{count_at}

@@ -1,6 +1,6 @@
 // A plan: what a program is run by.
 
-ghost use Rattle.std.specs.Prelude.{◌≡◌, All, length};
+ghost use Rattle.std.specs.Prelude.{◌≡◌, All, IfOk, length};
 ghost use Rattle.strc_graph.specs.Graphs.{IsGraph};
 ghost use Rattle.strc_graph.specs.NodeView.{graph_view};
 ghost use Rattle.strc_order.specs.Peaks.{HasNodes};
@@ -9,8 +9,11 @@ ghost use Rattle.strc_stage.specs.Origins.{origin_at};
 ghost use Rattle.strc_stage.specs.Plans.{HasRound, HasSchedule, HasStartup, IsFused, IsPlan};
 ghost use Rattle.strc_stage.specs.Plans.{IsWhole, planning_of};
 
+use std::alloc::Global;
 use std::marker::Model;
+use std::sync::Arc;
 use strc_balance::counts::Counts;
+use strc_base::memory::NoMemory;
 use strc_graph::graph::Graph;
 use strc_order::parts::Schedule;
 
@@ -18,7 +21,34 @@ use strc_order::parts::Schedule;
 /// the schedule of these firings (Lee and Messerschmitt 1987: a periodic admissible sequential
 /// schedule), before fusion and after it. No node is split yet, so the graph after fission is the
 /// one before it.
+///
+/// Its copies share these.
 pub struct Plan {
+    shared: Arc<Shared>,
+}
+
+impl Drop for Plan {
+    fn drop(self) {
+        let Plan { shared: _ } = self;
+    }
+}
+
+impl Model for Plan {
+    ghost use Rattle.std.specs.Arc.{arc_value};
+    ghost use Rattle.std.specs.Coded.{codes};
+    ghost use Rattle.strc_graph.specs.contracts.graph.Node as node;
+    ghost use Rattle.strc_graph.specs.contracts.graph.Channel as channel;
+    ghost use Rattle.strc_stage.specs.Plans.{PlanParts};
+
+    ghost Value = { PlanParts };
+
+    ghost coded = { Prim.hlevel (codes, node.the_row.coded, channel.the_row.coded) };
+
+    ghost view = { λ p. arc_value p.shared };
+}
+
+/// What the copies of a plan share.
+struct Shared {
     graph: Graph,
     startup_counts: Counts,
     round_counts: Counts,
@@ -26,9 +56,9 @@ pub struct Plan {
     fused: Schedule,
 }
 
-impl Drop for Plan {
+impl Drop for Shared {
     fn drop(self) {
-        let Plan {
+        let Shared {
             graph: _,
             startup_counts: _,
             round_counts: _,
@@ -38,7 +68,7 @@ impl Drop for Plan {
     }
 }
 
-impl Model for Plan {
+impl Model for Shared {
     ghost use Rattle.std.specs.Coded.{codes};
     ghost use Rattle.strc_graph.specs.contracts.graph.Node as node;
     ghost use Rattle.strc_graph.specs.contracts.graph.Channel as channel;
@@ -75,23 +105,45 @@ impl Plan {
     /// that of these counts, as `schedule` gives it, and the fused one is what `fused_schedule`
     /// makes of it.
     pub fn new(
+        alloc: Global,
         graph: Graph,
         startup_counts: Counts,
         round_counts: Counts,
         schedule: Schedule,
         fused: Schedule,
-    ) -> Plan
+    ) -> Result<Plan, NoMemory>
         requires { IsPlan (planning_of (parts_of graph startup_counts round_counts schedule
             fused)) }
-        ensures { result ≡ parts_of graph startup_counts round_counts schedule fused }
+        ensures { IfOk result (λ plan. plan
+            ≡ parts_of graph startup_counts round_counts schedule fused) }
     {
-        Plan {
+        let shared = Shared {
             graph,
             startup_counts,
             round_counts,
             schedule,
             fused,
-        }
+        };
+        Ok(Plan {
+            shared: Arc::new(alloc, shared)?,
+        })
+    }
+
+    /// An equal plan, in a step and without memory of its own. `NoMemory` where there are 2^63 - 1
+    /// of them.
+    pub fn copy(&self) -> Result<Plan, NoMemory>
+        ensures { IfOk result (λ copy. copy ≡ self.now) }
+    {
+        Ok(Plan {
+            shared: Arc::try_clone(&self.shared)?,
+        })
+    }
+
+    /// What the copies share.
+    fn shared(&self) -> &Shared
+        ensures { result.now ≡ self.now }
+    {
+        &self.shared
     }
 
     /// The flat graph before fission.
@@ -99,7 +151,7 @@ impl Plan {
         ensures graph { result.now ≡ self.now.graph }
         ensures whole { IsWhole (graph_view result.now) }
     {
-        &self.graph
+        &self.shared().graph
     }
 
     /// How often each node of `graph` fires before the first round: the least counts that prime it.
@@ -108,7 +160,7 @@ impl Plan {
         ensures least { HasStartup (graph_view self.now.graph) result.now }
         ensures nodes { length result.now ≡ length self.now.graph.nodes }
     {
-        &self.startup_counts
+        &self.shared().startup_counts
     }
 
     /// How often each node of `graph` fires in a round: the least counts that balance it.
@@ -117,7 +169,7 @@ impl Plan {
         ensures least { HasRound (graph_view self.now.graph) result.now }
         ensures nodes { length result.now ≡ length self.now.graph.nodes }
     {
-        &self.round_counts
+        &self.shared().round_counts
     }
 
     /// The schedule of these firings, before fission and fusion.
@@ -127,7 +179,7 @@ impl Plan {
             self.now.round_counts result.now }
         ensures planned { IsPlanned (graph_view self.now.graph) result.now }
     {
-        &self.schedule
+        &self.shared().schedule
     }
 
     /// The size of the buffer of each channel of `graph` under `schedule`, in items, from 0 to
@@ -136,14 +188,14 @@ impl Plan {
         ensures sizes { result.now ≡ self.now.schedule.sizes }
         ensures channels { length result.now ≡ length self.now.graph.channels }
     {
-        self.schedule.sizes()
+        self.schedule().sizes()
     }
 
     /// The graph after fission, which is what is run. No node is split yet, so it is `graph`.
     pub fn transformed_graph(&self) -> &Graph
         ensures { result.now ≡ self.now.graph }
     {
-        &self.graph
+        &self.shared().graph
     }
 
     /// The schedule of `transformed_graph`, after fission and fusion, which is what is run: the
@@ -154,7 +206,7 @@ impl Plan {
         ensures fusion { IsFused (graph_view self.now.graph) self.now.schedule result.now }
         ensures nodes { All (HasNodes (length self.now.graph.nodes)) result.now.round }
     {
-        &self.fused
+        &self.shared().fused
     }
 
     /// The size of the buffer of each channel of `transformed_graph` under `transformed_schedule`,
@@ -171,7 +223,7 @@ impl Plan {
     pub fn origin(&self, node: u32) -> Option<Origin>
         ensures { result ≡ origin_at (length self.now.graph.nodes) node }
     {
-        if (node as usize) < self.graph.nodes().len() {
+        if (node as usize) < self.graph().nodes().len() {
             Some(Origin {
                 node,
                 first_firing: 0,
@@ -186,6 +238,6 @@ impl Plan {
         ensures is { IsPlan (planning_of self.now) }
         ensures graph { IsGraph (graph_view self.now.graph) }
     {
-        let _channels = self.graph.channels();
+        let _channels = self.shared().graph.channels();
     }
 }

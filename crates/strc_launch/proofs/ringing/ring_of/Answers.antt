@@ -32,15 +32,15 @@ tape_words-requires c =
 pub returns : goal.returns
 returns c =
     let plan = planning_of c.args.plan.now in
-    let bounds = c.in_ok-cut.cut.bounds.items in
+    let bounds = c.args.cut.now.bounds.items in
     let circuit = circuit_view c.args.circuit.now in
     let started = machine_view c.args.machine in
     let workers = c.args.workers in
     let stages = c.in_ok-stages.stages.items in
-    let is = c.in_ok-cut.ensures.cut.at.is in
+    let is = c.requires.stages.cutting.at.is in
     let some = subst (λ n. 0 < n) (sym (length-map c.args.plan.now.graph.nodes node_view))
-    c.requires.nodes in
-    let same : bounds ≡ bounds_of plan workers = c.in_ok-cut.ensures.bounds in
+    c.requires.stages.some_node in
+    let same : bounds ≡ bounds_of plan workers = c.requires.stages.bounds in
     let stages_are_made = c.in_ok-stages.ensures in
     let parts : AreParts plan bounds circuit started c.args.rounds stages
     c.in_ok-free.free.items c.in_ok-words.words = record {
@@ -62,8 +62,8 @@ returns c =
       free = c.in_ok-free.free;
       collector = collector;
     })) (sym c.new-2.ensures) (record {
-      count = stages_are plan workers is c.requires.workers some;
-      cut = bounds_cut plan workers is c.requires.workers some;
+      count = stages_are plan workers is c.requires.stages.some_worker some;
+      cut = bounds_cut plan workers is c.requires.stages.some_worker some;
       beginning = subst (λ (l : List ℕ). IsBeginning plan (bound_in l) (last_of l) circuit started
           c.args.rounds (start_of (record {
             stages = c.in_ok-stages.stages;

@@ -227,7 +227,7 @@ returns c = λ text spells.
     let nodes = c.in_ok-graph.ensures.nodes in
     let checks = ap (rates_checked 0) (sym (ap (map node_view) c.nodes.ensures))
     ∙ c.in_ok-check_rates.ensures in
-    plan_reported text _ c.new.result _ c.new.ensures (record {
+    plan_reported text _ c.in_ok-plan.plan _ c.in_ok-plan.ensures (record {
       accepted = record {
         program = _;
         spells = spells;

@@ -11,7 +11,7 @@ use Rattle.strc_runner.specs.Running.{HasGone, machine_view}
 use Rattle.strc_stage.specs.Plans.{planning_of}
 use Rattle.strc_runner.proofs.Startable.{all_start}
 use Rattle.strc_launch.proofs.Started.{all_ready, fault_so}
-use Rattle.strc_launch.proofs.launching.launch.Goals as goal
+use Rattle.strc_launch.proofs.launching.launched.Goals as goal
 
 pub new-requires-2-clause-starts : goal.new-requires-2-clause-starts
 new-requires-2-clause-starts c =
