@@ -15,11 +15,12 @@ pub fn stage_line(
     names: &[u8],
 ) -> Result<Vec<u8>, AllocError> {
     let steps = time.steps;
+    let noun = if steps == 1 { "step" } else { "steps" };
     let seconds = seconds_text(alloc, time.nanoseconds)?;
     let share = share_text(alloc, time.nanoseconds, run_time)?;
     let whole = seconds_text(alloc, run_time)?;
     let told = format!(in alloc;
-        "strc: stage {at}: {steps} steps in {seconds} s, {share}% of {whole} s: "
+        "strc: stage {at}: {steps} {noun} in {seconds} s, {share}% of {whole} s: "
     )?;
     let mut line = told.as_bytes().to_vec(alloc)?;
     line.extend_from_slice(names)?;

@@ -129,6 +129,13 @@ fn lines_tell_times(rt: HostRuntime) -> Result<(), Fail> {
     let line = stage_line(alloc, 0, time, 0, b"A")?;
     let wanted = "strc: stage 0: 7 steps in 1.234567 s, 0.0% of 0.000000 s: A\n";
     assert_eq!(rt; line.as_slice(), wanted.as_bytes());
+    let once = StageTime {
+        steps: 1,
+        nanoseconds: 2_000,
+    };
+    let line = stage_line(alloc, 1, once, 4_000, b"B")?;
+    let wanted = "strc: stage 1: 1 step in 0.000002 s, 50.0% of 0.000004 s: B\n";
+    assert_eq!(rt; line.as_slice(), wanted.as_bytes());
     let line = alone_line(alloc, 5_000_000)?;
     let wanted = "strc: the calling thread did all, in 0.005000 s with reading and writing\n";
     assert_eq!(rt; line.as_slice(), wanted.as_bytes());
