@@ -1,7 +1,6 @@
 -- One stage after another, and what is left of the machine.
 use Rattle.std.proofs.Common.{◌≡◌, sym, ◌∙◌, subst, ℕ, suc, ◌≤◌, List, []}
 use Rattle.std.proofs.Common.{◌∷◌, ◌++◌, length, arith}
-use Rattle.strc_graph.specs.Graphs.{Graph}
 use Rattle.strc_admissible.specs.Machine.{CircuitView, MachineView}
 use Rattle.strc_cut.specs.Cuts.{IsCut}
 use Rattle.strc_runner.specs.Parts.{IsRest}

@@ -1,8 +1,8 @@
 -- What start-up stands on, and how it ends.
-use Rattle.std.proofs.Common.{◌≡◌, sym, subst, ℕ, ℤ, List, get_or}
+use Rattle.std.proofs.Common.{◌≡◌, sym, subst, ℕ, ℤ, List}
 use Rattle.std.proofs.Common.{Result, Ok, Err}
-use Rattle.std.specs.Prelude.{IfOk, Some, slice_get}
-use Rattle.std.proofs.lemmas.Option.{slice_get_within, slice_get-get_or, get_or_from_slice_get}
+use Rattle.std.specs.Prelude.{IfOk}
+use Rattle.std.proofs.lemmas.Option.{slice_get_within, get_or_from_slice_get}
 use Rattle.strc_base.specs.declared.memory.NoMemory.{NoMemory}
 use Rattle.strc_graph.specs.Graphs as graphs
 use Rattle.strc_graph.specs.Graphs.{Graph, NodeCode}
@@ -11,8 +11,8 @@ use Rattle.strc_semantics.specs.declared.word.Word.{Word}
 use Rattle.strc_admissible.specs.Circuits.{IsCircuit, IsFirst}
 use Rattle.strc_admissible.specs.Laws.{startup_order}
 use Rattle.strc_admissible.specs.Machine.{CircuitView, MachineView, order_run}
-use Rattle.strc_admissible.specs.Planned.{AreKnown, IsPlanned}
-use Rattle.strc_runner.specs.Actors.{AreClosed, AreStartable, CanStartNode, IsClosedNode}
+use Rattle.strc_admissible.specs.Planned.{AreKnown}
+use Rattle.strc_runner.specs.Actors.{AreClosed, IsClosedNode}
 use Rattle.strc_runner.specs.Running.{HasGone}
 use Rattle.strc_runner.specs.declared.machine.Stop.{Stop}
 use Rattle.strc_runner.specs.declared.machine.Stop.TheVariants as stops

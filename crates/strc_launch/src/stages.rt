@@ -34,12 +34,12 @@ impl Drop for Stages {
 
 impl Model for Stages {
     ghost use Rattle.std.specs.Coded.{codes};
-    ghost use Rattle.strc_stage.specs.contracts.plan.Plan as plan;
+    ghost use Rattle.strc_stage.specs.contracts.plan.Plan as whole_plan;
     ghost use Rattle.strc_launch.specs.Stages.{AreStages, StagesView, stages_view};
 
     ghost Value = { StagesView };
 
-    ghost coded = { Prim.hlevel (codes, plan.the_row.coded) };
+    ghost coded = { Prim.hlevel (codes, whole_plan.the_row.coded) };
 
     ghost view = { λ s. stages_view s.plan s.workers };
 

@@ -61,7 +61,7 @@ returns c =
       stages = c.in_ok-stages.stages;
       free = c.in_ok-free.free;
       collector = collector;
-    })) (sym c.new-2.ensures) (record {
+    })) (sym c.new.ensures) (record {
       count = stages_are plan workers is c.requires.stages.some_worker some;
       cut = bounds_cut plan workers is c.requires.stages.some_worker some;
       beginning = subst (λ (l : List ℕ). IsBeginning plan (bound_in l) (last_of l) circuit started
