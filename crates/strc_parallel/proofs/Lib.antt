@@ -6,3 +6,4 @@ pub mod Rings
 pub mod CodeCrosses
 pub mod StageCrosses
 pub mod Answering
+pub mod Piping
