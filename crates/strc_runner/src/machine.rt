@@ -121,7 +121,7 @@ impl Machine {
     }
 
     /// Fires a batch's node so often; at once where it passes items on and finds them all.
-    #[inline]
+    #[inline(always)]
     fn fire_batch(&mut self, circuit: &Circuit, batch: &Batch) -> Result<(), Stop>
         requires machine { IsMachine (circuit_view circuit.now) self.old }
         requires batch { IsBatch (circuit_view circuit.now) batch.now }
