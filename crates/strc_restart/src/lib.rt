@@ -4,9 +4,15 @@
 // Stands on strc_dataflow and strc_staging.
 #![tactic(auto)]
 
+ghost use Rattle.strc_restart.specs.Rates.{PushesRatesKeepsRates};
 ghost use Rattle.strc_restart.specs.Restart.{RestartedRunsAlike};
 
 /// A graph that goes on from a state, and the graph restarted there, come to the same.
 pub fn restarted_runs_alike<Code, State, Cause, Word>()
     ensures { RestartedRunsAlike Code State Cause Word }
+{}
+
+/// A code whose firings each push at their rates keeps its rates, wherever it is restarted.
+pub fn pushes_rates_keeps_rates<Code, State, Cause, Word>()
+    ensures { PushesRatesKeepsRates Code State Cause Word }
 {}
