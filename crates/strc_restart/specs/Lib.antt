@@ -1,2 +1,3 @@
 pub mod Restart
 pub mod Rates
+pub mod Rounds

@@ -6,6 +6,7 @@
 
 ghost use Rattle.strc_restart.specs.Rates.{PushesRatesKeepsRates};
 ghost use Rattle.strc_restart.specs.Restart.{RestartedRunsAlike};
+ghost use Rattle.strc_restart.specs.Rounds.{RoundsAreOrders};
 
 /// A graph that goes on from a state, and the graph restarted there, come to the same.
 pub fn restarted_runs_alike<Code, State, Cause, Word>()
@@ -15,4 +16,10 @@ pub fn restarted_runs_alike<Code, State, Cause, Word>()
 /// A code whose firings each push at their rates keeps its rates, wherever it is restarted.
 pub fn pushes_rates_keeps_rates<Code, State, Cause, Word>()
     ensures { PushesRatesKeepsRates Code State Cause Word }
+{}
+
+/// An order that is valid in the first round is valid in every later one, where the rates repeat
+/// round by round and the channels balance.
+pub fn rounds_are_orders<Code, State, Cause, Word>()
+    ensures { RoundsAreOrders Code State Cause Word }
 {}
