@@ -1,3 +1,4 @@
 pub mod Restart
 pub mod Rates
 pub mod Rounds
+pub mod Solutions

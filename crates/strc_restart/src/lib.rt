@@ -7,6 +7,7 @@
 ghost use Rattle.strc_restart.specs.Rates.{PushesRatesKeepsRates};
 ghost use Rattle.strc_restart.specs.Restart.{RestartedRunsAlike};
 ghost use Rattle.strc_restart.specs.Rounds.{RoundsAreOrders};
+ghost use Rattle.strc_restart.specs.Solutions.{EquationsHaveSolutions, RoundsHaveSolutions};
 
 /// A graph that goes on from a state, and the graph restarted there, come to the same.
 pub fn restarted_runs_alike<Code, State, Cause, Word>()
@@ -22,4 +23,14 @@ pub fn pushes_rates_keeps_rates<Code, State, Cause, Word>()
 /// round by round and the channels balance.
 pub fn rounds_are_orders<Code, State, Cause, Word>()
     ensures { RoundsAreOrders Code State Cause Word }
+{}
+
+/// Where only finitely many nodes fire, the equations have a solution, also where nodes fault.
+pub fn equations_have_solutions<Code, State, Cause, Word>()
+    ensures { EquationsHaveSolutions Code State Cause Word }
+{}
+
+/// So they have one at the counts of start-up and of any number of rounds.
+pub fn rounds_have_solutions<Code, State, Cause, Word>()
+    ensures { RoundsHaveSolutions Code State Cause Word }
 {}
