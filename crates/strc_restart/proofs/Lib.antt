@@ -2,3 +2,4 @@ pub mod Restart
 pub mod Rates
 pub mod Rounds
 pub mod Solutions
+pub mod Chains

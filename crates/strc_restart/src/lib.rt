@@ -1,9 +1,12 @@
 // Takes: a graph and a state from which it goes on.
-// Gives: the graph restarted there, laws on it, each the contract of a public function with an empty
-// body, and no code.
+// Gives: the graph restarted there, laws on its rounds and on their stages, each the contract of a
+// public function with an empty body, and no code. A caller relies on `restarted_chains`: whatever
+// the workers of a chain over the restarted graph have given and taken so far, what the collector
+// makes of it is the outcome of the rounds from that state.
 // Stands on strc_dataflow and strc_staging.
 #![tactic(auto)]
 
+ghost use Rattle.strc_restart.specs.Chains.{RestartedChains, RestartedIsStaging};
 ghost use Rattle.strc_restart.specs.Rates.{PushesRatesKeepsRates};
 ghost use Rattle.strc_restart.specs.Restart.{RestartedRunsAlike};
 ghost use Rattle.strc_restart.specs.Rounds.{RoundsAreOrders};
@@ -33,4 +36,15 @@ pub fn equations_have_solutions<Code, State, Cause, Word>()
 /// So they have one at the counts of start-up and of any number of rounds.
 pub fn rounds_have_solutions<Code, State, Cause, Word>()
     ensures { RoundsHaveSolutions Code State Cause Word }
+{}
+
+/// A restarted graph whose round is cut into stages meets what the laws on stages ask.
+pub fn restarted_is_staging<Code, State, Cause, Word>()
+    ensures { RestartedIsStaging Code State Cause Word }
+{}
+
+/// What the collector of a chain of workers over a restarted graph makes is the outcome of the
+/// graph's rounds from its state.
+pub fn restarted_chains<Code, State, Cause, Word>()
+    ensures { RestartedChains Code State Cause Word }
 {}
