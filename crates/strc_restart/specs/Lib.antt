@@ -3,3 +3,4 @@ pub mod Rates
 pub mod Rounds
 pub mod Solutions
 pub mod Chains
+pub mod Schedules

@@ -10,6 +10,7 @@ ghost use Rattle.strc_restart.specs.Chains.{RestartedChains, RestartedIsStaging}
 ghost use Rattle.strc_restart.specs.Rates.{PushesRatesKeepsRates};
 ghost use Rattle.strc_restart.specs.Restart.{RestartedRunsAlike};
 ghost use Rattle.strc_restart.specs.Rounds.{RoundsAreOrders};
+ghost use Rattle.strc_restart.specs.Schedules.{RestartedRoundsAreSchedules};
 ghost use Rattle.strc_restart.specs.Solutions.{EquationsHaveSolutions, RoundsHaveSolutions};
 
 /// A graph that goes on from a state, and the graph restarted there, come to the same.
@@ -26,6 +27,12 @@ pub fn pushes_rates_keeps_rates<Code, State, Cause, Word>()
 /// round by round and the channels balance.
 pub fn rounds_are_orders<Code, State, Cause, Word>()
     ensures { RoundsAreOrders Code State Cause Word }
+{}
+
+/// So an order of a round that is valid once in the queues of a state is a schedule of the graph
+/// restarted there, by the graph's rates from that state on.
+pub fn restarted_rounds_are_schedules<Code, State, Cause, Word>()
+    ensures { RestartedRoundsAreSchedules Code State Cause Word }
 {}
 
 /// Where only finitely many nodes fire, the equations have a solution, also where nodes fault.
