@@ -5,8 +5,19 @@
 #![tactic(auto)]
 
 ghost use Rattle.strc_parts.specs.Nodes.{NodesPushRates};
+ghost use Rattle.strc_parts.specs.Repeats.{NodesRepeatByRounds, NodesTakeWithin};
 
 /// Each firing of a node pushes at its rates, the nodes of fission included.
 pub fn nodes_push_rates()
     ensures { NodesPushRates }
+{}
+
+/// Each firing of a node has the rates of the one a round before, the nodes of fission included.
+pub fn nodes_repeat_by_rounds()
+    ensures { NodesRepeatByRounds }
+{}
+
+/// No firing of a node takes more than it looks at, the nodes of fission included.
+pub fn nodes_take_within()
+    ensures { NodesTakeWithin }
 {}
