@@ -1,9 +1,12 @@
 // Takes: the nodes of programs' graphs, those of fission included.
 // Gives: laws on how they go on from any firing, and no code.
+// The theorem to rely on: `graphs_go_on`: a graph of such nodes, restarted at a state, meets what
+// `strc_restart` asks.
 // Stands on strc_restart, on strc_graph, whose nodes these are, on strc_staging and strc_dataflow,
 // and on what these stand on.
 #![tactic(auto)]
 
+ghost use Rattle.strc_parts.specs.GoingOn.{GraphsGoOn};
 ghost use Rattle.strc_parts.specs.Nodes.{NodesPushRates};
 ghost use Rattle.strc_parts.specs.Repeats.{NodesRepeatByRounds, NodesTakeWithin};
 
@@ -20,4 +23,10 @@ pub fn nodes_repeat_by_rounds()
 /// No firing of a node takes more than it looks at, the nodes of fission included.
 pub fn nodes_take_within()
     ensures { NodesTakeWithin }
+{}
+
+/// A graph of nodes with their rates, restarted at a state from which a round's order is valid
+/// once, meets what the laws on restarted graphs ask.
+pub fn graphs_go_on()
+    ensures { GraphsGoOn }
 {}
