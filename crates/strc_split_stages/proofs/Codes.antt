@@ -63,7 +63,7 @@ checked_pushes old schedule planned known filter is =
     (rates_kept filter (known filter is)))
 
 -- without a prework each firing has the rates of the work
-no_rates : (members : List syntax.Member) → is_some (prework_block members) ≡ false
+pub no_rates : (members : List syntax.Member) → is_some (prework_block members) ≡ false
     → prework_rates members ≡ None
 no_rates [] none = refl
 no_rates (syntax.Fields kind variables ∷ rest) none = no_rates rest none

@@ -1,2 +1,4 @@
 pub mod Codes
+pub mod Counts
 pub mod Numbers
+pub mod Repeats
