@@ -12,12 +12,12 @@ use Rattle.strc_order.proofs.Passing.{repeated_more, units_more}
 use Rattle.strc_admissible.specs.Machine.{CircuitView, MachineView, Progress, Went, Stopped}
 use Rattle.strc_admissible.specs.Machine.{then_go, order_run, after_step, next_step}
 use Rattle.strc_runner.specs.Batches.{IsOrderOf, all_firings, batch_firings, in_circuit}
-use Rattle.strc_runner.specs.Batches.{unit_firings, units_of}
+use Rattle.strc_runner.specs.Batches.{list_firings, units_of}
 use Rattle.strc_runner.specs.Memory.{ComesToWord, WantsWordOfOrder}
 use Rattle.strc_runner.specs.Running.{HasGone}
 use Rattle.strc_runner.specs.declared.batches.Batch.{Batch}
 use Rattle.strc_runner.specs.declared.batches.Order.{Order}
-use Rattle.strc_runner.specs.declared.batches.UnitBatches.{UnitBatches}
+use Rattle.strc_runner.specs.declared.batches.BatchList.{BatchList}
 use Rattle.strc_runner.specs.declared.machine.Stop.{Stop}
 use Rattle.strc_runner.specs.declared.machine.Stop.TheVariants as stop
 use Rattle.strc_runner.proofs.Done.{past_nodes}
@@ -51,12 +51,12 @@ batch_firings-append (batch ∷ all) more =
     ap (λ l. own ++ l) (batch_firings-append all more)
     ∙ sym (append_assoc own (batch_firings all) (batch_firings more))
 
-pub all_firings-append : (all more : List UnitBatches)
+pub all_firings-append : (all more : List BatchList)
     → all_firings (all ++ more) ≡ all_firings all ++ all_firings more
 all_firings-append [] more = refl
 all_firings-append (batches ∷ all) more =
-    ap (λ l. unit_firings batches ++ l) (all_firings-append all more)
-    ∙ sym (append_assoc (unit_firings batches) (all_firings all) (all_firings more))
+    ap (λ l. list_firings batches ++ l) (all_firings-append all more)
+    ∙ sym (append_assoc (list_firings batches) (all_firings all) (all_firings more))
 
 -- a batch counts one firing more
 pub counts_more : (all : List Batch) (last next : Batch) (node : ℕ) → last.node ≡ node
@@ -92,7 +92,47 @@ one_alone (first ∷ []) only one is =
     ∙ ap (λ (b : Batch). repeated b.turns (b.node ∷ [])) (sym is)
 one_alone (first ∷ second ∷ rest) only one is = absurd (omega (arith, one))
 
--- what is left of batches, and of those of units
+-- one list more
+pub list_more : (all : List BatchList) (next : BatchList)
+    → all_firings (all ++ next ∷ []) ≡ all_firings all ++ list_firings next
+list_more all next = all_firings-append all (next ∷ [])
+    ∙ ap (λ l. all_firings all ++ l) (append-nil (list_firings next))
+
+-- one batch more of a list that fires once
+pub batch_more : (all : List BatchList) (last next : BatchList) (batch : Batch) → last.turns ≡ 1
+    → next.turns ≡ last.turns → next.batches.items ≡ last.batches.items ++ batch ∷ []
+    → all_firings (all ++ next ∷ [])
+    ≡ all_firings (all ++ last ∷ []) ++ repeated batch.turns (batch.node ∷ [])
+batch_more all last next batch one same is =
+    let before = batch_firings last.batches.items in
+    let own = repeated batch.turns (batch.node ∷ []) in
+    list_more all next
+    ∙ ap (λ l. all_firings all ++ l)
+    (once next (same ∙ one) ∙ ap batch_firings is
+    ∙ batch_firings-append last.batches.items (batch ∷ [])
+    ∙ ap (λ l. before ++ l) (append-nil own))
+    ∙ sym (append_assoc (all_firings all) before own)
+    ∙ ap (λ l. l ++ own) (ap (λ l. all_firings all ++ l) (sym (once last one))
+    ∙ sym (list_more all last))
+  where
+    once : (list : BatchList) → list.turns ≡ 1
+        → list_firings list ≡ batch_firings list.batches.items
+    once list one = ap (λ n. repeated n (batch_firings list.batches.items)) one
+        ∙ append-nil (batch_firings list.batches.items)
+
+-- a list of one batch
+pub new_list : (all : List BatchList) (next : BatchList) (batch : Batch) → next.turns ≡ 1
+    → next.batches.items ≡ batch ∷ []
+    → all_firings (all ++ next ∷ []) ≡ all_firings all ++ repeated batch.turns (batch.node ∷ [])
+new_list all next batch one is =
+    let own = repeated batch.turns (batch.node ∷ []) in
+    list_more all next
+    ∙ ap (λ l. all_firings all ++ l) (ap (λ n. repeated n (batch_firings next.batches.items)) one
+    ∙ append-nil (batch_firings next.batches.items)
+    ∙ ap batch_firings is
+    ∙ append-nil own)
+
+-- what is left of batches, and of lists
 pub batches_left : (all : List Batch) (place : ℕ) (d : Batch) → place < length all
     → batch_firings (drop place all)
     ≡ repeated (get_or all place d).turns ((get_or all place d).node ∷ [])
@@ -105,15 +145,15 @@ batches_left (first ∷ rest) (suc place) d less =
     ∙ ap (λ n. repeated batch.turns (batch.node ∷ []) ++ batch_firings (drop n (first ∷ rest)))
     (let e : suc (place + 1) ≡ suc place + 1 = omega arith in e)
 
-pub all_left : (all : List UnitBatches) (place : ℕ) (batches : UnitBatches) → place < length all
+pub all_left : (all : List BatchList) (place : ℕ) (batches : BatchList) → place < length all
     → batches ≡ get_or all place batches
-    → all_firings (drop place all) ≡ unit_firings batches ++ all_firings (drop (place + 1) all)
+    → all_firings (drop place all) ≡ list_firings batches ++ all_firings (drop (place + 1) all)
 all_left [] place batches less is = absurd (omega arith)
 all_left (first ∷ rest) zero batches less is =
-    ap (λ b. unit_firings b ++ all_firings rest) (sym is)
+    ap (λ b. list_firings b ++ all_firings rest) (sym is)
 all_left (first ∷ rest) (suc place) batches less is =
     all_left rest place batches (omega arith) is
-    ∙ ap (λ n. unit_firings batches ++ all_firings (drop n (first ∷ rest)))
+    ∙ ap (λ n. list_firings batches ++ all_firings (drop n (first ∷ rest)))
     (let e : suc (place + 1) ≡ suc place + 1 = omega arith in e)
 
 -- ---- the nodes that a circuit has
@@ -134,16 +174,14 @@ module _ (circuit : CircuitView) where
       ∙ ap (λ l. in_circuit circuit nodes ++ l) (in_circuit-repeated turns nodes)
 
   -- a list of units, one unit more
-  pub units_next : (all : List UnitBatches) (batches : UnitBatches)
-      (order : List units.Unit.Unit) (place : ℕ) (unit : units.Unit.Unit) → place < length order
-      → unit ≡ get_or order place unit
-      → all_firings all ≡ in_circuit circuit (firings_of (take place order))
-      → unit_firings batches ≡ in_circuit circuit (repeated unit.turns unit.nodes.items)
-      → all_firings (all ++ batches ∷ []) ≡ in_circuit circuit (firings_of (take (place + 1) order))
-  units_next all batches order place unit less is before own =
+  pub units_next : (order : List units.Unit.Unit) (firings after : List ℕ) (place : ℕ)
+      (unit : units.Unit.Unit) → place < length order → unit ≡ get_or order place unit
+      → firings ≡ in_circuit circuit (firings_of (take place order))
+      → after ≡ firings ++ in_circuit circuit (repeated unit.turns unit.nodes.items)
+      → after ≡ in_circuit circuit (firings_of (take (place + 1) order))
+  units_next order firings after place unit less is before own =
       let nodes = repeated unit.turns unit.nodes.items in
-      all_firings-append all (batches ∷ [])
-      ∙ ap (λ l. all_firings all ++ l) (append-nil (unit_firings batches) ∙ own)
+      own
       ∙ ap (λ l. l ++ in_circuit circuit nodes) before
       ∙ sym (in_circuit-append (firings_of (take place order)) nodes)
       ∙ ap (in_circuit circuit) (sym (units_more order place unit less is))
@@ -288,7 +326,7 @@ module _ (circuit : CircuitView) where
 -- what the firings of an order's batches come to is what those of its units do
 pub order_gone : (circuit : CircuitView) (order : Order) → IsOrderOf circuit order
     → (before after : MachineView) (result : Result (Unit {0}) Stop)
-    → HasGone (order_run circuit (all_firings order.batches.items) before) result before.words after
+    → HasGone (order_run circuit (all_firings order.lists.items) before) result before.words after
     → HasGone (order_run circuit (firings_of (units_of order)) before) result before.words after
 order_gone circuit order is before after result gone =
     subst (λ progress. HasGone progress result before.words after)
@@ -297,7 +335,7 @@ order_gone circuit order is before after result gone =
 
 pub order_wants : (circuit : CircuitView) (order : Order) → IsOrderOf circuit order
     → (before : MachineView) (result : Result (Unit {0}) Stop)
-    → WantsWordOfOrder circuit (all_firings order.batches.items) before result
+    → WantsWordOfOrder circuit (all_firings order.lists.items) before result
     → WantsWordOfOrder circuit (firings_of (units_of order)) before result
 order_wants circuit order is before result wants =
     in_circuit-wants circuit (firings_of (units_of order)) before result

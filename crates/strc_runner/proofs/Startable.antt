@@ -1,5 +1,5 @@
 -- The nodes of a graph that is planned can start.
-use Rattle.std.proofs.Common.{◌≡◌, ℕ, List, get_or}
+use Rattle.std.proofs.Common.{◌≡◌, get_or}
 use Rattle.std.specs.Prelude.{Some, slice_get}
 use Rattle.std.proofs.lemmas.Option.{slice_get-get_or}
 use Rattle.strc_graph.specs.Graphs as graphs

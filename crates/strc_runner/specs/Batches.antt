@@ -13,9 +13,8 @@ use Rattle.strc_runner.specs.Identities.{PassesItems}
 use Rattle.strc_runner.specs.declared.batches.Kind.{Kind}
 use Rattle.strc_runner.specs.declared.batches.Kind.TheVariants as kind
 use Rattle.strc_runner.specs.declared.batches.Batch.{Batch}
+use Rattle.strc_runner.specs.declared.batches.BatchList.{BatchList}
 use Rattle.strc_runner.specs.declared.batches.Order.{Order}
-use Rattle.strc_runner.specs.declared.batches.UnitBatches.{UnitBatches}
-use Rattle.strc_runner.specs.declared.batches.UnitBatches.TheVariants as unit
 
 -- a node is of a kind, by the rings at its ports
 abbrev pub FitsKind : NodeCode → (inputs outputs : List (Option ℕ)) → Kind → Type 0
@@ -50,20 +49,18 @@ abbrev pub batch_firings : List Batch → List ℕ
 batch_firings [] = []
 batch_firings (batch ∷ batches) = repeated batch.turns (batch.node ∷ []) ++ batch_firings batches
 
--- the firings of a unit's
-abbrev pub unit_firings : UnitBatches → List ℕ
-unit_firings (unit.One batch) = repeated batch.turns (batch.node ∷ [])
-unit_firings (unit.Listed turns batches) = repeated turns (batch_firings batches.items)
+-- the firings of a list of them, all of them as often as it has turns
+abbrev pub list_firings : BatchList → List ℕ
+list_firings list = repeated list.turns (batch_firings list.batches.items)
 
--- the firings of all units'
-abbrev pub all_firings : List UnitBatches → List ℕ
+-- the firings of lists, one list after another
+abbrev pub all_firings : List BatchList → List ℕ
 all_firings [] = []
-all_firings (batches ∷ later) = unit_firings batches ++ all_firings later
+all_firings (list ∷ later) = list_firings list ++ all_firings later
 
--- a unit's are batches of a circuit
-abbrev pub AreBatches : CircuitView → UnitBatches → Type 0
-AreBatches circuit (unit.One batch) = IsBatch circuit batch
-AreBatches circuit (unit.Listed turns batches) = All (IsBatch circuit) batches.items
+-- a list's are batches of a circuit
+abbrev pub AreBatches : CircuitView → BatchList → Type 0
+AreBatches circuit list = All (IsBatch circuit) list.batches.items
 
 -- the units of an order
 abbrev pub units_of : Order → List units.Unit.Unit
@@ -72,5 +69,5 @@ units_of order = order.units.items
 -- it is one for this circuit: its batches are the firings of its units, but for those of nodes that
 -- the circuit lacks
 pub record IsOrderOf (circuit : CircuitView) (order : Order) : Type 0 where
-  pub batches : All (AreBatches circuit) order.batches.items
-  pub firings : all_firings order.batches.items ≡ in_circuit circuit (firings_of (units_of order))
+  pub batches : All (AreBatches circuit) order.lists.items
+  pub firings : all_firings order.lists.items ≡ in_circuit circuit (firings_of (units_of order))

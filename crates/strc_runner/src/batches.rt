@@ -8,7 +8,7 @@ ghost use Rattle.strc_admissible.specs.Wiring.{ports_at};
 ghost use Rattle.strc_circuit.specs.Apart.{AreAllApart};
 ghost use Rattle.strc_circuit.specs.Circuits.{circuit_view, IsReady};
 ghost use Rattle.strc_runner.specs.Batches.{AreBatches, FitsKind, IsKindBetween, IsBatch};
-ghost use Rattle.strc_runner.specs.Batches.{IsOrderOf, batch_firings, in_circuit, unit_firings};
+ghost use Rattle.strc_runner.specs.Batches.{IsOrderOf, all_firings, batch_firings, in_circuit};
 ghost use Rattle.strc_runner.specs.Batches.{units_of};
 
 use crate::identity::is_identity;
@@ -42,20 +42,18 @@ pub(crate) enum Kind {
     Other,
 }
 
-/// The firings of a unit, as batches.
+/// Batches that fire one after another, and how many times all of them do.
 #[derive(Drop)]
-pub(crate) enum UnitBatches {
-    /// Firings of one node.
-    One(Batch),
-    /// The batches of a list of nodes, and how many times the whole list fires.
-    Listed { turns: u32, batches: Vec<Batch> },
+pub(crate) struct BatchList {
+    pub(crate) turns: u32,
+    pub(crate) batches: Vec<Batch>,
 }
 
-/// The units of an order, and the batches of each.
+/// The units of an order, and their firings as batches.
 #[derive(Drop)]
 pub struct Order {
     pub(crate) units: Vec<Unit>,
-    pub(crate) batches: Vec<UnitBatches>,
+    pub(crate) lists: Vec<BatchList>,
 }
 
 impl Order {
@@ -65,32 +63,69 @@ impl Order {
         ensures order { IfOk result (IsOrderOf (circuit_view circuit.now)) }
         ensures units { IfOk result (λ order. units_of order ≡ units.items) }
     {
-        let mut batches = Vec::with_capacity(alloc, units.len())?;
+        let mut lists = Vec::new(alloc);
         for unit in &units {
-            batches.push(batches_of(alloc, circuit, unit)?)?;
+            add_unit(alloc, circuit, &mut lists, unit)?;
         }
-        Ok(Order { units, batches })
+        Ok(Order { units, lists })
     }
 }
 
-/// The batches of a unit: one alone where its list is one node's firings, and 32 bits count them.
-fn batches_of(alloc: Global, circuit: &Circuit, unit: &Unit) -> Result<UnitBatches, AllocError>
+/// The firings of one unit more: one batch where its list is one node's firings, and 32 bits count
+/// them all.
+fn add_unit(
+    alloc: Global,
+    circuit: &Circuit,
+    lists: &mut Vec<BatchList>,
+    unit: &Unit,
+) -> Result<(), AllocError>
     requires ready { IsReady circuit.now }
-    ensures ready { IfOk result (AreBatches (circuit_view circuit.now)) }
-    ensures firings { IfOk result (λ batches. unit_firings batches
-        ≡ in_circuit (circuit_view circuit.now) (repeated unit.now.turns unit.now.nodes.items)) }
+    requires lists { All (AreBatches (circuit_view circuit.now)) lists.old.items }
+    ensures ready { IfOk result (λ done. All (AreBatches (circuit_view circuit.now))
+        lists.new.items) }
+    ensures firings { IfOk result (λ done. all_firings lists.new.items
+        ≡ all_firings lists.old.items ++ in_circuit (circuit_view circuit.now)
+        (repeated unit.now.turns unit.now.nodes.items)) }
 {
     let batches = listed(alloc, circuit, &unit.nodes)?;
     if batches.len() == 1 {
         let only = batches[0];
         if let Some(turns) = only.turns.checked_mul(unit.turns) {
-            return Ok(UnitBatches::One(Batch { turns, ..only }));
+            return add_batch(alloc, circuit, lists, Batch { turns, ..only });
         }
     }
-    Ok(UnitBatches::Listed {
-        turns: unit.turns,
-        batches,
-    })
+    let turns = unit.turns;
+    lists.push(BatchList { turns, batches })?;
+    Ok(())
+}
+
+/// One batch more: of the last list, where that fires once.
+fn add_batch(
+    alloc: Global,
+    circuit: &Circuit,
+    lists: &mut Vec<BatchList>,
+    batch: Batch,
+) -> Result<(), AllocError>
+    requires batch { IsBatch (circuit_view circuit.now) batch }
+    requires lists { All (AreBatches (circuit_view circuit.now)) lists.old.items }
+    ensures ready { IfOk result (λ done. All (AreBatches (circuit_view circuit.now))
+        lists.new.items) }
+    ensures firings { IfOk result (λ done. all_firings lists.new.items
+        ≡ all_firings lists.old.items ++ repeated batch.turns (batch.node ∷ [])) }
+{
+    if let Some(last) = lists.pop() {
+        if last.turns == 1 {
+            let BatchList { turns, mut batches } = last;
+            batches.push(batch)?;
+            lists.push(BatchList { turns, batches })?;
+            return Ok(());
+        }
+        lists.push(last)?;
+    }
+    let mut batches = Vec::new(alloc);
+    batches.push(batch)?;
+    lists.push(BatchList { turns: 1, batches })?;
+    Ok(())
 }
 
 /// The batches of a list of nodes: of each that the circuit has, the firings in a row are one.

@@ -9,12 +9,12 @@ ghost use Rattle.strc_admissible.specs.Circuits.{IsCircuit, IsFirst};
 ghost use Rattle.strc_circuit.specs.Circuits.{circuit_view};
 ghost use Rattle.strc_admissible.specs.Machine as spec;
 ghost use Rattle.strc_runner.specs.Batches.{AreBatches, IsBatch, IsOrderOf, batch_firings};
-ghost use Rattle.strc_runner.specs.Batches.{unit_firings, units_of};
+ghost use Rattle.strc_runner.specs.Batches.{list_firings, units_of};
 ghost use Rattle.strc_runner.specs.Memory.{WantsWordOfOrder, WantsWordOfStep, prints_at};
 ghost use Rattle.strc_runner.specs.Running.{HasDone, HasGone, IsMachine, machine_view, words_of};
 
 use crate::actor::{Actor, start_actors};
-use crate::batches::{Batch, Order, UnitBatches};
+use crate::batches::{Batch, BatchList, Order};
 use crate::block::pass_at_once;
 use crate::filter::fire_filter;
 use crate::passing::fire_passive;
@@ -94,8 +94,8 @@ impl Machine {
         ensures memory { WantsWordOfOrder (circuit_view circuit.now)
             (firings_of (units_of order.now)) (machine_view self.old) result }
     {
-        for batches in &order.batches {
-            match self.fire_unit(circuit, batches) {
+        for list in &order.lists {
+            match self.fire_list(circuit, list) {
                 Ok(()) => {}
                 Err(stop) => return Err(stop),
             }
@@ -103,25 +103,8 @@ impl Machine {
         Ok(())
     }
 
-    /// Fires a unit's batches.
-    #[inline]
-    fn fire_unit(&mut self, circuit: &Circuit, unit: &UnitBatches) -> Result<(), Stop>
-        requires machine { IsMachine (circuit_view circuit.now) self.old }
-        requires batches { AreBatches (circuit_view circuit.now) unit.now }
-        ensures machine { IsMachine (circuit_view circuit.now) self.new }
-        ensures gone { HasGone (spec.order_run (circuit_view circuit.now) (unit_firings unit.now)
-            (machine_view self.old)) result (machine_view self.old).words (machine_view self.new) }
-        ensures memory { WantsWordOfOrder (circuit_view circuit.now) (unit_firings unit.now)
-            (machine_view self.old) result }
-    {
-        match unit {
-            UnitBatches::One(batch) => self.fire_batch(circuit, batch),
-            UnitBatches::Listed { turns, batches } => self.fire_turns(circuit, *turns, batches),
-        }
-    }
-
     /// Fires a batch's node so often; at once where it passes items on and finds them all.
-    #[inline(always)]
+    #[inline]
     fn fire_batch(&mut self, circuit: &Circuit, batch: &Batch) -> Result<(), Stop>
         requires machine { IsMachine (circuit_view circuit.now) self.old }
         requires batch { IsBatch (circuit_view circuit.now) batch.now }
@@ -161,19 +144,19 @@ impl Machine {
         Ok(())
     }
 
-    /// Fires batches one after another, and all of them a number of times.
-    fn fire_turns(&mut self, circuit: &Circuit, turns: u32, batches: &[Batch]) -> Result<(), Stop>
+    /// Fires the batches of a list, all of them as often as it has turns.
+    #[inline]
+    fn fire_list(&mut self, circuit: &Circuit, list: &BatchList) -> Result<(), Stop>
         requires machine { IsMachine (circuit_view circuit.now) self.old }
-        requires batches { All (IsBatch (circuit_view circuit.now)) batches.now }
+        requires batches { AreBatches (circuit_view circuit.now) list.now }
         ensures machine { IsMachine (circuit_view circuit.now) self.new }
-        ensures gone { HasGone (spec.order_run (circuit_view circuit.now)
-            (repeated turns (batch_firings batches.now)) (machine_view self.old)) result
-            (machine_view self.old).words (machine_view self.new) }
-        ensures memory { WantsWordOfOrder (circuit_view circuit.now)
-            (repeated turns (batch_firings batches.now)) (machine_view self.old) result }
+        ensures gone { HasGone (spec.order_run (circuit_view circuit.now) (list_firings list.now)
+            (machine_view self.old)) result (machine_view self.old).words (machine_view self.new) }
+        ensures memory { WantsWordOfOrder (circuit_view circuit.now) (list_firings list.now)
+            (machine_view self.old) result }
     {
-        for _turn in 0..turns {
-            match self.fire_batches(circuit, batches) {
+        for _turn in 0..list.turns {
+            match self.fire_batches(circuit, &list.batches) {
                 Ok(()) => {}
                 Err(stop) => return Err(stop),
             }

@@ -6,7 +6,7 @@ use Rattle.strc_runner.proofs.batches.Order.new.Given as goal
 
 abbrev pub invariant-loop-unit : goal.invariant-loop-unit
 invariant-loop-unit l = record {
-  batches : All (AreBatches (circuit_view l.circuit)) l.batches.items;
-  firings : all_firings l.batches.items
+  batches : All (AreBatches (circuit_view l.circuit)) l.lists.items;
+  firings : all_firings l.lists.items
       ≡ in_circuit (circuit_view l.circuit) (firings_of (take l.unit-index l.unit-items));
 }

@@ -1,7 +1,7 @@
 use Rattle.std.proofs.Common.{◌≡◌, ap, subst, drop, get_or, length, ◌+◌, ◌<◌, ◌≤◌, Err, Ok}
 use Rattle.strc_circuit.specs.Circuits.{circuit_view}
 use Rattle.strc_runner.specs.Running.{machine_view}
-use Rattle.strc_runner.specs.Batches.{all_firings, unit_firings}
+use Rattle.strc_runner.specs.Batches.{all_firings, list_firings}
 use Rattle.strc_runner.proofs.BatchLists.{all_left, order_gone, order_wants}
 use Rattle.strc_runner.proofs.Going.{ends_so, goes_on, goes_so, none_left, stops_so, wants_so}
 use Rattle.strc_runner.proofs.machine.Machine.fire_order.Goals as goal
@@ -10,61 +10,61 @@ pub returns-in-Err-clause-gone : goal.returns-in-Err-clause-gone
 returns-in-Err-clause-gone c =
     let circuit = circuit_view c.args.circuit.now in
     let order = c.args.order.now in
-    let all = order.batches.items in
-    let place = c.loop-batches.batches-index in
-    let unit = c.batches-item.result in
-    let less = subst (λ l. place < length l) c.deref-batches-items.ensures.value
-    c.loop-batches-test.true in
-    let is = subst (λ l. unit ≡ get_or l place unit) c.deref-batches-items.ensures.value
-    c.batches-item.is in
+    let all = order.lists.items in
+    let place = c.loop-list.list-index in
+    let list = c.list-item.result in
+    let less = subst (λ l. place < length l) c.deref-list-items.ensures.value
+    c.loop-list-test.true in
+    let is = subst (λ l. list ≡ get_or l place list) c.deref-list-items.ensures.value
+    c.list-item.is in
     let before = machine_view c.args.self.now in
-    let now = machine_view c.loop-batches.self in
-    let after = machine_view c.fire_unit.new.self in
+    let now = machine_view c.loop-list.self in
+    let after = machine_view c.fire_list.new.self in
     order_gone circuit order c.requires.order before after (Err c.in-Err.stop)
-    (stops_so circuit (all_firings all) (unit_firings unit) (all_firings (drop (place + 1) all))
+    (stops_so circuit (all_firings all) (list_firings list) (all_firings (drop (place + 1) all))
     before now after c.in-Err.stop
     (goes_so circuit (all_firings all) (all_firings (drop place all)) _ before now
-    (all_left all place unit less is) c.loop-batches.invariant.goes)
+    (all_left all place list less is) c.loop-list.invariant.goes)
     c.in-Err.ensures.gone)
 
 pub returns-in-Err-clause-memory : goal.returns-in-Err-clause-memory
 returns-in-Err-clause-memory c =
     let circuit = circuit_view c.args.circuit.now in
     let order = c.args.order.now in
-    let all = order.batches.items in
-    let place = c.loop-batches.batches-index in
-    let unit = c.batches-item.result in
-    let less = subst (λ l. place < length l) c.deref-batches-items.ensures.value
-    c.loop-batches-test.true in
-    let is = subst (λ l. unit ≡ get_or l place unit) c.deref-batches-items.ensures.value
-    c.batches-item.is in
+    let all = order.lists.items in
+    let place = c.loop-list.list-index in
+    let list = c.list-item.result in
+    let less = subst (λ l. place < length l) c.deref-list-items.ensures.value
+    c.loop-list-test.true in
+    let is = subst (λ l. list ≡ get_or l place list) c.deref-list-items.ensures.value
+    c.list-item.is in
     let before = machine_view c.args.self.now in
-    let now = machine_view c.loop-batches.self in
+    let now = machine_view c.loop-list.self in
     order_wants circuit order c.requires.order before (Err c.in-Err.stop)
-    (wants_so circuit (all_firings all) (unit_firings unit) (all_firings (drop (place + 1) all))
+    (wants_so circuit (all_firings all) (list_firings list) (all_firings (drop (place + 1) all))
     before now c.in-Err.stop
     (goes_so circuit (all_firings all) (all_firings (drop place all)) _ before now
-    (all_left all place unit less is) c.loop-batches.invariant.goes)
+    (all_left all place list less is) c.loop-list.invariant.goes)
     c.in-Err.ensures.memory)
 
-pub loop-batches-preserved : goal.loop-batches-preserved
-loop-batches-preserved c =
+pub loop-list-preserved : goal.loop-list-preserved
+loop-list-preserved c =
     let circuit = circuit_view c.args.circuit.now in
-    let all = c.args.order.now.batches.items in
-    let place = c.loop-batches.batches-index in
-    let unit = c.batches-item.result in
-    let less = subst (λ l. place < length l) c.deref-batches-items.ensures.value
-    c.loop-batches-test.true in
-    let is = subst (λ l. unit ≡ get_or l place unit) c.deref-batches-items.ensures.value
-    c.batches-item.is in
+    let all = c.args.order.now.lists.items in
+    let place = c.loop-list.list-index in
+    let list = c.list-item.result in
+    let less = subst (λ l. place < length l) c.deref-list-items.ensures.value
+    c.loop-list-test.true in
+    let is = subst (λ l. list ≡ get_or l place list) c.deref-list-items.ensures.value
+    c.list-item.is in
     let before = machine_view c.args.self.now in
-    let now = machine_view c.loop-batches.self in
+    let now = machine_view c.loop-list.self in
     record {
-      machine = c.fire_unit.ensures.machine;
-      goes = goes_on circuit (all_firings all) (unit_firings unit)
-          (all_firings (drop (place + 1) all)) before now (machine_view c.fire_unit.new.self)
+      machine = c.fire_list.ensures.machine;
+      goes = goes_on circuit (all_firings all) (list_firings list)
+          (all_firings (drop (place + 1) all)) before now (machine_view c.fire_list.new.self)
           (goes_so circuit (all_firings all) (all_firings (drop place all)) _ before now
-          (all_left all place unit less is) c.loop-batches.invariant.goes)
+          (all_left all place list less is) c.loop-list.invariant.goes)
           c.in-Ok.ensures.gone.0 c.in-Ok.ensures.gone.1;
     }
 
@@ -72,12 +72,12 @@ pub returns-clause-gone : goal.returns-clause-gone
 returns-clause-gone c =
     let circuit = circuit_view c.args.circuit.now in
     let order = c.args.order.now in
-    let all = order.batches.items in
-    let place = c.loop-batches.batches-index in
-    let past = subst (λ l. length l ≤ place) c.deref-batches-items.ensures.value
-    c.loop-batches-test.false in
+    let all = order.lists.items in
+    let place = c.loop-list.list-index in
+    let past = subst (λ l. length l ≤ place) c.deref-list-items.ensures.value
+    c.loop-list-test.false in
     let before = machine_view c.args.self.now in
-    let now = machine_view c.loop-batches.self in
+    let now = machine_view c.loop-list.self in
     order_gone circuit order c.requires.order before now (Ok tt)
     (ends_so circuit (all_firings all) (all_firings (drop place all)) before now
-    (ap all_firings (none_left all place past)) c.loop-batches.invariant.goes)
+    (ap all_firings (none_left all place past)) c.loop-list.invariant.goes)
