@@ -22,7 +22,7 @@ use Rattle.strc_graph.specs.Graphs.{ports_of}
 use Rattle.strc_graph.specs.Rates.{body_at}
 use Rattle.strc_graph.specs.Meaning.{first_fields, as_fired}
 use Rattle.strc_graph.proofs.Quiet.{firing_quiet}
-use Rattle.strc_stateless.specs.Stateless.{is_stateless}
+use Rattle.strc_writes.specs.Stateless.{is_stateless}
 use Rattle.strc_stateless.proofs.Kept.{keeps_fields, no_prework, no_print}
 use Rattle.strc_stateless.proofs.Started.{fields_fit}
 use Rattle.strc_alike.specs.Laws.{StatelessFiltersFireAlike, IdentitiesFireAlike}

@@ -9,7 +9,7 @@ use Rattle.strc_rate.specs.Rates.{FilterRates, checked}
 use Rattle.strc_graph.specs.Graphs.{Filter, Identity}
 use Rattle.strc_graph.specs.Meaning.{node_meaning}
 use Rattle.strc_rounds.specs.Split.{Share, IsStateless}
-use Rattle.strc_stateless.specs.Stateless.{is_stateless}
+use Rattle.strc_writes.specs.Stateless.{is_stateless}
 
 -- the rates of a share, in items of a firing
 pub record HasRates (share : Share) (pop window push : ℕ) : Type 0 where

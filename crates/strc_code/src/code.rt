@@ -8,10 +8,12 @@ ghost use Rattle.strc_code.specs.Code.{code_of};
 ghost use Rattle.strc_code.specs.Flat.{IsFlat};
 ghost use Rattle.strc_code.specs.Lowered.{limits_of, first_routine};
 ghost use Rattle.strc_semantics.specs.declared.body.Body.TheVariants as bodied;
+ghost use Rattle.strc_writes.specs.Stateless as writes;
 
 use crate::bodies;
 use crate::limits::FiringLimits;
 use crate::node::Node;
+use crate::stateless::is_stateless;
 use std::alloc::Global;
 use std::marker::Model;
 use std::sync::Arc;
@@ -44,8 +46,8 @@ impl Model for Code {
     ghost view = { λ c. arc_value c.lowered };
 }
 
-/// What lowering made of a filter: its tree, the routines of its start and its bodies, and how many
-/// slots its fields take, and how many all that it runs needs.
+/// What lowering made of a filter: its tree, the routines of its start and its bodies, how many
+/// slots its fields take, and how many all that it runs needs, and whether it has no state.
 #[derive(Drop)]
 struct Lowered {
     tree: FilterTree,
@@ -54,6 +56,7 @@ struct Lowered {
     work: Routine,
     fields: usize,
     slots: usize,
+    stateless: bool,
 }
 
 impl Model for Lowered {
@@ -69,7 +72,8 @@ impl Model for Lowered {
 
     ghost view = { λ c. c.tree };
 
-    ghost invariant = { λ c. IsLowered c.tree c.start c.prework c.work c.fields c.slots };
+    ghost invariant = { λ c. IsLowered c.tree c.start c.prework c.work c.fields c.slots
+        c.stateless };
 }
 
 /// A body's code, its flat form, which is what is run, and what it may pop, look at and push.
@@ -121,6 +125,7 @@ impl Code {
         requires closed { IsClosedFilter (filters.filter_of tree) }
         ensures { IfOk result (λ code. code ≡ tree) }
     {
+        let stateless = is_stateless(alloc, &tree)?;
         let first = first_of(&prework, &work).code.slot_count();
         let slots = fields.max(
             start
@@ -135,6 +140,7 @@ impl Code {
             work,
             fields,
             slots,
+            stateless,
         };
         Ok(Code {
             lowered: Arc::new(alloc, lowered)?,
@@ -215,6 +221,14 @@ impl Code {
         let members = &self.lowered().tree.members;
         bodies::block_prints(bodies::block_of(members, Body::Work))
             || bodies::block_prints(bodies::block_of(members, Body::Prework))
+    }
+
+    /// Whether the filter has no state, so that its firings are all alike: it has no prework,
+    /// doesn't print, and its work writes no field and no element of one.
+    pub fn is_stateless(&self) -> bool
+        ensures { result ≡ writes.is_stateless (filters.filter_of self.now) }
+    {
+        self.lowered().stateless
     }
 
     /// How many slots the fields take.

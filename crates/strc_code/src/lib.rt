@@ -2,8 +2,8 @@
 // Gives the code of a filter as others hold it, and tells what it is made of.
 // The theorem to rely on: each routine of a `Code` is the code that its filter's tree is lowered
 // to, and its flat form does the same.
-// Stands on strc_semantics, whose filters its codes are, on strc_syntax, whose trees they keep, and
-// on strc_base.
+// Stands on strc_semantics, whose filters its codes are, on strc_syntax, whose trees they keep, on
+// strc_writes, which tells whether a filter's work writes a field, and on strc_base.
 #![tactic(auto)]
 
 pub mod bodies;
@@ -12,3 +12,4 @@ pub mod condition;
 pub mod inst;
 pub mod limits;
 pub mod node;
+mod stateless;

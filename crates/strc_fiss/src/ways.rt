@@ -10,7 +10,7 @@ ghost use Rattle.strc_graph.specs.Graphs.{JoinsPorts};
 ghost use Rattle.strc_graph.specs.NodeView.{graph_view, node_view, channel_view};
 ghost use Rattle.strc_semantics.specs.Filters as filters;
 ghost use Rattle.strc_semantics.specs.Filters.{filter_of};
-ghost use Rattle.strc_stateless.specs.Stateless.{is_stateless};
+ghost use Rattle.strc_writes.specs.Stateless.{is_stateless};
 ghost use Rattle.strc_fiss.specs.Ways as spec;
 
 use std::alloc::{AllocError, Global};
@@ -185,7 +185,7 @@ fn filter_share(
     }) }
 {
     let rates = code.rates(Body::Work);
-    let alike = passes_items(code) && stateless(alloc, code)?;
+    let alike = passes_items(code) && stateless(code);
     let copies = copies_of(alike && alone, count, ways);
     Ok(Fission {
         ways: copies,

@@ -23,7 +23,7 @@ use Rattle.strc_order.specs.RoundRates.{pops_in_round}
 use Rattle.strc_order.specs.Schedules.{ScheduleParts}
 use Rattle.strc_admissible.specs.Planned.{IsFilterOf, IsPlanned, AreKnown}
 use Rattle.strc_fuse.specs.Units.{is_outside}
-use Rattle.strc_stateless.specs.Stateless.{is_stateless}
+use Rattle.strc_writes.specs.Stateless.{is_stateless}
 use Rattle.strc_fiss.specs.Numbers.{is_dealt, parts_after}
 use Rattle.strc_fiss.specs.Splitting.{copied, code_at}
 use Rattle.strc_fiss.specs.Ways.{is_alike, passes_items, dealt, fission_of}

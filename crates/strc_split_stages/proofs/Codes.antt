@@ -22,7 +22,7 @@ use Rattle.strc_graph.specs.declared.graph.Fission.{Fission}
 use Rattle.strc_peeks.proofs.Results.{then_ok}
 use Rattle.strc_rate.specs.Kept.{run_of, KeepsRates}
 use Rattle.strc_rate.proofs.KeptRates.{rates_kept}
-use Rattle.strc_stateless.specs.Stateless.{is_stateless}
+use Rattle.strc_writes.specs.Stateless.{is_stateless}
 use Rattle.strc_stateless.proofs.Kept.{no_prework}
 use Rattle.strc_balance.specs.Balance.{count_at}
 use Rattle.strc_order.specs.Schedules.{ScheduleParts}

@@ -18,7 +18,7 @@ use Rattle.strc_peeks.proofs.Results.{below_more}
 use Rattle.strc_peeks.proofs.Keeping.{same_size, one_name}
 use Rattle.strc_peeks.proofs.Unwritten.{Grown, left_same, stmts_keep}
 use Rattle.strc_code.proofs.ClosedBodies.{work_closed}
-use Rattle.strc_stateless.specs.Stateless.{write_one_of, writes_field, is_stateless}
+use Rattle.strc_writes.specs.Stateless.{write_one_of, writes_field, is_stateless}
 use Rattle.strc_stateless.specs.Promises.{StatelessKeepsFields}
 
 -- ---- values of variables

@@ -1,4 +1,2 @@
 pub mod Kept
-pub mod Walks
-pub mod Growth
 pub mod Started

@@ -1,4 +1,2 @@
-pub mod Stateless
-pub mod Walk
 pub mod Promises
 pub mod Rows

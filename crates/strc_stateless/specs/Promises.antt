@@ -5,7 +5,7 @@ use Rattle.strc_semantics.specs.Filters.{Filter, sized_fields}
 use Rattle.strc_semantics.specs.Scoping.{total}
 use Rattle.strc_semantics.specs.Closed.{IsClosedFilter}
 use Rattle.strc_semantics.specs.Firing.{started, fired}
-use Rattle.strc_stateless.specs.Stateless.{is_stateless}
+use Rattle.strc_writes.specs.Stateless.{is_stateless}
 
 -- each firing of a filter of known names without a fault leaves the fields as they were, whatever
 -- their values: one for each cell

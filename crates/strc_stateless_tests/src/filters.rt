@@ -49,7 +49,7 @@ fn a_filter_without_state_writes_no_field(rt: HostRuntime) -> Result<(), Fail> {
     for row in ROWS.lines() {
         let (members, expected) = row.split_once(" => ").ok_or("a row without two parts")?;
         let text = format!(in alloc; "int->int filter F {{ int x; int[4] a; {members} }}")?;
-        let is_stateless = stateless(alloc, &code(alloc, &text)?)?;
+        let is_stateless = stateless(&code(alloc, &text)?);
         assert_eq!(rt; is_stateless, expected == "true", "{members}");
     }
     Ok(())

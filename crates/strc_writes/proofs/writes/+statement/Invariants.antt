@@ -1,9 +1,9 @@
 use Rattle.std.proofs.Common.{◌≡◌, ◌+◌, ◌*◌, max, drop}
 use Rattle.strc_syntax.proofs.tree.Stmt.TheLaws.{the_size}
 use Rattle.strc_syntax.specs.View.{block_view}
-use Rattle.strc_stateless.specs.Walk.{stmts_write_field}
-use Rattle.strc_stateless.proofs.Growth.{StandsOn}
-use Rattle.strc_stateless.proofs.writes.+statement.Given as goal
+use Rattle.strc_writes.specs.Walk.{stmts_write_field}
+use Rattle.strc_writes.proofs.Growth.{StandsOn}
+use Rattle.strc_writes.proofs.writes.+statement.Given as goal
 
 abbrev pub decreases-block_writes_field : goal.decreases-block_writes_field
 decreases-block_writes_field l = 3 * goal.size-block_writes_field l + 3

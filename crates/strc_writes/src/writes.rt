@@ -6,17 +6,32 @@ ghost use Rattle.std.specs.Option.{option_map};
 ghost use Rattle.strc_syntax.specs.Tree as tree;
 ghost use Rattle.strc_syntax.specs.View.{expr_view, type_view, variable_view, stmt_view};
 ghost use Rattle.strc_syntax.specs.View.{block_view};
-ghost use Rattle.strc_semantics.specs.Filters.{members_of};
+ghost use Rattle.strc_semantics.specs.Filters.{field_names, members_of};
 ghost use Rattle.strc_interval.specs.Loops.{with_locals, locals_after};
-ghost use Rattle.strc_stateless.specs.Walk as spec;
+ghost use Rattle.strc_writes.specs.Stateless.{write_one_of};
+ghost use Rattle.strc_writes.specs.Walk as spec;
 
+use std::alloc::Global;
 use strc_base::memory::NoMemory;
 use strc_base::name::Name;
 use strc_names::scope::Scope;
 use strc_syntax::tree::{Expr, Member, Stmt, Variable};
 
+/// Whether a work writes a field that the members of its filter declare, or an element of one. It
+/// takes time near linear in the length of the text. `NoMemory` where there is none for the names
+/// of the fields and of the local variables that can be seen at a place.
+pub fn writes_field(alloc: Global, members: &[Member], work: &[Stmt]) -> Result<bool, NoMemory>
+    ensures { IfOk result (λ writes. writes
+        ≡ write_one_of (field_names (members_of members.now)) (block_view work.now)) }
+{
+    let mut fields = Scope::new(alloc);
+    declare_fields(&mut fields, members)?;
+    let mut locals = Scope::new(alloc);
+    block_writes_field(&fields, &mut locals, work)
+}
+
 /// Adds the names of the fields that members declare.
-pub fn declare_fields(fields: &mut Scope, members: &[Member]) -> Result<(), NoMemory>
+fn declare_fields(fields: &mut Scope, members: &[Member]) -> Result<(), NoMemory>
     ensures { OnOk result (fields.new ≡ spec.with_fields fields.old (members_of members.now)) }
 {
     for member in members {
@@ -39,11 +54,7 @@ fn declare_names(names: &mut Scope, variables: &[Variable]) -> Result<(), NoMemo
 
 /// Whether statements in a row write a field. Where they don't, the local variables are as before.
 #[cycle(statement)]
-pub fn block_writes_field(
-    fields: &Scope,
-    locals: &mut Scope,
-    block: &[Stmt],
-) -> Result<bool, NoMemory>
+fn block_writes_field(fields: &Scope, locals: &mut Scope, block: &[Stmt]) -> Result<bool, NoMemory>
     ensures writes { IfOk result (λ writes. writes
         ≡ spec.stmts_write_field fields.now locals.old (block_view block.now)) }
     ensures locals { IfOk result (λ writes. writes ≡ false → locals.new ≡ locals.old) }

@@ -1,7 +1,7 @@
 use Rattle.std.proofs.Common.{◌≡◌, drop}
 use Rattle.strc_semantics.specs.Filters.{members_of}
-use Rattle.strc_stateless.specs.Walk.{with_fields}
-use Rattle.strc_stateless.proofs.writes.declare_fields.Given as goal
+use Rattle.strc_writes.specs.Walk.{with_fields}
+use Rattle.strc_writes.proofs.writes.declare_fields.Given as goal
 
 abbrev pub invariant-loop-member : goal.invariant-loop-member
 invariant-loop-member l = with_fields l.fields (members_of (drop l.member-index l.members))

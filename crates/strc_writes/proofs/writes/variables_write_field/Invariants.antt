@@ -1,8 +1,8 @@
 use Rattle.std.proofs.Common.{◌≡◌, drop, map}
 use Rattle.strc_syntax.specs.View.{variable_view}
 use Rattle.strc_interval.specs.Loops.{with_locals}
-use Rattle.strc_stateless.specs.Walk.{variables_write_field}
-use Rattle.strc_stateless.proofs.writes.variables_write_field.Given as goal
+use Rattle.strc_writes.specs.Walk.{variables_write_field}
+use Rattle.strc_writes.proofs.writes.variables_write_field.Given as goal
 
 abbrev pub invariant-loop-variable : goal.invariant-loop-variable
 invariant-loop-variable l = record {

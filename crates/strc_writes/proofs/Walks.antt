@@ -2,16 +2,16 @@
 use Rattle.std.proofs.Common.{◌≡◌, refl, sym, ◌∙◌, ap, ℕ, Bool, true, false, not, ◌&&◌, ◌||◌, List}
 use Rattle.std.proofs.Common.{[], ◌∷◌, ◌++◌, Option, Some, None}
 use Rattle.std.specs.Prelude.{bytes_eq}
+use Rattle.std.proofs.lemmas.Slice.Eq.{bytes_eq-Decides}
 use Rattle.strc_base.specs.Names.{has_name}
 use Rattle.strc_syntax.specs.Tree as tree
 use Rattle.strc_semantics.specs.Filters.{field_names, declared_names}
 use Rattle.strc_interval.specs.Loops.{Locals, with_locals, locals_after, declares, shadows}
 use Rattle.strc_interval.specs.Loops.{expr_writes, option_writes, variables_write, stmt_writes}
 use Rattle.strc_interval.specs.Loops.{stmts_write}
-use Rattle.strc_peeks.proofs.Keeping.{same_name, one_name}
-use Rattle.strc_stateless.specs.Stateless.{write_one_of}
-use Rattle.strc_stateless.specs.Walk.{with_fields, is_field, expr_writes_field, option_writes_field}
-use Rattle.strc_stateless.specs.Walk.{variables_write_field, stmt_writes_field, stmts_write_field}
+use Rattle.strc_writes.specs.Stateless.{write_one_of}
+use Rattle.strc_writes.specs.Walk.{with_fields, is_field, expr_writes_field, option_writes_field}
+use Rattle.strc_writes.specs.Walk.{variables_write_field, stmt_writes_field, stmts_write_field}
 
 -- ---- truth values
 
@@ -136,9 +136,9 @@ bytes_turned a b = by_test (bytes_eq a b) (bytes_eq b a) refl refl
     by_test true true e f = refl
     by_test false false e f = refl
     by_test true false e f =
-        let yes : bytes_eq b a ≡ true = one_name b a (sym (same_name a b e)) in absurd (cc)
+        let yes : bytes_eq b a ≡ true = (bytes_eq-Decides b a).1 (sym ((bytes_eq-Decides a b).0 e)) in absurd (cc)
     by_test false true e f =
-        let yes : bytes_eq a b ≡ true = one_name a b (sym (same_name b a f)) in absurd (cc)
+        let yes : bytes_eq a b ≡ true = (bytes_eq-Decides a b).1 (sym ((bytes_eq-Decides b a).0 f)) in absurd (cc)
 
 field_by : (t hidden hides found more : Bool) → (t ≡ true → hidden ≡ hides)
     → (not hidden && found) ≡ more → (not hidden && (t || found)) ≡ ((not hides && t) || more)
@@ -159,7 +159,7 @@ some_named (name ∷ rest) locals sought =
     (bytes_turned name sought)
     ∙ field_by (bytes_eq sought name) (has_name locals sought) (has_name locals name)
     (has_name rest sought) (some_field rest locals (λ name. bytes_eq sought name))
-    (λ e. ap (has_name locals) (same_name sought name e)) (some_named rest locals sought)
+    (λ e. ap (has_name locals) ((bytes_eq-Decides sought name).0 e)) (some_named rest locals sought)
 
 -- ---- the walk
 

@@ -3,9 +3,9 @@ use Rattle.std.proofs.lemmas.Result.{IfOk-weaker}
 use Rattle.strc_syntax.specs.View.{stmt_view, block_view}
 use Rattle.strc_syntax.proofs.Blocks.{stmt_view-Block, block_view-drop}
 use Rattle.strc_interval.specs.Loops.{locals_after}
-use Rattle.strc_stateless.specs.Walk.{stmt_writes_field, stmts_write_field}
-use Rattle.strc_stateless.proofs.Growth.{StandsOn, stands_on_after}
-use Rattle.strc_stateless.proofs.writes.+statement.Goals as goal
+use Rattle.strc_writes.specs.Walk.{stmt_writes_field, stmts_write_field}
+use Rattle.strc_writes.proofs.Growth.{StandsOn, stands_on_after}
+use Rattle.strc_writes.proofs.writes.+statement.Goals as goal
 
 pub block_writes_field-loop-statement-preserved : goal.block_writes_field-loop-statement-preserved
 block_writes_field-loop-statement-preserved t c =

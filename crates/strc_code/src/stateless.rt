@@ -1,0 +1,24 @@
+// Whether a filter has no state.
+
+ghost use Rattle.std.specs.Prelude.{◌≡◌, IfOk};
+ghost use Rattle.strc_semantics.specs.Filters.{filter_of};
+ghost use Rattle.strc_writes.specs.Stateless as spec;
+
+use crate::bodies::{block_of, block_prints, has_prework};
+use std::alloc::Global;
+use strc_base::memory::NoMemory;
+use strc_semantics::body::Body;
+use strc_syntax::tree::FilterTree;
+use strc_writes::writes::writes_field;
+
+/// Whether a filter has no prework, doesn't print, and writes no field in its work. `NoMemory`
+/// where there is none for the names in it.
+pub(crate) fn is_stateless(alloc: Global, tree: &FilterTree) -> Result<bool, NoMemory>
+    ensures { IfOk result (λ is. is ≡ spec.is_stateless (filter_of tree.now)) }
+{
+    let work = block_of(&tree.members, Body::Work);
+    if has_prework(&tree.members) || block_prints(work) {
+        return Ok(false);
+    }
+    Ok(!writes_field(alloc, &tree.members, work)?)
+}

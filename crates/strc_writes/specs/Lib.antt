@@ -1,0 +1,2 @@
+pub mod Stateless
+pub mod Walk
