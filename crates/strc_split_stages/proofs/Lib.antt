@@ -1,6 +1,17 @@
+pub mod Balances
+pub mod Blank
+pub mod BlankSplits
 pub mod Codes
 pub mod Counts
+pub mod Coverage
+pub mod Dealt
+pub mod FirstRounds
+pub mod NewRounds
 pub mod Numbers
 pub mod OwnRounds
 pub mod Repeats
+pub mod Resuming
+pub mod SameRates
 pub mod Settled
+pub mod Supplies
+pub mod ValidOrders
