@@ -6,6 +6,7 @@ pub mod Counts
 pub mod Coverage
 pub mod Dealt
 pub mod FirstRounds
+pub mod Fused
 pub mod NewRounds
 pub mod Numbers
 pub mod OwnRounds
