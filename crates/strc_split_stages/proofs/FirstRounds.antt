@@ -1,6 +1,6 @@
 -- The first round after fission, by the rates of the nodes alone: its order is valid by counts in
--- the graph restarted at the state that it begins with, and it takes from each queue that is as
--- long after it as before what it gives.
+-- the graph restarted at the state that it begins with; and on each channel whose queue is as long
+-- after it as before, it takes what it gives.
 use Rattle.std.proofs.Common.{◌≡◌, refl, ap, ◌∙◌, subst, ℕ, ◌+◌, ◌<◌, ◌≤◌, arith, true}
 use Rattle.std.proofs.Common.{ℤ, List, [], length, None}
 use mathlib.Core.Path.{fun_ext}
