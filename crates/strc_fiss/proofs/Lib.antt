@@ -11,3 +11,4 @@ pub mod Planned
 pub mod Renaming
 mod Sequences
 pub mod Shares
+pub mod Fusing

@@ -10,6 +10,7 @@ use Rattle.strc_order.specs.Peaks.{AreRaised}
 use Rattle.strc_order.specs.Schedules.{ScheduleParts}
 use Rattle.strc_order.specs.Sizing.{round_rates_on, PassesOn}
 use Rattle.strc_rounds.specs.FusedUnits.{firings_of}
+use Rattle.strc_fuse.specs.Fusion.{IsFusion}
 use Rattle.strc_fuse.specs.Units.{round_units}
 use Rattle.strc_fiss.specs.Numbers.{node_limit, base, each_part, origin_of}
 use Rattle.strc_fiss.specs.Splits.{SplitParts}
@@ -43,3 +44,11 @@ module _ (share : ℕ → Fission) (old : Graph) (schedule : ScheduleParts) wher
         (split_last share old schedule.greatest schedule.last)) none_fired
         (firings_of (split_units share (round_units schedule.round)))
         (split_greatest share old schedule.greatest schedule.last) channel
+
+-- a graph and its schedule, split so, and then the units of the round fused into lists of at most
+-- so many entries
+pub record IsTransformed (share : ℕ → Fission) (old : Graph) (schedule : ScheduleParts)
+    (threshold : ℕ) (transformed : SplitParts) : Type 0 where
+  pub unfused : ScheduleParts
+  pub fission : IsFission share old schedule (record transformed { schedule = unfused })
+  pub fusion : IsFusion (graph_view transformed.graph) threshold unfused transformed.schedule

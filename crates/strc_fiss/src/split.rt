@@ -1,8 +1,15 @@
 // A graph and its schedule after fission.
 
-ghost use Rattle.std.specs.Prelude.{◌≡◌};
+ghost use Rattle.std.specs.Prelude.{◌≡◌, ℕ, Err, OnOk, OnErr};
+ghost use Rattle.strc_graph.specs.NodeView.{graph_view};
+ghost use Rattle.strc_fuse.specs.Fusion.{FusedPass, IsFusion};
+ghost use Rattle.strc_fuse.specs.Laws.{CanBeFused};
+ghost use Rattle.strc_fuse.specs.declared.error.FuseError.TheVariants as refused;
 
+use std::alloc::Global;
 use std::marker::Model;
+use strc_fuse::error::FuseError;
+use strc_fuse::fusing::fuse;
 use strc_graph::graph::Graph;
 use strc_order::parts::Schedule;
 
@@ -48,11 +55,17 @@ impl Model for Split {
       schedule = s.schedule;
       origins = s.origins.items;
     } };
+
+    ghost use Rattle.strc_graph.specs.NodeView.{graph_view};
+    ghost use Rattle.strc_fuse.specs.Laws.{CanBeFused};
+
+    ghost invariant = { λ s. CanBeFused (graph_view s.graph) s.schedule };
 }
 
 impl Split {
     /// A graph and its schedule after fission, and for each of its nodes what it is a part of.
     pub(crate) fn new(graph: Graph, schedule: Schedule, origins: Vec<Origin>) -> Split
+        requires { CanBeFused (graph_view graph) schedule }
         ensures { result ≡ record
             { graph = graph; schedule = schedule; origins = origins.items } }
     {
@@ -83,5 +96,21 @@ impl Split {
         ensures { result.now ≡ self.now.origins }
     {
         self.origins.as_slice()
+    }
+
+    /// Fuses the units of the round, as `fuse` does, and sizes the buffers anew.
+    ///
+    /// `BufferLimit` comes for the lowest channel that would hold more than 16,777,216 items then;
+    /// `NoMemory` can come in place of any answer. All is then as before.
+    pub fn fuse_round(&mut self, alloc: Global, threshold: u32) -> Result<(), FuseError>
+        ensures graph { self.new.graph ≡ self.old.graph }
+        ensures origins { self.new.origins ≡ self.old.origins }
+        ensures fusion { OnOk result (IsFusion (graph_view self.old.graph) threshold
+            self.old.schedule self.new.schedule) }
+        ensures limit { (channel : ℕ) → result ≡ Err (refused.BufferLimit channel)
+            → FusedPass (graph_view self.old.graph) threshold self.old.schedule channel }
+        ensures error { OnErr result (self.new ≡ self.old) }
+    {
+        fuse(alloc, &self.graph, &mut self.schedule, threshold)
     }
 }

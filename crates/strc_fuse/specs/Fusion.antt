@@ -1,5 +1,5 @@
 -- What fusion of a schedule's round comes to.
-use Rattle.std.specs.Prelude.{◌≡◌, ℕ, ℤ, Bool, List, All}
+use Rattle.std.specs.Prelude.{◌≡◌, ℕ, ◌≤◌, ℤ, Bool, List, All, length}
 use Rattle.strc_dataflow.specs.Flat as flat
 use Rattle.strc_dataflow.specs.Queues.{Fifo, fifo_go}
 use Rattle.strc_semantics.specs.declared.fault.Cause.{Cause}
@@ -7,13 +7,29 @@ use Rattle.strc_semantics.specs.declared.word.Word.{Word}
 use Rattle.strc_graph.specs.Graphs.{Graph, NodeCode}
 use Rattle.strc_graph.specs.Meaning.{node_meaning}
 use Rattle.strc_startup.specs.declared.channel_rates.ChannelRates.{ChannelRates}
+use Rattle.strc_order.specs.Buffers.{size_limit}
 use Rattle.strc_order.specs.Firings.{Firings, none_fired}
+use Rattle.strc_order.specs.Greedy as order
+use Rattle.strc_order.specs.Peaks.{AreRaised}
 use Rattle.strc_order.specs.Rounds.{IsPastPrework, RoundBalances}
 use Rattle.strc_order.specs.Schedules.{ScheduleParts, IsRunnable}
 use Rattle.strc_order.specs.Sizing.{IsCovered, round_rates_on, PassesOn}
 use Rattle.strc_rounds.specs.FusedUnits.{RoundUnit, AreFused, firings_of}
 use Rattle.strc_rounds.specs.Same.{gone, IsValid}
 use Rattle.strc_fuse.specs.Units.{is_free, round_units, ArePlaced}
+
+-- the same start-up, and a round of fused units with lists of at most so many entries; the size of
+-- each buffer is the greatest number of items in start-up and in this round, within the limit
+pub record IsFusion (graph : Graph) (threshold : ℕ) (schedule fused : ScheduleParts) : Type 0 where
+  pub startup : round_units fused.startup ≡ round_units schedule.startup
+  pub round : AreFused (is_free graph) threshold (round_units schedule.round)
+      (round_units fused.round)
+  pub greatest : fused.greatest ≡ schedule.greatest
+  pub last : fused.last ≡ schedule.last
+  pub each : length fused.sizes ≡ length graph.channels
+  pub sizes : AreRaised (round_rates_on graph schedule.last) none_fired
+      (order.firings_of fused.round) schedule.greatest fused.sizes
+  pub within : All (λ size. size ≤ size_limit) fused.sizes
 
 -- the buffer of a channel passes the limit while the fused units of a schedule's round fire, and of
 -- no lower channel

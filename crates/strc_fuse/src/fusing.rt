@@ -61,6 +61,7 @@ pub fn fuse(
         ≡ firing_count (firings_of schedule.old.round) node) }
     ensures kept { OnOk result (schedule.new
         ≡ record schedule.old { round = schedule.new.round; sizes = schedule.new.sizes }) }
+    ensures nodes { OnOk result (All (HasNodes (length graph.now.nodes)) schedule.new.round) }
     ensures channels { OnOk result (length schedule.new.sizes ≡ length graph.now.channels) }
     ensures within { OnOk result (All (λ size. size ≤ size_limit) schedule.new.sizes) }
     ensures sizes { OnOk result (AreRaised (round_rates_on (graph_view graph.now) schedule.old.last)

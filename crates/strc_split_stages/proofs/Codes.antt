@@ -1,7 +1,7 @@
 -- The nodes of a planned graph after fission push at their rates.
-use Rattle.std.proofs.Common.{◌≡◌, refl, sym, ap, ◌∙◌, subst, ℕ, zero, suc, ◌+◌, ◌<◌, ◌≤◌}
-use Rattle.std.proofs.Common.{ℤ, List, [], ◌∷◌, length, Bool, true, false, Option, Some, None}
-use Rattle.std.proofs.Common.{slice_get, get_or}
+use Rattle.std.proofs.Common.{◌≡◌, refl, sym, ap, ◌∙◌, subst, ℕ, zero, suc, ◌+◌, ◌<◌}
+use Rattle.std.proofs.Common.{List, [], ◌∷◌, length, true, false, Option, Some, None}
+use Rattle.std.proofs.Common.{slice_get}
 use Rattle.std.specs.Prelude.{IfOk, is_some, unwrap_or}
 use Rattle.std.proofs.lemmas.Bool.{true≢false, and_parts}
 use Rattle.std.proofs.lemmas.Option.{slice_get-get_or}
@@ -12,11 +12,9 @@ use Rattle.strc_dataflow.specs.Streams as trees
 use Rattle.strc_semantics.specs.Filters as filters
 use Rattle.strc_semantics.specs.Filters.{prework_block, prework_rates, work_rates, body_rates}
 use Rattle.strc_semantics.specs.Filters.{push_rate, pop_rate, item_count}
-use Rattle.strc_semantics.specs.Firing.{fired}
 use Rattle.strc_graph.specs.Graphs.{NodeCode, Graph, IsGraph, Filter, Identity, FileReader}
 use Rattle.strc_graph.specs.Graphs.{FileWriter, Splitter, Joiner, Scatter, Copy, Gather}
 use Rattle.strc_graph.specs.FlatGraphs.{IsProgram}
-use Rattle.strc_graph.specs.Meaning.{node_meaning}
 use Rattle.strc_graph.specs.Rates.{body_at, filter_pushes, fires_by_rounds}
 use Rattle.strc_graph.specs.declared.graph.Fission.{Fission}
 use Rattle.strc_peeks.proofs.Results.{then_ok}
@@ -29,9 +27,7 @@ use Rattle.strc_order.specs.Schedules.{ScheduleParts}
 use Rattle.strc_admissible.specs.Planned.{IsFilterOf, IsPlanned, AreKnown}
 use Rattle.strc_admissible.proofs.Codes.{code_there}
 use Rattle.strc_parts.specs.Nodes.{FilterPushes, HasItsRates}
-use Rattle.strc_parts.specs.Repeats.{IsNarrow}
-use Rattle.strc_rounds.specs.Split.{IsSplitGraph}
-use Rattle.strc_fiss.specs.Numbers.{is_dealt, base, parts_after}
+use Rattle.strc_fiss.specs.Numbers.{is_dealt, base}
 use Rattle.strc_fiss.specs.Splitting.{copied, code_at}
 use Rattle.strc_fiss.specs.Ways.{is_alike, passes_items, dealt, fission_of, ways_of, work_push}
 use Rattle.strc_split.specs.Runs.{graph_before, graph_after}
@@ -180,7 +176,7 @@ module _ (tree : Stream NodeCode) (old : Graph) (schedule : ScheduleParts) (roun
       (λ name filter e. checked_pushes old schedule planned known filter
       (place, name, found ∙ ap Some e)))
 
-  copy_rated : (v : ℕ) → is_dealt (fission_of old round ways v) ≡ true
+  pub copy_rated : (v : ℕ) → is_dealt (fission_of old round ways v) ≡ true
       → IsRated (Copy (copied (code_at old.nodes v)) (fission_of old round ways v))
   copy_rated v is_split =
       let code : NodeCode = code_at old.nodes v in

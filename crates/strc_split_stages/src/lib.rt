@@ -1,13 +1,16 @@
 // Takes: planned graphs after fission, and the state that start-up left, dealt out to the parts.
 // Gives: laws on how they go on from there by stages, and no code.
-// The theorem to rely on: `split_rounds_repeat`: from that state on each firing has the rates of
-// the one a round before.
+// The theorem to rely on: `split_chains_answer`: what a chain of workers over stages of the round
+// after fission, fused or not, comes to is an answer of the program's stream equations.
 // Stands on strc_split, whose graphs these are, on strc_parts and strc_restart, whose laws are on
 // graphs that go on from a state, on strc_admissible, which says what a planned graph is, and on
 // what these stand on.
 #![tactic(auto)]
 
 ghost use Rattle.strc_split_stages.specs.Codes.{SplitNodesAreRated};
+ghost use Rattle.strc_split_stages.specs.Fused.{SplitChainsAnswer, SplitGraphsResume};
+ghost use Rattle.strc_split_stages.specs.Fused.{SplitRoundIsRestartedOrder, SplitRoundsAreSupplied};
+ghost use Rattle.strc_split_stages.specs.Fused.{SplitRoundsBalance};
 ghost use Rattle.strc_split_stages.specs.Rounds.{SplitRoundsRepeat};
 
 /// Each node of a planned graph after fission pushes at its rates, and takes no more than it looks
@@ -20,4 +23,29 @@ pub fn split_nodes_are_rated()
 /// fission has the rates of the one a round before.
 pub fn split_rounds_repeat()
     ensures { SplitRoundsRepeat }
+{}
+
+/// On each channel of a planned graph after fission a round, fused or not, takes what it gives.
+pub fn split_rounds_balance()
+    ensures { SplitRoundsBalance }
+{}
+
+/// Its first round's order finds its windows in the queues of the state that start-up left.
+pub fn split_round_is_restarted_order()
+    ensures { SplitRoundIsRestartedOrder }
+{}
+
+/// What waits from outside suffices for all its rounds.
+pub fn split_rounds_are_supplied()
+    ensures { SplitRoundsAreSupplied }
+{}
+
+/// So a planned graph after fission, restarted at that state, can be run by stages.
+pub fn split_graphs_resume()
+    ensures { SplitGraphsResume }
+{}
+
+/// What a chain of workers over such stages comes to is an answer of the stream equations.
+pub fn split_chains_answer()
+    ensures { SplitChainsAnswer }
 {}

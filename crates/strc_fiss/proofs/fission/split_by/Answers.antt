@@ -103,6 +103,36 @@ new-planned-requires-clause-sizes c =
     (sym c.deref-2.ensures.value)
     ∙ sym (ap length c.in_ok-last.ensures)
 
+pub new-requires : goal.new-requires
+new-requires c =
+    let share = share_at c.args.shares.now in
+    let nodes = c.args.graph.now.nodes in
+    let codes = map node_view nodes in
+    let split = c.in_ok-split.split in
+    let wires = map wire_view c.in_ok-wires.wires.items in
+    let planned = c.new-planned.ensures in
+    let round = c.in_ok-round.ensures
+    ∙ ap (λ (l : List units.Unit.Unit). split_units share (round_units l)) c.round.ensures in
+    let many : base share (length nodes) ≡ length (map node_view split.nodes) =
+    sym (part_many share (new_code share codes) (length nodes))
+    ∙ sym (ap length c.in_ok-split.ensures.nodes) in
+    let channels = ap length c.in_ok-split.ensures.channels
+    ∙ length-map wires (λ (wire : Wire). wire.channel) in
+    let greatest = ap length (planned.greatest ∙ c.in_ok-greatest.ensures
+    ∙ ap (λ (l : List declared.Wire). map (λ (wire : Wire). wire.greatest) (map wire_view l))
+    c.deref.ensures.value) ∙ length-map wires (λ (wire : Wire). wire.greatest) in
+    let last = ap length (planned.last ∙ c.in_ok-last.ensures
+    ∙ ap (λ (l : List declared.Wire). map (λ (wire : Wire). wire.last) (map wire_view l))
+    c.deref-2.ensures.value) ∙ length-map wires (λ (wire : Wire). wire.last) in
+    record {
+      before = greatest ∙ sym channels;
+      fill = last ∙ sym channels;
+      nodes = subst (All (HasNodes (length (map node_view split.nodes)))) (sym planned.round)
+          (subst (λ (n : ℕ). All (HasNodes n) c.in_ok-round.round.items) many
+          (nodes_there share (length nodes) c.args.schedule.now.round c.in_ok-round.round.items
+          c.requires.nodes round));
+    }
+
 pub returns-clause-split : goal.returns-clause-split
 returns-clause-split c =
     let share = share_at c.args.shares.now in

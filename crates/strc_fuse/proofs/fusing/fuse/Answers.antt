@@ -44,6 +44,17 @@ returns-in_err-sizes-clause-limit c channel is =
     (subst (λ l. PassesOn (round_rates_on graph schedule.last) none_fired (firings_of l)
     schedule.greatest channel) c.deref.ensures.value passes)
 
+pub returns-clause-nodes : goal.returns-clause-nodes
+returns-clause-nodes c =
+    let free = is_free (graph_view c.args.graph.now) in
+    let size = length c.args.graph.now.nodes in
+    let old = c.args.schedule.now.round in
+    let new = c.in_ok-round.round.items in
+    subst (λ (s : ScheduleParts). All (HasNodes size) s.round) (sym c.replace_round.ensures)
+    (fused_nodes free c.args.threshold size old new
+    (as_read free c.args.threshold c.round.result.now old new c.round.ensures
+    c.in_ok-round.ensures) c.requires.nodes)
+
 pub returns-clause-counts : goal.returns-clause-counts
 returns-clause-counts c node =
     let free = is_free (graph_view c.args.graph.now) in
