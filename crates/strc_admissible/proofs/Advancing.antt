@@ -26,7 +26,7 @@ use Rattle.strc_admissible.specs.Machine.{CircuitView, MachineView, one_more, wo
 use Rattle.strc_admissible.specs.Machine.{more_words}
 use Rattle.strc_admissible.specs.Rings.{Ring}
 use Rattle.strc_admissible.specs.Wiring.{ports_at}
-use Rattle.strc_admissible.proofs.Changes.{Moves}
+use Rattle.strc_admissible.specs.NodeSteps.{Moves}
 use Rattle.strc_admissible.proofs.Simulation.{Simulates, ring_holds}
 
 -- what has been put is there, and what was elsewhere still is

@@ -18,7 +18,7 @@ use Rattle.strc_admissible.specs.Wiring.{IsWired, PortRings, ports_at}
 use Rattle.strc_admissible.specs.Machine.{CircuitView}
 use Rattle.strc_admissible.specs.Circuits.{IsCircuit}
 use Rattle.strc_admissible.proofs.Apart.{no_own_source}
-use Rattle.strc_admissible.proofs.Changes.{ArePlaced}
+use Rattle.strc_admissible.specs.NodeSteps.{ArePlaced}
 use Rattle.strc_admissible.proofs.Supplies.{element}
 use Rattle.strc_admissible.proofs.Windows.{both_hold}
 

@@ -14,6 +14,7 @@ pub mod Changes
 pub mod ByPort
 pub mod Dealing
 pub mod Stepping
+pub mod FissionSteps
 pub mod NodeSteps
 pub mod Outside
 pub mod Apart

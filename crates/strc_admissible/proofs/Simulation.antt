@@ -20,7 +20,8 @@ use Rattle.strc_admissible.specs.Rings.{Ring, ring_at, at_port, shortened, exten
 use Rattle.strc_admissible.specs.RingAnswer.{AreWordsOf}
 use Rattle.strc_admissible.specs.RingRoom.{items_taken, items_pushed}
 use Rattle.strc_admissible.specs.Wiring.{ports_at}
-use Rattle.strc_admissible.proofs.Changes.{Moves, extended_none, extended_all}
+use Rattle.strc_admissible.specs.NodeSteps.{Moves}
+use Rattle.strc_admissible.proofs.Changes.{extended_none, extended_all}
 use Rattle.strc_admissible.proofs.Ends.{origin_is, apart, input_channel, output_channel}
 use Rattle.strc_admissible.proofs.Ends.{target_ring, source_ring}
 

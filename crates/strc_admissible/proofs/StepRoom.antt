@@ -20,10 +20,9 @@ use Rattle.strc_admissible.specs.Rings.{Ring, ring_at}
 use Rattle.strc_admissible.specs.Steps as steps
 use Rattle.strc_admissible.specs.Steps.{Step}
 use Rattle.strc_admissible.specs.Wiring.{ports_at}
-use Rattle.strc_admissible.proofs.Changes.{Moves}
 use Rattle.strc_admissible.proofs.FiringAlike.{step_matches, found_progress, fire_is}
 use Rattle.strc_admissible.proofs.Simulation.{Simulates, ring_holds, queue_moved}
-use Rattle.strc_admissible.proofs.Stepping.{finds_in, sees_of, Matches}
+use Rattle.strc_admissible.specs.NodeSteps.{Moves, Matches, finds_in, sees_of}
 
 module _ (tree : Stream NodeCode) (graph : Graph) (program : IsProgram tree graph)
     (circuit : CircuitView) (is : IsCircuit graph circuit) (sizes : List ℕ) (input : List ℤ)

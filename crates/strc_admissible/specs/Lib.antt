@@ -4,6 +4,7 @@ pub mod Laws
 pub mod Rings
 pub mod Wiring
 pub mod Steps
+pub mod NodeSteps
 pub mod Machine
 pub mod Circuits
 pub mod RingAnswer

@@ -30,17 +30,16 @@ use Rattle.strc_admissible.specs.Fits.{Queues, FitThen}
 use Rattle.strc_admissible.specs.Machine as machines
 use Rattle.strc_admissible.specs.Machine.{CircuitView, MachineView, one_more, words_at}
 use Rattle.strc_admissible.specs.Machine.{more_words, step_at, next_step, after_step}
+use Rattle.strc_admissible.specs.NodeSteps.{ArePlaced, Moves, Matches, Shows, finds_in, sees_of}
 use Rattle.strc_admissible.specs.Rings.{Ring, ring_at, items_at}
 use Rattle.strc_admissible.specs.Steps as steps
 use Rattle.strc_admissible.specs.Steps.{Step, maybe_step, node_step}
 use Rattle.strc_admissible.specs.Wiring.{ports_at}
 use Rattle.strc_admissible.proofs.Advancing.{next_queues, next_machine}
-use Rattle.strc_admissible.proofs.Changes.{ArePlaced, Moves}
 use Rattle.strc_admissible.proofs.Ends.{are_placed, idle_empty, carrier_fed}
-use Rattle.strc_admissible.proofs.NodeSteps.{node_matches}
+use Rattle.strc_admissible.proofs.NodeSteps.{node_matches, window_unasked}
 use Rattle.strc_admissible.proofs.Orders.{is_reader}
 use Rattle.strc_admissible.proofs.Simulation.{ring_holds}
-use Rattle.strc_admissible.proofs.Stepping.{finds_in, sees_of, Matches, Shows}
 
 -- a channel begins or ends at a node that is looked at
 abbrev pub Touches : (own : ℕ → Bool) → Channel → Type 0
@@ -276,7 +275,7 @@ module _ (tree : Stream NodeCode) (graph : Graph) (program : IsProgram tree grap
   placed = subst (λ (n : ℕ). ArePlaced inputs outputs n) (sym simulates.each_ring)
       (are_placed tree graph program circuit is node)
 
-  shows : Shows inputs outputs machine.rings placed (now.queues node) code
+  shows : Shows inputs machine.rings (now.queues node) code
   shows = record {
     holds = λ port carries.
         let (number, channel, listed, ends, ring) =
@@ -297,10 +296,11 @@ module _ (tree : Stream NodeCode) (graph : Graph) (program : IsProgram tree grap
       subst (Matches inputs outputs (pops_at code firing) machine.rings
       (finds_in code firing (now.queues node))
       (node_fired code firing state (sees_of code firing (now.queues node)))) (sym step_is)
-      (node_matches inputs outputs machine.rings placed (now.queues node) code alone firing state
-      input shows
+      (node_matches inputs outputs machine.rings placed (now.queues node) code firing state input
+      shows
       (λ reader. let reads = is_reader code reader in
-      simulates.reads node reads.0 (there ∙ ap Some reads.1) is_own))
+      simulates.reads node reads.0 (there ∙ ap Some reads.1) is_own)
+      (window_unasked code firing alone))
 
   -- a firing that finds its windows or doesn't
   abbrev found_progress : Bool → generic.Fired (List ℤ) Cause Word
