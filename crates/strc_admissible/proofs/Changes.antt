@@ -134,8 +134,10 @@ module _ (inputs outputs : List (Option ℕ)) where
 
   -- one change, and then another one
   pub both_move : (pops others : ℕ → ℕ) (pushes more : ByPort) (rings middle after : List Ring)
-      → Moves inputs outputs pops pushes rings middle → Moves inputs outputs others more middle after
-      → Moves inputs outputs (λ port. pops port + others port) (λ port. pushes port ++ more port) rings after
+      → Moves inputs outputs pops pushes rings middle
+      → Moves inputs outputs others more middle after
+      → Moves inputs outputs (λ port. pops port + others port) (λ port. pushes port ++ more port)
+      rings after
   both_move pops others pushes more rings middle after first second = record {
     each = second.each ∙ first.each;
     takes = λ port number is. second.takes port number is
@@ -203,7 +205,8 @@ module _ (inputs outputs : List (Option ℕ)) where
 
   -- a ring is where it was
   pub still_placed : (pops : ℕ → ℕ) (pushes : ByPort) (rings after : List Ring)
-      → Moves inputs outputs pops pushes rings after → ArePlaced inputs outputs (length rings) → ArePlaced inputs outputs (length after)
+      → Moves inputs outputs pops pushes rings after → ArePlaced inputs outputs (length rings)
+      → ArePlaced inputs outputs (length after)
   still_placed pops pushes rings after moves placed =
       subst (λ (count : ℕ). ArePlaced inputs outputs count) (sym moves.each) placed
 

@@ -7,5 +7,7 @@ pub mod Steps
 pub mod NodeSteps
 pub mod Machine
 pub mod Circuits
+pub mod ByChannels
 pub mod RingAnswer
+pub mod Simulation
 pub mod RingRoom

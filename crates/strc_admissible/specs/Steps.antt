@@ -102,8 +102,8 @@ joiner_step weights inputs output rings =
     if_found (finds_weights weights inputs 0 rings)
     (Goes [] (gathered_in weights inputs output 0 rings) [])
 
--- a scatter finds all windows of a round; each copy is given those of its firings, and then what the
--- round pops is taken
+-- a scatter finds all windows of a round; each copy is given those of its firings, and then what
+-- the round pops is taken
 abbrev pub scatter_step : Fission → (input : Option ℕ) → (outputs : List (Option ℕ)) → List Ring
     → Step
 scatter_step fission input outputs rings =
@@ -112,7 +112,8 @@ scatter_step fission input outputs rings =
     (Goes [] (taken input (round_pops fission)
     (scattered_out fission input outputs fission.ways rings)) [])
 
--- a copy fires as what it copies, but takes with its last firing of a round what is left of its list
+-- a copy fires as what it copies, but takes with its last firing of a round what is left of its
+-- list
 abbrev pub copy_step : CopiedCode → Fission → (firing : ℕ) → (fields : List ℤ)
     → (input output : Option ℕ) → List Ring → Step
 copy_step (OfFilter name filter) fission number fields input output rings =
