@@ -46,12 +46,19 @@ look_by item.Void window = 0
 abbrev pub filter_looks : filters.Filter → (firing : ℕ) → ℕ
 filter_looks filter number = look_by filter.input (filter_window filter number)
 
+-- a firing of a filter that looks at so many items and takes so many of them
+abbrev pub looking_step : filters.Filter → (firing looks pops : ℕ) → (fields : List ℤ)
+    → (input output : Option ℕ) → List Ring → Step
+looking_step filter number looks pops fields input output rings =
+    if_found (nat_le looks (length (items_at rings input)))
+    (filter_after pops input output rings
+    (firing.fired filter (body_at number) fields (items_at rings input)))
+
 abbrev pub filter_step : filters.Filter → (firing : ℕ) → (fields : List ℤ)
     → (input output : Option ℕ) → List Ring → Step
 filter_step filter number fields input output rings =
-    if_found (nat_le (filter_looks filter number) (length (items_at rings input)))
-    (filter_after (filter_pops filter number) input output rings
-    (firing.fired filter (body_at number) fields (items_at rings input)))
+    looking_step filter number (filter_looks filter number) (filter_pops filter number) fields input
+    output rings
 
 -- whether each port holds as many items as its weight; ports are numbered from one on
 abbrev pub finds_weights : (weights : List ℕ) → (inputs : List (Option ℕ)) → (port : ℕ)
@@ -117,9 +124,8 @@ scatter_step fission input outputs rings =
 abbrev pub copy_step : CopiedCode → Fission → (firing : ℕ) → (fields : List ℤ)
     → (input output : Option ℕ) → List Ring → Step
 copy_step (OfFilter name filter) fission number fields input output rings =
-    if_found (nat_le (look_by filter.input fission.window) (length (items_at rings input)))
-    (filter_after (copy_pops fission number) input output rings
-    (firing.fired filter (body_at number) fields (items_at rings input)))
+    looking_step filter number (look_by filter.input fission.window) (copy_pops fission number)
+    fields input output rings
 copy_step OfIdentity fission number fields input output rings =
     if_found (nat_le 1 (length (items_at rings input)))
     (Goes [] (given output (take 1 (items_at rings input))
