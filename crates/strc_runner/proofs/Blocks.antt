@@ -19,7 +19,8 @@ use Rattle.strc_admissible.specs.Rings.{Ring, ring_at, at_port, items_at, shorte
 use Rattle.strc_admissible.specs.Rings.{moved}
 use Rattle.strc_admissible.specs.Steps.{Goes, if_found, filter_step, identity_step, node_step}
 use Rattle.strc_admissible.specs.Wiring.{ports_at}
-use Rattle.strc_runner.specs.Blocks.{PassesOn, times}
+use Rattle.strc_rings.specs.Turns.{times}
+use Rattle.strc_runner.specs.Blocks.{PassesOn}
 use Rattle.strc_runner.specs.Identities.{PassesItems}
 use Rattle.strc_runner.proofs.Done.{fields_kept, step_of}
 use Rattle.strc_runner.proofs.Identities.{filter_passes}

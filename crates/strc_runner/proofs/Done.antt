@@ -30,7 +30,8 @@ use Rattle.strc_admissible.specs.Rings.{Ring}
 use Rattle.strc_admissible.specs.Steps.{Step, node_step, maybe_step, filter_step}
 use Rattle.strc_admissible.specs.Wiring.{PortRings, ports_at, IsWired}
 use Rattle.strc_runner.specs.Actors.{AreActors, IsActorOf, fields_of}
-use Rattle.strc_runner.specs.Answers.{HasStepped, IsPassive}
+use Rattle.strc_rings.specs.Answers.{HasStepped}
+use Rattle.strc_runner.specs.Passing.{IsPassive}
 use Rattle.strc_runner.specs.Identities.{KeepsNothing}
 use Rattle.strc_runner.specs.Running.{HasDone, HaveMoreWords, HoldRings, IsMachine}
 use Rattle.strc_runner.specs.declared.actor.Actor.{Actor}

@@ -8,7 +8,8 @@ use Rattle.strc_order.specs.Order.{repeated}
 use Rattle.strc_admissible.specs.Machine.{CircuitView, MachineView, Progress, Went, Stopped}
 use Rattle.strc_admissible.specs.Machine.{then_go, order_run, after_step, next_step, step_at}
 use Rattle.strc_admissible.specs.Machine.{words_at}
-use Rattle.strc_runner.specs.Memory.{HasNextWord, WantsWordOfOrder, prints_at}
+use Rattle.strc_rings.specs.Words.{HasNextWord}
+use Rattle.strc_runner.specs.Memory.{WantsWordOfOrder, prints_at}
 use Rattle.strc_runner.specs.Running.{HasGone, HaveMoreWords}
 use Rattle.strc_runner.proofs.Done.{more_refl}
 use Rattle.strc_runner.specs.declared.machine.Stop.{Stop}

@@ -1,6 +1,3 @@
-pub mod Fronts
-pub mod Ports
-pub mod Firsts
 pub mod Startable
 pub mod Starting
 pub mod WordLists
@@ -9,10 +6,8 @@ pub mod Going
 pub mod Wanting
 pub mod Identities
 pub mod Blocks
-pub mod Moves
 pub mod Batching
 pub mod BatchLists
-pub mod Turns
 pub mod TurnFirings
 pub mod PartLists
 pub mod PartMachines

@@ -1,5 +1,5 @@
 -- Turns of splitters and joiners are firings of their nodes.
-use Rattle.std.proofs.Common.{◌≡◌, refl, sym, ap, ◌∙◌, subst, ℕ, suc, ◌+◌, ◌*◌, ◌-◌, ◌<◌, ◌≤◌}
+use Rattle.std.proofs.Common.{◌≡◌, refl, sym, ap, ◌∙◌, subst, ℕ, suc, ◌+◌, ◌*◌, ◌-◌, ◌≤◌}
 use Rattle.std.proofs.Common.{ℤ, Bool, true, false, List, [], ◌∷◌, length, take, sum, arith}
 use Rattle.std.specs.Prelude.{Option, Some, ◌&&◌, slice_get, slice_index}
 use Rattle.std.proofs.lemmas.Bool.{le-leb}
@@ -16,18 +16,10 @@ use Rattle.strc_admissible.specs.Wiring.{ports_at}
 use Rattle.strc_admissible.proofs.Changes.{ArePlaced, Moves, items_after, still_placed}
 use Rattle.strc_admissible.proofs.Dealing.{gathering_moves, piece}
 use Rattle.strc_runner.specs.Identities.{KeepsNothing}
-use Rattle.strc_runner.specs.Blocks.{FindsCycles, HasPassed, HasTurned, PassesOn, times}
+use Rattle.strc_rings.specs.Turns.{FindsCycles, HasTurned, times}
+use Rattle.strc_runner.specs.Blocks.{HasPassed, PassesOn}
 use Rattle.strc_runner.proofs.Blocks.{passes}
-use Rattle.strc_runner.proofs.Turns.{deal, deal_moves}
-
--- one turn more
-pub times_next : (count turn : ℕ) (change : List Ring → List Ring) (rings next : List Ring)
-    → turn < count → next ≡ change rings
-    → times (count - (turn + 1)) change next ≡ times (count - turn) change rings
-times_next count turn change rings next less is =
-    let left = count - (turn + 1) in
-    let more : suc left ≡ count - turn = omega (arith, less) in
-    ap (times left change) is ∙ ap (λ (n : ℕ). times n change rings) more
+use Rattle.strc_rings.proofs.Turns.{deal, deal_moves}
 
 -- turns are firings
 pub turned_passed : (circuit : CircuitView) (node turns : ℕ) (change : List Ring → List Ring)

@@ -19,7 +19,8 @@ use Rattle.strc_admissible.specs.Rings.{Ring, items_at}
 use Rattle.strc_admissible.specs.Steps.{Step, filter_after, filter_looks, filter_step}
 use Rattle.strc_admissible.specs.Steps.{if_found}
 use Rattle.strc_runner.specs.Actors.{IsTakingOf}
-use Rattle.strc_runner.specs.Memory.{GivesWords, QuietOrdersWantNoMemory, WantsWordOfStep}
+use Rattle.strc_rings.specs.Words.{GivesWords, WantsWordOfStep}
+use Rattle.strc_runner.specs.Memory.{QuietOrdersWantNoMemory}
 use Rattle.strc_runner.specs.Memory.{prints_at}
 use Rattle.strc_runner.specs.declared.filter.Taking.{Taking}
 use Rattle.strc_runner.specs.declared.machine.Stop.{Stop}

@@ -1,9 +1,8 @@
-pub mod Answers
+pub mod Passing
 pub mod Actors
 pub mod Running
 pub mod Identities
 pub mod Blocks
-pub mod Pairs
 pub mod Batches
 pub mod Parts
 pub mod Memory

@@ -1,14 +1,12 @@
 -- Where a run over rings wants memory: only at a word.
-use Rattle.std.specs.Prelude.{◌≡◌, ◌≢◌, ℕ, List, [], ◌∷◌, ◌++◌, All, Bool, true, false}
+use Rattle.std.specs.Prelude.{◌≡◌, ◌≢◌, ℕ, List, ◌∷◌, ◌++◌, All, Bool, true, false}
 use Rattle.std.specs.Prelude.{Option, Some, None, Result, Ok, Err, slice_get, slice_index}
 use Rattle.strc_semantics.specs.Filters.{body_prints}
-use Rattle.strc_semantics.specs.declared.fault.Halt.{Halt}
-use Rattle.strc_semantics.specs.declared.fault.Halt.TheVariants as halt
 use Rattle.strc_graph.specs.Graphs as graphs
 use Rattle.strc_graph.specs.Graphs.{NodeCode}
 use Rattle.strc_graph.specs.Rates.{body_at}
 use Rattle.strc_admissible.specs.Machine.{CircuitView, MachineView, Went, next_step, order_run}
-use Rattle.strc_admissible.specs.Steps.{Step, Stays, Goes, Faults}
+use Rattle.strc_rings.specs.Words.{HasNextWord}
 use Rattle.strc_runner.specs.declared.machine.Stop.{Stop}
 use Rattle.strc_runner.specs.declared.machine.Stop.TheVariants as stop
 
@@ -27,23 +25,6 @@ maybe_prints (Some code) firing = node_prints code firing
 -- the same by the node's number
 abbrev pub prints_at : CircuitView → (node firing : ℕ) → Bool
 prints_at circuit node firing = maybe_prints (slice_get circuit.codes node) firing
-
--- a firing gives words; one that faults tells none
-abbrev pub GivesWords : Step → Type 0
-GivesWords Stays = ⊥
-GivesWords (Goes fields rings words) = words ≢ []
-GivesWords (Faults cause) = Unit {0}
-
--- a firing has a word to give
-pub record HasNextWord (may_print : Bool) (step : Step) : Type 0 where
-  pub prints : may_print ≡ true
-  pub gives : GivesWords step
-
--- only a firing that has a word to give can want memory
-abbrev pub WantsWordOfStep : (may_print : Bool) → Step → Result Bool Halt → Type 0
-WantsWordOfStep may_print step (Ok fired) = Unit {0}
-WantsWordOfStep may_print step (Err (halt.Fault cause)) = Unit {0}
-WantsWordOfStep may_print step (Err halt.NoMemory) = HasNextWord may_print step
 
 -- the nodes of an order have fired up to one whose next firing has a word to give
 pub record ComesToWord (circuit : CircuitView) (order : List ℕ) (before : MachineView) : Type 0

@@ -11,7 +11,7 @@ use Rattle.strc_runner.specs.Actors.{AreActors, fields_of}
 use Rattle.strc_admissible.specs.Machine.{CircuitView, MachineView, Progress, Went, Stopped}
 use Rattle.strc_admissible.specs.Machine.{words_at, more_words}
 use Rattle.strc_admissible.specs.Steps.{Step, Stays, Goes, Faults}
-use Rattle.strc_runner.specs.Answers.{AreRings}
+use Rattle.strc_rings.specs.Answers.{AreRings}
 use Rattle.strc_admissible.specs.Rings.{Ring}
 use Rattle.strc_admissible.specs.Wiring.{PortRings, ports_at}
 use Rattle.strc_runner.specs.declared.machine.Machine.{Machine}

@@ -7,8 +7,8 @@ ghost use Rattle.strc_admissible.specs.Rings.{given, items_at, ring_at};
 ghost use Rattle.strc_runner.specs.Running.{IsMachine, machine_view, with_rings, with_words};
 
 use crate::machine::Machine;
-use crate::pouring::extend;
 use std::mem;
+use strc_rings::pouring::extend;
 use strc_semantics::word::Word;
 
 impl Machine {

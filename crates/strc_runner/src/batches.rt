@@ -12,11 +12,11 @@ ghost use Rattle.strc_runner.specs.Batches.{IsOrderOf, all_firings, batch_firing
 ghost use Rattle.strc_runner.specs.Batches.{units_of};
 
 use crate::identity::is_identity;
-use crate::movers::ring_of;
 use std::alloc::{AllocError, Global};
 use strc_circuit::circuit::Circuit;
 use strc_graph::graph::Node;
 use strc_order::unit::Unit;
+use strc_rings::movers::ring_of;
 
 /// Firings of one node in a row.
 #[derive(Clone, Copy)]

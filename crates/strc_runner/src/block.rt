@@ -10,11 +10,11 @@ ghost use Rattle.strc_runner.specs.Running.{HoldRings};
 ghost use Rattle.strc_runner.specs.Batches.{IsBatch};
 
 use crate::batches::{Batch, Kind};
-use crate::dealing::{deal_turns, join_turns};
-use crate::pouring::move_across;
-use crate::ring::Ring;
 use strc_circuit::circuit::Circuit;
 use strc_graph::graph::{Node, Splitter};
+use strc_rings::dealing::{deal_turns, join_turns};
+use strc_rings::pouring::move_across;
+use strc_rings::ring::Ring;
 
 /// All firings of a batch at once, where its node passes items on and its rings hold them all.
 /// Whether it did; if not, it leaves all as it was.

@@ -7,14 +7,14 @@ ghost use Rattle.strc_semantics.specs.Firing.{started};
 ghost use Rattle.strc_runner.specs.Actors.{CanStart, IsFilterActor, IsTakingOf};
 ghost use Rattle.strc_admissible.specs.Steps as steps;
 ghost use Rattle.strc_graph.specs.Rates as rates;
-ghost use Rattle.strc_runner.specs.Answers.{HasStepped};
-ghost use Rattle.strc_runner.specs.Memory.{WantsWordOfStep};
+ghost use Rattle.strc_rings.specs.Answers.{HasStepped};
+ghost use Rattle.strc_rings.specs.Words.{WantsWordOfStep};
 
-use crate::ring::{Ring, count_at, give_to, take_from, window_at};
 use std::alloc::Global;
 use strc_base::memory::NoMemory;
 use strc_code::code::Code;
 use strc_graph::rates::body_at;
+use strc_rings::ring::{Ring, count_at, give_to, take_from, window_at};
 use strc_semantics::body::Body;
 use strc_semantics::fault::Halt;
 use strc_semantics::word::Word;

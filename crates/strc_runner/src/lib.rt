@@ -2,25 +2,20 @@
 // Gives a machine that fires the graph's nodes, or those of a part of it, over rings.
 // The theorem to rely on: `fire_order` does what the definition of an order's run says, firing by
 // firing, and each change of a machine by its owner is just what is said of it.
-// Stands on strc_admissible, whose definitions say what a run over rings is, on strc_circuit, whose
-// circuits it runs and passes on, on strc_order, whose units it fires, on strc_work, whose codes it
-// fires, and on circular_buffer, whose rings hold the items.
+// Stands on strc_admissible, whose definitions say what a run over rings is, on strc_rings, which
+// moves items over them, on strc_circuit, whose circuits it runs and passes on, on strc_order, whose
+// units it fires, and on strc_work, whose codes it fires.
 #![tactic(auto)]
 
 mod access;
 mod actor;
 pub mod batches;
 mod block;
-mod dealing;
 mod filter;
 mod identity;
 pub mod laws;
 pub mod machine;
-mod movers;
-mod pair;
 mod parting;
 mod passing;
-mod pouring;
-pub mod ring;
 
 pub use strc_circuit::{circuit, units};

@@ -10,7 +10,8 @@ ghost use Rattle.strc_circuit.specs.Circuits.{circuit_view};
 ghost use Rattle.strc_admissible.specs.Machine as spec;
 ghost use Rattle.strc_runner.specs.Batches.{AreBatches, IsBatch, IsOrderOf, batch_firings};
 ghost use Rattle.strc_runner.specs.Batches.{list_firings, units_of};
-ghost use Rattle.strc_runner.specs.Memory.{WantsWordOfOrder, WantsWordOfStep, prints_at};
+ghost use Rattle.strc_rings.specs.Words.{WantsWordOfStep};
+ghost use Rattle.strc_runner.specs.Memory.{WantsWordOfOrder, prints_at};
 ghost use Rattle.strc_runner.specs.Running.{HasDone, HasGone, IsMachine, machine_view, words_of};
 
 use crate::actor::{Actor, start_actors};
@@ -18,11 +19,11 @@ use crate::batches::{Batch, BatchList, Order};
 use crate::block::pass_at_once;
 use crate::filter::fire_filter;
 use crate::passing::fire_passive;
-use crate::ring::{Ring, first_rings};
 use std::alloc::{AllocError, Global};
 use strc_base::memory::NoMemory;
 use strc_circuit::circuit::Circuit;
 use strc_graph::graph::{Graph, Node};
+use strc_rings::ring::{Ring, first_rings};
 use strc_semantics::fault::{Cause, Halt};
 use strc_semantics::word::Word;
 

@@ -14,7 +14,6 @@ ghost use Rattle.strc_runner.specs.declared.actor.Actor.TheVariants as actor;
 
 use crate::actor::Actor;
 use crate::machine::{Machine, greatest, no_words};
-use crate::ring::Ring;
 use circular_buffer::HeapCircularBuffer;
 use std::alloc::{AllocError, Global};
 use std::mem;
@@ -22,6 +21,7 @@ use strc_base::memory::NoMemory;
 use strc_circuit::circuit::Circuit;
 use strc_circuit::range::is_within;
 use strc_graph::graph::{Channel, Graph};
+use strc_rings::ring::Ring;
 
 impl Machine {
     /// A machine for the circuit of the nodes from `first` up to `next`, not including it. What

@@ -3,12 +3,16 @@
 ghost use Rattle.std.specs.Prelude.{◌≡◌, [], length};
 ghost use Rattle.strc_graph.specs.NodeView.{node_view};
 ghost use Rattle.strc_admissible.specs.Steps as steps;
-ghost use Rattle.strc_runner.specs.Answers.{AreRings, HasStepped, IsMover, IsPassive, MovesBy};
-ghost use Rattle.strc_runner.specs.Memory.{WantsWordOfStep, node_prints};
+ghost use Rattle.strc_rings.specs.Answers.{AreRings, HasStepped, MovesBy};
+ghost use Rattle.strc_runner.specs.Passing.{IsMover, IsPassive};
+ghost use Rattle.strc_rings.specs.Words.{WantsWordOfStep};
+ghost use Rattle.strc_runner.specs.Memory.{node_prints};
 
-use crate::movers::{fire_identity, fire_joiner, fire_reader, fire_splitter, fire_writer, ring_of};
-use crate::ring::Ring;
 use strc_graph::graph::Node;
+use strc_rings::movers::{
+    fire_identity, fire_joiner, fire_reader, fire_splitter, fire_writer, ring_of,
+};
+use strc_rings::ring::Ring;
 use strc_semantics::fault::Halt;
 use strc_semantics::word::Word;
 

@@ -10,7 +10,7 @@ use Rattle.strc_admissible.specs.Rings.{at_port}
 use Rattle.strc_admissible.specs.Steps.{filter_step, node_step}
 use Rattle.strc_admissible.specs.Wiring.{ports_at}
 use Rattle.strc_runner.specs.Actors.{IsActorOf, fields_of}
-use Rattle.strc_runner.specs.Answers.{HasStepped}
+use Rattle.strc_rings.specs.Answers.{HasStepped}
 use Rattle.strc_runner.specs.Memory.{maybe_prints, prints_at}
 use Rattle.strc_circuit.specs.Circuits.{circuit_view}
 use Rattle.strc_runner.specs.Running.{machine_view}

@@ -1,0 +1,5 @@
+pub mod Ports
+pub mod Fronts
+pub mod Firsts
+pub mod Moves
+pub mod Turns

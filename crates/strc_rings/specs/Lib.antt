@@ -1,0 +1,4 @@
+pub mod Answers
+pub mod Words
+pub mod Turns
+pub mod Pairs
