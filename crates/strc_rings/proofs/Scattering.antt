@@ -108,7 +108,8 @@ module _ {X : Type 0} where
 module _ (rings low high : List Ring) (source target start count : ℕ) (one other new : Ring)
     (source_there : source < length rings) (target_there : target < length rings) where
   as_given : (was_one was_other : Ring) → was_one ≡ ring_at rings source
-      → was_other ≡ ring_at rings target → new ≡ extended (take count (drop start was_one.items)) was_other
+      → was_other ≡ ring_at rings target
+      → new ≡ extended (take count (drop start was_one.items)) was_other
       → set rings target new
       ≡ given (Some target) (take count (drop start (items_at rings (Some source)))) rings
   as_given was_one was_other one_is other_is then =
