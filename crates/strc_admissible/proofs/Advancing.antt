@@ -10,14 +10,14 @@ use Rattle.std.proofs.lemmas.List.{append-nil, get_or-set_same, get_or-set_other
 use Rattle.std.proofs.lemmas.List.{drop-drop}
 use Rattle.strc_semantics.specs.declared.fault.Cause.{Cause}
 use Rattle.strc_semantics.specs.declared.word.Word.{Word}
-use Rattle.strc_dataflow.specs.Flat.{Source}
+use Rattle.strc_dataflow.specs.Flat.{Origin}
+use Rattle.strc_dataflow.specs.Flat as flat
 use Rattle.strc_dataflow.specs.Histories.{Run, after_firing}
 use Rattle.strc_dataflow.specs.Machine.{put}
 use Rattle.strc_dataflow.specs.Node.{ByPort, Fired.Fires}
 use Rattle.strc_dataflow.specs.Queues.{added, moved}
-use Rattle.strc_dataflow.specs.Streams.{Stream, flat}
 use Rattle.strc_graph.specs.Graphs.{NodeCode, FileReader, Graph}
-use Rattle.strc_graph.specs.FlatGraphs.{IsProgram}
+use Rattle.strc_admissible.specs.ByChannels.{IsByChannels}
 use Rattle.strc_graph.specs.Meaning.{node_meaning}
 use Rattle.strc_graph.specs.Rates.{pops_at}
 use Rattle.strc_admissible.specs.Circuits.{IsCircuit}
@@ -26,8 +26,9 @@ use Rattle.strc_admissible.specs.Machine.{CircuitView, MachineView, one_more, wo
 use Rattle.strc_admissible.specs.Machine.{more_words}
 use Rattle.strc_admissible.specs.Rings.{Ring}
 use Rattle.strc_admissible.specs.Wiring.{ports_at}
-use Rattle.strc_admissible.proofs.Changes.{Moves}
-use Rattle.strc_admissible.proofs.Simulation.{Simulates, ring_holds}
+use Rattle.strc_admissible.specs.NodeSteps.{Moves}
+use Rattle.strc_admissible.specs.Simulation.{Simulates}
+use Rattle.strc_admissible.proofs.Simulation.{ring_holds}
 
 -- what has been put is there, and what was elsewhere still is
 
@@ -45,12 +46,12 @@ put_other now node run other differs =
 
 -- the queues after a firing of a node, and the machine
 
-module _ (tree : Stream NodeCode) (now : Queues) (node : ℕ) where
+module _ (running : flat.Graph NodeCode) (now : Queues) (node : ℕ) where
   abbrev pub next_queues : (fields : List ℤ) → (pushes : ByPort) → (words : List Word) → Queues
   next_queues fields pushes words = record {
-    runs = put now.runs node (after_firing node_meaning ((flat tree).code node) (now.runs node)
+    runs = put now.runs node (after_firing node_meaning (running.code node) (now.runs node)
         (Fires fields pushes words));
-    queues = moved node_meaning (flat tree) node (now.runs node).fired now.queues pushes;
+    queues = moved node_meaning running node (now.runs node).fired now.queues pushes;
   }
 
 abbrev pub next_machine : MachineView → (node : ℕ) → (fields : List ℤ) → (rings : List Ring)
@@ -62,14 +63,14 @@ next_machine machine node fields rings words = record {
   words = more_words machine.words node words;
 }
 
-module _ (tree : Stream NodeCode) (graph : Graph) (program : IsProgram tree graph)
+module _ (running : flat.Graph NodeCode) (graph : Graph) (joins : IsByChannels running graph)
     (circuit : CircuitView) (is : IsCircuit graph circuit) (sizes : List ℕ) (input : List ℤ)
     (now : Queues) (machine : MachineView)
     (simulates : Simulates graph sizes input now machine) (node : ℕ)
     (within : node < length graph.nodes)
-    (there : slice_get graph.nodes node ≡ Some ((flat tree).code node)) where
+    (there : slice_get graph.nodes node ≡ Some (running.code node)) where
   abbrev code : NodeCode
-  code = (flat tree).code node
+  code = running.code node
 
   abbrev firing : ℕ
   firing = (now.runs node).fired
@@ -92,7 +93,7 @@ module _ (tree : Stream NodeCode) (graph : Graph) (program : IsProgram tree grap
     run = after_firing node_meaning code (now.runs node) (Fires fields pushes words)
 
     abbrev next : Queues
-    next = next_queues tree now node fields pushes words
+    next = next_queues running now node fields pushes words
 
     abbrev later : MachineView
     later = next_machine machine node fields after words
@@ -177,8 +178,8 @@ module _ (tree : Stream NodeCode) (graph : Graph) (program : IsProgram tree grap
         → next.queues other 0 ≡ drop (next.runs other).fired input
     unfolding moved added
     next_reads other text reader =
-        ap (λ (source : Source). drop (cond (eqb other node) (pops_at code firing 0) 0)
-        (now.queues other 0) ++ added node pushes source.origin) (program.inputs other text reader)
+        ap (λ (origin : Origin). drop (cond (eqb other node) (pops_at code firing 0) 0)
+        (now.queues other 0) ++ added node pushes origin) (joins.inputs other text reader)
         ∙ append-nil (drop (cond (eqb other node) (pops_at code firing 0) 0) (now.queues other 0))
         ∙ rest_read other text reader (eqb other node) refl
 
@@ -211,7 +212,7 @@ module _ (tree : Stream NodeCode) (graph : Graph) (program : IsProgram tree grap
       fields = next_fields;
       fired = next_fired (fit.firings node);
       rings = λ number channel listed.
-          ring_holds tree graph program circuit is node (pops_at code firing) pushes machine.rings
+          ring_holds running graph joins circuit is node (pops_at code firing) pushes machine.rings
           after moves number channel listed now firing (slice_index sizes number) refl
           (simulates.rings number channel listed) (fit.items number channel listed);
       reads = next_reads;

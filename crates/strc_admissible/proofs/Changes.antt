@@ -12,6 +12,7 @@ use Rattle.circular_buffer.specs.Buffer.{buffer}
 use Rattle.strc_dataflow.specs.Node.{ByPort}
 use Rattle.strc_admissible.specs.Rings.{Ring, ring_at, at_port, items_at, shortened, extended}
 use Rattle.strc_admissible.specs.Rings.{taken, given}
+use Rattle.strc_admissible.specs.NodeSteps.{ArePlaced, Moves}
 
 -- ---- one ring
 
@@ -104,32 +105,9 @@ given_length rings (Some own) more = length-set rings own (extended more (ring_a
 -- ---- the rings at a node's ports
 
 module _ (inputs outputs : List (Option ℕ)) where
-  -- each ring at a port is one of so many, and is at no other port
-  pub record ArePlaced (count : ℕ) : Type 0 where
-    pub inner : (port number : ℕ) → at_port inputs port ≡ Some number → number < count
-    pub outer : (port number : ℕ) → at_port outputs port ≡ Some number → number < count
-    pub one_input : (port other number : ℕ) → at_port inputs port ≡ Some number
-        → at_port inputs other ≡ Some number → port ≡ other
-    pub one_output : (port other number : ℕ) → at_port outputs port ≡ Some number
-        → at_port outputs other ≡ Some number → port ≡ other
-    pub apart : (port other number : ℕ) → at_port inputs port ≡ Some number
-        → at_port outputs other ≡ Some number → ⊥
-
-  -- so many items have left the ring at each input port, these have joined the ring at each output
-  -- port, and no other ring has changed
-  pub record Moves (pops : ℕ → ℕ) (pushes : ByPort) (rings after : List Ring) : Type 0 where
-    pub each : length after ≡ length rings
-    pub takes : (port number : ℕ) → at_port inputs port ≡ Some number
-        → ring_at after number ≡ shortened (pops port) (ring_at rings number)
-    pub gives : (port number : ℕ) → at_port outputs port ≡ Some number
-        → ring_at after number ≡ extended (pushes port) (ring_at rings number)
-    pub stays : (number : ℕ) → ((port : ℕ) → at_port inputs port ≡ Some number → ⊥)
-        → ((port : ℕ) → at_port outputs port ≡ Some number → ⊥)
-        → ring_at after number ≡ ring_at rings number
-
   -- what a node looks at after a change
   pub items_after : (pops : ℕ → ℕ) (pushes : ByPort) (rings after : List Ring)
-      → Moves pops pushes rings after → (port : ℕ)
+      → Moves inputs outputs pops pushes rings after → (port : ℕ)
       → items_at after (at_port inputs port)
       ≡ drop (pops port) (items_at rings (at_port inputs port))
   items_after pops pushes rings after moves port = by_port (at_port inputs port) refl
@@ -141,12 +119,12 @@ module _ (inputs outputs : List (Option ℕ)) where
 
   pub same_moves : (pops others : ℕ → ℕ) (pushes more : ByPort) (rings after : List Ring)
       → ((port : ℕ) → pops port ≡ others port) → ((port : ℕ) → pushes port ≡ more port)
-      → Moves pops pushes rings after → Moves others more rings after
+      → Moves inputs outputs pops pushes rings after → Moves inputs outputs others more rings after
   same_moves pops others pushes more rings after e f moves =
-      subst (λ (rates : ℕ → ℕ). Moves rates more rings after) (fun_ext e)
-      (subst (λ (lists : ByPort). Moves pops lists rings after) (fun_ext f) moves)
+      subst (λ (rates : ℕ → ℕ). Moves inputs outputs rates more rings after) (fun_ext e)
+      (subst (λ (lists : ByPort). Moves inputs outputs pops lists rings after) (fun_ext f) moves)
 
-  pub no_moves : (rings : List Ring) → Moves (λ port. 0) (λ port. []) rings rings
+  pub no_moves : (rings : List Ring) → Moves inputs outputs (λ port. 0) (λ port. []) rings rings
   no_moves rings = record {
     each = refl;
     takes = λ port number is. refl;
@@ -156,8 +134,10 @@ module _ (inputs outputs : List (Option ℕ)) where
 
   -- one change, and then another one
   pub both_move : (pops others : ℕ → ℕ) (pushes more : ByPort) (rings middle after : List Ring)
-      → Moves pops pushes rings middle → Moves others more middle after
-      → Moves (λ port. pops port + others port) (λ port. pushes port ++ more port) rings after
+      → Moves inputs outputs pops pushes rings middle
+      → Moves inputs outputs others more middle after
+      → Moves inputs outputs (λ port. pops port + others port) (λ port. pushes port ++ more port)
+      rings after
   both_move pops others pushes more rings middle after first second = record {
     each = second.each ∙ first.each;
     takes = λ port number is. second.takes port number is
@@ -170,11 +150,11 @@ module _ (inputs outputs : List (Option ℕ)) where
         ∙ first.stays number none neither;
   }
 
-  module _ (rings : List Ring) (placed : ArePlaced (length rings)) where
+  module _ (rings : List Ring) (placed : ArePlaced inputs outputs (length rings)) where
     -- items leave the ring at one port
     pub one_takes : (own count : ℕ) (pops : ℕ → ℕ) → pops own ≡ count
         → ((port : ℕ) → (port ≡ own → ⊥) → pops port ≡ 0)
-        → Moves pops (λ port. []) rings (taken (at_port inputs own) count rings)
+        → Moves inputs outputs pops (λ port. []) rings (taken (at_port inputs own) count rings)
     one_takes own count pops here others = record {
       each = taken_length rings (at_port inputs own) count;
       takes = λ port number is. elim (cases_eq port own) [
@@ -200,7 +180,7 @@ module _ (inputs outputs : List (Option ℕ)) where
     -- items join the ring at one port
     pub one_gives : (own : ℕ) (items : List ℤ) (pushes : ByPort) → pushes own ≡ items
         → ((port : ℕ) → (port ≡ own → ⊥) → pushes port ≡ [])
-        → Moves (λ port. 0) pushes rings (given (at_port outputs own) items rings)
+        → Moves inputs outputs (λ port. 0) pushes rings (given (at_port outputs own) items rings)
     one_gives own items pushes here others = record {
       each = given_length rings (at_port outputs own) items;
       takes = λ port number is.
@@ -225,17 +205,18 @@ module _ (inputs outputs : List (Option ℕ)) where
 
   -- a ring is where it was
   pub still_placed : (pops : ℕ → ℕ) (pushes : ByPort) (rings after : List Ring)
-      → Moves pops pushes rings after → ArePlaced (length rings) → ArePlaced (length after)
+      → Moves inputs outputs pops pushes rings after → ArePlaced inputs outputs (length rings)
+      → ArePlaced inputs outputs (length after)
   still_placed pops pushes rings after moves placed =
-      subst (λ (count : ℕ). ArePlaced count) (sym moves.each) placed
+      subst (λ (count : ℕ). ArePlaced inputs outputs count) (sym moves.each) placed
 
   -- items leave the ring at a port, and these or others join that at another
-  pub one_passes : (rings : List Ring) → ArePlaced (length rings)
+  pub one_passes : (rings : List Ring) → ArePlaced inputs outputs (length rings)
       → (own count : ℕ) (pops : ℕ → ℕ) → pops own ≡ count
       → ((port : ℕ) → (port ≡ own → ⊥) → pops port ≡ 0)
       → (to : ℕ) (items : List ℤ) (pushes : ByPort) → pushes to ≡ items
       → ((port : ℕ) → (port ≡ to → ⊥) → pushes port ≡ [])
-      → Moves pops pushes rings
+      → Moves inputs outputs pops pushes rings
       (given (at_port outputs to) items (taken (at_port inputs own) count rings))
   one_passes rings placed own count pops here others to items pushes there nowhere =
       let after = taken (at_port inputs own) count rings in

@@ -12,7 +12,8 @@ use Rattle.strc_admissible.specs.Rings.{copied_out, gathered_in}
 use Rattle.strc_admissible.proofs.ByPort.{only_at, but_at, NoneBelow, only_here, only_other}
 use Rattle.strc_admissible.proofs.ByPort.{but_below, but_later, at_first, all_none}
 use Rattle.strc_admissible.proofs.ByPort.{only_none, numbers_parted, lists_parted}
-use Rattle.strc_admissible.proofs.Changes.{ArePlaced, Moves, items_after, same_moves, no_moves}
+use Rattle.strc_admissible.specs.NodeSteps.{ArePlaced, Moves}
+use Rattle.strc_admissible.proofs.Changes.{items_after, same_moves, no_moves}
 use Rattle.strc_admissible.proofs.Changes.{both_move, one_gives, still_placed, one_passes}
 
 -- a rate at port 0 is none at another one

@@ -1,24 +1,21 @@
--- The rings at the ports of a flat graph's nodes: each channel's ring is at the channel's two
--- ends, and at no other port.
-use Rattle.std.proofs.Common.{◌≡◌, refl, sym, ap, ◌∙◌, subst, ℕ, ◌<◌, true, false}
-use Rattle.std.proofs.Common.{get_or, List, length, map, Option, Some, None, slice_get, inl, inr}
-use Rattle.std.proofs.Common.{arith, eqb-true}
+-- The rings at the ports of a graph's nodes: each channel's ring is at the channel's two ends, and
+-- at no other port.
+use Rattle.std.proofs.Common.{◌≡◌, refl, sym, ap, ◌∙◌, subst, ℕ, true, false}
+use Rattle.std.proofs.Common.{List, length, map, Option, Some, None, slice_get, eqb-true}
 use Rattle.std.specs.Option.{option_map, option_map_or}
-use Rattle.std.proofs.lemmas.Bool.{cases_lt, cases_eq, true≢false}
-use Rattle.std.proofs.lemmas.Option.{same_Some, slice_get_within, get_or_from_slice_get}
-use Rattle.std.proofs.lemmas.Option.{slice_get-map}
-use Rattle.strc_dataflow.specs.Flat.{Origin.Port, Source}
-use Rattle.strc_dataflow.specs.Streams.{Stream, flat}
+use Rattle.std.proofs.lemmas.Bool.{true≢false}
+use Rattle.std.proofs.lemmas.Option.{same_Some, slice_get_within, slice_get-map}
+use Rattle.strc_dataflow.specs.Flat.{Origin.Port}
+use Rattle.strc_dataflow.specs.Flat as flat
 use Rattle.strc_graph.specs.declared.graph.Port.{Port as End}
-use Rattle.strc_graph.specs.Graphs.{NodeCode, Channel, Graph, source_of}
+use Rattle.strc_graph.specs.Graphs.{NodeCode, Channel, Graph}
 use Rattle.strc_graph.specs.Carriers.{carries_in, takes_at, JoinsCarriers}
-use Rattle.strc_graph.specs.FlatGraphs.{IsBefore, IsProgram}
+use Rattle.strc_admissible.specs.ByChannels.{IsByChannels}
 use Rattle.strc_admissible.specs.Rings.{at_port}
 use Rattle.strc_admissible.specs.Wiring.{IsWired, PortRings, ports_at}
 use Rattle.strc_admissible.specs.Machine.{CircuitView}
 use Rattle.strc_admissible.specs.Circuits.{IsCircuit}
-use Rattle.strc_admissible.proofs.Apart.{no_own_source}
-use Rattle.strc_admissible.proofs.Changes.{ArePlaced}
+use Rattle.strc_admissible.specs.NodeSteps.{ArePlaced}
 use Rattle.strc_admissible.proofs.Supplies.{element}
 use Rattle.strc_admissible.proofs.Windows.{both_hold}
 
@@ -30,7 +27,7 @@ mapped_from : {A B : Type 0} (f : A → B) (found : Option A) (y : B) → option
 mapped_from f None y e = absurd (cc)
 mapped_from f (Some x) y e = (x, refl, same_Some (f x) y e)
 
-module _ (tree : Stream NodeCode) (graph : Graph) (program : IsProgram tree graph)
+module _ (running : flat.Graph NodeCode) (graph : Graph) (joins : IsByChannels running graph)
     (circuit : CircuitView) (is : IsCircuit graph circuit) where
   -- a channel by its number
   abbrev pub IsAt : ℕ → Channel → Type 0
@@ -41,55 +38,13 @@ module _ (tree : Stream NodeCode) (graph : Graph) (program : IsProgram tree grap
 
   -- ---- no two channels have one end
 
-  in_order : (first second : ℕ) (a b : Channel) → IsAt first a → IsAt second b → first < second
-      → IsBefore a b
-  in_order first second a b is_a is_b less =
-      subst (λ (own : Channel). IsBefore own b)
-      (get_or_from_slice_get graph.channels first a a is_a)
-      (subst (IsBefore (get_or graph.channels first a))
-      (get_or_from_slice_get graph.channels second b a is_b)
-      (program.flat.ordered first second a less
-      (slice_get_within graph.channels second b is_b)))
-
-  not_before : (a b : Channel) → a.source ≡ b.source → IsBefore a b → ⊥
-  not_before a b same before =
-      let node = ap (λ (end : End). end.node) same in
-      let port = ap (λ (end : End). end.port) same in
-      elim before [
-        | inl less ↦ absurd (omega (arith, less, node))
-        | inr (here, less) ↦ absurd (omega (arith, less, port))
-      ]
-
-  one_source : (first second : ℕ) (a b : Channel) → IsAt first a → IsAt second b
-      → a.source ≡ b.source → first ≡ second
-  one_source first second a b is_a is_b same = elim (cases_eq first second) [
-    | inl e ↦ e
-    | inr differs ↦ elim (cases_lt first second) [
-      | inl less ↦ absurd (not_before a b same (in_order first second a b is_a is_b less))
-      | inr past ↦ absurd (not_before b a (sym same)
-          (in_order second first b a is_b is_a (omega (arith, past, differs))))
-    ]
-  ]
-
-  pub source_is : (number : ℕ) (channel : Channel) → IsAt number channel
-      → (flat tree).source channel.target.node channel.target.port ≡ source_of channel
-  source_is number channel there =
-      element (λ (own : Channel). (flat tree).source own.target.node own.target.port
-      ≡ source_of own) graph.channels number channel program.flat.channels there
-
-  pub origin_is : (number : ℕ) (channel : Channel) → IsAt number channel
-      → ((flat tree).source channel.target.node channel.target.port).origin
-      ≡ Port channel.source.node channel.source.port
-  origin_is number channel there =
-      ap (λ (source : Source). source.origin) (source_is number channel there)
-
   one_target : (first second : ℕ) (a b : Channel) → IsAt first a → IsAt second b
       → a.target ≡ b.target → first ≡ second
   one_target first second a b is_a is_b same =
-      one_source first second a b is_a is_b
-      (same_port (sym (origin_is first a is_a)
-      ∙ ap (λ (end : End). ((flat tree).source end.node end.port).origin) same
-      ∙ origin_is second b is_b))
+      joins.one_source first second a b is_a is_b
+      (same_port (sym (joins.origins first a is_a)
+      ∙ ap (λ (end : End). (running.source end.node end.port).origin) same
+      ∙ joins.origins second b is_b))
     where
       same_port : Port a.source.node a.source.port ≡ Port b.source.node b.source.port
           → a.source ≡ b.source
@@ -97,12 +52,6 @@ module _ (tree : Stream NodeCode) (graph : Graph) (program : IsProgram tree grap
           let node : a.source.node ≡ b.source.node = cc in
           let port : a.source.port ≡ b.source.port = cc in
           ap (λ (n : ℕ). port_of n a.source.port) node ∙ ap (port_of b.source.node) port
-
-  pub apart : (number : ℕ) (channel : Channel) → IsAt number channel
-      → channel.source.node ≡ channel.target.node → ⊥
-  apart number channel there =
-      no_own_source tree channel.target.node channel.target.port channel.source.node
-      channel.source.port (origin_is number channel there)
 
   -- ---- a ring at a port is that of a channel with its end there
 
@@ -141,7 +90,7 @@ module _ (tree : Stream NodeCode) (graph : Graph) (program : IsProgram tree grap
 
   pub source_ring : (number : ℕ) (channel : Channel) → IsAt number channel
       → at_port (ports_at circuit.outputs channel.source.node) channel.source.port ≡ Some number
-  source_ring = ring_at_end (λ channel. channel.source) circuit.outputs is.outputs one_source
+  source_ring = ring_at_end (λ channel. channel.source) circuit.outputs is.outputs joins.one_source
 
   -- ---- the ports of a node
 
@@ -177,7 +126,7 @@ module _ (tree : Stream NodeCode) (graph : Graph) (program : IsProgram tree grap
       apart = λ port other number e f.
           let (a, is_a, ends_a) = input_channel node port number e in
           let (b, is_b, ends_b) = output_channel node other number f in
-          apart number a is_a
+          joins.apart number a is_a
           (ap (λ (own : Channel). own.source.node) (same_channel number a b is_a is_b)
           ∙ ap (λ (own : End). own.node) (ends_b ∙ refl)
           ∙ sym (ap (λ (own : End). own.node) ends_a));
@@ -192,10 +141,10 @@ module _ (tree : Stream NodeCode) (graph : Graph) (program : IsProgram tree grap
         by_port None e = refl
         by_port (Some number) e =
             let (channel, listed, ends) = input_channel node port number e in
-            let joins = element (JoinsCarriers graph.nodes) graph.channels number channel
-            program.flat.joined listed in
+            let ends_joined = element (JoinsCarriers graph.nodes) graph.channels number channel
+            joins.joined listed in
             let takes = ap (λ (end : End). takes_at graph.nodes end.node end.port) (sym ends)
-            ∙ joins.target in
+            ∙ ends_joined.target in
             let carries = ap (λ (found : Option NodeCode).
             option_map_or (λ own. carries_in own port) found false) (sym there) ∙ takes in
             absurd (true≢false (sym carries ∙ idle))
@@ -206,7 +155,7 @@ module _ (tree : Stream NodeCode) (graph : Graph) (program : IsProgram tree grap
         → (number : ℕ) × (channel : Channel) × IsAt number channel
         × (channel.target ≡ port_of node port) × (at_port inputs port ≡ Some number)
     carrier_fed code there port carries =
-        let (number, channel, listed, ends) = program.fed node port
+        let (number, channel, listed, ends) = joins.fed node port
         (ap (λ (found : Option NodeCode).
         option_map_or (λ own. carries_in own port) found false) there ∙ carries) in
         let both = both_hold _ _ ends in

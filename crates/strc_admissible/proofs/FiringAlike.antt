@@ -8,47 +8,37 @@ use Rattle.strc_dataflow.specs.Machine.{Stop}
 use Rattle.strc_dataflow.specs.Node.{ByPort, Fired.Fires, Fired.Faults}
 use Rattle.strc_dataflow.specs.Node as generic
 use Rattle.strc_dataflow.specs.Queues.{FifoProgress, FifoProgress.FifoWent}
-use Rattle.strc_dataflow.specs.Queues.{FifoProgress.FifoStopped, holds, fronts}
+use Rattle.strc_dataflow.specs.Queues.{holds, fronts}
 use Rattle.strc_dataflow.specs.Queues.{fifo_after, fifo_if, fifo_fire}
-use Rattle.strc_dataflow.specs.Streams.{Stream, flat}
+use Rattle.strc_dataflow.specs.Flat as flat
 use Rattle.strc_graph.specs.Graphs.{NodeCode, Graph}
-use Rattle.strc_graph.specs.FlatGraphs.{IsProgram}
+use Rattle.strc_admissible.specs.ByChannels.{IsByChannels}
 use Rattle.strc_graph.specs.Meaning.{node_meaning, node_fired}
-use Rattle.strc_graph.specs.Rates.{fires_by_rounds, pops_at}
+use Rattle.strc_graph.specs.Rates.{pops_at}
 use Rattle.strc_admissible.specs.Circuits.{IsCircuit}
 use Rattle.strc_admissible.specs.Fits.{Queues, FitNow, FitThen}
-use Rattle.strc_admissible.specs.Machine as machines
 use Rattle.strc_admissible.specs.Machine.{CircuitView, MachineView, step_at, next_step}
 use Rattle.strc_admissible.specs.Machine.{after_step}
+use Rattle.strc_admissible.specs.NodeSteps.{ArePlaced, Matches, Shows, HasOwnWindow}
+use Rattle.strc_admissible.specs.NodeSteps.{finds_in, sees_of}
 use Rattle.strc_admissible.specs.Rings.{Ring, items_at}
+use Rattle.strc_admissible.specs.Simulation.{Simulates, IsAlike}
 use Rattle.strc_admissible.specs.Steps as steps
 use Rattle.strc_admissible.specs.Steps.{Step, maybe_step, node_step}
 use Rattle.strc_admissible.specs.Wiring.{ports_at}
-use Rattle.strc_admissible.proofs.Changes.{ArePlaced}
 use Rattle.strc_admissible.proofs.Ends.{are_placed, idle_empty, carrier_fed}
 use Rattle.strc_admissible.proofs.NodeSteps.{node_matches}
 use Rattle.strc_admissible.proofs.Orders.{is_reader}
-use Rattle.strc_admissible.proofs.Simulation.{Simulates}
-use Rattle.strc_admissible.proofs.Stepping.{finds_in, sees_of, Matches, Shows}
 use Rattle.strc_admissible.proofs.Advancing.{next_queues, next_machine, next_simulates}
 
--- both went on alike, or both stopped at the same fault
-abbrev pub IsAlike : Graph → (sizes : List ℕ) → (input : List ℤ)
-    → FifoProgress (List ℤ) Cause Word → machines.Progress → Type 0
-IsAlike graph sizes input (FifoWent now) (machines.Went machine) =
-    Simulates graph sizes input now machine
-IsAlike graph sizes input (FifoStopped stop) (machines.Stopped node firing cause) =
-    stop ≡ record { node = node; firing = firing; cause = cause }
-IsAlike _ _ _ _ _ = ⊥
-
-module _ (tree : Stream NodeCode) (graph : Graph) (program : IsProgram tree graph)
+module _ (running : flat.Graph NodeCode) (graph : Graph) (joins : IsByChannels running graph)
     (circuit : CircuitView) (is : IsCircuit graph circuit) (sizes : List ℕ) (input : List ℤ)
     (reads_it : circuit.input ≡ input) (now : Queues) (machine : MachineView)
     (simulates : Simulates graph sizes input now machine) (node : ℕ)
     (within : node < length graph.nodes)
-    (there : slice_get graph.nodes node ≡ Some ((flat tree).code node)) where
+    (there : slice_get graph.nodes node ≡ Some (running.code node)) where
   abbrev code : NodeCode
-  code = (flat tree).code node
+  code = running.code node
 
   abbrev firing : ℕ
   firing = (now.runs node).fired
@@ -70,7 +60,7 @@ module _ (tree : Stream NodeCode) (graph : Graph) (program : IsProgram tree grap
   step_is : next_step circuit machine node
       ≡ node_step code firing state inputs outputs input machine.rings
   step_is =
-      ap (λ (own : ℕ). step_at circuit machine node own) (simulates.fired node within)
+      ap (λ (number : ℕ). step_at circuit machine node number) (simulates.fired node within)
       ∙ ap (λ (own : List ℤ). maybe_step (slice_get circuit.codes node) firing own inputs outputs
       circuit.input machine.rings) (simulates.fields node within)
       ∙ ap (λ (found : Option NodeCode). maybe_step found firing state inputs outputs
@@ -81,47 +71,47 @@ module _ (tree : Stream NodeCode) (graph : Graph) (program : IsProgram tree grap
 
   placed : ArePlaced inputs outputs (length machine.rings)
   placed = subst (λ (own : ℕ). ArePlaced inputs outputs own) (sym simulates.each_ring)
-      (are_placed tree graph program circuit is node)
+      (are_placed running graph joins circuit is node)
 
-  shows : Shows inputs outputs machine.rings placed (now.queues node) code
+  shows : Shows inputs machine.rings (now.queues node) code
   shows = record {
     holds = λ port carries.
         let (number, channel, listed, ends, ring) =
-        carrier_fed tree graph program circuit is node code there port carries in
+        carrier_fed running graph joins circuit is node code there port carries in
         ap (items_at machine.rings) ring
         ∙ ap (λ (own : Ring). own.items) (simulates.rings number channel listed)
         ∙ ap (λ end. now.queues end.node end.port) ends;
-    empty = idle_empty tree graph program circuit is node code there;
+    empty = idle_empty running graph joins circuit is node code there;
   }
 
-  pub step_matches : fires_by_rounds code ≡ false
+  pub step_matches : HasOwnWindow code firing
       → Matches inputs outputs (pops_at code firing) machine.rings
       (finds_in code firing (now.queues node))
       (node_fired code firing state (sees_of code firing (now.queues node)))
       (next_step circuit machine node)
-  step_matches alone =
+  step_matches own =
       subst (Matches inputs outputs (pops_at code firing) machine.rings
       (finds_in code firing (now.queues node))
       (node_fired code firing state (sees_of code firing (now.queues node)))) (sym step_is)
-      (node_matches inputs outputs machine.rings placed (now.queues node) code alone firing state
-      input shows
+      (node_matches inputs outputs machine.rings placed (now.queues node) code firing state input
+      shows
       (λ reader. let reads = is_reader code reader in
-      simulates.reads node reads.0 (there ∙ ap Some reads.1)))
+      simulates.reads node reads.0 (there ∙ ap Some reads.1)) own)
 
   -- a firing that finds its windows or doesn't
   abbrev pub found_progress : Bool → generic.Fired (List ℤ) Cause Word
       → FifoProgress (List ℤ) Cause Word
-  found_progress true fired = fifo_after node_meaning (flat tree) now node fired
+  found_progress true fired = fifo_after node_meaning running now node fired
   found_progress false fired = FifoWent now
 
-  progress_is : (found : Bool) → fifo_if node_meaning (flat tree) now node found
+  progress_is : (found : Bool) → fifo_if node_meaning running now node found
       ≡ found_progress found (node_meaning.fire code firing state
-      (fronts node_meaning (flat tree) node firing (now.queues node)))
+      (fronts node_meaning running node firing (now.queues node)))
   unfolding fifo_if
   progress_is true = refl
   progress_is false = refl
 
-  pub fire_is : fifo_fire node_meaning (flat tree) now node
+  pub fire_is : fifo_fire node_meaning running now node
       ≡ found_progress (finds_in code firing (now.queues node))
       (node_fired code firing state (sees_of code firing (now.queues node)))
   unfolding fifo_fire holds fronts
@@ -138,12 +128,12 @@ module _ (tree : Stream NodeCode) (graph : Graph) (program : IsProgram tree grap
   found_alike false fired steps.Stays matches fit = simulates
   found_alike true (Fires fields pushes words) (steps.Goes own after printed) matches fit =
       subst (λ (l : List ℤ). Simulates graph sizes input
-      (next_queues tree now node fields pushes words)
+      (next_queues running now node fields pushes words)
       (next_machine machine node l after printed)) (sym matches.0)
       (subst (λ (l : List Word). Simulates graph sizes input
-      (next_queues tree now node fields pushes words)
+      (next_queues running now node fields pushes words)
       (next_machine machine node fields after l)) (sym matches.1)
-      (next_simulates tree graph program circuit is sizes input now machine simulates node within
+      (next_simulates running graph joins circuit is sizes input now machine simulates node within
       there
       fields pushes words after matches.2 fit))
   found_alike true (Faults cause) (steps.Faults own) matches fit =
@@ -151,14 +141,14 @@ module _ (tree : Stream NodeCode) (graph : Graph) (program : IsProgram tree grap
       ∙ ap (stop_of (slice_index machine.fired node)) (sym matches)
   found_alike found fired step matches fit = absurd matches
 
-  pub fire_alike : fires_by_rounds code ≡ false
-      → FitThen (FitNow graph.channels sizes) (fifo_fire node_meaning (flat tree) now node)
-      → IsAlike graph sizes input (fifo_fire node_meaning (flat tree) now node)
+  pub fire_alike : HasOwnWindow code firing
+      → FitThen (FitNow graph.channels sizes) (fifo_fire node_meaning running now node)
+      → IsAlike graph sizes input (fifo_fire node_meaning running now node)
       (after_step machine node (next_step circuit machine node))
-  fire_alike alone fit =
+  fire_alike own fit =
       subst (λ (progress : FifoProgress (List ℤ) Cause Word). IsAlike graph sizes input progress
       (after_step machine node (next_step circuit machine node))) (sym fire_is)
       (found_alike (finds_in code firing (now.queues node))
       (node_fired code firing state (sees_of code firing (now.queues node)))
-      (next_step circuit machine node) (step_matches alone)
+      (next_step circuit machine node) (step_matches own)
       (subst (FitThen (FitNow graph.channels sizes)) fire_is fit))

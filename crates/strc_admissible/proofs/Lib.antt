@@ -14,13 +14,16 @@ pub mod Changes
 pub mod ByPort
 pub mod Dealing
 pub mod Stepping
+pub mod FissionSteps
 pub mod NodeSteps
 pub mod Outside
 pub mod Apart
+pub mod TreeGraphs
 pub mod Ends
 pub mod Simulation
 pub mod Advancing
 pub mod FiringAlike
+pub mod OrdersAlike
 pub mod RunAlike
 pub mod RingRuns
 pub mod Found

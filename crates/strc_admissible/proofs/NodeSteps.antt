@@ -1,5 +1,5 @@
 -- A firing of any node over rings is its firing over queues.
-use Rattle.std.proofs.Common.{◌≡◌, refl, sym, ap, ◌∙◌, ℕ, ◌+◌, ℤ, Bool, true, false}
+use Rattle.std.proofs.Common.{◌≡◌, refl, sym, ap, ◌∙◌, ℕ, ◌+◌, ℤ, Bool, false}
 use Rattle.std.proofs.Common.{leb, List, [], ◌++◌, length, map, take, drop, sum, Option, None}
 use Rattle.std.proofs.Common.{arith, subst}
 use Rattle.std.specs.Prelude.{if◌then◌else◌, slice_index_or, nat_lt, nat_le}
@@ -8,23 +8,27 @@ use Rattle.strc_semantics.specs.declared.word.Word.{Word}
 use Rattle.strc_dataflow.specs.Node.{ByPort, at_port_0}
 use Rattle.strc_dataflow.specs.Node as generic
 use Rattle.strc_dataflow.specs.Histories.{all_below}
-use Rattle.strc_dataflow.specs.RoundRobin.{one_cycle}
+use Rattle.strc_graph.specs.declared.graph.Fission.{Fission}
 use Rattle.strc_graph.specs.Graphs.{NodeCode, Filter, Identity, FileReader, FileWriter, Splitter}
 use Rattle.strc_graph.specs.Graphs.{Joiner, Scatter, Copy, Gather, SplitterCode, Duplicate}
-use Rattle.strc_graph.specs.Graphs.{Roundrobin, reads_input}
-use Rattle.strc_graph.specs.Meaning.{node_fired, split, line_of}
+use Rattle.strc_graph.specs.Graphs.{Roundrobin, CopiedCode, OfFilter, OfIdentity}
+use Rattle.strc_graph.specs.Meaning.{node_fired, copied_fired, split, line_of}
 use Rattle.strc_graph.specs.Rates.{fires_by_rounds, rate_at_0, pops_at, splitter_pops}
+use Rattle.strc_graph.specs.Rates.{filter_window, filter_pops, copy_pops}
 use Rattle.strc_admissible.specs.Rings.{Ring, at_port, items_at, given, taken, moved, dealt_out}
-use Rattle.strc_admissible.specs.Rings.{copied_out, gathered_in}
+use Rattle.strc_admissible.specs.Rings.{copied_out}
 use Rattle.strc_admissible.specs.Steps as steps
-use Rattle.strc_admissible.specs.Steps.{node_step, finds_weights, splitter_step}
-use Rattle.strc_admissible.proofs.Changes.{ArePlaced, Moves, same_moves, both_move, one_takes}
-use Rattle.strc_admissible.proofs.Changes.{still_placed, one_passes}
+use Rattle.strc_admissible.specs.Steps.{node_step, splitter_step, copy_step}
+use Rattle.strc_admissible.specs.NodeSteps.{ArePlaced, Moves, Matches, Shows, Reads, HasOwnWindow}
+use Rattle.strc_admissible.specs.NodeSteps.{finds_in, sees_of}
+use Rattle.strc_admissible.proofs.Changes.{same_moves, both_move, one_takes, still_placed}
+use Rattle.strc_admissible.proofs.Changes.{one_passes}
 use Rattle.strc_admissible.proofs.Dealing.{rate_elsewhere, list_elsewhere, copies_move, piece}
 use Rattle.strc_admissible.proofs.Dealing.{dealing_moves}
-use Rattle.strc_admissible.proofs.Stepping.{finds_in, sees_of, Matches, reader_test, piece_within}
-use Rattle.strc_admissible.proofs.Stepping.{Shows, tests_match, test_same, side_matches}
-use Rattle.strc_admissible.proofs.Stepping.{joiner_finds, joiner_moves}
+use Rattle.strc_admissible.proofs.FissionSteps.{scatter_matches, identity_copy_matches}
+use Rattle.strc_admissible.proofs.FissionSteps.{gather_matches}
+use Rattle.strc_admissible.proofs.Stepping.{reader_test, piece_within, tests_match, test_same}
+use Rattle.strc_admissible.proofs.Stepping.{side_matches, joiner_matches}
 
 module _ (inputs outputs : List (Option ℕ)) (rings : List Ring)
     (placed : ArePlaced inputs outputs (length rings)) (queue : ByPort) where
@@ -125,36 +129,51 @@ module _ (inputs outputs : List (Option ℕ)) (rings : List Ring)
       (test_same inputs outputs rings placed queue (sum weights) is)
       (refl, refl, parting_moves weights is)
 
+  -- ---- copies
+
+  copy_matches : (copied : CopiedCode) (fission : Fission) (firing : ℕ) (fields : List ℤ)
+      → Shows inputs rings queue (Copy copied fission)
+      → HasOwnWindow (Copy copied fission) firing
+      → AlikeBy (rate_at_0 (copy_pops fission firing))
+      (finds_in (Copy copied fission) firing queue)
+      (copied_fired copied firing fields (sees_of (Copy copied fission) firing queue))
+      (copy_step copied fission firing fields (at_port inputs 0) (at_port outputs 0) rings)
+  unfolding all_below
+  copy_matches (OfFilter name filter) fission firing fields shows own =
+      side_matches inputs outputs rings placed queue filter firing fields fission.window
+      (copy_pops fission firing) (omega (arith, own)) filter.input
+      (shows.holds 0) (shows.empty 0)
+  copy_matches OfIdentity fission firing fields shows own =
+      identity_copy_matches fission inputs outputs rings placed queue (shows.holds 0 refl) firing
+      fields own
+
   -- ---- nodes
 
-  -- what a reader reads is what is left of the program's input
-  abbrev pub Reads : NodeCode → (number : ℕ) → (input : List ℤ) → Type 0
-  Reads code number input = reads_input code ≡ true → queue 0 ≡ drop number input
-
-  pub node_matches : (code : NodeCode) → fires_by_rounds code ≡ false → (number : ℕ)
-      (fields input : List ℤ) → Shows inputs outputs rings placed queue code
-      → Reads code number input
-      → Matches inputs outputs (pops_at code number) rings (finds_in code number queue)
-      (node_fired code number fields (sees_of code number queue))
-      (node_step code number fields inputs outputs input rings)
+  pub node_matches : (code : NodeCode) (firing : ℕ) (fields input : List ℤ)
+      → Shows inputs rings queue code → Reads queue code firing input
+      → HasOwnWindow code firing
+      → Matches inputs outputs (pops_at code firing) rings (finds_in code firing queue)
+      (node_fired code firing fields (sees_of code firing queue))
+      (node_step code firing fields inputs outputs input rings)
   unfolding all_below
-  node_matches (Filter name filter) alone number fields input shows reads =
-      side_matches inputs outputs rings placed queue filter number fields filter.input
+  node_matches (Filter name filter) firing fields input shows reads own =
+      side_matches inputs outputs rings placed queue filter firing fields
+      (filter_window filter firing) (filter_pops filter firing) (omega arith) filter.input
       (shows.holds 0) (shows.empty 0)
-  node_matches Identity alone number fields input shows reads =
+  node_matches Identity firing fields input shows reads own =
       tests_match inputs outputs (rate_at_0 1) rings (leb 1 (length (queue 0)))
       (nat_le 1 (length (at 0))) (generic.Fired.Fires [] (at_port_0 (take 1 (queue 0))) [])
       (steps.Goes [] (moved (at_port inputs 0) (at_port outputs 0) 1 rings) [])
       (test_same inputs outputs rings placed queue 1 (shows.holds 0 refl))
       (refl, refl, pass_moves (shows.holds 0 refl))
-  node_matches (FileReader text) alone number fields input shows reads =
+  node_matches (FileReader text) firing fields input shows reads own =
       tests_match inputs outputs (rate_at_0 1) rings (leb 1 (length (queue 0)))
-      (nat_lt number (length input))
+      (nat_lt firing (length input))
       (generic.Fired.Fires [] (at_port_0 (take 1 (queue 0))) [])
-      (steps.Goes [] (given (at_port outputs 0) (take 1 (drop number input)) rings) [])
-      (reader_test number input (queue 0) (reads refl))
-      (refl, refl, reader_moves number input (shows.empty 0 refl) (reads refl))
-  node_matches (FileWriter text) alone number fields input shows reads =
+      (steps.Goes [] (given (at_port outputs 0) (take 1 (drop firing input)) rings) [])
+      (reader_test firing input (queue 0) (reads refl))
+      (refl, refl, reader_moves firing input (shows.empty 0 refl) (reads refl))
+  node_matches (FileWriter text) firing fields input shows reads own =
       tests_match inputs outputs (rate_at_0 1) rings (leb 1 (length (queue 0)))
       (nat_le 1 (length (at 0)))
       (generic.Fired.Fires [] (λ port. []) (map line_of (take 1 (queue 0))))
@@ -164,16 +183,26 @@ module _ (inputs outputs : List (Option ℕ)) (rings : List Ring)
         ap (λ (l : List ℤ). map line_of (take 1 l)) (shows.holds 0 refl),
         one_takes inputs outputs rings placed 0 1 (rate_at_0 1) refl (rate_elsewhere 1),
       )
-  node_matches (Splitter splitter) alone number fields input shows reads =
+  node_matches (Splitter splitter) firing fields input shows reads own =
       splitter_matches splitter (shows.holds 0 refl)
-  node_matches (Joiner weights) alone number fields input shows reads =
-      tests_match inputs outputs (pops_at (Joiner weights) number) rings
-      (finds_in (Joiner weights) number queue) (finds_weights weights inputs 0 rings)
-      (generic.Fired.Fires []
-      (at_port_0 (one_cycle weights 0 (sees_of (Joiner weights) number queue))) [])
-      (steps.Goes [] (gathered_in weights inputs (at_port outputs 0) 0 rings) [])
-      (joiner_finds inputs outputs rings placed queue weights number shows)
-      (refl, refl, joiner_moves inputs outputs rings placed queue weights number shows)
-  node_matches (Scatter fission) alone number fields input shows reads = absurd (cc)
-  node_matches (Copy copied fission) alone number fields input shows reads = absurd (cc)
-  node_matches (Gather fission) alone number fields input shows reads = absurd (cc)
+  node_matches (Joiner weights) firing fields input shows reads own =
+      joiner_matches inputs outputs rings placed queue weights firing shows.holds
+  node_matches (Scatter fission) firing fields input shows reads own =
+      scatter_matches fission inputs outputs rings placed queue (shows.holds 0 refl)
+  node_matches (Copy copied fission) firing fields input shows reads own =
+      copy_matches copied fission firing fields shows own
+  node_matches (Gather fission) firing fields input shows reads own =
+      gather_matches fission inputs outputs rings placed queue firing shows.holds
+
+-- only a copy's window is asked for
+pub window_unasked : (code : NodeCode) (firing : ℕ) → fires_by_rounds code ≡ false
+    → HasOwnWindow code firing
+window_unasked (Filter name filter) firing alone = tt
+window_unasked Identity firing alone = tt
+window_unasked (FileReader text) firing alone = tt
+window_unasked (FileWriter text) firing alone = tt
+window_unasked (Splitter splitter) firing alone = tt
+window_unasked (Joiner weights) firing alone = tt
+window_unasked (Scatter fission) firing alone = tt
+window_unasked (Copy copied fission) firing alone = absurd (cc)
+window_unasked (Gather fission) firing alone = tt

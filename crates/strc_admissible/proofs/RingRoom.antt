@@ -22,16 +22,18 @@ use Rattle.strc_admissible.specs.Machine.{CircuitView, MachineView, order_run, n
 use Rattle.strc_admissible.specs.Planned.{IsPlanned, AreKnown, items_read}
 use Rattle.strc_admissible.specs.RingRoom.{HoldQueues, HasRoom, RingsHaveRoom, FindsRoom}
 use Rattle.strc_admissible.specs.RingRoom.{next_fired}
+use Rattle.strc_admissible.specs.ByChannels.{IsByChannels}
+use Rattle.strc_admissible.specs.Simulation.{Simulates, IsAlike}
 use Rattle.strc_admissible.proofs.Filling.{run_fits, run_nodes, generic_run}
-use Rattle.strc_admissible.proofs.FiringAlike.{IsAlike}
 use Rattle.strc_admissible.proofs.Found.{found_after}
 use Rattle.strc_admissible.proofs.Keeping.{nodes_keep_rates, nodes_take_within}
 use Rattle.strc_admissible.proofs.Orders.{AreNodes}
 use Rattle.strc_admissible.proofs.Peaks.{run_order}
 use Rattle.strc_admissible.proofs.Rounds.{round_nodes}
-use Rattle.strc_admissible.proofs.RunAlike.{first_simulates, node_there, order_alike}
-use Rattle.strc_admissible.proofs.RunAlike.{then_fits}
-use Rattle.strc_admissible.proofs.Simulation.{Simulates}
+use Rattle.strc_admissible.proofs.NodeSteps.{window_unasked}
+use Rattle.strc_admissible.proofs.OrdersAlike.{node_there, then_fits}
+use Rattle.strc_admissible.proofs.RunAlike.{first_simulates, order_alike}
+use Rattle.strc_admissible.proofs.TreeGraphs.{by_channels}
 use Rattle.strc_admissible.proofs.Splitting.{fit_now, fit_split}
 use Rattle.strc_admissible.proofs.StepRoom.{next_finds_room}
 
@@ -61,6 +63,9 @@ module _ (tree : Stream NodeCode) (graph : Graph) (schedule : ScheduleParts) (in
 
   abbrev FitsFor : List ℕ → Queues → Type 0
   FitsFor = Fit (flat tree) graph.channels schedule.sizes
+
+  joins : IsByChannels (flat tree) graph
+  joins = by_channels tree graph program
 
   abbrev go : List ℕ → Queues → FifoProgress (List ℤ) Cause Word
   go = fifo_go node_meaning (flat tree)
@@ -94,18 +99,19 @@ module _ (tree : Stream NodeCode) (graph : Graph) (schedule : ScheduleParts) (in
           let within = left_nodes node
           (subst (λ (l : List ℕ). 0 < firing_count l node) (sym follows)
           (omega (arith, turns_same 1 node node refl))) in
-          let there = node_there tree graph program planned.unfissioned circuit is schedule.sizes
-          input reads node within in
+          let there = node_there (flat tree) graph joins circuit is schedule.sizes input reads
+          node within in
           let valid = subst (λ (l : List ℕ). orders.IsOrder node_meaning (flat tree) input
           (λ v. 0) l) (sym same ∙ ap (λ (l : List ℕ). done ++ l) follows)
           (generic_run graph schedule planned tree input rounds program known few supplied) in
-          next_finds_room tree graph program circuit is schedule.sizes input reads now machine
-          simulates node within there (planned.unfissioned node ((flat tree).code node) there)
+          next_finds_room (flat tree) graph joins circuit is schedule.sizes input reads now machine
+          simulates node within there (window_unasked ((flat tree).code node)
+          (now.runs node).fired (planned.unfissioned node ((flat tree).code node) there))
           (found_after node_meaning (flat tree) input
           (nodes_keep_rates tree graph schedule program.flat planned known)
           (nodes_take_within tree graph schedule program.flat planned) done node rest valid now
           went)
-          (then_fits tree graph program planned.unfissioned circuit is schedule.sizes input reads
+          (then_fits (flat tree) graph joins circuit is schedule.sizes input reads
           rest (fifo_fire node_meaning (flat tree) now node) fit.1)
 
       has_room : FitsFor left now → HasRoom tree graph schedule.sizes circuit left now machine

@@ -1,6 +1,6 @@
 -- The run over rings ends as the run over queues does: order by order, and round by round.
 use Rattle.std.proofs.Common.{◌≡◌, refl, sym, ap, ◌∙◌, subst, ℕ, zero, suc, ◌<◌, ◌≤◌, ℤ, List, []}
-use Rattle.std.proofs.Common.{◌∷◌, ◌++◌, length, get_or, Some, slice_get, arith}
+use Rattle.std.proofs.Common.{◌++◌, length, get_or, Some, slice_get}
 use Rattle.std.proofs.Common.{slice_index, slice_index_or, false}
 use Rattle.std.proofs.lemmas.List.{append-nil, get_or-map, get_or-replicate, length-map}
 use Rattle.std.proofs.lemmas.List.{length-replicate}
@@ -12,7 +12,7 @@ use Rattle.strc_dataflow.specs.Answer.{Outcome, words_of}
 use Rattle.strc_dataflow.specs.Flat.{Source, items_of, arrived}
 use Rattle.strc_dataflow.specs.Histories.{initial_run}
 use Rattle.strc_dataflow.specs.Queues.{FifoProgress, FifoProgress.FifoWent}
-use Rattle.strc_dataflow.specs.Queues.{FifoProgress.FifoStopped, fifo_fire, fifo_then, fifo_go}
+use Rattle.strc_dataflow.specs.Queues.{FifoProgress.FifoStopped, fifo_go}
 use Rattle.strc_dataflow.specs.Queues.{fifo_at_first, fifo_round_outcome, fifo_rounds}
 use Rattle.strc_dataflow.specs.Queues.{fifo_startup_outcome, fifo_run}
 use Rattle.strc_dataflow.specs.Streams.{Stream, flat}
@@ -21,21 +21,24 @@ use Rattle.strc_graph.specs.FlatGraphs.{IsProgram}
 use Rattle.strc_graph.specs.Meaning.{node_meaning, node_fields}
 use Rattle.strc_graph.specs.Rates.{fires_by_rounds}
 use Rattle.strc_order.specs.Order.{repeated}
-use Rattle.strc_order.proofs.FiringCounts.{turns_same}
 use Rattle.strc_admissible.specs.Circuits.{IsCircuit, IsFirst}
 use Rattle.strc_admissible.specs.Fits.{Queues, FitNow, FitThen, Fit}
 use Rattle.strc_admissible.specs.Machine as machines
 use Rattle.strc_admissible.specs.Machine.{CircuitView, MachineView, next_step, after_step}
 use Rattle.strc_admissible.specs.Machine.{then_go, order_run, after_round, rounds_run}
 use Rattle.strc_admissible.specs.Machine.{after_startup, whole_run, words_at}
+use Rattle.strc_admissible.specs.ByChannels.{IsByChannels}
+use Rattle.strc_admissible.specs.NodeSteps.{HasOwnWindow}
 use Rattle.strc_admissible.specs.RingAnswer.{AreWordsOf, Tells}
+use Rattle.strc_admissible.specs.Simulation.{Simulates, IsAlike}
 use Rattle.strc_admissible.proofs.Changes.{extended_all}
 use Rattle.strc_admissible.proofs.Codes.{code_is}
-use Rattle.strc_admissible.proofs.Ends.{source_is}
-use Rattle.strc_admissible.proofs.FiringAlike.{IsAlike, fire_alike}
+use Rattle.strc_admissible.proofs.NodeSteps.{window_unasked}
 use Rattle.strc_admissible.proofs.Orders.{AreNodes}
+use Rattle.strc_admissible.proofs.OrdersAlike.{node_there}
+use Rattle.strc_admissible.proofs.OrdersAlike.{order_alike as any_order_alike}
 use Rattle.strc_admissible.proofs.Splitting.{fit_now, fit_split}
-use Rattle.strc_admissible.proofs.Simulation.{Simulates}
+use Rattle.strc_admissible.proofs.TreeGraphs.{by_channels, source_is}
 
 module _ (tree : Stream NodeCode) (graph : Graph) (program : IsProgram tree graph)
     (each : (node : ℕ) (code : NodeCode) → slice_get graph.nodes node ≡ Some code
@@ -54,51 +57,20 @@ module _ (tree : Stream NodeCode) (graph : Graph) (program : IsProgram tree grap
   abbrev Alike : FifoProgress (List ℤ) Cause Word → machines.Progress → Type 0
   Alike = IsAlike graph sizes input
 
-  pub node_there : (node : ℕ) → node < count
-      → slice_get graph.nodes node ≡ Some ((flat tree).code node)
-  node_there node within =
-      let there = slice_get-get_or graph.nodes node Identity within in
-      there ∙ ap Some (sym (code_is tree graph program.flat node (get_or graph.nodes node Identity)
-      there))
+  joins : IsByChannels (flat tree) graph
+  joins = by_channels tree graph program
 
-  -- ---- an order
-
-  pub then_fits : (order : List ℕ) (progress : FifoProgress (List ℤ) Cause Word)
-      → FitThen (FitsFor order) progress → FitThen (FitNow graph.channels sizes) progress
-  then_fits order (FifoWent next) fit =
-      fit_now (flat tree) graph.channels sizes order next fit
-  then_fits order (FifoStopped stop) fit = tt
-
-  then_alike : (order : List ℕ) (progress : FifoProgress (List ℤ) Cause Word)
-      (own : machines.Progress) → Alike progress own → FitThen (FitsFor order) progress
-      → ((now : Queues) (machine : MachineView) → FitsFor order now
-      → Simulates graph sizes input now machine
-      → Alike (go order now) (order_run circuit order machine))
-      → Alike (fifo_then (go order) progress) (then_go (order_run circuit order) own)
-  unfolding fifo_then
-  then_alike order (FifoWent next) (machines.Went machine) alike fit later =
-      later next machine fit alike
-  then_alike order (FifoStopped stop) (machines.Stopped node firing cause) alike fit later = alike
-  then_alike order (FifoWent next) (machines.Stopped node firing cause) alike fit later =
-      absurd alike
-  then_alike order (FifoStopped stop) (machines.Went machine) alike fit later = absurd alike
+  -- no node is one of fission
+  windows : (node firing : ℕ) → node < count → HasOwnWindow ((flat tree).code node) firing
+  windows node firing within =
+      window_unasked ((flat tree).code node) firing (each node ((flat tree).code node)
+      (node_there (flat tree) graph joins circuit is sizes input reads_it node within))
 
   pub order_alike : (order : List ℕ) → AreNodes graph order → (now : Queues)
       (machine : MachineView) → FitsFor order now → Simulates graph sizes input now machine
       → Alike (go order now) (order_run circuit order machine)
-  unfolding fifo_go
-  order_alike [] nodes now machine fit simulates = simulates
-  order_alike (node ∷ order) nodes now machine (fit, then_fit) simulates =
-      let within = nodes node (omega (arith, turns_same 1 node node refl)) in
-      let there = node_there node within in
-      then_alike order (fifo_fire node_meaning (flat tree) now node)
-      (after_step machine node (next_step circuit machine node))
-      (fire_alike tree graph program circuit is sizes input reads_it now machine simulates node
-      within
-      there (each node ((flat tree).code node) there)
-      (then_fits order (fifo_fire node_meaning (flat tree) now node) then_fit))
-      then_fit
-      (order_alike order (λ other some. nodes other (omega (arith, some))))
+  order_alike =
+      any_order_alike (flat tree) graph joins circuit is sizes input reads_it windows
 
   -- ---- rounds
 
@@ -177,7 +149,7 @@ module _ (tree : Stream NodeCode) (graph : Graph) (program : IsProgram tree grap
           let size = slice_index sizes number in
           let comes = ap (λ (source : Source). arrived input (λ v. initial_run node_meaning
           ((flat tree).code v)) source)
-          (source_is tree graph program circuit is number channel listed)
+          (source_is tree graph program number channel listed)
           ∙ append-nil channel.enqueued in
           first.rings.first number channel listed
           ∙ extended_all channel.enqueued (buffer [] size)

@@ -1,49 +1,30 @@
 -- The machine over rings is as the one over queues: its rings hold the queues of the channels.
-use Rattle.std.proofs.Common.{◌≡◌, refl, sym, ap, ◌∙◌, subst, ℕ, ◌<◌, ◌≤◌, ℤ}
+use Rattle.std.proofs.Common.{◌≡◌, refl, sym, ap, ◌∙◌, subst, ℕ, ◌≤◌, ℤ}
 use Rattle.std.proofs.Common.{Bool, true, false, cond, eqb, List, [], ◌++◌, length, drop, Some}
-use Rattle.std.proofs.Common.{slice_get, slice_index, slice_index_or, eqb-true}
+use Rattle.std.proofs.Common.{slice_get, eqb-true}
 use Rattle.std.proofs.lemmas.Bool.{ne_eqb, eqb-false}
 use Rattle.circular_buffer.specs.Buffer.{buffer}
 use Rattle.strc_dataflow.specs.Flat.{Origin}
+use Rattle.strc_dataflow.specs.Flat as flat
 use Rattle.strc_dataflow.specs.Node.{ByPort}
 use Rattle.strc_dataflow.specs.Queues.{added, moved}
-use Rattle.strc_dataflow.specs.Streams.{Stream, flat}
 use Rattle.strc_graph.specs.declared.graph.Port.{Port as End}
-use Rattle.strc_graph.specs.Graphs.{NodeCode, FileReader, Channel, Graph}
-use Rattle.strc_graph.specs.FlatGraphs.{IsProgram}
+use Rattle.strc_graph.specs.Graphs.{NodeCode, Channel, Graph}
+use Rattle.strc_admissible.specs.ByChannels.{IsByChannels}
 use Rattle.strc_graph.specs.Meaning.{node_meaning}
 use Rattle.strc_graph.specs.Rates.{pops_at}
 use Rattle.strc_admissible.specs.Circuits.{IsCircuit}
 use Rattle.strc_admissible.specs.Fits.{Queues}
-use Rattle.strc_admissible.specs.Machine.{CircuitView, MachineView}
+use Rattle.strc_admissible.specs.Machine.{CircuitView}
 use Rattle.strc_admissible.specs.Rings.{Ring, ring_at, at_port, shortened, extended}
-use Rattle.strc_admissible.specs.RingAnswer.{AreWordsOf}
 use Rattle.strc_admissible.specs.RingRoom.{items_taken, items_pushed}
 use Rattle.strc_admissible.specs.Wiring.{ports_at}
-use Rattle.strc_admissible.proofs.Changes.{Moves, extended_none, extended_all}
-use Rattle.strc_admissible.proofs.Ends.{origin_is, apart, input_channel, output_channel}
+use Rattle.strc_admissible.specs.NodeSteps.{Moves}
+use Rattle.strc_admissible.proofs.Changes.{extended_none, extended_all}
+use Rattle.strc_admissible.proofs.Ends.{input_channel, output_channel}
 use Rattle.strc_admissible.proofs.Ends.{target_ring, source_ring}
 
--- each ring holds the queue of its channel and has its room; the program's input is read as far as
--- its reader has fired; and each node has its words
-pub record Simulates (graph : Graph) (sizes : List ℕ) (input : List ℤ) (now : Queues)
-    (machine : MachineView) : Type 0 where
-  pub each_fields : length machine.fields ≡ length graph.nodes
-  pub each_fired : length machine.fired ≡ length graph.nodes
-  pub each_ring : length machine.rings ≡ length graph.channels
-  pub fields : (node : ℕ) → node < length graph.nodes
-      → slice_index_or machine.fields node [] ≡ (now.runs node).state
-  pub fired : (node : ℕ) → node < length graph.nodes
-      → slice_index machine.fired node ≡ (now.runs node).fired
-  pub rings : (number : ℕ) (channel : Channel) → slice_get graph.channels number ≡ Some channel
-      → ring_at machine.rings number
-      ≡ buffer (now.queues channel.target.node channel.target.port) (slice_index sizes number)
-  pub reads : (node : ℕ) (text : List ℕ) → slice_get graph.nodes node ≡ Some (FileReader text)
-      → now.queues node 0 ≡ drop (now.runs node).fired input
-  pub each_words : length machine.words ≡ length graph.nodes
-  pub words : AreWordsOf (length graph.nodes) (λ node. (now.runs node).words) machine.words
-
-module _ (tree : Stream NodeCode) (graph : Graph) (program : IsProgram tree graph)
+module _ (running : flat.Graph NodeCode) (graph : Graph) (joins : IsByChannels running graph)
     (circuit : CircuitView) (is : IsCircuit graph circuit) where
   module _ (node : ℕ) (pops : ℕ → ℕ) (pushes : ByPort) (rings after : List Ring)
       (moves : Moves (ports_at circuit.inputs node) (ports_at circuit.outputs node) pops pushes
@@ -56,12 +37,12 @@ module _ (tree : Stream NodeCode) (graph : Graph) (program : IsProgram tree grap
       at_target : channel.target.node ≡ node → eqb channel.source.node node ≡ false
       at_target same =
           ne_eqb channel.source.node node
-          (λ e. apart tree graph program circuit is number channel there (e ∙ sym same))
+          (λ e. joins.apart number channel there (e ∙ sym same))
 
       no_target : (channel.target.node ≡ node → ⊥) → (port : ℕ)
           → at_port (ports_at circuit.inputs node) port ≡ Some number → ⊥
       no_target differs port e =
-          let (own, listed, ends) = input_channel tree graph program circuit is node port number e
+          let (own, listed, ends) = input_channel running graph joins circuit is node port number e
           in
           let same : own ≡ channel = cc in
           differs (ap (λ (c : Channel). c.target.node) (sym same)
@@ -70,7 +51,7 @@ module _ (tree : Stream NodeCode) (graph : Graph) (program : IsProgram tree grap
       no_source : (channel.source.node ≡ node → ⊥) → (port : ℕ)
           → at_port (ports_at circuit.outputs node) port ≡ Some number → ⊥
       no_source differs port e =
-          let (own, listed, ends) = output_channel tree graph program circuit is node port number e
+          let (own, listed, ends) = output_channel running graph joins circuit is node port number e
           in
           let same : own ≡ channel = cc in
           differs (ap (λ (c : Channel). c.source.node) (sym same)
@@ -88,13 +69,13 @@ module _ (tree : Stream NodeCode) (graph : Graph) (program : IsProgram tree grap
           moves.takes channel.target.port number
           (subst (λ (own : ℕ). at_port (ports_at circuit.inputs own) channel.target.port
           ≡ Some number) (eqb-true channel.target.node node e)
-          (target_ring tree graph program circuit is number channel there))
+          (target_ring running graph joins circuit is number channel there))
           ∙ sym (extended_none (shortened (pops channel.target.port) ring))
       ring_moved false true e f =
           moves.gives channel.source.port number
           (subst (λ (own : ℕ). at_port (ports_at circuit.outputs own) channel.source.port
           ≡ Some number) (eqb-true channel.source.node node f)
-          (source_ring tree graph program circuit is number channel there))
+          (source_ring running graph joins circuit is number channel there))
       ring_moved false false e f =
           moves.stays number (no_target (eqb-false channel.target.node node e))
           (no_source (eqb-false channel.source.node node f))
@@ -102,25 +83,25 @@ module _ (tree : Stream NodeCode) (graph : Graph) (program : IsProgram tree grap
 
       -- the queue of a channel after a firing of a node
       pub queue_moved : (now : Queues) → (firing : ℕ)
-          → moved node_meaning (flat tree) node firing now.queues pushes channel.target.node
+          → moved node_meaning running node firing now.queues pushes channel.target.node
           channel.target.port
-          ≡ drop (items_taken node (pops_at ((flat tree).code node) firing) channel)
+          ≡ drop (items_taken node (pops_at (running.code node) firing) channel)
           (now.queues channel.target.node channel.target.port) ++ items_pushed node pushes channel
       unfolding moved added
       queue_moved now firing =
           ap (λ (origin : Origin).
-          drop (items_taken node (pops_at ((flat tree).code node) firing) channel)
+          drop (items_taken node (pops_at (running.code node) firing) channel)
           (now.queues channel.target.node channel.target.port) ++ added node pushes origin)
-          (origin_is tree graph program circuit is number channel there)
+          (joins.origins number channel there)
 
       -- where the queue fits, the ring holds it
       pub ring_holds : (now : Queues) (firing size : ℕ)
-          → pops ≡ pops_at ((flat tree).code node) firing
+          → pops ≡ pops_at (running.code node) firing
           → ring ≡ buffer (now.queues channel.target.node channel.target.port) size
-          → length (moved node_meaning (flat tree) node firing now.queues pushes channel.target.node
+          → length (moved node_meaning running node firing now.queues pushes channel.target.node
           channel.target.port) ≤ size
           → ring_at after number
-          ≡ buffer (moved node_meaning (flat tree) node firing now.queues pushes channel.target.node
+          ≡ buffer (moved node_meaning running node firing now.queues pushes channel.target.node
           channel.target.port) size
       ring_holds now firing size rates held fits =
           let left = items_taken node pops channel in

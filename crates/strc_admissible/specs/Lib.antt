@@ -4,7 +4,10 @@ pub mod Laws
 pub mod Rings
 pub mod Wiring
 pub mod Steps
+pub mod NodeSteps
 pub mod Machine
 pub mod Circuits
+pub mod ByChannels
 pub mod RingAnswer
+pub mod Simulation
 pub mod RingRoom

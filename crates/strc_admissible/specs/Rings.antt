@@ -1,9 +1,11 @@
 -- The rings of a graph's channels: a queue of bounded size each.
-use Rattle.std.specs.Prelude.{◌≡◌, ℕ, suc, ◌-◌, Bool, if◌then◌else◌, ℤ, List, [], ◌∷◌, ◌++◌, length}
-use Rattle.std.specs.Prelude.{take, drop, Option, Some, None, slice_get, slice_set, slice_index}
-use Rattle.std.specs.Prelude.{slice_index_or}
+use Rattle.std.specs.Prelude.{◌≡◌, ℕ, zero, suc, ◌-◌, Bool, if◌then◌else◌, ℤ, List, [], ◌∷◌, ◌++◌}
+use Rattle.std.specs.Prelude.{length, take, drop, Option, Some, None, slice_get, slice_set}
+use Rattle.std.specs.Prelude.{slice_index, slice_index_or}
 use Rattle.circular_buffer.specs.Buffer.{Buffer, buffer}
+use Rattle.strc_graph.specs.declared.graph.Fission.{Fission}
 use Rattle.strc_graph.specs.Graphs.{Channel}
+use Rattle.strc_graph.specs.Meaning.{scattered}
 
 -- a ring of each channel, by the channel's number
 abbrev pub Ring : Type 0
@@ -67,6 +69,19 @@ abbrev pub gathered_in : (weights : List ℕ) → (inputs : List (Option ℕ)) �
 gathered_in [] inputs to port rings = rings
 gathered_in (weight ∷ weights) inputs to port rings =
     gathered_in weights inputs to (suc port) (moved (at_port inputs port) to weight rings)
+
+-- a scatter's port is given its part of the items at a port, where they all stay
+abbrev pub part_given : Fission → (from : Option ℕ) → (outputs : List (Option ℕ)) → (port : ℕ)
+    → List Ring → List Ring
+part_given fission from outputs port rings =
+    given (at_port outputs port) (scattered fission (items_at rings from) port) rings
+
+-- so is each of the first so many ports, one after another
+abbrev pub scattered_out : Fission → (from : Option ℕ) → (outputs : List (Option ℕ))
+    → (ports : ℕ) → List Ring → List Ring
+scattered_out fission from outputs zero rings = rings
+scattered_out fission from outputs (suc port) rings =
+    part_given fission from outputs port (scattered_out fission from outputs port rings)
 
 -- the ring of a channel before any firing holds its enqueued items
 abbrev pub first_ring : Channel → (size : ℕ) → Ring

@@ -1,5 +1,6 @@
 -- One firing of a node over the rings at its ports (Lee and Messerschmitt 1987: static buffers).
-use Rattle.std.specs.Prelude.{ℕ, suc, ℤ, List, [], ◌∷◌, length, map, take, drop, sum}
+use Rattle.std.specs.Prelude.{ℕ, suc, ◌*◌, ℤ, List, [], ◌∷◌, length, map, take, drop, sum}
+use Rattle.std.specs.Prelude.{replicate}
 use Rattle.std.specs.Prelude.{Bool, true, false, ◌&&◌, nat_le, nat_lt, Option, Some, None}
 use Rattle.std.specs.Prelude.{Result, Ok, Err}
 use Rattle.strc_syntax.specs.declared.tree.ItemType.{ItemType}
@@ -8,12 +9,15 @@ use Rattle.strc_semantics.specs.Firing as firing
 use Rattle.strc_semantics.specs.Filters as filters
 use Rattle.strc_semantics.specs.declared.fault.Cause.{Cause}
 use Rattle.strc_semantics.specs.declared.word.Word.{Word}
+use Rattle.strc_graph.specs.declared.graph.Fission.{Fission}
 use Rattle.strc_graph.specs.Graphs as graphs
-use Rattle.strc_graph.specs.Graphs.{NodeCode, SplitterCode, Duplicate, Roundrobin}
+use Rattle.strc_graph.specs.Graphs.{NodeCode, SplitterCode, Duplicate, Roundrobin, CopiedCode}
+use Rattle.strc_graph.specs.Graphs.{OfFilter, OfIdentity}
 use Rattle.strc_graph.specs.Meaning.{line_of}
-use Rattle.strc_graph.specs.Rates.{body_at, filter_window, filter_pops}
+use Rattle.strc_graph.specs.Rates.{body_at, filter_window, filter_pops, reach, round_pops}
+use Rattle.strc_graph.specs.Rates.{copy_pops}
 use Rattle.strc_admissible.specs.Rings.{Ring, at_port, items_at, taken, given, moved, dealt_out}
-use Rattle.strc_admissible.specs.Rings.{copied_out, gathered_in}
+use Rattle.strc_admissible.specs.Rings.{copied_out, gathered_in, scattered_out}
 
 -- what a firing came to: it didn't find its windows; or it left these fields and rings, and wrote
 -- words; or it faulted
@@ -42,12 +46,19 @@ look_by item.Void window = 0
 abbrev pub filter_looks : filters.Filter → (firing : ℕ) → ℕ
 filter_looks filter number = look_by filter.input (filter_window filter number)
 
+-- a firing of a filter that looks at so many items and takes so many of them
+abbrev pub looking_step : filters.Filter → (firing looks pops : ℕ) → (fields : List ℤ)
+    → (input output : Option ℕ) → List Ring → Step
+looking_step filter number looks pops fields input output rings =
+    if_found (nat_le looks (length (items_at rings input)))
+    (filter_after pops input output rings
+    (firing.fired filter (body_at number) fields (items_at rings input)))
+
 abbrev pub filter_step : filters.Filter → (firing : ℕ) → (fields : List ℤ)
     → (input output : Option ℕ) → List Ring → Step
 filter_step filter number fields input output rings =
-    if_found (nat_le (filter_looks filter number) (length (items_at rings input)))
-    (filter_after (filter_pops filter number) input output rings
-    (firing.fired filter (body_at number) fields (items_at rings input)))
+    looking_step filter number (filter_looks filter number) (filter_pops filter number) fields input
+    output rings
 
 -- whether each port holds as many items as its weight; ports are numbered from one on
 abbrev pub finds_weights : (weights : List ℕ) → (inputs : List (Option ℕ)) → (port : ℕ)
@@ -98,8 +109,36 @@ joiner_step weights inputs output rings =
     if_found (finds_weights weights inputs 0 rings)
     (Goes [] (gathered_in weights inputs output 0 rings) [])
 
+-- a scatter finds all windows of a round; each copy is given those of its firings, and then what
+-- the round pops is taken
+abbrev pub scatter_step : Fission → (input : Option ℕ) → (outputs : List (Option ℕ)) → List Ring
+    → Step
+scatter_step fission input outputs rings =
+    if_found
+    (nat_le (reach fission (fission.ways * fission.firings)) (length (items_at rings input)))
+    (Goes [] (taken input (round_pops fission)
+    (scattered_out fission input outputs fission.ways rings)) [])
+
+-- a copy fires as what it copies, but takes with its last firing of a round what is left of its
+-- list
+abbrev pub copy_step : CopiedCode → Fission → (firing : ℕ) → (fields : List ℤ)
+    → (input output : Option ℕ) → List Ring → Step
+copy_step (OfFilter name filter) fission number fields input output rings =
+    looking_step filter number (look_by filter.input fission.window) (copy_pops fission number)
+    fields input output rings
+copy_step OfIdentity fission number fields input output rings =
+    if_found (nat_le 1 (length (items_at rings input)))
+    (Goes [] (given output (take 1 (items_at rings input))
+    (taken input (copy_pops fission number) rings)) [])
+
+-- a gather joins what the copies push in a round, of each as much
+abbrev pub gather_step : Fission → (inputs : List (Option ℕ)) → (output : Option ℕ) → List Ring
+    → Step
+gather_step fission inputs output rings =
+    joiner_step (replicate fission.ways (fission.firings * fission.push)) inputs output rings
+
 -- a firing of a node by its number since the beginning, from these values of its fields, over the
--- rings at its ports, and over the program's input; the nodes of fission don't fire
+-- rings at its ports, and over the program's input
 abbrev pub node_step : NodeCode → (firing : ℕ) → (fields : List ℤ)
     → (inputs outputs : List (Option ℕ)) → (input : List ℤ) → List Ring → Step
 node_step (graphs.Filter name filter) number fields inputs outputs input rings =
@@ -114,7 +153,12 @@ node_step (graphs.Splitter splitter) number fields inputs outputs input rings =
     splitter_step splitter (at_port inputs 0) outputs rings
 node_step (graphs.Joiner weights) number fields inputs outputs input rings =
     joiner_step weights inputs (at_port outputs 0) rings
-node_step _ number fields inputs outputs input rings = Stays
+node_step (graphs.Scatter fission) number fields inputs outputs input rings =
+    scatter_step fission (at_port inputs 0) outputs rings
+node_step (graphs.Copy copied fission) number fields inputs outputs input rings =
+    copy_step copied fission number fields (at_port inputs 0) (at_port outputs 0) rings
+node_step (graphs.Gather fission) number fields inputs outputs input rings =
+    gather_step fission inputs (at_port outputs 0) rings
 
 -- the same where there may be no such node
 abbrev pub maybe_step : Option NodeCode → (firing : ℕ) → (fields : List ℤ)

@@ -1,3 +1,4 @@
 pub mod Slots
 pub mod Running
 pub mod Dispatch
+pub mod Windows

@@ -9,6 +9,7 @@ pub mod dispatch;
 pub mod io;
 pub mod operation;
 pub mod port;
+pub mod shifted;
 pub mod slots;
 pub mod superinstructions;
 pub mod trap;

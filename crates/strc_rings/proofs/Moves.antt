@@ -66,7 +66,7 @@ one_piece front back all count ring is within =
     ∙ pieces front back count ∙ ap (take count) is)
 
 module _ {X : Type 0} where
-  set_last : (xs : List X) (n : ℕ) (y : X) → n < length xs
+  pub set_last : (xs : List X) (n : ℕ) (y : X) → n < length xs
       → take n xs ++ set (drop n xs) 0 y ≡ set xs n y
   set_last [] n y less = absurd (omega arith)
   set_last (x ∷ xs) zero y less = refl
@@ -82,21 +82,21 @@ module _ {X : Type 0} where
   set_parts (z ∷ xs) (suc n) (suc m) x y less within =
       ap (λ l. z ∷ l) (set_parts xs n m x y (omega arith) (omega arith))
 
-  get_before : (xs : List X) (n m : ℕ) (d : X) → m < n → get_or (take n xs) m d ≡ get_or xs m d
+  pub get_before : (xs : List X) (n m : ℕ) (d : X) → m < n → get_or (take n xs) m d ≡ get_or xs m d
   get_before [] zero m d less = refl
   get_before [] (suc n) m d less = refl
   get_before (x ∷ xs) zero m d less = absurd (omega arith)
   get_before (x ∷ xs) (suc n) zero d less = refl
   get_before (x ∷ xs) (suc n) (suc m) d less = get_before xs n m d (omega arith)
 
-  get_last : (xs : List X) (n : ℕ) (d : X) → get_or (drop n xs) 0 d ≡ get_or xs n d
+  pub get_last : (xs : List X) (n : ℕ) (d : X) → get_or (drop n xs) 0 d ≡ get_or xs n d
   get_last [] zero d = refl
   get_last [] (suc n) d = refl
   get_last (x ∷ xs) zero d = refl
   get_last (x ∷ xs) (suc n) d = get_last xs n d
 
 -- the default doesn't matter
-at_any : (rings : List Ring) (number : ℕ) (d e : Ring) → number < length rings
+pub at_any : (rings : List Ring) (number : ℕ) (d e : Ring) → number < length rings
     → get_or rings number d ≡ get_or rings number e
 at_any [] number d e less = absurd (omega arith)
 at_any (ring ∷ rings) zero d e less = refl

@@ -10,11 +10,12 @@ use Rattle.circular_buffer.specs.Buffer.{buffer}
 use Rattle.strc_dataflow.specs.Node.{ByPort}
 use Rattle.strc_dataflow.specs.RoundRobin.{span_start}
 use Rattle.strc_graph.specs.Rates.{rate_at_0}
+use Rattle.strc_admissible.specs.NodeSteps.{ArePlaced, Moves}
 use Rattle.strc_admissible.specs.Rings.{Ring, ring_at, at_port, items_at, given, taken, dealt_out}
 use Rattle.strc_admissible.specs.Rings.{extended}
 use Rattle.strc_admissible.proofs.ByPort.{only_at, but_at, NoneBelow, only_here, only_other}
 use Rattle.strc_admissible.proofs.ByPort.{but_below, but_later, at_first, all_none, lists_parted}
-use Rattle.strc_admissible.proofs.Changes.{ArePlaced, Moves, items_after, same_moves, no_moves}
+use Rattle.strc_admissible.proofs.Changes.{items_after, same_moves, no_moves}
 use Rattle.strc_admissible.proofs.Changes.{both_move, one_gives, one_takes, still_placed}
 use Rattle.strc_admissible.proofs.Dealing.{dealing_moves, piece, rate_elsewhere}
 use Rattle.strc_rings.specs.Answers.{AreRings}

@@ -7,8 +7,11 @@
 // which says when a node's rings are apart, and on circular_buffer, whose rings hold the items.
 #![tactic(auto)]
 
+pub mod copy;
 pub mod dealing;
+pub mod gather;
 pub mod movers;
 pub mod pair;
 pub mod pouring;
 pub mod ring;
+pub mod scatter;

@@ -6,13 +6,15 @@ use Rattle.std.proofs.Common.{append-nil, ◌≢◌, ◌⊎◌, inl, inr, ◌++�
 use Rattle.std.specs.Prelude.{Option, Some, slice_get, if◌then◌else◌, min, ◌^◌, ◌-◌, ◌+◌}
 use Rattle.std.proofs.Common.{ltb}
 use Rattle.std.proofs.lemmas.Bool.{ltb-true, ltb-false}
-use Rattle.std.proofs.lemmas.List.{map-set, get_or-map, length-map, length-set, set-get_or}
+use Rattle.std.proofs.lemmas.List.{map-set, get_or-map, length-set, set-get_or}
 use Rattle.std.proofs.lemmas.List.{get_or-set_same, get_or-set_other}
 use Rattle.std.proofs.lemmas.List.{nil_from_length}
 use Rattle.std.proofs.lemmas.Option.{slice_get-get_or, slice_get_within, slice_get_past}
 use Rattle.std.proofs.lemmas.Option.{slice_get-map}
 use Rattle.std.specs.Option.{option_map}
 use Rattle.strc_semantics.specs.Filters as filters
+use Rattle.strc_semantics.specs.Filters.{sized_fields}
+use Rattle.strc_semantics.specs.Scoping.{total}
 use Rattle.strc_semantics.specs.declared.fault.Halt.{Halt}
 use Rattle.strc_semantics.specs.declared.fault.Halt.TheVariants as halt
 use Rattle.strc_semantics.specs.declared.word.Word.{Word}
@@ -20,6 +22,8 @@ use Rattle.strc_inst.specs.Running.{MoreWords}
 use Rattle.strc_graph.specs.Graphs as graphs
 use Rattle.strc_graph.specs.Graphs.{NodeCode}
 use Rattle.strc_graph.specs.NodeView.{node_view}
+use Rattle.strc_graph.specs.declared.graph.Copied.{Copied}
+use Rattle.strc_graph.specs.declared.graph.Fission.{Fission}
 use Rattle.strc_graph.specs.declared.graph.Node.{Node}
 use Rattle.strc_graph.specs.declared.graph.Node.TheVariants as nodes
 use Rattle.strc_graph.specs.declared.instance.Instance.{Instance}
@@ -27,10 +31,10 @@ use Rattle.strc_graph.specs.declared.graph.Port.{Port}
 use Rattle.strc_admissible.specs.Machine.{CircuitView, MachineView, Went, step_at, next_step}
 use Rattle.strc_admissible.specs.Machine.{after_step, more_words, one_more, words_at}
 use Rattle.strc_admissible.specs.Rings.{Ring}
-use Rattle.strc_admissible.specs.Steps.{Step, node_step, maybe_step, filter_step}
+use Rattle.strc_admissible.specs.Steps.{Step, node_step, maybe_step}
 use Rattle.strc_admissible.specs.Wiring.{PortRings, ports_at, IsWired}
-use Rattle.strc_runner.specs.Actors.{AreActors, IsActorOf, fields_of}
-use Rattle.strc_rings.specs.Answers.{HasStepped}
+use Rattle.strc_runner.specs.Actors.{AreActors, IsActorOf, IsCopyActor, KeepsState, fields_of}
+use Rattle.strc_rings.specs.Answers.{HasStepped, MovesBy}
 use Rattle.strc_runner.specs.Passing.{IsPassive}
 use Rattle.strc_runner.specs.Identities.{KeepsNothing}
 use Rattle.strc_runner.specs.Running.{HasDone, HaveMoreWords, HoldRings, IsMachine}
@@ -58,15 +62,22 @@ code_at nodes number d node less is =
     ∙ ap (λ (n : Node). Some n) is)
 
 -- what a node keeps is its own
+pub actor_here : (codes : List NodeCode) (actors : List Actor) → AreActors codes actors
+    → (number : ℕ) (code : NodeCode) (actor : Actor) → slice_get codes number ≡ Some code
+    → actor ≡ get_or actors number actor → IsActorOf code actor
+actor_here codes actors are number code actor here own =
+    let less = slice_get_within codes number code here in
+    are.kept number code actor here
+    (slice_get-get_or actors number actor (let e = are.each in omega arith)
+    ∙ ap (λ (a : Actor). Some a) (sym own))
+
 pub actor_at : (nodes : List Node) (actors : List Actor) → AreActors (map node_view nodes) actors
     → (number : ℕ) (d node : Node) (actor : Actor) → number < length nodes
     → get_or nodes number d ≡ node → actor ≡ get_or actors number actor
     → IsActorOf (node_view node) actor
 actor_at nodes actors are number d node actor less is own =
-    are.kept number (node_view node) actor (code_at nodes number d node less is)
-    (slice_get-get_or actors number actor
-    (let e = are.each in let l = length-map nodes node_view in omega arith)
-    ∙ ap (λ (a : Actor). Some a) (sym own))
+    actor_here (map node_view nodes) actors are number (node_view node) actor
+    (code_at nodes number d node less is) own
 
 set_here : {X : Type 0} (xs : List X) (number : ℕ) (x y : X) → slice_get (set xs number x) number
     ≡ Some y → x ≡ y
@@ -174,6 +185,12 @@ pub stepped_words : (step : Step) (result : Result Bool Halt) (old new : List �
     → HasStepped step result old new rings after other more
 stepped_words step result old new rings after words other more same h =
     subst (λ l. HasStepped step result old new rings after l more) (sym same) h
+
+-- a step that only moves items
+pub moved_step : (step : Step) (moved : Bool) (rings after : List Ring) (words : List Word)
+    → MovesBy step moved rings after → HasStepped step (Ok moved) [] [] rings after words words
+moved_step step true rings after words h = ([], h, sym (append-nil words))
+moved_step step false rings after words h = (h.0, refl, h.1, refl)
 
 -- a step of a node is a step of the machine
 pub done_by : (step : Step) (result : Result Bool Halt) (node : ℕ) (before after : MachineView)
@@ -293,7 +310,7 @@ passive_fields code actor passive is = by_actor actor is
         no_filter (graphs.Splitter splitter) passive is = is
         no_filter (graphs.Joiner weights) passive is = is
         no_filter (graphs.Scatter fission) passive is = is
-        no_filter (graphs.Copy copied fission) passive is = is
+        no_filter (graphs.Copy copied fission) passive is = passive
         no_filter (graphs.Gather fission) passive is = is
     by_actor kinds.Passive is = refl
 
@@ -310,15 +327,24 @@ passive_kept codes actors are number code here passive =
     ∙ passive_fields code kept passive
     (are.kept number code kept here (slice_get-get_or actors number none there))
 
+-- nor does a copy of an identity
+identity_fields : (actor : Actor) → IsCopyActor graphs.OfIdentity actor → fields_of actor ≡ []
+identity_fields (kinds.Filter kept) is = absurd is
+identity_fields kinds.Passive is = refl
+
 -- nor does a filter that has none
+filter_fields : (filter : filters.Filter) (actor : Actor)
+    → total (sized_fields filter.members) ≡ 0 → KeepsState filter actor → fields_of actor ≡ []
+filter_fields filter (kinds.Filter kept) none is =
+    nil_from_length kept.state.fields (is.state.one_for_each ∙ none)
+filter_fields filter kinds.Passive none is = absurd is
+
 nothing_fields : (code : NodeCode) (actor : Actor) → KeepsNothing code → IsActorOf code actor
     → fields_of actor ≡ []
-nothing_fields (graphs.Filter name filter) actor none is = by_actor actor is
-  where
-    by_actor : (actor : Actor) → IsActorOf (graphs.Filter name filter) actor → fields_of actor ≡ []
-    by_actor (kinds.Filter kept) is =
-        nil_from_length kept.state.fields (is.state.one_for_each ∙ none)
-    by_actor kinds.Passive is = absurd is
+nothing_fields (graphs.Filter name filter) actor none is = filter_fields filter actor none is
+nothing_fields (graphs.Copy (graphs.OfFilter name filter) fission) actor none is =
+    filter_fields filter actor none is
+nothing_fields (graphs.Copy graphs.OfIdentity fission) actor none is = identity_fields actor is
 nothing_fields graphs.Identity actor none is = passive_fields graphs.Identity actor tt is
 nothing_fields (graphs.FileReader text) actor none is =
     passive_fields (graphs.FileReader text) actor tt is
@@ -330,8 +356,6 @@ nothing_fields (graphs.Joiner weights) actor none is =
     passive_fields (graphs.Joiner weights) actor tt is
 nothing_fields (graphs.Scatter fission) actor none is =
     passive_fields (graphs.Scatter fission) actor tt is
-nothing_fields (graphs.Copy copied fission) actor none is =
-    passive_fields (graphs.Copy copied fission) actor tt is
 nothing_fields (graphs.Gather fission) actor none is =
     passive_fields (graphs.Gather fission) actor tt is
 
@@ -351,42 +375,40 @@ pub fields_kept : (fields : List (List ℤ)) (number : ℕ) → get_or fields nu
     → fields ≡ set fields number []
 fields_kept fields number none = sym (set-get_or fields number []) ∙ ap (set fields number) none
 
--- a node that is no filter
+-- a node that is no filter and no copy
 pub passive_of : (node : Node) → ((x : Instance) → node ≡ nodes.Filter x → ⊥)
-    → IsPassive (node_view node)
-passive_of (nodes.Filter x) never = never x refl
-passive_of nodes.Identity never = tt
-passive_of (nodes.FileReader text) never = tt
-passive_of (nodes.FileWriter text) never = tt
-passive_of (nodes.Splitter splitter) never = tt
-passive_of (nodes.Joiner weights) never = tt
-passive_of (nodes.Scatter fission) never = tt
-passive_of (nodes.Copy instance fission) never = tt
-passive_of (nodes.Gather fission) never = tt
+    → ((x : Copied) (y : Fission) → node ≡ nodes.Copy x y → ⊥) → IsPassive (node_view node)
+passive_of (nodes.Filter x) never nor = never x refl
+passive_of nodes.Identity never nor = tt
+passive_of (nodes.FileReader text) never nor = tt
+passive_of (nodes.FileWriter text) never nor = tt
+passive_of (nodes.Splitter splitter) never nor = tt
+passive_of (nodes.Joiner weights) never nor = tt
+passive_of (nodes.Scatter fission) never nor = tt
+passive_of (nodes.Copy copied fission) never nor = nor copied fission refl
+passive_of (nodes.Gather fission) never nor = tt
 
 -- a step's answer, where what it speaks of has other names
 module _ (result : Result Bool Halt) (words after_words : List Word)
     (rings named after left : List Ring)
     (same_rings : named ≡ rings) (same_left : left ≡ after) where
-  pub stepped_filter : (filter : filters.Filter) (firing : ℕ) (old named_old fields : List ℤ)
-      (input named_input output named_output : Option ℕ) → named_old ≡ old
-      → named_input ≡ input → named_output ≡ output
-      → HasStepped (filter_step filter firing named_old named_input named_output named) result
-      named_old fields named left words after_words
-      → HasStepped (filter_step filter firing old input output rings) result old fields rings after
-      words after_words
-  stepped_filter filter firing old named_old fields input named_input output named_output olds ins
-      outs h =
-      subst (λ l. HasStepped (filter_step filter firing old input output rings) result old fields
-      rings l words after_words) same_left
-      (subst (λ r. HasStepped (filter_step filter firing old input output r) result old fields r
-      left words after_words) same_rings
-      (subst (λ o. HasStepped (filter_step filter firing old input o named) result old fields named
-      left words after_words) outs
-      (subst (λ i. HasStepped (filter_step filter firing old i named_output named) result old fields
-      named left words after_words) ins
-      (subst (λ f. HasStepped (filter_step filter firing f named_input named_output named) result f
-      fields named left words after_words) olds h))))
+  pub stepped_at : (step : List ℤ → (input output : Option ℕ) → List Ring → Step)
+      (old named_old fields : List ℤ) (input named_input output named_output : Option ℕ)
+      → named_old ≡ old → named_input ≡ input → named_output ≡ output
+      → HasStepped (step named_old named_input named_output named) result named_old fields named
+      left words after_words
+      → HasStepped (step old input output rings) result old fields rings after words after_words
+  stepped_at step old named_old fields input named_input output named_output olds ins outs h =
+      subst (λ l. HasStepped (step old input output rings) result old fields rings l words
+      after_words) same_left
+      (subst (λ r. HasStepped (step old input output r) result old fields r left words
+      after_words) same_rings
+      (subst (λ o. HasStepped (step old input o named) result old fields named left words
+      after_words) outs
+      (subst (λ i. HasStepped (step old i named_output named) result old fields named left words
+      after_words) ins
+      (subst (λ f. HasStepped (step f named_input named_output named) result f fields named left
+      words after_words) olds h))))
 
   pub stepped_passive : (code : NodeCode) (firing : ℕ) (old : List ℤ)
       (inputs outputs : List (Option ℕ)) (input : List ℤ) → old ≡ []

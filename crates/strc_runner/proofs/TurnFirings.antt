@@ -10,10 +10,11 @@ use Rattle.strc_graph.specs.Graphs as graphs
 use Rattle.strc_graph.specs.Graphs.{NodeCode}
 use Rattle.strc_graph.specs.Rates.{rate_at_0}
 use Rattle.strc_admissible.specs.Machine.{CircuitView}
+use Rattle.strc_admissible.specs.NodeSteps.{ArePlaced, Moves}
 use Rattle.strc_admissible.specs.Rings.{Ring, at_port, items_at, dealt_out, gathered_in}
 use Rattle.strc_admissible.specs.Steps.{Goes, if_found, finds_weights, node_step}
 use Rattle.strc_admissible.specs.Wiring.{ports_at}
-use Rattle.strc_admissible.proofs.Changes.{ArePlaced, Moves, items_after, still_placed}
+use Rattle.strc_admissible.proofs.Changes.{items_after, still_placed}
 use Rattle.strc_admissible.proofs.Dealing.{gathering_moves, piece}
 use Rattle.strc_runner.specs.Identities.{KeepsNothing}
 use Rattle.strc_rings.specs.Turns.{FindsCycles, HasTurned, times}

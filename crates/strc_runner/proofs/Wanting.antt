@@ -1,5 +1,5 @@
 -- A filter's firing that wants memory, and a step of the machine that does.
-use Rattle.std.proofs.Common.{◌≡◌, ◌≢◌, refl, sym, ◌∙◌, subst, ℕ, zero, suc, ◌≤◌, ℤ}
+use Rattle.std.proofs.Common.{◌≡◌, ◌≢◌, sym, ◌∙◌, subst, ℕ, suc, ◌≤◌, ℤ}
 use Rattle.std.proofs.Common.{All, Bool, true, false, List, [], ◌∷◌, ◌++◌, length, Result, Ok, Err}
 use Rattle.std.proofs.Common.{arith, slice_index}
 use Rattle.std.specs.Prelude.{Option}
@@ -7,35 +7,21 @@ use Rattle.std.proofs.lemmas.Bool.{le-leb}
 use Rattle.strc_semantics.specs.Filters as filters
 use Rattle.strc_semantics.specs.Filters.{body_prints}
 use Rattle.strc_semantics.specs.Firing.{Fired, fired}
-use Rattle.strc_semantics.specs.declared.body.Body.TheVariants as body
 use Rattle.strc_semantics.specs.declared.fault.Cause.{Cause}
 use Rattle.strc_semantics.specs.declared.fault.Halt.{Halt}
 use Rattle.strc_semantics.specs.declared.fault.Halt.TheVariants as halt
 use Rattle.strc_semantics.specs.declared.word.Word.{Word}
 use Rattle.strc_inst.specs.Running.{WantsOnlyWords}
 use Rattle.strc_work.specs.Answers.{WantsGivenWords}
-use Rattle.strc_graph.specs.Rates.{body_at, filter_pops}
+use Rattle.strc_graph.specs.Rates.{body_at}
 use Rattle.strc_admissible.specs.Rings.{Ring, items_at}
-use Rattle.strc_admissible.specs.Steps.{Step, filter_after, filter_looks, filter_step}
+use Rattle.strc_admissible.specs.Steps.{Step, filter_after, looking_step}
 use Rattle.strc_admissible.specs.Steps.{if_found}
-use Rattle.strc_runner.specs.Actors.{IsTakingOf}
 use Rattle.strc_rings.specs.Words.{GivesWords, WantsWordOfStep}
 use Rattle.strc_runner.specs.Memory.{QuietOrdersWantNoMemory}
 use Rattle.strc_runner.specs.Memory.{prints_at}
-use Rattle.strc_runner.specs.declared.filter.Taking.{Taking}
 use Rattle.strc_runner.specs.declared.machine.Stop.{Stop}
 use Rattle.strc_runner.specs.declared.machine.Stop.TheVariants as stop
-
--- what the first firing looks at, and each later one
-pub first_looks : (filter : filters.Filter) (firing : ℕ) (taking : Taking) → firing ≡ 0
-    → IsTakingOf filter body.Prework taking → taking.window ≡ filter_looks filter firing
-first_looks filter zero taking is h = h.window
-first_looks filter (suc firing) taking is h = absurd (omega arith)
-
-pub later_looks : (filter : filters.Filter) (firing : ℕ) (taking : Taking) → firing ≢ 0
-    → IsTakingOf filter body.Work taking → taking.window ≡ filter_looks filter firing
-later_looks filter zero taking differs h = absurd (differs refl)
-later_looks filter (suc firing) taking differs h = h.window
 
 -- a list with a word in it
 has_word : (words given : List Word) (next : Word) (rest : List Word) → words ≡ given ++ next ∷ rest
@@ -45,31 +31,29 @@ has_word words (first ∷ given) next rest is none =
     let e : first ∷ (given ++ next ∷ rest) ≡ [] = sym is ∙ none in cc
 
 -- only a word that a filter gives wants memory
-pub filter_wants : (filter : filters.Filter) (firing : ℕ) (fields : List ℤ)
-    (input output : Option ℕ) (rings : List Ring) (window : ℕ) (why : Halt)
-    (before after : List Word) → window ≡ filter_looks filter firing
-    → window ≤ length (items_at rings input)
+pub filter_wants : (filter : filters.Filter) (firing looks pops : ℕ) (fields : List ℤ)
+    (input output : Option ℕ) (rings : List Ring) (why : Halt) (before after : List Word)
+    → looks ≤ length (items_at rings input)
     → WantsOnlyWords (body_prints (body_at firing) filter) (Err why)
     → WantsGivenWords (fired filter (body_at firing) fields (items_at rings input)) (Err why)
     before after
     → WantsWordOfStep (body_prints (body_at firing) filter)
-    (filter_step filter firing fields input output rings) (Err why)
-filter_wants filter firing fields input output rings window (halt.Fault cause) before after looks
+    (looking_step filter firing looks pops fields input output rings) (Err why)
+filter_wants filter firing looks pops fields input output rings (halt.Fault cause) before after
     found prints gives = tt
-filter_wants filter firing fields input output rings window halt.NoMemory before after looks found
+filter_wants filter firing looks pops fields input output rings halt.NoMemory before after found
     prints gives = record {
       prints = prints;
       gives = subst (λ test. GivesWords (if_found test
-          (filter_after (filter_pops filter firing) input output rings
+          (filter_after pops input output rings
           (fired filter (body_at firing) fields (items_at rings input)))))
-          (sym (le-leb (filter_looks filter firing) (length (items_at rings input))
-          (subst (λ n. n ≤ length (items_at rings input)) looks found)))
+          (sym (le-leb looks (length (items_at rings input)) found))
           (by_outcome (fired filter (body_at firing) fields (items_at rings input)) gives);
     }
   where
     by_outcome : (outcome : Result Fired Cause)
         → WantsGivenWords outcome (Err halt.NoMemory) before after
-        → GivesWords (filter_after (filter_pops filter firing) input output rings outcome)
+        → GivesWords (filter_after pops input output rings outcome)
     by_outcome (Ok done) gives = has_word done.words gives.given gives.next gives.rest gives.is
     by_outcome (Err cause) gives = tt
 

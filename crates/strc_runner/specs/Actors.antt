@@ -8,8 +8,7 @@ use Rattle.strc_semantics.specs.declared.body.Body.{Body}
 use Rattle.strc_semantics.specs.declared.body.Body.TheVariants as body
 use Rattle.strc_work.specs.States.{IsStateOf, IsFrameOf}
 use Rattle.strc_graph.specs.Graphs as graphs
-use Rattle.strc_graph.specs.Graphs.{NodeCode}
-use Rattle.strc_graph.specs.Meaning.{copied_fields}
+use Rattle.strc_graph.specs.Graphs.{NodeCode, CopiedCode}
 use Rattle.strc_admissible.specs.Steps.{look_by}
 use Rattle.strc_runner.specs.declared.filter.Taking.{Taking}
 use Rattle.strc_runner.specs.declared.filter.FilterActor.{FilterActor}
@@ -38,10 +37,21 @@ abbrev pub fields_of : Actor → List ℤ
 fields_of (actor.Filter kept) = kept.state.fields
 fields_of actor.Passive = []
 
--- what a node keeps: a filter its state, others nothing
+-- what a filter keeps: its state
+abbrev pub KeepsState : filters.Filter → Actor → Type 0
+KeepsState filter (actor.Filter kept) = IsFilterActor filter kept
+KeepsState filter actor.Passive = ⊥
+
+-- what a copy keeps is what the node that is copied does
+abbrev pub IsCopyActor : CopiedCode → Actor → Type 0
+IsCopyActor (graphs.OfFilter name filter) own = KeepsState filter own
+IsCopyActor graphs.OfIdentity (actor.Filter kept) = ⊥
+IsCopyActor graphs.OfIdentity actor.Passive = Unit {0}
+
+-- what a node keeps: nodes that are no filters and no copies keep nothing
 abbrev pub IsActorOf : NodeCode → Actor → Type 0
-IsActorOf (graphs.Filter name filter) (actor.Filter kept) = IsFilterActor filter kept
-IsActorOf (graphs.Filter name filter) actor.Passive = ⊥
+IsActorOf (graphs.Filter name filter) own = KeepsState filter own
+IsActorOf (graphs.Copy copied fission) own = IsCopyActor copied own
 IsActorOf code (actor.Filter kept) = ⊥
 IsActorOf code actor.Passive = Unit {0}
 
@@ -51,15 +61,23 @@ pub record AreActors (codes : List NodeCode) (actors : List Actor) : Type 0 wher
   pub kept : (node : ℕ) (code : NodeCode) (actor : Actor) → slice_get codes node ≡ Some code
       → slice_get actors node ≡ Some actor → IsActorOf code actor
 
--- a node that is a filter starts, and its names are known; a copy, for which nothing is kept, has
--- no fields
+-- a node that is a filter starts, as does a copy of one, and its names are known
+abbrev pub CanStartCopy : CopiedCode → Type 0
+CanStartCopy (graphs.OfFilter name filter) = CanStart filter
+CanStartCopy graphs.OfIdentity = Unit {0}
+
 abbrev pub CanStartNode : NodeCode → Type 0
 CanStartNode (graphs.Filter name filter) = CanStart filter
-CanStartNode (graphs.Copy copied fission) = copied_fields copied ≡ []
+CanStartNode (graphs.Copy copied fission) = CanStartCopy copied
 CanStartNode code = Unit {0}
+
+abbrev pub IsClosedCopy : CopiedCode → Type 0
+IsClosedCopy (graphs.OfFilter name filter) = IsClosedFilter filter
+IsClosedCopy graphs.OfIdentity = Unit {0}
 
 abbrev pub IsClosedNode : NodeCode → Type 0
 IsClosedNode (graphs.Filter name filter) = IsClosedFilter filter
+IsClosedNode (graphs.Copy copied fission) = IsClosedCopy copied
 IsClosedNode code = Unit {0}
 
 abbrev pub AreStartable : List NodeCode → Type 0

@@ -27,6 +27,8 @@ PassesItems code = ⊥
 -- a node has no fields
 abbrev pub KeepsNothing : NodeCode → Type 0
 KeepsNothing (graphs.Filter name filter) = total (sized_fields filter.members) ≡ 0
+KeepsNothing (graphs.Copy (graphs.OfFilter name filter) fission) =
+    total (sized_fields filter.members) ≡ 0
 KeepsNothing code = Unit {0}
 
 -- a work is all that a filter has

@@ -1,5 +1,6 @@
 pub mod Passing
 pub mod Actors
+pub mod Copies
 pub mod Running
 pub mod Identities
 pub mod Blocks

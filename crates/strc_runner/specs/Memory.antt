@@ -3,17 +3,23 @@ use Rattle.std.specs.Prelude.{◌≡◌, ◌≢◌, ℕ, List, ◌∷◌, ◌++�
 use Rattle.std.specs.Prelude.{Option, Some, None, Result, Ok, Err, slice_get, slice_index}
 use Rattle.strc_semantics.specs.Filters.{body_prints}
 use Rattle.strc_graph.specs.Graphs as graphs
-use Rattle.strc_graph.specs.Graphs.{NodeCode}
+use Rattle.strc_graph.specs.Graphs.{NodeCode, CopiedCode}
 use Rattle.strc_graph.specs.Rates.{body_at}
 use Rattle.strc_admissible.specs.Machine.{CircuitView, MachineView, Went, next_step, order_run}
 use Rattle.strc_rings.specs.Words.{HasNextWord}
 use Rattle.strc_runner.specs.declared.machine.Stop.{Stop}
 use Rattle.strc_runner.specs.declared.machine.Stop.TheVariants as stop
 
+-- whether a firing of a copy may give words: where the body of what is copied prints
+abbrev pub copy_prints : CopiedCode → (firing : ℕ) → Bool
+copy_prints (graphs.OfFilter name filter) firing = body_prints (body_at firing) filter
+copy_prints graphs.OfIdentity firing = false
+
 -- whether a node's firing, by its number, may give words: a writer's may, and a filter's whose body
 -- prints
 abbrev pub node_prints : NodeCode → (firing : ℕ) → Bool
 node_prints (graphs.Filter name filter) firing = body_prints (body_at firing) filter
+node_prints (graphs.Copy copied fission) firing = copy_prints copied firing
 node_prints (graphs.FileWriter text) firing = true
 node_prints code firing = false
 

@@ -1,15 +1,16 @@
 // What each node of a graph keeps between firings.
 
 ghost use Rattle.std.specs.Prelude.{◌≡◌, IfOk, map};
-ghost use Rattle.strc_graph.specs.Meaning.{node_fields};
-ghost use Rattle.strc_graph.specs.NodeView.{node_view};
+ghost use Rattle.strc_graph.specs.Meaning.{copied_fields, node_fields};
+ghost use Rattle.strc_graph.specs.NodeView.{copied_view, node_view};
 ghost use Rattle.strc_runner.specs.Actors.{AreActors, AreStartable, AreClosed, IsActorOf};
-ghost use Rattle.strc_runner.specs.Actors.{CanStartNode, IsClosedNode, fields_of};
+ghost use Rattle.strc_runner.specs.Actors.{CanStartCopy, CanStartNode, IsClosedCopy, IsClosedNode};
+ghost use Rattle.strc_runner.specs.Actors.{IsCopyActor, fields_of};
 
 use crate::filter::{FilterActor, start_filter};
 use std::alloc::Global;
 use strc_base::memory::NoMemory;
-use strc_graph::graph::Node;
+use strc_graph::graph::{Copied, Node};
 
 /// What a node keeps between firings.
 #[derive(Drop)]
@@ -43,13 +44,27 @@ fn start_actor(alloc: Global, node: &Node) -> Result<Actor, NoMemory>
 {
     match node {
         Node::Filter(instance) => Ok(Actor::Filter(start_filter(alloc, &instance.code)?)),
+        Node::Copy(copied, _) => start_copy(alloc, copied),
         Node::Identity
         | Node::FileReader(_)
         | Node::FileWriter(_)
         | Node::Splitter(_)
         | Node::Joiner(_)
         | Node::Scatter(_)
-        | Node::Copy(_, _)
         | Node::Gather(_) => Ok(Actor::Passive),
+    }
+}
+
+/// A copy starts as what it copies.
+fn start_copy(alloc: Global, copied: &Copied) -> Result<Actor, NoMemory>
+    requires starts { CanStartCopy (copied_view copied.now) }
+    ensures actor { IfOk result (IsCopyActor (copied_view copied.now)) }
+    ensures fields { IfOk result (λ actor. fields_of actor
+        ≡ copied_fields (copied_view copied.now)) }
+    ensures known { IfOk result (λ actor. IsClosedCopy (copied_view copied.now)) }
+{
+    match copied {
+        Copied::Filter(instance) => Ok(Actor::Filter(start_filter(alloc, &instance.code)?)),
+        Copied::Identity => Ok(Actor::Passive),
     }
 }

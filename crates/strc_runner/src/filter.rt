@@ -6,6 +6,7 @@ ghost use Rattle.strc_semantics.specs.Filters.{body_prints, filter_of};
 ghost use Rattle.strc_semantics.specs.Firing.{started};
 ghost use Rattle.strc_runner.specs.Actors.{CanStart, IsFilterActor, IsTakingOf};
 ghost use Rattle.strc_admissible.specs.Steps as steps;
+ghost use Rattle.strc_runner.specs.Copies.{copied_step};
 ghost use Rattle.strc_graph.specs.Rates as rates;
 ghost use Rattle.strc_rings.specs.Answers.{HasStepped};
 ghost use Rattle.strc_rings.specs.Words.{WantsWordOfStep};
@@ -13,7 +14,9 @@ ghost use Rattle.strc_rings.specs.Words.{WantsWordOfStep};
 use std::alloc::Global;
 use strc_base::memory::NoMemory;
 use strc_code::code::Code;
+use strc_graph::graph::Fission;
 use strc_graph::rates::body_at;
+use strc_rings::copy::copy_pops;
 use strc_rings::ring::{Ring, count_at, give_to, take_from, window_at};
 use strc_semantics::body::Body;
 use strc_semantics::fault::Halt;
@@ -107,6 +110,68 @@ pub(crate) fn fire_filter(
     } else {
         actor.later
     };
+    fire_taking(code, firing, taking, actor, rings, input, output, words)
+}
+
+/// One firing of a copy of a filter, as `fire_filter` has one: with its last firing of a round it
+/// pops its whole window.
+#[inline]
+pub(crate) fn fire_copy(
+    code: &Code,
+    fission: &Fission,
+    firing: u64,
+    actor: &mut FilterActor,
+    rings: &mut [Ring],
+    input: Option<usize>,
+    output: Option<usize>,
+    words: &mut Vec<Word>,
+) -> Result<bool, Halt>
+    requires actor { IsFilterActor (filter_of code.now) actor.old }
+    requires input { IfSome input (λ number. number < length rings.old) }
+    requires output { IfSome output (λ number. number < length rings.old) }
+    ensures actor { IsFilterActor (filter_of code.now) actor.new }
+    ensures rings { length rings.new ≡ length rings.old }
+    ensures step { HasStepped (copied_step (filter_of code.now) fission.now firing
+        actor.old.state.fields input output rings.old) result actor.old.state.fields
+        actor.new.state.fields rings.old rings.new words.old.items words.new.items }
+    ensures memory { WantsWordOfStep (body_prints (rates.body_at firing) (filter_of code.now))
+        (copied_step (filter_of code.now) fission.now firing actor.old.state.fields input output
+        rings.old) result }
+{
+    let window = match code.tree().input {
+        ItemType::Int => fission.window,
+        ItemType::Void => 0,
+    };
+    let pops = copy_pops(fission, firing);
+    let taking = Taking { window, pops };
+    fire_taking(code, firing, taking, actor, rings, input, output, words)
+}
+
+/// One firing of a filter that takes so many items.
+#[inline(always)]
+fn fire_taking(
+    code: &Code,
+    firing: u64,
+    taking: Taking,
+    actor: &mut FilterActor,
+    rings: &mut [Ring],
+    input: Option<usize>,
+    output: Option<usize>,
+    words: &mut Vec<Word>,
+) -> Result<bool, Halt>
+    requires actor { IsFilterActor (filter_of code.now) actor.old }
+    requires input { IfSome input (λ number. number < length rings.old) }
+    requires output { IfSome output (λ number. number < length rings.old) }
+    ensures actor { IsFilterActor (filter_of code.now) actor.new }
+    ensures rings { length rings.new ≡ length rings.old }
+    ensures step { HasStepped (steps.looking_step (filter_of code.now) firing taking.window
+        taking.pops actor.old.state.fields input output rings.old) result
+        actor.old.state.fields actor.new.state.fields rings.old rings.new words.old.items
+        words.new.items }
+    ensures memory { WantsWordOfStep (body_prints (rates.body_at firing) (filter_of code.now))
+        (steps.looking_step (filter_of code.now) firing taking.window taking.pops
+        actor.old.state.fields input output rings.old) result }
+{
     if count_at(rings, input) < taking.window as usize {
         return Ok(false);
     }

@@ -1,7 +1,9 @@
 // The machine that fires a graph's nodes over rings.
 
-ghost use Rattle.std.specs.Prelude.{◌≡◌, ◌<◌, All, [], ◌∷◌, IfOk, length, replicate};
-ghost use Rattle.strc_graph.specs.NodeView.{graph_view};
+ghost use Rattle.std.specs.Prelude.{◌≡◌, ◌<◌, All, [], ◌∷◌, IfOk, Some, length, replicate};
+ghost use Rattle.std.specs.Prelude.{slice_get};
+ghost use Rattle.strc_graph.specs.Graphs as graphs;
+ghost use Rattle.strc_graph.specs.NodeView.{copied_view, graph_view};
 ghost use Rattle.strc_order.specs.Greedy.{firings_of};
 ghost use Rattle.strc_order.specs.Order.{repeated};
 ghost use Rattle.strc_runner.specs.Actors.{AreActors, AreStartable, AreClosed};
@@ -17,12 +19,13 @@ ghost use Rattle.strc_runner.specs.Running.{HasDone, HasGone, IsMachine, machine
 use crate::actor::{Actor, start_actors};
 use crate::batches::{Batch, BatchList, Order};
 use crate::block::pass_at_once;
-use crate::filter::fire_filter;
+use crate::filter::{fire_copy, fire_filter};
 use crate::passing::fire_passive;
 use std::alloc::{AllocError, Global};
 use strc_base::memory::NoMemory;
 use strc_circuit::circuit::Circuit;
-use strc_graph::graph::{Graph, Node};
+use strc_graph::graph::{Copied, Fission, Graph, Node};
+use strc_rings::copy::fire_identity_copy;
 use strc_rings::ring::{Ring, first_rings};
 use strc_semantics::fault::{Cause, Halt};
 use strc_semantics::word::Word;
@@ -244,6 +247,9 @@ impl Machine {
                 ),
                 Actor::Passive => unreachable!(),
             },
+            Node::Copy(copied, fission) => {
+                self.step_copy(circuit, batch, firing, copied, fission)
+            }
             passive => fire_passive(
                 passive,
                 firing,
@@ -253,6 +259,45 @@ impl Machine {
                 &mut self.rings,
                 &mut self.words[node],
             ),
+        }
+    }
+
+    /// The same for a copy.
+    fn step_copy(
+        &mut self,
+        circuit: &Circuit,
+        batch: &Batch,
+        firing: u64,
+        copied: &Copied,
+        fission: &Fission,
+    ) -> Result<bool, Halt>
+        requires machine { IsMachine (circuit_view circuit.now) self.old }
+        requires batch { IsBatch (circuit_view circuit.now) batch.now }
+        requires copy { slice_get (circuit_view circuit.now).codes batch.now.node
+            ≡ Some (graphs.Copy (copied_view copied.now) fission.now) }
+        ensures machine { IsMachine (circuit_view circuit.now) self.new }
+        ensures fired { self.new.fired ≡ self.old.fired }
+        ensures step { HasDone (spec.step_at (circuit_view circuit.now) (machine_view self.old)
+            batch.now.node firing) batch.now.node result (machine_view self.old)
+            (machine_view self.new) }
+        ensures memory { WantsWordOfStep (prints_at (circuit_view circuit.now) batch.now.node
+            firing) (spec.step_at (circuit_view circuit.now) (machine_view self.old)
+            batch.now.node firing) result }
+    {
+        let node = batch.node as usize;
+        let (input, output) = (batch.input, batch.output);
+        match copied {
+            Copied::Filter(instance) => match &mut self.actors[node] {
+                Actor::Filter(actor) => {
+                    let (rings, words) = (&mut self.rings, &mut self.words[node]);
+                    let code = &instance.code;
+                    fire_copy(code, fission, firing, actor, rings, input, output, words)
+                }
+                Actor::Passive => unreachable!(),
+            },
+            Copied::Identity => {
+                Ok(fire_identity_copy(&mut self.rings, fission, firing, input, output))
+            }
         }
     }
 

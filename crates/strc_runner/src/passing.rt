@@ -9,10 +9,12 @@ ghost use Rattle.strc_rings.specs.Words.{WantsWordOfStep};
 ghost use Rattle.strc_runner.specs.Memory.{node_prints};
 
 use strc_graph::graph::Node;
+use strc_rings::gather::fire_gather;
 use strc_rings::movers::{
     fire_identity, fire_joiner, fire_reader, fire_splitter, fire_writer, ring_of,
 };
 use strc_rings::ring::Ring;
+use strc_rings::scatter::fire_scatter;
 use strc_semantics::fault::Halt;
 use strc_semantics::word::Word;
 
@@ -63,10 +65,8 @@ fn fire_mover(
         Node::FileReader(_) => fire_reader(rings, firing, ring_of(outputs, 0), input),
         Node::Splitter(splitter) => { fire_splitter(rings, splitter, ring_of(inputs, 0), outputs) }
         Node::Joiner(weights) => fire_joiner(rings, weights, inputs, ring_of(outputs, 0)),
-        Node::Filter(_)
-        | Node::FileWriter(_)
-        | Node::Scatter(_)
-        | Node::Copy(_, _)
-        | Node::Gather(_) => false,
+        Node::Scatter(fission) => fire_scatter(rings, fission, ring_of(inputs, 0), outputs),
+        Node::Gather(fission) => fire_gather(rings, fission, inputs, ring_of(outputs, 0)),
+        Node::Filter(_) | Node::FileWriter(_) | Node::Copy(_, _) => false,
     }
 }

@@ -29,11 +29,10 @@ use Rattle.strc_admissible.specs.Fits.{Queues}
 use Rattle.strc_admissible.specs.Laws.{startup_order, round_order}
 use Rattle.strc_admissible.specs.Machine as machines
 use Rattle.strc_admissible.specs.Machine.{MachineView, order_run, words_at}
+use Rattle.strc_admissible.specs.Simulation.{Simulates, IsAlike}
 use Rattle.strc_admissible.proofs.Filling.{run_fits}
-use Rattle.strc_admissible.proofs.FiringAlike.{IsAlike}
 use Rattle.strc_admissible.proofs.Rounds.{startup_nodes, round_nodes}
 use Rattle.strc_admissible.proofs.RunAlike.{first_simulates, order_alike}
-use Rattle.strc_admissible.proofs.Simulation.{Simulates}
 use Rattle.strc_admissible.proofs.Splitting.{fit_now, fit_split}
 use Rattle.strc_staging.specs.Parcels.{IsWorking}
 use Rattle.strc_staging.specs.Workers.{AreParcels, IsChain, collects}

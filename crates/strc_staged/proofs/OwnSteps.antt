@@ -25,22 +25,23 @@ use Rattle.strc_graph.specs.Graphs.{NodeCode, FileReader, Channel, Graph, gives_
 use Rattle.strc_graph.specs.FlatGraphs.{IsProgram}
 use Rattle.strc_graph.specs.Meaning.{node_meaning, node_fired}
 use Rattle.strc_graph.specs.Rates.{fires_by_rounds, pops_at}
+use Rattle.strc_admissible.specs.ByChannels.{IsByChannels}
 use Rattle.strc_admissible.specs.Circuits.{IsCircuit}
 use Rattle.strc_admissible.specs.Fits.{Queues, FitThen}
 use Rattle.strc_admissible.specs.Machine as machines
 use Rattle.strc_admissible.specs.Machine.{CircuitView, MachineView, one_more, words_at}
 use Rattle.strc_admissible.specs.Machine.{more_words, step_at, next_step, after_step}
+use Rattle.strc_admissible.specs.NodeSteps.{ArePlaced, Moves, Matches, Shows, finds_in, sees_of}
 use Rattle.strc_admissible.specs.Rings.{Ring, ring_at, items_at}
 use Rattle.strc_admissible.specs.Steps as steps
 use Rattle.strc_admissible.specs.Steps.{Step, maybe_step, node_step}
 use Rattle.strc_admissible.specs.Wiring.{ports_at}
 use Rattle.strc_admissible.proofs.Advancing.{next_queues, next_machine}
-use Rattle.strc_admissible.proofs.Changes.{ArePlaced, Moves}
 use Rattle.strc_admissible.proofs.Ends.{are_placed, idle_empty, carrier_fed}
-use Rattle.strc_admissible.proofs.NodeSteps.{node_matches}
+use Rattle.strc_admissible.proofs.NodeSteps.{node_matches, window_unasked}
 use Rattle.strc_admissible.proofs.Orders.{is_reader}
 use Rattle.strc_admissible.proofs.Simulation.{ring_holds}
-use Rattle.strc_admissible.proofs.Stepping.{finds_in, sees_of, Matches, Shows}
+use Rattle.strc_admissible.proofs.TreeGraphs.{by_channels}
 
 -- a channel begins or ends at a node that is looked at
 abbrev pub Touches : (own : ℕ → Bool) → Channel → Type 0
@@ -121,13 +122,16 @@ module _ (tree : Stream NodeCode) (graph : Graph) (program : IsProgram tree grap
   abbrev count : ℕ
   count = length graph.nodes
 
+  joins : IsByChannels (flat tree) graph
+  joins = by_channels tree graph program
+
   module _ (fields : List ℤ) (pushes : ByPort) (words : List Word) (after : List Ring)
       (moves : Moves inputs outputs (pops_at code firing) pushes machine.rings after) where
     abbrev run : Run (List ℤ) Cause Word
     run = after_firing node_meaning code (now.runs node) (Fires fields pushes words)
 
     abbrev next : Queues
-    next = next_queues tree now node fields pushes words
+    next = next_queues (flat tree) now node fields pushes words
 
     abbrev later : MachineView
     later = next_machine machine node fields after words
@@ -250,8 +254,8 @@ module _ (tree : Stream NodeCode) (graph : Graph) (program : IsProgram tree grap
       fields = next_fields;
       fired = next_fired (fit.firings node is_own);
       rings = λ number channel listed touches.
-          ring_holds tree graph program circuit is node (pops_at code firing) pushes machine.rings
-          after moves number channel listed now firing (size number channel) refl
+          ring_holds (flat tree) graph joins circuit is node (pops_at code firing) pushes
+          machine.rings after moves number channel listed now firing (size number channel) refl
           (simulates.rings number channel listed touches)
           (fit.items number channel listed touches);
       reads = next_reads;
@@ -274,18 +278,18 @@ module _ (tree : Stream NodeCode) (graph : Graph) (program : IsProgram tree grap
 
   placed : ArePlaced inputs outputs (length machine.rings)
   placed = subst (λ (n : ℕ). ArePlaced inputs outputs n) (sym simulates.each_ring)
-      (are_placed tree graph program circuit is node)
+      (are_placed (flat tree) graph joins circuit is node)
 
-  shows : Shows inputs outputs machine.rings placed (now.queues node) code
+  shows : Shows inputs machine.rings (now.queues node) code
   shows = record {
     holds = λ port carries.
         let (number, channel, listed, ends, ring) =
-        carrier_fed tree graph program circuit is node code there port carries in
+        carrier_fed (flat tree) graph joins circuit is node code there port carries in
         ap (items_at machine.rings) ring
         ∙ ap (λ (r : Ring). r.items) (simulates.rings number channel listed
         (inr (ap (λ end. own end.node) ends ∙ is_own)))
         ∙ ap (λ end. now.queues end.node end.port) ends;
-    empty = idle_empty tree graph program circuit is node code there;
+    empty = idle_empty (flat tree) graph joins circuit is node code there;
   }
 
   step_matches : fires_by_rounds code ≡ false
@@ -297,10 +301,11 @@ module _ (tree : Stream NodeCode) (graph : Graph) (program : IsProgram tree grap
       subst (Matches inputs outputs (pops_at code firing) machine.rings
       (finds_in code firing (now.queues node))
       (node_fired code firing state (sees_of code firing (now.queues node)))) (sym step_is)
-      (node_matches inputs outputs machine.rings placed (now.queues node) code alone firing state
-      input shows
+      (node_matches inputs outputs machine.rings placed (now.queues node) code firing state input
+      shows
       (λ reader. let reads = is_reader code reader in
-      simulates.reads node reads.0 (there ∙ ap Some reads.1) is_own))
+      simulates.reads node reads.0 (there ∙ ap Some reads.1) is_own)
+      (window_unasked code firing alone))
 
   -- a firing that finds its windows or doesn't
   abbrev found_progress : Bool → generic.Fired (List ℤ) Cause Word
@@ -332,10 +337,10 @@ module _ (tree : Stream NodeCode) (graph : Graph) (program : IsProgram tree grap
   found_alike false fired steps.Stays matches fit = simulates
   found_alike true (Fires fields pushes words) (steps.Goes its after printed) matches fit =
       subst (λ (l : List ℤ). SimulatesOwn graph own size input
-      (next_queues tree now node fields pushes words)
+      (next_queues (flat tree) now node fields pushes words)
       (next_machine machine node l after printed)) (sym matches.0)
       (subst (λ (l : List Word). SimulatesOwn graph own size input
-      (next_queues tree now node fields pushes words)
+      (next_queues (flat tree) now node fields pushes words)
       (next_machine machine node fields after l)) (sym matches.1)
       (next_simulates fields pushes words after matches.2 fit))
   found_alike true (Faults cause) (steps.Faults its) matches fit =

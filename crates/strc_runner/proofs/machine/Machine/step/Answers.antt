@@ -17,7 +17,7 @@ use Rattle.strc_runner.specs.Running.{machine_view}
 use Rattle.strc_runner.specs.declared.actor.Actor.TheVariants as actor
 use Rattle.strc_runner.proofs.Done.{actor_at, actor_set, code_at, done_by, fields_set, fields_at}
 use Rattle.strc_runner.proofs.Done.{machine_after, step_of, passive_kept, passive_of, fields_kept}
-use Rattle.strc_runner.proofs.Done.{stepped_filter, stepped_passive, stepped_words}
+use Rattle.strc_runner.proofs.Done.{stepped_at, stepped_passive, stepped_words}
 use Rattle.strc_runner.proofs.Wanting.{step_wants}
 use Rattle.strc_runner.proofs.WordLists.{own_words, words_many, words_set}
 use Rattle.strc_runner.proofs.machine.Machine.step.Goals as goal
@@ -43,6 +43,15 @@ unreachable-requires c =
     (actor_at c.args.circuit.now.nodes.items c.args.self.now.actors.items c.requires.machine.actors
     c.args.batch.now.node c.index.result.now filter c.index_mut.result.now there
     (sym c.index.ensures ∙ c.in-Filter.is) c.index_mut.ensures.value)
+
+pub step_copy-requires-clause-copy : goal.step_copy-requires-clause-copy
+step_copy-requires-clause-copy c =
+    let there : c.args.batch.now.node < length c.args.circuit.now.nodes.items =
+    let e = c.requires.batch.node in
+    let l = length-map c.args.circuit.now.nodes.items node_view in omega arith in
+    let copy : Node = node.Copy c.in-Copy.copied c.in-Copy.fission in
+    code_at c.args.circuit.now.nodes.items c.args.batch.now.node c.index.result.now copy there
+    (sym c.index.ensures ∙ c.in-Copy.is)
 
 pub returns-in-Filter-index_mut-clause-machine : goal.returns-in-Filter-index_mut-clause-machine
 returns-in-Filter-index_mut-clause-machine c =
@@ -93,13 +102,14 @@ returns-in-Filter-index_mut-clause-step c =
     c.fire_filter.new.words.items)
     (sym (step_of circuit before number c.args.firing (node_view filter)
     (ports_at circuit.inputs number) (ports_at circuit.outputs number) here refl refl))
-    (stepped_filter c.fire_filter.result (words_at before.words number)
+    (stepped_at c.fire_filter.result (words_at before.words number)
     c.fire_filter.new.words.items rings.items
     c.deref_mut.result.now (with_items rings c.fire_filter.new.rings).items
     c.fire_filter.new.rings c.deref_mut.ensures.value
     (sym (with_items_is rings c.fire_filter.new.rings
     (c.fire_filter.ensures.rings ∙ ap length c.deref_mut.ensures.value ∙ sym rings.ok.0)))
-    (filter_of c.in-Filter.instance.code) c.args.firing (get_or before.fields number [])
+    (filter_step (filter_of c.in-Filter.instance.code) c.args.firing)
+    (get_or before.fields number [])
     kept.state.fields c.fire_filter.new.actor.state.fields
     (at_port (ports_at circuit.inputs number) 0) c.args.batch.now.input
     (at_port (ports_at circuit.outputs number) 0) c.args.batch.now.output
@@ -162,7 +172,7 @@ returns-in_default c =
     let here = code_at c.args.circuit.now.nodes.items number passive passive there
     (sym c.index.ensures) in
     let none = passive_kept circuit.codes actors c.requires.machine.actors number
-    (node_view passive) here (passive_of passive c.in_default.not-Filter) in
+    (node_view passive) here (passive_of passive c.in_default.not-Filter c.in_default.not-Copy) in
     let firing = c.args.firing in
     let code = node_view passive in
     let inputs = c.at.result.now in
