@@ -11,6 +11,7 @@ ghost use Rattle.strc_runner.specs.Batches.{AreBatches, FitsKind, IsKindBetween,
 ghost use Rattle.strc_runner.specs.Batches.{IsOrderOf, all_firings, batch_firings, in_circuit};
 ghost use Rattle.strc_runner.specs.Batches.{units_of};
 
+use crate::chains::hands_of;
 use crate::identity::is_identity;
 use std::alloc::{AllocError, Global};
 use strc_circuit::circuit::Circuit;
@@ -47,6 +48,9 @@ pub(crate) enum Kind {
 pub(crate) struct BatchList {
     pub(crate) turns: u32,
     pub(crate) batches: Vec<Batch>,
+    /// Of each batch whether items are handed to it or by it; none where they are to or by no
+    /// batch.
+    pub(crate) hands: Vec<bool>,
 }
 
 /// The units of an order, and their firings as batches.
@@ -66,6 +70,9 @@ impl Order {
         let mut lists = Vec::new(alloc);
         for unit in &units {
             add_unit(alloc, circuit, &mut lists, unit)?;
+        }
+        for list in &mut lists {
+            list.hands = hands_of(alloc, circuit, &list.batches)?;
         }
         Ok(Order { units, lists })
     }
@@ -95,7 +102,12 @@ fn add_unit(
         }
     }
     let turns = unit.turns;
-    lists.push(BatchList { turns, batches })?;
+    let hands = Vec::new(alloc);
+    lists.push(BatchList {
+        turns,
+        batches,
+        hands,
+    })?;
     Ok(())
 }
 
@@ -115,16 +127,28 @@ fn add_batch(
 {
     if let Some(last) = lists.pop() {
         if last.turns == 1 {
-            let BatchList { turns, mut batches } = last;
+            let BatchList {
+                turns,
+                mut batches,
+                hands,
+            } = last;
             batches.push(batch)?;
-            lists.push(BatchList { turns, batches })?;
+            lists.push(BatchList {
+                turns,
+                batches,
+                hands,
+            })?;
             return Ok(());
         }
         lists.push(last)?;
     }
     let mut batches = Vec::new(alloc);
     batches.push(batch)?;
-    lists.push(BatchList { turns: 1, batches })?;
+    lists.push(BatchList {
+        turns: 1,
+        batches,
+        hands: Vec::new(alloc),
+    })?;
     Ok(())
 }
 

@@ -105,8 +105,8 @@ impl Machine {
     }
 
     /// Fires a batch's node so often; at once where it passes items on and finds them all.
-    #[inline]
-    fn fire_batch(&mut self, circuit: &Circuit, batch: &Batch) -> Result<(), Stop>
+    #[inline(always)]
+    pub(crate) fn fire_batch(&mut self, circuit: &Circuit, batch: &Batch) -> Result<(), Stop>
         requires machine { IsMachine (circuit_view circuit.now) self.old }
         requires batch { IsBatch (circuit_view circuit.now) batch.now }
         ensures machine { IsMachine (circuit_view circuit.now) self.new }
@@ -157,12 +157,31 @@ impl Machine {
             (machine_view self.old) result }
     {
         for _turn in 0..list.turns {
-            match self.fire_batches(circuit, &list.batches) {
+            match self.fire_turn(circuit, list) {
                 Ok(()) => {}
                 Err(stop) => return Err(stop),
             }
         }
         Ok(())
+    }
+
+    /// Fires the batches of a list once.
+    #[inline]
+    fn fire_turn(&mut self, circuit: &Circuit, list: &BatchList) -> Result<(), Stop>
+        requires machine { IsMachine (circuit_view circuit.now) self.old }
+        requires batches { AreBatches (circuit_view circuit.now) list.now }
+        ensures machine { IsMachine (circuit_view circuit.now) self.new }
+        ensures gone { HasGone (spec.order_run (circuit_view circuit.now)
+            (batch_firings list.now.batches.items) (machine_view self.old)) result
+            (machine_view self.old).words (machine_view self.new) }
+        ensures memory { WantsWordOfOrder (circuit_view circuit.now)
+            (batch_firings list.now.batches.items) (machine_view self.old) result }
+    {
+        if list.hands.is_empty() {
+            self.fire_batches(circuit, &list.batches)
+        } else {
+            self.fire_handing(circuit, &list.batches, &list.hands)
+        }
     }
 
     /// Fires batches one after another.
