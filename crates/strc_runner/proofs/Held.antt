@@ -5,7 +5,7 @@ use Rattle.std.proofs.Common.{Ok, Err}
 use Rattle.std.specs.Prelude.{Option, Some, None, IfSome, nat_le}
 use Rattle.std.proofs.lemmas.Bool.{le-leb, lt-leb}
 use Rattle.std.proofs.lemmas.List.{drop_all, get_or-set_same, length-take-le, set-get_or, set-set}
-use Rattle.std.proofs.lemmas.List.{take_all}
+use Rattle.std.proofs.lemmas.List.{get_or_default, take_all}
 use Rattle.circular_buffer.specs.Buffer.{buffer}
 use Rattle.strc_semantics.specs.Filters as filters
 use Rattle.strc_semantics.specs.Firing.{fired}
@@ -16,10 +16,11 @@ use Rattle.strc_semantics.specs.declared.word.Word.{Word}
 use Rattle.strc_inst.specs.Running.{MoreWords}
 use Rattle.strc_work.specs.Answers.{Fires, HasGiven}
 use Rattle.strc_graph.specs.Rates.{body_at, filter_pops}
-use Rattle.strc_admissible.specs.Rings.{Ring, extended, given, items_at, ring_at, shortened, taken}
+use Rattle.strc_admissible.specs.Rings.{Ring, extended, given, items_at, moved, ring_at, shortened}
+use Rattle.strc_admissible.specs.Rings.{taken}
 use Rattle.strc_admissible.specs.Steps.{Stays, Goes, filter_after, filter_looks, filter_step}
 use Rattle.strc_admissible.specs.Steps.{if_found}
-use Rattle.strc_runner.specs.Answers.{HasStepped}
+use Rattle.strc_rings.specs.Answers.{HasStepped}
 use Rattle.strc_runner.specs.Handing.{IsAllAt, IsHeld, with_held}
 use Rattle.strc_runner.specs.declared.handing.Held.{Held}
 
@@ -71,6 +72,24 @@ module _ (port : Option ℕ) (rings : List Ring) (held : Held) (items : List ℤ
       (drop_all pops (take held.count items) (let e = many in omega (arith, e, same))
       ∙ sym all.empty)
       ∙ set-get_or rings all.ring (buffer [] 0)
+
+  -- those that an identity passes on are in hand for another ring
+  pub handed_over : (to : Option ℕ) (count : ℕ) → held.count ≡ count
+      → moved port to count (with_held held items rings) ≡ given to (take held.count items) rings
+  handed_over to count same =
+      let joined = with_held held items rings in
+      ap (λ (l : List ℤ). given to (take count l) (taken port count joined))
+      (all_found)
+      ∙ ap (λ (l : List ℤ). given to l (taken port count joined))
+      (take_all count (take held.count items) (let e = many in omega (arith, e, same)))
+      ∙ ap (given to (take held.count items)) (all_taken count (sym same))
+
+-- the same items in hand, by other names
+pub same_held : (held : Held) (items other : List ℤ) (rings same : List Ring) → items ≡ other
+    → rings ≡ same → with_held held items rings ≡ with_held held other same
+same_held held items other rings same items_are rings_are =
+    ap (λ (l : List ℤ). with_held held l rings) items_are
+    ∙ ap (with_held held other) rings_are
 
 module _ (filter : filters.Filter) (firing : ℕ) (fields : List ℤ) (input output : Option ℕ)
     (rings : List Ring) (held : Held) (items : List ℤ) (is : IsHeld items rings held)
@@ -154,7 +173,7 @@ pub picked_up : (rings : List Ring) (number : ℕ) (seen ring left : Ring) (item
     → length seen.items ≤ seen.capacity → left ≡ buffer [] ring.capacity → items ≡ ring.items
     → given (Some number) items (set rings number left) ≡ rings
 picked_up rings number seen ring left items less seen_is ring_is within left_is items_are =
-    let same : seen ≡ ring = seen_is ∙ get_or-default rings number seen ring less ∙ sym ring_is in
+    let same : seen ≡ ring = seen_is ∙ get_or_default rings number seen ring less ∙ sym ring_is in
     let room = subst (λ (r : Ring). length r.items ≤ r.capacity) same within in
     let many = ap length items_are in
     ap (λ (r : Ring). set (set rings number left) number (extended items r))

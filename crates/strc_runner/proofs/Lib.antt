@@ -8,6 +8,7 @@ pub mod Held
 pub mod Identities
 pub mod Blocks
 pub mod Batching
+pub mod ByHand
 pub mod BatchLists
 pub mod TurnFirings
 pub mod PartLists

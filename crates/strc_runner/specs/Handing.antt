@@ -2,9 +2,11 @@
 use Rattle.std.specs.Prelude.{◌≡◌, ℕ, ◌<◌, ◌≤◌, ℤ, List, [], length, take, Bool, IfSome}
 use Rattle.std.specs.Prelude.{Option, Some, None, Result, Ok, Err}
 use Rattle.strc_semantics.specs.declared.fault.Halt.{Halt}
+use Rattle.strc_semantics.specs.declared.word.Word.{Word}
 use Rattle.strc_admissible.specs.Machine.{MachineView}
 use Rattle.strc_admissible.specs.Rings.{Ring, given, ring_at}
 use Rattle.strc_admissible.specs.Steps.{Step}
+use Rattle.strc_rings.specs.Answers.{HasStepped}
 use Rattle.strc_runner.specs.Running.{HasDone, machine_view, with_rings}
 use Rattle.strc_runner.specs.declared.handing.Held.{Held}
 use Rattle.strc_runner.specs.declared.machine.Machine.{Machine}
@@ -31,7 +33,18 @@ pub record IsAllAt (port : Option ℕ) (rings : List Ring) (held : Held) : Type 
   pub empty : (ring_at rings ring).items ≡ []
   pub room : held.count ≤ (ring_at rings ring).capacity
 
--- an answer tells what a step that could be done by hand left, or that it couldn't, and all stayed
+-- an answer tells what a filter's step that could be done by hand left, or that it couldn't, and all
+-- stayed
+abbrev pub HasSteppedByHand : Step → Result (Option Bool) Halt → (fields_before fields : List ℤ)
+    → (rings_before rings : List Ring) → (words_before words : List Word) → Type 0
+HasSteppedByHand step (Ok None) fields_before fields rings_before rings words_before words =
+    (fields ≡ fields_before) × (rings ≡ rings_before) × (words ≡ words_before)
+HasSteppedByHand step (Ok (Some found)) fields_before fields rings_before rings words_before words =
+    HasStepped step (Ok found) fields_before fields rings_before rings words_before words
+HasSteppedByHand step (Err halt) fields_before fields rings_before rings words_before words =
+    HasStepped step (Err halt) fields_before fields rings_before rings words_before words
+
+-- the same of a node's step, of the machine
 abbrev pub HasDoneByHand : Step → (node : ℕ) → Result (Option Bool) Halt
     → (before after : MachineView) → Type 0
 HasDoneByHand step node (Ok None) before after = after ≡ before

@@ -48,9 +48,6 @@ pub(crate) enum Kind {
 pub(crate) struct BatchList {
     pub(crate) turns: u32,
     pub(crate) batches: Vec<Batch>,
-    /// Of each batch whether items are handed to it or by it; none where they are to or by no
-    /// batch.
-    pub(crate) hands: Vec<bool>,
 }
 
 /// The units of an order, and their firings as batches.
@@ -58,6 +55,8 @@ pub(crate) struct BatchList {
 pub struct Order {
     pub(crate) units: Vec<Unit>,
     pub(crate) lists: Vec<BatchList>,
+    /// Of each list which of its batches fire by hand; none where none does.
+    pub(crate) hands: Vec<Vec<bool>>,
 }
 
 impl Order {
@@ -71,10 +70,12 @@ impl Order {
         for unit in &units {
             add_unit(alloc, circuit, &mut lists, unit)?;
         }
-        for list in &mut lists {
-            list.hands = hands_of(alloc, circuit, &list.batches)?;
-        }
-        Ok(Order { units, lists })
+        let hands = hands_of(alloc, circuit, &lists)?;
+        Ok(Order {
+            units,
+            lists,
+            hands,
+        })
     }
 }
 
@@ -102,12 +103,7 @@ fn add_unit(
         }
     }
     let turns = unit.turns;
-    let hands = Vec::new(alloc);
-    lists.push(BatchList {
-        turns,
-        batches,
-        hands,
-    })?;
+    lists.push(BatchList { turns, batches })?;
     Ok(())
 }
 
@@ -127,28 +123,16 @@ fn add_batch(
 {
     if let Some(last) = lists.pop() {
         if last.turns == 1 {
-            let BatchList {
-                turns,
-                mut batches,
-                hands,
-            } = last;
+            let BatchList { turns, mut batches } = last;
             batches.push(batch)?;
-            lists.push(BatchList {
-                turns,
-                batches,
-                hands,
-            })?;
+            lists.push(BatchList { turns, batches })?;
             return Ok(());
         }
         lists.push(last)?;
     }
     let mut batches = Vec::new(alloc);
     batches.push(batch)?;
-    lists.push(BatchList {
-        turns: 1,
-        batches,
-        hands: Vec::new(alloc),
-    })?;
+    lists.push(BatchList { turns: 1, batches })?;
     Ok(())
 }
 

@@ -7,14 +7,16 @@ ghost use Rattle.strc_admissible.specs.Machine as spec;
 ghost use Rattle.strc_circuit.specs.Circuits.{circuit_view};
 ghost use Rattle.strc_runner.specs.Batches.{IsBatch, batch_firings};
 ghost use Rattle.strc_runner.specs.Handing.{HasDoneByHand, IsHeld, held_view};
-ghost use Rattle.strc_runner.specs.Memory.{WantsWordOfOrder, WantsWordOfStep, prints_at};
+ghost use Rattle.strc_rings.specs.Words.{WantsWordOfStep};
+ghost use Rattle.strc_runner.specs.Memory.{WantsWordOfOrder, prints_at};
 ghost use Rattle.strc_runner.specs.Running.{HasGone, IsMachine, machine_view};
 ghost use Rattle.strc_runner.specs.declared.batches.Kind.TheVariants as kind;
 
 use crate::actor::Actor;
 use crate::batches::{Batch, Kind};
-use crate::handing::{Held, fire_held, nothing_held, put_down, take_up, taking_at};
+use crate::handing::{Held, fire_by_hand, nothing_held, put_down, take_up};
 use crate::machine::{Machine, Stop};
+use std::slice::from_ref;
 use strc_circuit::circuit::Circuit;
 use strc_graph::graph::Node;
 use strc_semantics::fault::Halt;
@@ -102,19 +104,13 @@ impl Machine {
     {
         put_down(&mut self.rings, &self.items, *held);
         *held = nothing_held();
-        self.fire_batch(circuit, batch)
+        self.fire_batches(circuit, from_ref(batch))
     }
 
     /// So many firings of an identity to a ring, where they take just what is in hand: it is in
     /// hand for that ring then. Whether it is so; if not, none fires.
     #[inline(always)]
-    fn pass_held(
-        &mut self,
-        circuit: &Circuit,
-        batch: &Batch,
-        to: usize,
-        held: &mut Held,
-    ) -> bool
+    fn pass_held(&mut self, circuit: &Circuit, batch: &Batch, to: usize, held: &mut Held) -> bool
         requires machine { IsMachine (circuit_view circuit.now) self.old }
         requires batch { IsBatch (circuit_view circuit.now) batch.now }
         requires kind { (from : ℕ) × (batch.now.kind ≡ kind.Identity from to) }
@@ -201,25 +197,18 @@ impl Machine {
         let Node::Filter(instance) = &circuit.nodes[node] else {
             return Ok(None);
         };
-        let Actor::Filter(actor) = &mut self.actors[node] else {
-            return Ok(None);
-        };
-        let pops = taking_at(actor, firing).pops as usize;
-        if !take_up(&mut self.rings, &mut self.items, batch.input, pops, held) {
-            return Ok(None);
-        }
-        match fire_held(
-            &instance.code,
-            firing,
-            actor,
-            batch,
-            &mut self.rings,
-            &mut self.items,
-            held,
-            &mut self.words[node],
-        ) {
-            Ok(found) => Ok(Some(found)),
-            Err(halt) => Err(halt),
+        match &mut self.actors[node] {
+            Actor::Filter(actor) => fire_by_hand(
+                &instance.code,
+                firing,
+                actor,
+                batch,
+                &mut self.rings,
+                &mut self.items,
+                held,
+                &mut self.words[node],
+            ),
+            Actor::Passive => unreachable!(),
         }
     }
 }

@@ -1,73 +1,82 @@
-// Which batches of a list take all that the one before pushes.
+// Which batches of an order fire by hand: those that take all that the one before pushes, and only
+// that, or whose pushes the next one takes so.
 
-use crate::batches::{Batch, Kind};
+use crate::batches::{Batch, BatchList, Kind};
 use std::alloc::{AllocError, Global};
 use strc_circuit::circuit::Circuit;
 use strc_graph::graph::Node;
 use strc_semantics::body::Body;
 
-/// Of each batch whether it takes all that the one before pushes, or the next one all that it does.
+/// Of each list which of its batches fire by hand; none where none does.
 pub(crate) fn hands_of(
     alloc: Global,
     circuit: &Circuit,
-    batches: &[Batch],
-) -> Result<Vec<bool>, AllocError> {
-    let mut hands = Vec::with_capacity(alloc, batches.len())?;
-    for place in 0..batches.len() {
-        let takes = place > 0 && takes_all(circuit, &batches[place - 1], &batches[place]);
-        let gives = place + 1 < batches.len()
-            && takes_all(circuit, &batches[place], &batches[place + 1]);
-        hands.push(takes || gives)?;
-    }
-    if !hands.contains(&true) {
-        hands.clear();
+    lists: &[BatchList],
+) -> Result<Vec<Vec<bool>>, AllocError> {
+    let mut hands = Vec::with_capacity(alloc, lists.len())?;
+    for list in lists {
+        hands.push(chained(alloc, circuit, &list.batches)?)?;
     }
     Ok(hands)
 }
 
-/// Whether a batch takes all that the one before pushes.
-pub(crate) fn takes_all(circuit: &Circuit, before: &Batch, batch: &Batch) -> bool {
-    match (before.output, batch.input) {
-        (Some(output), Some(input)) => {
-            output == input
-                && taken(circuit, before) >= 0
-                && pushed(circuit, before) == taken(circuit, batch)
-        }
+/// Of each batch whether it fires by hand; none where none does.
+fn chained(alloc: Global, circuit: &Circuit, batches: &[Batch]) -> Result<Vec<bool>, AllocError> {
+    let mut marks = Vec::new(alloc);
+    let mut is_any = false;
+    for place in 0..batches.len() {
+        let takes = place > 0 && hands_on(circuit, &batches[place - 1], &batches[place]);
+        let gives = place + 1 < batches.len()
+            && hands_on(circuit, &batches[place], &batches[place + 1]);
+        is_any = is_any || takes || gives;
+        marks.push(takes || gives)?;
+    }
+    if !is_any {
+        marks.clear();
+    }
+    Ok(marks)
+}
+
+/// Whether two batches can fire by hand, and the second takes what the first one pushes.
+fn hands_on(circuit: &Circuit, first: &Batch, second: &Batch) -> bool {
+    let (Some(output), Some(input)) = (first.output, second.input) else {
+        return false;
+    };
+    match (flow_of(circuit, first), flow_of(circuit, second)) {
+        (Some(first), Some(second)) => output == input && first.pushes == second.pops,
         _ => false,
     }
 }
 
-/// How many items one firing of a filter pushes, or an identity's batch passes on.
-fn pushed(circuit: &Circuit, batch: &Batch) -> i64 {
-    if let Kind::Identity { .. } = batch.kind {
-        return i64::from(batch.turns);
-    }
-    if batch.turns != 1 || batch.node as usize >= circuit.nodes.len() {
-        return -1;
-    }
-    match &circuit.nodes[batch.node as usize] {
-        Node::Filter(instance) => i64::from(instance.code.rates(Body::Work).push),
-        _ => -1,
-    }
+/// How many items a batch takes, and how many it pushes.
+#[derive(Clone, Copy)]
+struct Flow {
+    pops: u32,
+    pushes: u32,
 }
 
-/// How many items it takes, where that is all that it looks at.
-fn taken(circuit: &Circuit, batch: &Batch) -> i64 {
+/// Those of a batch that can fire by hand: of an identity, or of one firing of a filter that looks
+/// at no item that it doesn't take.
+fn flow_of(circuit: &Circuit, batch: &Batch) -> Option<Flow> {
     if let Kind::Identity { .. } = batch.kind {
-        return i64::from(batch.turns);
+        return Some(Flow {
+            pops: batch.turns,
+            pushes: batch.turns,
+        });
     }
-    if batch.turns != 1 || batch.node as usize >= circuit.nodes.len() {
-        return -2;
+    let node = batch.node as usize;
+    if batch.turns != 1 || node >= circuit.nodes.len() {
+        return None;
     }
-    match &circuit.nodes[batch.node as usize] {
-        Node::Filter(instance) => {
-            let rates = instance.code.rates(Body::Work);
-            if rates.peek > rates.pop {
-                -2
-            } else {
-                i64::from(rates.pop)
-            }
-        }
-        _ => -2,
+    let Node::Filter(instance) = &circuit.nodes[node] else {
+        return None;
+    };
+    let rates = instance.code.rates(Body::Work);
+    if rates.peek > rates.pop || rates.pop < 0 || rates.push < 0 {
+        return None;
     }
+    Some(Flow {
+        pops: rates.pop as u32,
+        pushes: rates.push as u32,
+    })
 }

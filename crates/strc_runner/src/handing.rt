@@ -1,6 +1,6 @@
 // Items that a firing has pushed, in hand for the next one's window: no ring holds them in between.
 
-ghost use Rattle.std.specs.Prelude.{◌≡◌, ◌<◌, ◌≤◌, [], None, IfSome, length, take, true};
+ghost use Rattle.std.specs.Prelude.{◌≡◌, ◌<◌, ◌≤◌, [], None, IfErr, IfSome, Err, length, take, true};
 ghost use Rattle.circular_buffer.specs.Buffer.{buffer};
 ghost use Rattle.strc_semantics.specs.Filters as filters;
 ghost use Rattle.strc_semantics.specs.Filters.{body_prints, filter_of};
@@ -8,15 +8,15 @@ ghost use Rattle.strc_admissible.specs.Rings as spec;
 ghost use Rattle.strc_admissible.specs.Steps as steps;
 ghost use Rattle.strc_graph.specs.Rates as rates;
 ghost use Rattle.strc_runner.specs.Actors.{IsFilterActor};
-ghost use Rattle.strc_runner.specs.Answers.{HasStepped};
-ghost use Rattle.strc_runner.specs.Handing.{IsAllAt, IsHeld, with_held};
-ghost use Rattle.strc_runner.specs.Memory.{WantsWordOfStep};
+ghost use Rattle.strc_rings.specs.Answers.{HasStepped};
+ghost use Rattle.strc_runner.specs.Handing.{HasSteppedByHand, IsAllAt, IsHeld, with_held};
+ghost use Rattle.strc_rings.specs.Words.{WantsWordOfStep};
 
 use crate::batches::Batch;
 use crate::filter::{FilterActor, Taking};
-use crate::ring::{Ring, give_to};
 use strc_code::code::Code;
 use strc_graph::rates::body_at;
+use strc_rings::ring::{Ring, give_to};
 use strc_semantics::fault::Halt;
 use strc_semantics::word::Word;
 use strc_work::firing::Fire;
@@ -109,12 +109,7 @@ fn pick_up(ring: &mut Ring, items: &mut [i32], count: usize)
 
 /// Items for a port are in hand; where they are too many, they join its ring at once.
 #[inline(always)]
-fn hold(
-    rings: &mut [Ring],
-    items: &mut [i32],
-    port: Option<usize>,
-    pushes: &[i32],
-) -> Held
+fn hold(rings: &mut [Ring], items: &mut [i32], port: Option<usize>, pushes: &[i32]) -> Held
     requires port { IfSome port (λ number. number < length rings.old) }
     ensures rings { length rings.new ≡ length rings.old }
     ensures items { length items.new ≡ length items.old }
@@ -135,10 +130,51 @@ fn hold(
     Held { port, count }
 }
 
+/// One firing of a batch's filter, by its number, where what it takes can be in hand: whether it
+/// found its window, and then what it pushes is in hand. Where it can't be, nothing fires.
+#[inline(always)]
+pub(crate) fn fire_by_hand(
+    code: &Code,
+    firing: u64,
+    actor: &mut FilterActor,
+    batch: &Batch,
+    rings: &mut [Ring],
+    items: &mut [i32],
+    held: &mut Held,
+    words: &mut Vec<Word>,
+) -> Result<Option<bool>, Halt>
+    requires actor { IsFilterActor (filter_of code.now) actor.old }
+    requires input { IfSome batch.now.input (λ number. number < length rings.old) }
+    requires output { IfSome batch.now.output (λ number. number < length rings.old) }
+    requires held { IsHeld items.old rings.old held.old }
+    ensures actor { IsFilterActor (filter_of code.now) actor.new }
+    ensures rings { length rings.new ≡ length rings.old }
+    ensures items { length items.new ≡ length items.old }
+    ensures held { IsHeld items.new rings.new held.new }
+    ensures step { HasSteppedByHand (steps.filter_step (filter_of code.now) firing
+        actor.old.state.fields batch.now.input batch.now.output
+        (with_held held.old items.old rings.old)) result actor.old.state.fields
+        actor.new.state.fields (with_held held.old items.old rings.old)
+        (with_held held.new items.new rings.new) words.old.items words.new.items }
+    ensures memory { IfErr result (λ halt. WantsWordOfStep
+        (body_prints (rates.body_at firing) (filter_of code.now))
+        (steps.filter_step (filter_of code.now) firing actor.old.state.fields batch.now.input
+        batch.now.output (with_held held.old items.old rings.old)) (Err halt)) }
+{
+    let pops = taking_at(actor, firing).pops as usize;
+    if !take_up(rings, items, batch.input, pops, held) {
+        return Ok(None);
+    }
+    match fire_held(code, firing, actor, batch, rings, items, held, words) {
+        Ok(found) => Ok(Some(found)),
+        Err(halt) => Err(halt),
+    }
+}
+
 /// One firing of a batch's filter, by its number, on what is in hand, which is all that it takes.
 /// Then what it pushes is in hand. Whether it found its window; if not, all stays as it was.
 #[inline]
-pub(crate) fn fire_held(
+fn fire_held(
     code: &Code,
     firing: u64,
     actor: &mut FilterActor,
@@ -186,7 +222,7 @@ pub(crate) fn fire_held(
 
 /// What a firing takes, by its number.
 #[inline(always)]
-pub(crate) fn taking_at(actor: &FilterActor, firing: u64) -> Taking
+fn taking_at(actor: &FilterActor, firing: u64) -> Taking
     ensures { (filter : filters.Filter) → IsFilterActor filter actor.now
         → (result.window ≡ steps.filter_looks filter firing)
         × (result.pops ≡ rates.filter_pops filter firing) }

@@ -95,8 +95,8 @@ impl Machine {
         ensures memory { WantsWordOfOrder (circuit_view circuit.now)
             (firings_of (units_of order.now)) (machine_view self.old) result }
     {
-        for list in &order.lists {
-            match self.fire_list(circuit, list) {
+        for place in 0..order.lists.len() {
+            match self.fire_list(circuit, &order.lists[place], hands_at(&order.hands, place)) {
                 Ok(()) => {}
                 Err(stop) => return Err(stop),
             }
@@ -105,8 +105,8 @@ impl Machine {
     }
 
     /// Fires a batch's node so often; at once where it passes items on and finds them all.
-    #[inline(always)]
-    pub(crate) fn fire_batch(&mut self, circuit: &Circuit, batch: &Batch) -> Result<(), Stop>
+    #[inline]
+    fn fire_batch(&mut self, circuit: &Circuit, batch: &Batch) -> Result<(), Stop>
         requires machine { IsMachine (circuit_view circuit.now) self.old }
         requires batch { IsBatch (circuit_view circuit.now) batch.now }
         ensures machine { IsMachine (circuit_view circuit.now) self.new }
@@ -147,7 +147,7 @@ impl Machine {
 
     /// Fires the batches of a list, all of them as often as it has turns.
     #[inline]
-    fn fire_list(&mut self, circuit: &Circuit, list: &BatchList) -> Result<(), Stop>
+    fn fire_list(&mut self, circuit: &Circuit, list: &BatchList, hands: &[bool]) -> Result<(), Stop>
         requires machine { IsMachine (circuit_view circuit.now) self.old }
         requires batches { AreBatches (circuit_view circuit.now) list.now }
         ensures machine { IsMachine (circuit_view circuit.now) self.new }
@@ -157,7 +157,7 @@ impl Machine {
             (machine_view self.old) result }
     {
         for _turn in 0..list.turns {
-            match self.fire_turn(circuit, list) {
+            match self.fire_turn(circuit, &list.batches, hands) {
                 Ok(()) => {}
                 Err(stop) => return Err(stop),
             }
@@ -165,28 +165,33 @@ impl Machine {
         Ok(())
     }
 
-    /// Fires the batches of a list once.
+    /// Fires batches one after another, some of them by hand.
     #[inline]
-    fn fire_turn(&mut self, circuit: &Circuit, list: &BatchList) -> Result<(), Stop>
+    fn fire_turn(
+        &mut self,
+        circuit: &Circuit,
+        batches: &[Batch],
+        hands: &[bool],
+    ) -> Result<(), Stop>
         requires machine { IsMachine (circuit_view circuit.now) self.old }
-        requires batches { AreBatches (circuit_view circuit.now) list.now }
+        requires batches { All (IsBatch (circuit_view circuit.now)) batches.now }
         ensures machine { IsMachine (circuit_view circuit.now) self.new }
         ensures gone { HasGone (spec.order_run (circuit_view circuit.now)
-            (batch_firings list.now.batches.items) (machine_view self.old)) result
+            (batch_firings batches.now) (machine_view self.old)) result
             (machine_view self.old).words (machine_view self.new) }
-        ensures memory { WantsWordOfOrder (circuit_view circuit.now)
-            (batch_firings list.now.batches.items) (machine_view self.old) result }
+        ensures memory { WantsWordOfOrder (circuit_view circuit.now) (batch_firings batches.now)
+            (machine_view self.old) result }
     {
-        if list.hands.is_empty() {
-            self.fire_batches(circuit, &list.batches)
+        if hands.is_empty() {
+            self.fire_batches(circuit, batches)
         } else {
-            self.fire_handing(circuit, &list.batches, &list.hands)
+            self.fire_handing(circuit, batches, hands)
         }
     }
 
     /// Fires batches one after another.
-    #[inline]
-    fn fire_batches(&mut self, circuit: &Circuit, batches: &[Batch]) -> Result<(), Stop>
+    #[inline(never)]
+    pub(crate) fn fire_batches(&mut self, circuit: &Circuit, batches: &[Batch]) -> Result<(), Stop>
         requires machine { IsMachine (circuit_view circuit.now) self.old }
         requires batches { All (IsBatch (circuit_view circuit.now)) batches.now }
         ensures machine { IsMachine (circuit_view circuit.now) self.new }
@@ -288,6 +293,16 @@ impl Machine {
         ensures { words_of result.now ≡ (machine_view self.now).words }
     {
         &self.words
+    }
+}
+
+/// Those of a list by its place; none where there is no such list.
+#[inline]
+fn hands_at(hands: &[Vec<bool>], place: usize) -> &[bool] {
+    if place < hands.len() {
+        &hands[place]
+    } else {
+        &[]
     }
 }
 

@@ -15,7 +15,7 @@ returns-in-Err-clause-gone c =
     let left = repeated (turns - (turn + 1)) nodes in
     stops_so circuit (repeated turns nodes) (batch_firings c.deref.result.now) left
     (machine_view c.args.self.now) (machine_view c.loop-turn.self)
-    (machine_view c.fire_batches.new.self) c.in-Err.stop
+    (machine_view c.fire_turn.new.self) c.in-Err.stop
     (goes_so circuit (repeated turns nodes) (repeated (turns - turn) nodes) _
     (machine_view c.args.self.now) (machine_view c.loop-turn.self)
     (turns_left turns turn nodes c.loop-turn-test.true
@@ -45,10 +45,10 @@ loop-turn-preserved c =
     let turn = c.loop-turn._turn in
     let left = repeated (turns - (turn + 1)) nodes in
     record {
-      machine = c.fire_batches.ensures.machine;
+      machine = c.fire_turn.ensures.machine;
       goes = goes_on circuit (repeated turns nodes) (batch_firings c.deref.result.now) left
           (machine_view c.args.self.now) (machine_view c.loop-turn.self)
-          (machine_view c.fire_batches.new.self)
+          (machine_view c.fire_turn.new.self)
           (goes_so circuit (repeated turns nodes) (repeated (turns - turn) nodes) _
           (machine_view c.args.self.now) (machine_view c.loop-turn.self)
           (turns_left turns turn nodes c.loop-turn-test.true
