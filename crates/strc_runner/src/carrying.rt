@@ -22,9 +22,37 @@ use strc_graph::graph::Node;
 use strc_semantics::fault::Halt;
 
 impl Machine {
+    /// Fires batches one after another, all of them so often; those that are marked by hand.
+    #[inline(never)]
+    pub(crate) fn fire_hands(
+        &mut self,
+        circuit: &Circuit,
+        turns: u32,
+        batches: &[Batch],
+        hands: &[bool],
+    ) -> Result<(), Stop>
+        requires machine { IsMachine (circuit_view circuit.now) self.old }
+        requires batches { All (IsBatch (circuit_view circuit.now)) batches.now }
+        ensures machine { IsMachine (circuit_view circuit.now) self.new }
+        ensures gone { HasGone (spec.order_run (circuit_view circuit.now)
+            (repeated turns (batch_firings batches.now)) (machine_view self.old)) result
+            (machine_view self.old).words (machine_view self.new) }
+        ensures memory { WantsWordOfOrder (circuit_view circuit.now)
+            (repeated turns (batch_firings batches.now)) (machine_view self.old) result }
+    {
+        for _turn in 0..turns {
+            match self.fire_handing(circuit, batches, hands) {
+                Ok(()) => {}
+                Err(stop) => return Err(stop),
+            }
+        }
+        Ok(())
+    }
+
     /// Fires batches one after another: of those that are marked, what one pushes is in hand for the
     /// next one.
-    pub(crate) fn fire_handing(
+    #[inline]
+    fn fire_handing(
         &mut self,
         circuit: &Circuit,
         batches: &[Batch],
@@ -104,7 +132,7 @@ impl Machine {
     {
         put_down(&mut self.rings, &self.items, *held);
         *held = nothing_held();
-        self.fire_batches(circuit, from_ref(batch))
+        self.fire_turns(circuit, 1, from_ref(batch))
     }
 
     /// So many firings of an identity to a ring, where they take just what is in hand: it is in

@@ -1,6 +1,7 @@
 // Items that a firing has pushed, in hand for the next one's window: no ring holds them in between.
 
-ghost use Rattle.std.specs.Prelude.{◌≡◌, ◌<◌, ◌≤◌, [], None, IfErr, IfSome, Err, length, take, true};
+ghost use Rattle.std.specs.Prelude.{◌≡◌, ◌<◌, ◌≤◌, [], None, IfErr, IfSome};
+ghost use Rattle.std.specs.Prelude.{Err, length, take, true};
 ghost use Rattle.circular_buffer.specs.Buffer.{buffer};
 ghost use Rattle.strc_semantics.specs.Filters as filters;
 ghost use Rattle.strc_semantics.specs.Filters.{body_prints, filter_of};
@@ -46,7 +47,18 @@ pub(crate) fn put_down(rings: &mut [Ring], items: &[i32], held: Held)
     requires held { IsHeld items.now rings.old held }
     ensures { rings.new ≡ with_held held items.now rings.old }
 {
-    give_to(rings, held.port, &items[..held.count]);
+    if held.port.is_some() {
+        give_apart(rings, held.port, &items[..held.count]);
+    }
+}
+
+/// Items join the ring at a port. Not inlined, so that what moves items at each firing is.
+#[inline(never)]
+fn give_apart(rings: &mut [Ring], port: Option<usize>, items: &[i32])
+    requires port { IfSome port (λ number. number < length rings.old) }
+    ensures { rings.new ≡ spec.given port items.now rings.old }
+{
+    give_to(rings, port, items);
 }
 
 /// Takes the items at a port in hand, where they are so many, and nothing else is in hand. Whether
@@ -118,7 +130,7 @@ fn hold(rings: &mut [Ring], items: &mut [i32], port: Option<usize>, pushes: &[i3
 {
     let count = pushes.len();
     if count > items.len() {
-        give_to(rings, port, pushes);
+        give_apart(rings, port, pushes);
         return nothing_held();
     }
     if count == 1 {

@@ -145,7 +145,8 @@ impl Machine {
         Ok(())
     }
 
-    /// Fires the batches of a list, all of them as often as it has turns.
+    /// Fires the batches of a list, all of them as often as it has turns; those that are marked by
+    /// hand.
     #[inline]
     fn fire_list(&mut self, circuit: &Circuit, list: &BatchList, hands: &[bool]) -> Result<(), Stop>
         requires machine { IsMachine (circuit_view circuit.now) self.old }
@@ -156,8 +157,32 @@ impl Machine {
         ensures memory { WantsWordOfOrder (circuit_view circuit.now) (list_firings list.now)
             (machine_view self.old) result }
     {
-        for _turn in 0..list.turns {
-            match self.fire_turn(circuit, &list.batches, hands) {
+        if hands.is_empty() {
+            self.fire_turns(circuit, list.turns, &list.batches)
+        } else {
+            self.fire_hands(circuit, list.turns, &list.batches, hands)
+        }
+    }
+
+    /// Fires batches one after another, all of them so often.
+    #[inline(never)]
+    pub(crate) fn fire_turns(
+        &mut self,
+        circuit: &Circuit,
+        turns: u32,
+        batches: &[Batch],
+    ) -> Result<(), Stop>
+        requires machine { IsMachine (circuit_view circuit.now) self.old }
+        requires batches { All (IsBatch (circuit_view circuit.now)) batches.now }
+        ensures machine { IsMachine (circuit_view circuit.now) self.new }
+        ensures gone { HasGone (spec.order_run (circuit_view circuit.now)
+            (repeated turns (batch_firings batches.now)) (machine_view self.old)) result
+            (machine_view self.old).words (machine_view self.new) }
+        ensures memory { WantsWordOfOrder (circuit_view circuit.now)
+            (repeated turns (batch_firings batches.now)) (machine_view self.old) result }
+    {
+        for _turn in 0..turns {
+            match self.fire_batches(circuit, batches) {
                 Ok(()) => {}
                 Err(stop) => return Err(stop),
             }
@@ -165,33 +190,9 @@ impl Machine {
         Ok(())
     }
 
-    /// Fires batches one after another, some of them by hand.
-    #[inline]
-    fn fire_turn(
-        &mut self,
-        circuit: &Circuit,
-        batches: &[Batch],
-        hands: &[bool],
-    ) -> Result<(), Stop>
-        requires machine { IsMachine (circuit_view circuit.now) self.old }
-        requires batches { All (IsBatch (circuit_view circuit.now)) batches.now }
-        ensures machine { IsMachine (circuit_view circuit.now) self.new }
-        ensures gone { HasGone (spec.order_run (circuit_view circuit.now)
-            (batch_firings batches.now) (machine_view self.old)) result
-            (machine_view self.old).words (machine_view self.new) }
-        ensures memory { WantsWordOfOrder (circuit_view circuit.now) (batch_firings batches.now)
-            (machine_view self.old) result }
-    {
-        if hands.is_empty() {
-            self.fire_batches(circuit, batches)
-        } else {
-            self.fire_handing(circuit, batches, hands)
-        }
-    }
-
     /// Fires batches one after another.
-    #[inline(never)]
-    pub(crate) fn fire_batches(&mut self, circuit: &Circuit, batches: &[Batch]) -> Result<(), Stop>
+    #[inline]
+    fn fire_batches(&mut self, circuit: &Circuit, batches: &[Batch]) -> Result<(), Stop>
         requires machine { IsMachine (circuit_view circuit.now) self.old }
         requires batches { All (IsBatch (circuit_view circuit.now)) batches.now }
         ensures machine { IsMachine (circuit_view circuit.now) self.new }
