@@ -1,14 +1,13 @@
 -- Steps that are done by hand, where that can be.
-use Rattle.std.proofs.Common.{◌≡◌, refl, sym, ap, ◌∙◌, subst, ℕ, ◌<◌, ◌≤◌, ℤ, Bool, true, false}
+use Rattle.std.proofs.Common.{◌≡◌, sym, ap, ◌∙◌, subst, ℕ, ◌<◌, ℤ, Bool, true, false}
 use Rattle.std.proofs.Common.{List, [], length, take, get_or, set, arith, Result, Ok, Err}
 use Rattle.std.specs.Prelude.{Option, Some, None}
-use Rattle.std.proofs.lemmas.List.{set-get_or, length-take-le, length-set}
+use Rattle.std.proofs.lemmas.List.{set-get_or, length-take-le}
 use Rattle.strc_semantics.specs.declared.fault.Halt.{Halt}
 use Rattle.strc_semantics.specs.declared.word.Word.{Word}
 use Rattle.strc_admissible.specs.Machine.{CircuitView, MachineView, Progress, words_at}
 use Rattle.strc_admissible.specs.Rings.{Ring, given, items_at, moved}
 use Rattle.strc_admissible.specs.Steps.{Step}
-use Rattle.strc_rings.specs.Answers.{HasStepped}
 use Rattle.strc_rings.proofs.Ports.{length-given}
 use Rattle.strc_runner.specs.Batches.{IsBatch}
 use Rattle.strc_runner.specs.Blocks.{HasPassed}
@@ -66,7 +65,8 @@ identity_held circuit batch from to rings held items is same has all takes inner
     let joined = with_held held items rings in
     let known = known_kind circuit batch (kinds.Identity from to) is same in
     let here : batch.input ≡ Some from = is.input ∙ known.1 in
-    let each : length joined ≡ length rings = length-given held.port (take held.count items) rings in
+    let each : length joined ≡ length rings =
+    length-given held.port (take held.count items) rings in
     let found = ap length (ap (items_at joined) (sym here) ∙ all_found batch.input rings held items
     has all) in
     let many = length-take-le held.count items has.count in

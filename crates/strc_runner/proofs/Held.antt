@@ -1,8 +1,8 @@
 -- Items in hand, as if they had joined their ring.
-use Rattle.std.proofs.Common.{◌≡◌, refl, sym, ap, ◌∙◌, subst, ℕ, zero, ◌-◌, ◌<◌, ◌≤◌, ℤ, List, []}
-use Rattle.std.proofs.Common.{◌++◌, length, take, drop, set, get_or, arith, Bool, true, false}
+use Rattle.std.proofs.Common.{◌≡◌, refl, sym, ap, ◌∙◌, subst, ℕ, ◌-◌, ◌<◌, ◌≤◌, ℤ, List, []}
+use Rattle.std.proofs.Common.{◌++◌, length, take, set, get_or, arith, Bool, true}
 use Rattle.std.proofs.Common.{Ok, Err}
-use Rattle.std.specs.Prelude.{Option, Some, None, IfSome, nat_le}
+use Rattle.std.specs.Prelude.{Option, Some, IfSome, nat_le}
 use Rattle.std.proofs.lemmas.Bool.{le-leb, lt-leb}
 use Rattle.std.proofs.lemmas.List.{drop_all, get_or-set_same, length-take-le, set-get_or, set-set}
 use Rattle.std.proofs.lemmas.List.{get_or_default, take_all}
@@ -114,8 +114,8 @@ module _ (filter : filters.Filter) (firing : ℕ) (fields : List ℤ) (input out
       (lt-leb (filter_looks filter firing) (length (take held.count items))
       (omega (arith, e, less)))
 
-  module _ (looks : ℕ) (fires : Body) (window : List ℤ) (looks_is : looks ≡ filter_looks filter firing)
-      (found : looks ≤ held.count) (fires_is : fires ≡ body_at firing)
+  module _ (looks : ℕ) (fires : Body) (window : List ℤ)
+      (looks_is : looks ≡ filter_looks filter firing) (found : looks ≤ held.count) (fires_is : fires ≡ body_at firing)
       (window_is : window ≡ take held.count items) where
     fires_so : filter_step filter firing fields input output (with_held held items rings)
         ≡ filter_after (filter_pops filter firing) input output (with_held held items rings)

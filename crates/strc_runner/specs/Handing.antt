@@ -33,8 +33,8 @@ pub record IsAllAt (port : Option ℕ) (rings : List Ring) (held : Held) : Type 
   pub empty : (ring_at rings ring).items ≡ []
   pub room : held.count ≤ (ring_at rings ring).capacity
 
--- an answer tells what a filter's step that could be done by hand left, or that it couldn't, and all
--- stayed
+-- an answer tells what a filter's step that could be done by hand left, or that it couldn't be, and
+-- all stayed
 abbrev pub HasSteppedByHand : Step → Result (Option Bool) Halt → (fields_before fields : List ℤ)
     → (rings_before rings : List Ring) → (words_before words : List Word) → Type 0
 HasSteppedByHand step (Ok None) fields_before fields rings_before rings words_before words =

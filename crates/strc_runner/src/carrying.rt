@@ -49,8 +49,8 @@ impl Machine {
         Ok(())
     }
 
-    /// Fires batches one after another: of those that are marked, what one pushes is in hand for the
-    /// next one.
+    /// Fires batches one after another: of those that are marked, what one pushes is in hand for
+    /// the next one.
     #[inline]
     fn fire_handing(
         &mut self,

@@ -1,4 +1,4 @@
-use Rattle.std.proofs.Common.{◌∙◌, ap, sym, subst, set, ◌<◌, length, arith, Ok, Err, true}
+use Rattle.std.proofs.Common.{◌∙◌, ap, subst, set, ◌<◌, length, arith, Ok, Err, true}
 use Rattle.std.proofs.lemmas.Grind.{get_or_default_zero}
 use Rattle.strc_admissible.specs.Machine.{next_step, one_more, step_at}
 use Rattle.strc_circuit.specs.Circuits.{circuit_view}

@@ -14,7 +14,8 @@ returns-in-Err-clause-gone c =
     let place = c.loop-place.place in
     let list = c.index.result.now in
     let less : place < length all =
-    let test = c.loop-place-test.true in let many = c.len-place-end.ensures in omega (arith, test, many) in
+    let test = c.loop-place-test.true in
+    let many = c.len-place-end.ensures in omega (arith, test, many) in
     let is = c.index.ensures in
     let before = machine_view c.args.self.now in
     let now = machine_view c.loop-place.self in
@@ -34,7 +35,8 @@ returns-in-Err-clause-memory c =
     let place = c.loop-place.place in
     let list = c.index.result.now in
     let less : place < length all =
-    let test = c.loop-place-test.true in let many = c.len-place-end.ensures in omega (arith, test, many) in
+    let test = c.loop-place-test.true in
+    let many = c.len-place-end.ensures in omega (arith, test, many) in
     let is = c.index.ensures in
     let before = machine_view c.args.self.now in
     let now = machine_view c.loop-place.self in
@@ -52,7 +54,8 @@ loop-place-preserved c =
     let place = c.loop-place.place in
     let list = c.index.result.now in
     let less : place < length all =
-    let test = c.loop-place-test.true in let many = c.len-place-end.ensures in omega (arith, test, many) in
+    let test = c.loop-place-test.true in
+    let many = c.len-place-end.ensures in omega (arith, test, many) in
     let is = c.index.ensures in
     let before = machine_view c.args.self.now in
     let now = machine_view c.loop-place.self in
@@ -72,7 +75,8 @@ returns-clause-gone c =
     let all = order.lists.items in
     let place = c.loop-place.place in
     let past : length all ≤ place =
-    let test = c.loop-place-test.false in let many = c.len-place-end.ensures in omega (arith, test, many) in
+    let test = c.loop-place-test.false in
+    let many = c.len-place-end.ensures in omega (arith, test, many) in
     let before = machine_view c.args.self.now in
     let now = machine_view c.loop-place.self in
     order_gone circuit order c.requires.order before now (Ok tt)

@@ -1,18 +1,16 @@
 use Rattle.std.proofs.Common.{◌≡◌, ◌∙◌, refl, sym, ap, subst, ℕ, ◌<◌, ◌≤◌, ◌+◌, ◌-◌, ◌^◌, min}
-use Rattle.std.proofs.Common.{List, [], ◌∷◌, length, take, get_or, set, arith, true, false}
+use Rattle.std.proofs.Common.{List, length, take, get_or, set, arith}
 use Rattle.std.specs.Prelude.{Some}
 use Rattle.std.specs.Vec.{with_items}
 use Rattle.std.proofs.lemmas.Grind.{get_or_default_zero}
-use Rattle.std.proofs.lemmas.List.{with_items_is, length-map}
+use Rattle.std.proofs.lemmas.List.{with_items_is}
 use Rattle.std.proofs.lemmas.Option.{slice_get-get_or}
 use Rattle.strc_graph.specs.Graphs as graphs
-use Rattle.strc_order.specs.Order.{repeated}
-use Rattle.strc_admissible.specs.Machine.{Went, order_run}
+use Rattle.strc_admissible.specs.Machine.{Went}
 use Rattle.strc_admissible.specs.Rings.{given}
 use Rattle.strc_circuit.specs.Circuits.{circuit_view}
 use Rattle.strc_runner.specs.Blocks.{PassesOn}
-use Rattle.strc_runner.specs.Handing.{held_view, with_held}
-use Rattle.strc_runner.specs.Running.{machine_view}
+use Rattle.strc_runner.specs.Handing.{held_view}
 use Rattle.strc_runner.specs.declared.batches.Kind.TheVariants as kind
 use Rattle.strc_runner.proofs.Batching.{known_kind}
 use Rattle.strc_runner.proofs.ByHand.{identity_held}

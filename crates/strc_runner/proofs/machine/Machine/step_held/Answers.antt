@@ -88,15 +88,18 @@ returns-clause-step c =
     let words = self.words.items in
     let many : number < length words =
     let e = c.requires.machine.words in let l = length-map nodes node_view in omega arith in
-    let joined = with_held c.args.held.now c.deref_mut-in-Filter-index_mut.result.now c.deref_mut.result.now in
+    let joined = with_held c.args.held.now c.deref_mut-in-Filter-index_mut.result.now
+    c.deref_mut.result.now in
     let was = sym (fields_at actors number c.index_mut.result.now less c.index_mut.ensures.value
     ∙ ap fields_of c.in-Filter-index_mut.is) in
     let is_joined = same_held c.args.held.now c.deref_mut-in-Filter-index_mut.result.now items.items
-    c.deref_mut.result.now rings.items c.deref_mut-in-Filter-index_mut.ensures.value c.deref_mut.ensures.value in
+    c.deref_mut.result.now rings.items c.deref_mut-in-Filter-index_mut.ensures.value
+    c.deref_mut.ensures.value in
     let left = with_items_is rings c.fire_by_hand.new.rings
     (c.fire_by_hand.ensures.rings ∙ ap length c.deref_mut.ensures.value ∙ sym rings.ok.0) in
     let carried = with_items_is items c.fire_by_hand.new.items
-    (c.fire_by_hand.ensures.items ∙ ap length c.deref_mut-in-Filter-index_mut.ensures.value ∙ sym items.ok.0) in
+    (c.fire_by_hand.ensures.items ∙ ap length c.deref_mut-in-Filter-index_mut.ensures.value
+    ∙ sym items.ok.0) in
     done_by_hand _ c.fire_by_hand.result number before _ c.fire_by_hand.new.actor.state.fields
     c.fire_by_hand.new.words.items
     (named_by_hand c.fire_by_hand.result
@@ -144,7 +147,8 @@ returns-clause-memory c =
     (sym c.index.ensures ∙ c.in-Filter.is) in
     let less : number < length actors =
     let e = c.requires.machine.actors.each in let l = length-map nodes node_view in omega arith in
-    let joined = with_held c.args.held.now c.deref_mut-in-Filter-index_mut.result.now c.deref_mut.result.now in
+    let joined = with_held c.args.held.now c.deref_mut-in-Filter-index_mut.result.now
+    c.deref_mut.result.now in
     let step = step_at circuit before number firing in
     subst (λ s. IfErr c.fire_by_hand.result
     (λ why. WantsWordOfStep (prints_at circuit number firing) s (Err why)))
@@ -155,7 +159,8 @@ returns-clause-memory c =
     ∙ ap (λ port. filter_step code firing fields (at_port inputs 0) port joined)
     c.requires.batch.output
     ∙ ap (filter_step code firing fields (at_port inputs 0) (at_port outputs 0))
-    (same_held c.args.held.now c.deref_mut-in-Filter-index_mut.result.now self.items.items c.deref_mut.result.now
+    (same_held c.args.held.now c.deref_mut-in-Filter-index_mut.result.now self.items.items
+    c.deref_mut.result.now
     self.rings.items c.deref_mut-in-Filter-index_mut.ensures.value c.deref_mut.ensures.value)
     ∙ sym (step_of circuit before number firing (node_view filter) inputs outputs here refl refl))
     (subst (λ p. IfErr c.fire_by_hand.result (λ why. WantsWordOfStep p
