@@ -55,7 +55,7 @@ pub(crate) struct BatchList {
 pub struct Order {
     pub(crate) units: Vec<Unit>,
     pub(crate) lists: Vec<BatchList>,
-    /// Of each list which of its batches fire by hand; none where none does.
+    /// Of each list which of its batches fire by hand; none where too few do.
     pub(crate) hands: Vec<Vec<bool>>,
 }
 

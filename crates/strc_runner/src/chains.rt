@@ -7,7 +7,7 @@ use strc_circuit::circuit::Circuit;
 use strc_graph::graph::Node;
 use strc_semantics::body::Body;
 
-/// Of each list which of its batches fire by hand; none where none does.
+/// Of each list which of its batches fire by hand; none where too few do.
 pub(crate) fn hands_of(
     alloc: Global,
     circuit: &Circuit,
@@ -20,18 +20,21 @@ pub(crate) fn hands_of(
     Ok(hands)
 }
 
-/// Of each batch whether it fires by hand; none where none does.
+/// Of each batch whether it fires by hand; none where too few do.
 fn chained(alloc: Global, circuit: &Circuit, batches: &[Batch]) -> Result<Vec<bool>, AllocError> {
-    let mut marks = Vec::new(alloc);
-    let mut is_any = false;
+    let mut marks = Vec::with_capacity(alloc, batches.len())?;
+    let mut marked: usize = 0;
     for place in 0..batches.len() {
         let takes = place > 0 && hands_on(circuit, &batches[place - 1], &batches[place]);
         let gives = place + 1 < batches.len()
             && hands_on(circuit, &batches[place], &batches[place + 1]);
-        is_any = is_any || takes || gives;
+        if takes || gives {
+            marked = marked.saturating_add(1);
+        }
         marks.push(takes || gives)?;
     }
-    if !is_any {
+    // Beside those that fire by hand another one costs more, about what three of them save.
+    if marked == 0 || marked / 3 < marks.len().saturating_sub(marked) {
         marks.clear();
     }
     Ok(marks)
