@@ -3,6 +3,7 @@ use Rattle.std.proofs.Common.{◌≡◌, refl, sym, ap, ◌∙◌, subst, ℕ, z
 use Rattle.std.proofs.Common.{List, [], ◌∷◌, ◌++◌, length, take, drop, get_or, arith}
 use Rattle.std.proofs.Common.{append_assoc, append-nil, Bool, true, false, cond, nat_lt}
 use Rattle.std.proofs.Common.{Result, Ok, Err, ltb-false, lt-ltb, le-ltb}
+use Rattle.std.specs.Prelude.{None}
 use Rattle.std.proofs.lemmas.List.{take_more}
 use Rattle.std.proofs.lemmas.List.Elements.{filter-append}
 use Rattle.strc_order.specs.declared.unit as units
@@ -16,11 +17,16 @@ use Rattle.strc_runner.specs.Batches.{list_firings, units_of}
 use Rattle.strc_runner.specs.Memory.{ComesToWord, WantsWordOfOrder}
 use Rattle.strc_runner.specs.Running.{HasGone}
 use Rattle.strc_runner.specs.declared.batches.Batch.{Batch}
+use Rattle.strc_runner.specs.declared.batches.Kind.TheVariants as kinds
 use Rattle.strc_runner.specs.declared.batches.Order.{Order}
 use Rattle.strc_runner.specs.declared.batches.BatchList.{BatchList}
 use Rattle.strc_runner.specs.declared.machine.Stop.{Stop}
 use Rattle.strc_runner.specs.declared.machine.Stop.TheVariants as stop
 use Rattle.strc_runner.proofs.Done.{past_nodes}
+
+-- what a place past the end has
+abbrev pub past_end : Batch
+past_end = record { node = 0; turns = 0; input = None; output = None; kind = kinds.Identity 0 0 }
 
 -- ---- lists
 

@@ -145,7 +145,7 @@ fields_at actors number actor less is =
     get_or-map fields_of actors number actor [] less ∙ ap fields_of (sym is)
 
 -- a view is its parts
-same_view : (before after : MachineView) → after.fields ≡ before.fields
+pub same_view : (before after : MachineView) → after.fields ≡ before.fields
     → after.fired ≡ before.fired → after.rings ≡ before.rings → after.words ≡ before.words
     → after ≡ before
 same_view before after fields fired rings words =

@@ -4,9 +4,11 @@ pub mod WordLists
 pub mod Done
 pub mod Going
 pub mod Wanting
+pub mod Held
 pub mod Identities
 pub mod Blocks
 pub mod Batching
+pub mod ByHand
 pub mod BatchLists
 pub mod TurnFirings
 pub mod PartLists

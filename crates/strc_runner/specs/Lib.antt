@@ -7,3 +7,4 @@ pub mod Blocks
 pub mod Batches
 pub mod Parts
 pub mod Memory
+pub mod Handing

@@ -11,6 +11,7 @@ ghost use Rattle.strc_runner.specs.Batches.{AreBatches, FitsKind, IsKindBetween,
 ghost use Rattle.strc_runner.specs.Batches.{IsOrderOf, all_firings, batch_firings, in_circuit};
 ghost use Rattle.strc_runner.specs.Batches.{units_of};
 
+use crate::chains::hands_of;
 use crate::identity::is_identity;
 use std::alloc::{AllocError, Global};
 use strc_circuit::circuit::Circuit;
@@ -54,6 +55,8 @@ pub(crate) struct BatchList {
 pub struct Order {
     pub(crate) units: Vec<Unit>,
     pub(crate) lists: Vec<BatchList>,
+    /// Of each list which of its batches fire by hand; none where too few do.
+    pub(crate) hands: Vec<Vec<bool>>,
 }
 
 impl Order {
@@ -67,7 +70,12 @@ impl Order {
         for unit in &units {
             add_unit(alloc, circuit, &mut lists, unit)?;
         }
-        Ok(Order { units, lists })
+        let hands = hands_of(alloc, circuit, &lists)?;
+        Ok(Order {
+            units,
+            lists,
+            hands,
+        })
     }
 }
 

@@ -98,8 +98,8 @@ impl Machine {
         ensures memory { WantsWordOfOrder (circuit_view circuit.now)
             (firings_of (units_of order.now)) (machine_view self.old) result }
     {
-        for list in &order.lists {
-            match self.fire_list(circuit, list) {
+        for place in 0..order.lists.len() {
+            match self.fire_list(circuit, &order.lists[place], hands_at(&order.hands, place)) {
                 Ok(()) => {}
                 Err(stop) => return Err(stop),
             }
@@ -148,9 +148,10 @@ impl Machine {
         Ok(())
     }
 
-    /// Fires the batches of a list, all of them as often as it has turns.
+    /// Fires the batches of a list, all of them as often as it has turns; those that are marked by
+    /// hand.
     #[inline]
-    fn fire_list(&mut self, circuit: &Circuit, list: &BatchList) -> Result<(), Stop>
+    fn fire_list(&mut self, circuit: &Circuit, list: &BatchList, hands: &[bool]) -> Result<(), Stop>
         requires machine { IsMachine (circuit_view circuit.now) self.old }
         requires batches { AreBatches (circuit_view circuit.now) list.now }
         ensures machine { IsMachine (circuit_view circuit.now) self.new }
@@ -159,8 +160,32 @@ impl Machine {
         ensures memory { WantsWordOfOrder (circuit_view circuit.now) (list_firings list.now)
             (machine_view self.old) result }
     {
-        for _turn in 0..list.turns {
-            match self.fire_batches(circuit, &list.batches) {
+        if hands.is_empty() {
+            self.fire_turns(circuit, list.turns, &list.batches)
+        } else {
+            self.fire_hands(circuit, list.turns, &list.batches, hands)
+        }
+    }
+
+    /// Fires batches one after another, all of them so often.
+    #[inline(never)]
+    pub(crate) fn fire_turns(
+        &mut self,
+        circuit: &Circuit,
+        turns: u32,
+        batches: &[Batch],
+    ) -> Result<(), Stop>
+        requires machine { IsMachine (circuit_view circuit.now) self.old }
+        requires batches { All (IsBatch (circuit_view circuit.now)) batches.now }
+        ensures machine { IsMachine (circuit_view circuit.now) self.new }
+        ensures gone { HasGone (spec.order_run (circuit_view circuit.now)
+            (repeated turns (batch_firings batches.now)) (machine_view self.old)) result
+            (machine_view self.old).words (machine_view self.new) }
+        ensures memory { WantsWordOfOrder (circuit_view circuit.now)
+            (repeated turns (batch_firings batches.now)) (machine_view self.old) result }
+    {
+        for _turn in 0..turns {
+            match self.fire_batches(circuit, batches) {
                 Ok(()) => {}
                 Err(stop) => return Err(stop),
             }
@@ -314,6 +339,16 @@ impl Machine {
         ensures { words_of result.now ≡ (machine_view self.now).words }
     {
         &self.words
+    }
+}
+
+/// Those of a list by its place; none where there is no such list.
+#[inline]
+fn hands_at(hands: &[Vec<bool>], place: usize) -> &[bool] {
+    if place < hands.len() {
+        &hands[place]
+    } else {
+        &[]
     }
 }
 

@@ -1,17 +1,11 @@
-use Rattle.std.proofs.Common.{drop, get_or, ◌+◌, ◌∷◌, [], None}
+use Rattle.std.proofs.Common.{drop, get_or, ◌+◌, ◌∷◌, []}
 use Rattle.strc_order.specs.Order.{repeated}
 use Rattle.strc_circuit.specs.Circuits.{circuit_view}
 use Rattle.strc_runner.specs.Batches.{batch_firings}
 use Rattle.strc_runner.specs.Running.{machine_view}
-use Rattle.strc_runner.specs.declared.batches.Batch.{Batch}
-use Rattle.strc_runner.specs.declared.batches.Kind.TheVariants as kinds
-use Rattle.strc_runner.proofs.BatchLists.{batches_left}
+use Rattle.strc_runner.proofs.BatchLists.{batches_left, past_end}
 use Rattle.strc_runner.proofs.Going.{goes_on, goes_so, stops_so, wants_so}
 use Rattle.strc_runner.proofs.machine.Machine.fire_batches.Goals as goal
-
--- what a place past the end has
-abbrev past_end : Batch
-past_end = record { node = 0; turns = 0; input = None; output = None; kind = kinds.Identity 0 0 }
 
 pub returns-in-Err-clause-gone : goal.returns-in-Err-clause-gone
 returns-in-Err-clause-gone c =

@@ -5,10 +5,10 @@ use Rattle.strc_runner.specs.Running.{IsMachine, machine_view}
 use Rattle.strc_runner.proofs.Going.{Goes}
 use Rattle.strc_runner.proofs.machine.Machine.fire_order.Given as goal
 
-abbrev pub invariant-loop-list : goal.invariant-loop-list
-invariant-loop-list l = record {
+abbrev pub invariant-loop-place : goal.invariant-loop-place
+invariant-loop-place l = record {
   machine : IsMachine (circuit_view l.circuit) l.self;
   goes : Goes (circuit_view l.circuit) (all_firings l.order.lists.items)
-      (all_firings (drop l.list-index l.order.lists.items)) (machine_view l.fn.self)
+      (all_firings (drop l.place l.order.lists.items)) (machine_view l.fn.self)
       (machine_view l.self);
 }

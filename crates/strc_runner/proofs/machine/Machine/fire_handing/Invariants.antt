@@ -1,0 +1,16 @@
+use Rattle.std.proofs.Common.{drop}
+use Rattle.strc_circuit.specs.Circuits.{circuit_view}
+use Rattle.strc_runner.specs.Batches.{batch_firings}
+use Rattle.strc_runner.specs.Handing.{IsHeld, held_view}
+use Rattle.strc_runner.specs.Running.{IsMachine, machine_view}
+use Rattle.strc_runner.proofs.Going.{Goes}
+use Rattle.strc_runner.proofs.machine.Machine.fire_handing.Given as goal
+
+abbrev pub invariant-loop-place : goal.invariant-loop-place
+invariant-loop-place l = record {
+  machine : IsMachine (circuit_view l.circuit) l.self;
+  held : IsHeld l.self.items.items l.self.rings.items l.held;
+  goes : Goes (circuit_view l.circuit) (batch_firings l.batches)
+      (batch_firings (drop l.place l.batches)) (machine_view l.fn.self)
+      (held_view l.held l.self);
+}
