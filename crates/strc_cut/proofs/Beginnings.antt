@@ -8,12 +8,12 @@ use Rattle.std.proofs.lemmas.Option.{none-some, same_Some, slice_get_within}
 use Rattle.strc_graph.specs.Graphs.{SplitterCode}
 use Rattle.strc_stream.specs.Instances.{Stream, Streams, Filter, Identity, FileReader, FileWriter}
 use Rattle.strc_stream.specs.Instances.{Pipeline, SplitJoin, FeedbackLoop, Done, More}
-use Rattle.strc_stream.specs.Types.{IsWellTyped, AreEach}
 use Rattle.strc_stream.specs.Flattening.{size_of, outer_loops, row_loops, splitter_nodes}
 use Rattle.strc_stream.specs.Flattening.{joiner_nodes}
+use Rattle.strc_wiring.proofs.Loops.{loops_are_by_node}
 use Rattle.strc_cut.specs.Cuts.{IsBetweenGroups, BeginsGroup}
 use Rattle.strc_cut.specs.Laws.{GroupsBeginBetween}
-use Rattle.strc_cut.proofs.GroupBounds.{Loops, in_back, loop_at, each_typed, all_looped}
+use Rattle.strc_cut.proofs.GroupBounds.{Loops, in_back, loop_at}
 
 in_first : (xs ys : Loops) (k : ℕ) → k < length xs → slice_get (xs ++ ys) k ≡ slice_get xs k
 in_first [] ys k less = absurd (omega (arith, less))
@@ -28,10 +28,10 @@ in_second xs ys k past =
 
 -- the outermost loops of nodes from a number on: a node's loop begins at its joiner, and all nodes
 -- from there to it are in the loop
-record AreNumbered (first : ℕ) (loops : Loops) : Type 0 where
-  from : (k loop : ℕ) → slice_get loops k ≡ Some (Some loop)
+pub record AreNumbered (first : ℕ) (loops : Loops) : Type 0 where
+  pub from : (k loop : ℕ) → slice_get loops k ≡ Some (Some loop)
       → (first ≤ loop) × (loop ≤ first + k)
-  inside : (k loop : ℕ) → slice_get loops k ≡ Some (Some loop) → (other : ℕ)
+  pub inside : (k loop : ℕ) → slice_get loops k ≡ Some (Some loop) → (other : ℕ)
       → loop ≤ first + other → other ≤ k → slice_get loops other ≡ Some (Some loop)
 
 no_loop : (k loop : ℕ) → slice_get (None ∷ []) k ≡ Some (Some loop) → ⊥
@@ -106,15 +106,14 @@ joiner_numbered first None = none_numbered first
 joiner_numbered first (Some weights) = node_numbered first
 
 mutual
-  stream_numbered : (first : ℕ) (stream : Stream) → IsWellTyped stream
+  stream_numbered : (first : ℕ) (stream : Stream)
       → AreNumbered first (outer_loops first stream)
-  stream_numbered first (Filter name filter) typed = node_numbered first
-  stream_numbered first Identity typed = node_numbered first
-  stream_numbered first (FileReader text) typed = node_numbered first
-  stream_numbered first (FileWriter text) typed = node_numbered first
-  stream_numbered first (Pipeline children) typed =
-      row_numbered first children (each_typed children typed.1)
-  stream_numbered first (SplitJoin splitter children joiner) typed =
+  stream_numbered first (Filter name filter) = node_numbered first
+  stream_numbered first Identity = node_numbered first
+  stream_numbered first (FileReader text) = node_numbered first
+  stream_numbered first (FileWriter text) = node_numbered first
+  stream_numbered first (Pipeline children) = row_numbered first children
+  stream_numbered first (SplitJoin splitter children joiner) =
       let front : Loops = map (λ node. None) (splitter_nodes splitter) in
       let next = first + length (splitter_nodes splitter) in
       let many : length front ≡ length (splitter_nodes splitter) =
@@ -122,22 +121,25 @@ mutual
       both_numbered first (first + length (front ++ row_loops next children))
       (front ++ row_loops next children) (map (λ node. None) (joiner_nodes joiner)) refl
       (both_numbered first next front (row_loops next children) (omega (arith, many))
-      (splitter_numbered first splitter) (row_numbered next children typed.1))
+      (splitter_numbered first splitter) (row_numbered next children))
       (joiner_numbered (first + length (front ++ row_loops next children)) joiner)
-  stream_numbered first (FeedbackLoop joiner body splitter loop enqueued) typed =
+  stream_numbered first (FeedbackLoop joiner body splitter loop enqueued) =
       loop_numbered (size_of (FeedbackLoop joiner body splitter loop enqueued)) first
 
-  row_numbered : (first : ℕ) (children : Streams) → AreEach children
-      → AreNumbered first (row_loops first children)
-  row_numbered first Done typed = none_numbered first
-  row_numbered first (More stream rest) typed =
+  row_numbered : (first : ℕ) (children : Streams) → AreNumbered first (row_loops first children)
+  row_numbered first Done = none_numbered first
+  row_numbered first (More stream rest) =
       both_numbered first (first + size_of stream) (outer_loops first stream)
       (row_loops (first + size_of stream) rest)
-      (ap (λ n. first + n) (sym (all_looped first stream typed.0)))
-      (stream_numbered first stream typed.0) (row_numbered (first + size_of stream) rest typed.1)
+      (ap (λ n. first + n) (sym (loops_are_by_node stream first)))
+      (stream_numbered first stream) (row_numbered (first + size_of stream) rest)
+
+pub loops_numbered : (stream : Stream) (loops : Loops) → loops ≡ outer_loops 0 stream
+    → AreNumbered 0 loops
+loops_numbered stream loops are = subst (AreNumbered 0) (sym are) (stream_numbered 0 stream)
 
 module _ (loops : Loops) (number : ℕ) (is : AreNumbered 0 loops) where
-  is_between : BeginsGroup loops number → IsBetweenGroups loops number
+  pub is_between : BeginsGroup loops number → IsBetweenGroups loops number
   is_between begins low high loop less past here there =
       let (from, upto) = is.from low loop here in
       omega (
@@ -156,6 +158,5 @@ module _ (loops : Loops) (number : ℕ) (is : AreNumbered 0 loops) where
 
 pub groups_begin_between : GroupsBeginBetween
 groups_begin_between graph number whole =
-    let is = subst (AreNumbered 0) (sym whole.loops)
-    (stream_numbered 0 whole.stream whole.closed.typed) in
+    let is = loops_numbered whole.stream graph.outer_loops whole.loops in
     (is_between graph.outer_loops number is, begins_group graph.outer_loops number is)

@@ -10,12 +10,11 @@ use Rattle.std.proofs.lemmas.List.{length-set, get_or-set_same, get_or-set_other
 use Rattle.std.proofs.lemmas.List.Elements.{All-cons, All-nil}
 use Rattle.std.proofs.lemmas.List.Folds.{list_any-append}
 use Rattle.strc_rounds.specs.FusedUnits.{RoundUnit}
-use Rattle.strc_order.specs.declared.unit as units
-use Rattle.strc_fuse.specs.Units.{round_unit, round_units}
 use Rattle.strc_cut.specs.Bounds.{is_parted, parts_unit}
 use Rattle.strc_cut.specs.Cuts.{IsBetweenUnits}
 use Rattle.strc_cut.specs.Spans.{IsSpanOf}
 use Rattle.strc_cut.specs.declared.parting.Span.{Span}
+use Rattle.strc_cut.proofs.FusedSplits.{Each, AllPass}
 
 no_more : (one other : Bool) → one || other ≡ false → (one ≡ false) × (other ≡ false)
 no_more true other e = absurd (false≢true (sym e))
@@ -80,18 +79,20 @@ parts_none_at_0 (unit ∷ order) =
     ap (λ (test : Bool). (test && list_any (λ node. nat_le 0 node) unit.nodes)
     || parts_unit order 0) (none_below_0 unit.nodes) ∙ parts_none_at_0 order
 
+all_of : (P : ℕ → Type 0) (nodes : List ℕ) → Each P nodes → All P nodes
+all_of P [] each = All-nil P
+all_of P (node ∷ nodes) each = All-cons P node nodes each.0 (all_of P nodes each.1)
+
 -- past all nodes there is none
-pub between_past : (order : List units.Unit.Unit) (size : ℕ)
-    → All (λ (unit : units.Unit.Unit). All (λ node. node < size) unit.nodes.items) order
-    → IsBetweenUnits (round_units order) size
-between_past [] size all =
+pub between_past : (size : ℕ) (order : List RoundUnit) → AllPass (λ node. node < size) order
+    → IsBetweenUnits order size
+between_past size [] all =
     All-nil (λ (u : RoundUnit). All (λ node. node < size) u.nodes
     ⊎ All (λ node. size ≤ node) u.nodes)
-between_past (unit ∷ order) size all =
+between_past size (unit ∷ order) all =
     All-cons (λ (u : RoundUnit). All (λ node. node < size) u.nodes
-    ⊎ All (λ node. size ≤ node) u.nodes) (round_unit unit) (round_units order)
-    (inl (all 0 unit (omega arith)))
-    (between_past order size (λ k d less. all (suc k) d (omega (arith, less))))
+    ⊎ All (λ node. size ≤ node) u.nodes) unit order
+    (inl (all_of (λ node. node < size) unit.nodes all.0)) (between_past size order all.1)
 
 -- the lower of two nodes, and the higher
 pub lower_of : (one other number : ℕ)

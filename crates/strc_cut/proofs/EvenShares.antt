@@ -9,16 +9,18 @@ use Rattle.std.proofs.lemmas.Nat.{div_below, le-div, row_fits_turned}
 use Rattle.std.proofs.lemmas.Bool.{cases_lt, leb-true, le-leb, false≢true}
 use Rattle.std.proofs.lemmas.Option.{get_or_from_slice_get, slice_get_within}
 use Rattle.std.proofs.lemmas.List.Elements.{filter_passes}
+use Rattle.strc_graph.specs.Graphs.{Graph}
 use Rattle.strc_rounds.specs.FusedUnits.{RoundUnit}
 use Rattle.strc_fuse.specs.Units.{round_units}
-use Rattle.strc_stage.specs.Plans.{IsPlan, Planning}
 use Rattle.strc_stage.proofs.Fused.{nodes_of_fused}
-use Rattle.strc_cut.specs.Cuts.{BeginsGroup, IsBetweenUnits, IsCut}
+use Rattle.strc_cut.specs.Cuts.{BeginsGroup, IsBetweenUnits, IsCutOf}
 use Rattle.strc_cut.specs.Bounds.{begins, begins_at, group_starts, stage_count, first_group}
 use Rattle.strc_cut.specs.Bounds.{parts_unit, stage_bound}
 use Rattle.strc_cut.specs.Laws.{BoundsAreACut}
-use Rattle.strc_cut.proofs.Beginnings.{groups_begin_between}
+use Rattle.strc_cut.proofs.Beginnings.{AreNumbered, loops_numbered, is_between}
 use Rattle.strc_cut.proofs.Between.{between, between_past, parts_none_at_0}
+use Rattle.strc_cut.proofs.FusedSplits.{AllPass, passes_all}
+use Rattle.strc_cut.proofs.GroupBounds.{Loops}
 use Rattle.strc_cut.proofs.Shares.{bound_within, bound_past, each_has_loop}
 
 -- numbers from one on and before another, in rising order
@@ -80,7 +82,7 @@ begins_at_0 : (loop : Option ℕ) → begins loop 0 ≡ true
 begins_at_0 None = refl
 begins_at_0 (Some loop) = le-leb 0 loop (omega arith)
 
-first_begins : (loops : List (Option ℕ)) (order : List RoundUnit) → 0 < length loops
+first_begins : (loops : Loops) (order : List RoundUnit) → 0 < length loops
     → (0 < length (group_starts loops order)) × (get_or (group_starts loops order) 0 0 ≡ 0)
 first_begins [] order some = absurd (omega (arith, some))
 first_begins (loop ∷ loops) order some =
@@ -93,7 +95,7 @@ both_of true false e = (refl, refl)
 both_of true true e = absurd (false≢true e)
 both_of false other e = absurd (false≢true e)
 
-begins_here : (loops : List (Option ℕ)) (order : List RoundUnit) (number : ℕ)
+begins_here : (loops : Loops) (order : List RoundUnit) (number : ℕ)
     → begins_at loops order number ≡ true
     → BeginsGroup loops number × IsBetweenUnits order number
 begins_here loops order number is =
@@ -126,57 +128,54 @@ module _ (groups stages : ℕ) (some : 0 < stages) (few : stages ≤ groups) whe
       )) in
       omega (arith, at_least)
 
-module _ (plan : Planning) (workers : ℕ) (is : IsPlan plan) (works : 0 < workers)
-    (some : 0 < length plan.graph.nodes) where
-  abbrev loops : List (Option ℕ)
-  loops = plan.graph.outer_loops
-
-  abbrev order : List RoundUnit
-  order = round_units plan.fused.round
-
-  abbrev nodes : ℕ
-  nodes = length plan.graph.outer_loops
+-- the nodes of a graph's outermost loops are in a row, and units have no others than its nodes
+module _ (graph : Graph) (round : List RoundUnit) (workers : ℕ)
+    (many : length graph.outer_loops ≡ length graph.nodes)
+    (numbered : AreNumbered 0 graph.outer_loops)
+    (nodes : AllPass (λ node. node < length graph.nodes) round) (works : 0 < workers)
+    (some : 0 < length graph.nodes) where
+  abbrev loops : Loops
+  loops = graph.outer_loops
 
   abbrev starts : List ℕ
-  starts = group_starts plan.graph.outer_loops (round_units plan.fused.round)
+  starts = group_starts graph.outer_loops round
 
   abbrev stages : ℕ
-  stages = stage_count plan.graph.outer_loops (round_units plan.fused.round) workers
+  stages = stage_count graph.outer_loops round workers
 
-  each : length plan.graph.outer_loops ≡ length plan.graph.nodes
-  each = each_has_loop plan.graph is.whole
+  abbrev bound : (stage : ℕ) → ℕ
+  bound = stage_bound graph.outer_loops round workers
 
-  looped : 0 < length plan.graph.outer_loops
-  looped = omega (arith, some, each)
+  looped : 0 < length loops
+  looped = omega (arith, some, many)
 
-  are : AreRising 0 nodes starts
-  are = kept_rising (begins_at loops order) 0 nodes nodes (omega arith)
+  are : AreRising 0 (length loops) starts
+  are = kept_rising (begins_at loops round) 0 (length loops) (length loops) (omega arith)
 
   few : stages ≤ length starts
   few = min-le_left (length starts) workers
 
   staged : 0 < stages
-  staged = le-min (first_begins loops order looped).0 works
+  staged = le-min (first_begins loops round looped).0 works
 
-  begun : (stage : ℕ) → stage < stages → stage_bound loops order workers stage
-      ≡ get_or starts (first_group (length starts) stages stage) 0
-  begun = bound_within nodes starts stages
+  begun : (stage : ℕ) → stage < stages
+      → bound stage ≡ get_or starts (first_group (length starts) stages stage) 0
+  begun = bound_within (length loops) starts stages
 
-  ended : stage_bound loops order workers stages ≡ nodes
-  ended = bound_past nodes starts stages
+  ended : bound stages ≡ length loops
+  ended = bound_past (length loops) starts stages
 
   less_here : (stage : ℕ) → stage < stages
       → first_group (length starts) stages stage < length starts
   less_here = group_below (length starts) stages staged few
 
-  first_is : stage_bound loops order workers 0 ≡ 0
+  first_is : bound 0 ≡ 0
   first_is =
       let here : first_group (length starts) stages 0 ≡ 0 =
       ap (λ n. n / stages) (zero-mul (length starts)) ∙ zero-div stages in
-      begun 0 staged ∙ ap (λ n. get_or starts n 0) here ∙ (first_begins loops order looped).1
+      begun 0 staged ∙ ap (λ n. get_or starts n 0) here ∙ (first_begins loops round looped).1
 
-  rises : (stage : ℕ) → stage < stages
-      → stage_bound loops order workers stage < stage_bound loops order workers (suc stage)
+  rises : (stage : ℕ) → stage < stages → bound stage < bound (suc stage)
   rises stage less = elim (cases_lt (suc stage) stages) [
     | inl before ↦ omega (
       arith,
@@ -192,52 +191,54 @@ module _ (plan : Planning) (workers : ℕ) (is : IsPlan plan) (works : 0 < worke
           arith,
           begun stage less,
           (are.within (first_group (length starts) stages stage) (less_here stage less)).1,
-          ap (stage_bound loops order workers) (sym last) ∙ ended,
+          ap bound (sym last) ∙ ended,
         )
   ]
 
   begins_within : (stage : ℕ) → stage < stages
-      → BeginsGroup loops (stage_bound loops order workers stage)
-      × IsBetweenUnits order (stage_bound loops order workers stage)
+      → BeginsGroup loops (bound stage) × IsBetweenUnits round (bound stage)
   begins_within stage before =
-      subst (λ (n : ℕ). BeginsGroup loops n × IsBetweenUnits order n) (sym (begun stage before))
-      (begins_here loops order (get_or starts (first_group (length starts) stages stage) 0)
-      (filter_passes (begins_at loops order) (range_with_len 0 nodes)
+      subst (λ (n : ℕ). BeginsGroup loops n × IsBetweenUnits round n) (sym (begun stage before))
+      (begins_here loops round (get_or starts (first_group (length starts) stages stage) 0)
+      (filter_passes (begins_at loops round) (range_with_len 0 (length loops))
       (first_group (length starts) stages stage) 0 (less_here stage before)))
 
-  ends_past : IsBetweenUnits order nodes
+  ends_past : IsBetweenUnits round (length loops)
   ends_past =
-      subst (IsBetweenUnits order) (sym each)
-      (between_past plan.fused.round (length plan.graph.nodes) (nodes_of_fused plan is))
+      subst (IsBetweenUnits round) (sym many) (between_past (length graph.nodes) round nodes)
 
   begins_there : (stage : ℕ) → stage ≤ stages
-      → BeginsGroup loops (stage_bound loops order workers stage)
-      × IsBetweenUnits order (stage_bound loops order workers stage)
+      → BeginsGroup loops (bound stage) × IsBetweenUnits round (bound stage)
   begins_there stage less = elim (cases_lt stage stages) [
     | inl before ↦ begins_within stage before
     | inr past ↦
         let last : stages ≡ stage = omega (arith, less, past) in
-        subst (λ (n : ℕ). BeginsGroup loops n × IsBetweenUnits order n)
-        (sym ended ∙ ap (stage_bound loops order workers) last) (
-          λ loop here. absurd (omega (arith, slice_get_within loops nodes (Some loop) here)),
+        subst (λ (n : ℕ). BeginsGroup loops n × IsBetweenUnits round n)
+        (sym ended ∙ ap bound last) (
+          λ loop here. absurd (omega (
+            arith,
+            slice_get_within loops (length loops) (Some loop) here,
+          )),
           ends_past,
         )
   ]
 
-  is_cut : IsCut plan (stage_bound loops order workers) stages
-  is_cut = record {
+  shared_cut : IsCutOf graph round bound stages
+  shared_cut = record {
     first = first_is;
-    all = ended ∙ each;
+    all = ended ∙ many;
     rising = λ stage less. omega (arith, rises stage less);
-    between = λ stage less.
-        (groups_begin_between plan.graph (stage_bound loops order workers stage) is.whole).0
-        (begins_there stage less).0;
+    between = λ stage less. is_between loops (bound stage) numbered (begins_there stage less).0;
     units = λ stage less. (begins_there stage less).1;
   }
 
+  pub shared_evenly : (0 < stages) × IsCutOf graph round bound stages
+      × ((stage : ℕ) → stage < stages → bound stage < bound (suc stage))
+  shared_evenly = (staged, shared_cut, rises)
+
 pub bounds_are_a_cut : BoundsAreACut
-bounds_are_a_cut plan workers is works some = (
-  staged plan workers is works some,
-  is_cut plan workers is works some,
-  rises plan workers is works some,
-)
+bounds_are_a_cut plan workers is =
+    shared_evenly plan.graph (round_units plan.fused.round) workers
+    (each_has_loop plan.graph is.whole)
+    (loops_numbered is.whole.stream plan.graph.outer_loops is.whole.loops)
+    (passes_all (λ node. node < length plan.graph.nodes) plan.fused.round (nodes_of_fused plan is))

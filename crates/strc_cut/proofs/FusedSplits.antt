@@ -5,7 +5,9 @@ use Rattle.std.proofs.Common.{List, [], ◌∷◌, ◌++◌, All, length, inl, i
 use Rattle.std.proofs.Math.Nat.{zero-mul}
 use Rattle.strc_rounds.specs.Fused.{repeated}
 use Rattle.strc_rounds.specs.FusedUnits.{RoundUnit, AreFused, IsFused, joined_unit}
+use Rattle.strc_order.specs.declared.unit as units
 use Rattle.strc_fuse.specs.Laws.{FiresNodes, AllFireNodes}
+use Rattle.strc_fuse.specs.Units.{round_units}
 use Rattle.strc_cut.specs.Cuts.{IsBetweenUnits}
 
 -- each node of a list passes
@@ -30,6 +32,42 @@ each_from_all P (node ∷ nodes) all = (
   each_from_all P nodes (λ k d less. all (suc k) d (omega (arith, less))),
 )
 
+-- each node of units passes
+abbrev pub AllPass : (P : ℕ → Type 0) → List RoundUnit → Type 0
+AllPass P [] = Unit {0}
+AllPass P (unit ∷ later) = Each P unit.nodes × AllPass P later
+
+pub passes_all : (P : ℕ → Type 0) (order : List units.Unit.Unit)
+    → All (λ (unit : units.Unit.Unit). All P unit.nodes.items) order
+    → AllPass P (round_units order)
+passes_all P [] all = tt
+passes_all P (unit ∷ order) all = (
+  each_from_all P unit.nodes.items (all 0 unit (omega arith)),
+  passes_all P order (λ k d less. all (suc k) d (omega (arith, less))),
+)
+
+joined_each : (P : ℕ → Type 0) (h m n : ℕ) (unit next : RoundUnit) → Each P unit.nodes
+    → Each P next.nodes → Each P (joined_unit h m n unit next).nodes
+joined_each P h m n unit next first second =
+    each_append P (repeated m unit.nodes) (repeated n next.nodes)
+    (each_repeated P m unit.nodes first) (each_repeated P n next.nodes second)
+
+-- and so it does after fusion
+module _ (P : ℕ → Type 0) (free : ℕ → Bool) (limit : ℕ) where
+  unit_fused : (unit : RoundUnit) (later fused : List RoundUnit) → Each P unit.nodes
+      → AllPass P later → IsFused free limit unit later fused → AllPass P fused
+  unit_fused unit [] fused own rest is = subst (AllPass P) (sym is) (own, tt)
+  unit_fused unit (next ∷ later) fused own (first, rest) (inl (h, m, n, joins, is)) =
+      unit_fused (joined_unit h m n unit next) later fused
+      (joined_each P h m n unit next own first) rest is
+  unit_fused unit (next ∷ later) fused own (first, rest) (inr (none, (after, same, is))) =
+      subst (AllPass P) (sym same) (own, unit_fused next later after first rest is)
+
+  pub fused_pass : (order fused : List RoundUnit) → AllPass P order
+      → AreFused free limit order fused → AllPass P fused
+  fused_pass [] fused all is = subst (AllPass P) (sym is) tt
+  fused_pass (unit ∷ order) fused all is = unit_fused unit order fused all.0 all.1 is
+
 module _ (bound : ℕ) where
   abbrev pub Below : List ℕ → Type 0
   Below = Each (λ node. node < bound)
@@ -39,8 +77,7 @@ module _ (bound : ℕ) where
 
   -- all units have nodes from the bound on alone
   abbrev pub AllFrom : List RoundUnit → Type 0
-  AllFrom [] = Unit {0}
-  AllFrom (unit ∷ later) = From unit.nodes × AllFrom later
+  AllFrom = AllPass (λ node. bound ≤ node)
 
   -- first those with nodes below it, and then the others
   abbrev pub IsSplit : List RoundUnit → Type 0
@@ -140,22 +177,6 @@ module _ (bound : ℕ) (free : ℕ → Bool) (limit : ℕ) where
           let e = has_each (λ node. bound ≤ node) low unit.nodes all has in
           omega (arith, e, below)
 
-  joined_each : (P : ℕ → Type 0) (h m n : ℕ) (unit next : RoundUnit) → Each P unit.nodes
-      → Each P next.nodes → Each P (joined_unit h m n unit next).nodes
-  joined_each P h m n unit next first second =
-      each_append P (repeated m unit.nodes) (repeated n next.nodes)
-      (each_repeated P m unit.nodes first) (each_repeated P n next.nodes second)
-
-  -- where all nodes are from the bound on, they are so after fusion
-  fused_from : (unit : RoundUnit) (later fused : List RoundUnit) → From bound unit.nodes
-      → AllFrom bound later → IsFused free limit unit later fused → AllFrom bound fused
-  fused_from unit [] fused own rest is = subst (AllFrom bound) (sym is) (own, tt)
-  fused_from unit (next ∷ later) fused own (first, rest) (inl (h, m, n, joins, is)) =
-      fused_from (joined_unit h m n unit next) later fused
-      (joined_each (λ node. bound ≤ node) h m n unit next own first) rest is
-  fused_from unit (next ∷ later) fused own (first, rest) (inr (none, (after, same, is))) =
-      subst (AllFrom bound) (sym same) (own, fused_from next later after first rest is)
-
   split_after : (unit : RoundUnit) (later fused : List RoundUnit) → FiresNodes unit
       → AllFireNodes later → Below bound unit.nodes → IsSplit bound later
       → IsFused free limit unit later fused → AreApart bound fused → IsSplit bound fused
@@ -202,7 +223,11 @@ module _ (bound : ℕ) (free : ℕ → Bool) (limit : ℕ) where
   split_after unit (next ∷ later) fused fires (second, all) own (inr (first, rest))
       (inr (none, (after, same, is))) apart =
       subst (IsSplit bound) (sym same)
-      (inl (own, split_from bound after (fused_from next later after first rest is)))
+      (inl (
+        own,
+        split_from bound after
+            (unit_fused (λ node. bound ≤ node) free limit next later after first rest is),
+      ))
 
   pub fused_split : (order fused : List RoundUnit) → AllFireNodes order → IsSplit bound order
       → AreFused free limit order fused → AreApart bound fused → IsSplit bound fused
@@ -210,4 +235,5 @@ module _ (bound : ℕ) (free : ℕ → Bool) (limit : ℕ) where
   fused_split (unit ∷ order) fused (fires, all) (inl (own, rest)) is apart =
       split_after unit order fused fires all own rest is apart
   fused_split (unit ∷ order) fused (fires, all) (inr (own, rest)) is apart =
-      split_from bound fused (fused_from unit order fused own rest is)
+      split_from bound fused
+      (unit_fused (λ node. bound ≤ node) free limit unit order fused own rest is)

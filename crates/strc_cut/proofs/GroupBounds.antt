@@ -7,7 +7,6 @@ use Rattle.std.proofs.lemmas.Bool.{cases_lt}
 use Rattle.std.proofs.lemmas.List.{length-replicate, get_or-replicate}
 use Rattle.std.proofs.lemmas.Option.{none-some, slice_get-get_or}
 use Rattle.strc_dataflow.specs.Streams as trees
-use Rattle.strc_dataflow.specs.Streams.{flat}
 use Rattle.strc_graph.specs.Graphs as graphs
 use Rattle.strc_graph.specs.Graphs.{NodeCode, SplitterCode}
 use Rattle.strc_stream.specs.Instances.{Stream, Streams, Filter, Identity, FileReader, FileWriter}
@@ -15,9 +14,10 @@ use Rattle.strc_stream.specs.Instances.{Pipeline, SplitJoin, FeedbackLoop, Done,
 use Rattle.strc_stream.specs.Types.{IsWellTyped, AreWellTyped, AreEach, HasFirst}
 use Rattle.strc_stream.specs.Flattening.{tree_of, trees_of, row_of, size_of, outer_loops, row_loops}
 use Rattle.strc_stream.specs.Flattening.{splitter_nodes, joiner_nodes}
+use Rattle.strc_wiring.proofs.Loops.{loops_are_by_node}
 use Rattle.strc_wiring.proofs.Nodes.{nodes_are_codes}
 use Rattle.strc_staging.specs.Groups.{maybe_group, groups, groups_of, group_bound}
-use Rattle.strc_staging.proofs.Groups.{bound_front, bound_rest, groups_go_forward}
+use Rattle.strc_staging.proofs.Groups.{bound_front, bound_rest}
 use Rattle.strc_cut.specs.Cuts.{IsBetweenGroups}
 use Rattle.strc_cut.specs.Laws.{BoundsAreOfGroups}
 
@@ -168,7 +168,7 @@ unfolding maybe_group
 joiner_grouped None = none_grouped
 joiner_grouped (Some weights) = node_grouped
 
-pub each_typed : (children : Streams) → AreWellTyped children → AreEach children
+each_typed : (children : Streams) → AreWellTyped children → AreEach children
 each_typed Done typed = tt
 each_typed (More first rest) typed = (typed.0, each_typed rest typed.2)
 
@@ -215,16 +215,8 @@ mutual
       (rest_grouped (outer_loops next stream) (tree_of stream) (next + size_of stream) rest
       (stream_grouped next stream typed.0) typed.1)
 
--- as many as nodes
-pub all_looped : (first : ℕ) (stream : Stream) → IsWellTyped stream
-    → length (outer_loops first stream) ≡ size_of stream
-unfolding flat
-all_looped first stream typed =
-    sym (stream_grouped first stream typed).total ∙ (groups_go_forward (tree_of stream)).0
-    ∙ sym (ap length (nodes_are_codes stream typed))
-
 pub bounds_are_of_groups : BoundsAreOfGroups
 bounds_are_of_groups stream bound typed less between =
-    let own = (stream_grouped 0 stream typed).each bound
-    (omega (arith, less, all_looped 0 stream typed)) between in
+    let many : length (outer_loops 0 stream) ≡ size_of stream = loops_are_by_node stream 0 in
+    let own = (stream_grouped 0 stream typed).each bound (omega (arith, less, many)) between in
     (own.number, own.is)

@@ -3,6 +3,7 @@ pub mod Forward
 pub mod Segments
 pub mod FusedSplits
 pub mod Between
+pub mod Ranges
 pub mod Ranged
 pub mod Staged
 pub mod Beginnings

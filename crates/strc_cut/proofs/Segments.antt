@@ -10,17 +10,12 @@ use Rattle.strc_staging.specs.Ranges.{AllWithin}
 use Rattle.strc_staging.specs.Staging.{joined}
 use Rattle.strc_staging.proofs.Ranges.{bounds_from}
 use Rattle.strc_cut.specs.Cuts.{firings_within}
-use Rattle.strc_cut.proofs.FusedSplits.{Below, From, AllFrom, IsSplit, each_append, each_repeated}
+use Rattle.strc_cut.proofs.FusedSplits.{Each, Below, From, AllPass, IsSplit, each_append}
+use Rattle.strc_cut.proofs.FusedSplits.{each_repeated}
 
 -- from one number on, and before another
 abbrev pub AreIn : (first next : ℕ) → List ℕ → Type 0
 AreIn first next order = AllWithin first (λ node. node < next) order
-
-pub in_append : (first next : ℕ) (xs ys : List ℕ) → AreIn first next xs → AreIn first next ys
-    → AreIn first next (xs ++ ys)
-in_append first next [] ys all more = more
-in_append first next (node ∷ xs) ys (from, below, rest) more =
-    (from, below, in_append first next xs ys rest more)
 
 pub test_inside : (first next node : ℕ) → first ≤ node → node < next
     → nat_le first node && nat_lt node next ≡ true
@@ -103,13 +98,12 @@ below_then bound [] ys all split = split
 below_then bound (node ∷ xs) ys (own, rest) split =
     inl (own, below_then bound xs ys rest split)
 
-firings_from : (bound : ℕ) (order : List RoundUnit) → AllFrom bound order
-    → From bound (firings_of order)
-firings_from bound [] all = tt
-firings_from bound (unit ∷ order) (own, rest) =
-    each_append (λ node. bound ≤ node) (repeated unit.turns unit.nodes) (firings_of order)
-    (each_repeated (λ node. bound ≤ node) unit.turns unit.nodes own)
-    (firings_from bound order rest)
+firings_pass : (P : ℕ → Type 0) (order : List RoundUnit) → AllPass P order
+    → Each P (firings_of order)
+firings_pass P [] all = tt
+firings_pass P (unit ∷ order) (own, rest) =
+    each_append P (repeated unit.turns unit.nodes) (firings_of order)
+    (each_repeated P unit.turns unit.nodes own) (firings_pass P order rest)
 
 -- as its units do
 pub firings_split : (bound : ℕ) (order : List RoundUnit) → IsSplit bound order
@@ -120,7 +114,18 @@ firings_split bound (unit ∷ order) (inl (own, rest)) =
     (each_repeated (λ node. node < bound) unit.turns unit.nodes own)
     (firings_split bound order rest)
 firings_split bound (unit ∷ order) (inr (own, rest)) =
-    from_on bound (firings_of (unit ∷ order)) (firings_from bound (unit ∷ order) (own, rest))
+    from_on bound (firings_of (unit ∷ order))
+    (firings_pass (λ node. bound ≤ node) (unit ∷ order) (own, rest))
+
+-- the firings of units whose nodes are below a number are so
+nodes_in : (size : ℕ) (nodes : List ℕ) → Each (λ node. node < size) nodes → AreIn 0 size nodes
+nodes_in size [] each = tt
+nodes_in size (node ∷ nodes) each = (omega arith, each.0, nodes_in size nodes each.1)
+
+pub firings_in : (size : ℕ) (order : List RoundUnit) → AllPass (λ node. node < size) order
+    → AreIn 0 size (firings_of order)
+firings_in size order all =
+    nodes_in size (firings_of order) (firings_pass (λ node. node < size) order all)
 
 -- a node of one of two ranges that meet
 one_of : (first second third : Bool) (node : ℕ) (all low high : List ℕ) → first ≡ second

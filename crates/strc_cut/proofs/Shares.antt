@@ -10,13 +10,12 @@ use Rattle.std.proofs.lemmas.List.FromFn.{map-range_with_len_more, length-map-ra
 use Rattle.std.proofs.lemmas.List.FromFn.{get_or-map-range_with_len}
 use Rattle.strc_graph.specs.Graphs.{Graph}
 use Rattle.strc_graph.specs.NodeView.{GraphParts, graph_view, node_view}
-use Rattle.strc_wiring.proofs.Nodes.{nodes_are_codes}
 use Rattle.strc_rounds.specs.FusedUnits.{RoundUnit}
 use Rattle.strc_stage.specs.Plans.{IsWhole}
 use Rattle.strc_cut.specs.Bounds.{first_group, bound_at, group_starts, stage_count}
 use Rattle.strc_cut.specs.Bounds.{stage_bound, stage_bounds}
 use Rattle.strc_cut.specs.Laws.{BoundsAreListed}
-use Rattle.strc_cut.proofs.GroupBounds.{all_looped}
+use Rattle.strc_cut.proofs.Forward.{loops_many}
 
 numbers_from : (first count next : ℕ) → first + count ≡ next
     → range_with_len first (suc count) ≡ range_with_len first count ++ next ∷ []
@@ -79,18 +78,13 @@ bounds_are_shared loops order workers nodes stages starts bounds many are count 
     e ∙ sym (all_bounds nodes starts stages)
     ∙ ap (λ n. map (bound_at n starts stages) (range_with_len 0 (suc stages))) (sym many)
     ∙ ap (λ l. map (bound_at (length loops) l stages) (range_with_len 0 (suc stages))) are
-    ∙ ap (λ n. map (bound_at (length loops) (group_starts loops order) n) (range_with_len 0 (suc n)))
-    counted
+    ∙ ap (λ n. map (bound_at (length loops) (group_starts loops order) n)
+    (range_with_len 0 (suc n))) counted
 
--- a program's graph says of each of its nodes in which outermost loop it is
 pub each_has_loop : (graph : Graph) → IsWhole graph
     → length graph.outer_loops ≡ length graph.nodes
 each_has_loop graph whole =
-    ap length whole.loops ∙ all_looped 0 whole.stream whole.closed.typed ∙ omega (
-      arith,
-      ap length whole.program.flat.nodes,
-      ap length (nodes_are_codes whole.stream whole.closed.typed),
-    )
+    loops_many whole.stream graph whole.closed.typed whole.program whole.loops
 
 pub each_node_has_loop : (graph : GraphParts) → IsWhole (graph_view graph)
     → length graph.outer_loops ≡ length graph.nodes

@@ -57,7 +57,8 @@ module _ (first next : ℕ) where
       (step node own its, each_both P Q R xs step rest others)
 
   -- all nodes of such a list are in the range, or none is
-  alike : (nodes : List ℕ) → Below first nodes ⊎ From first nodes → Below next nodes ⊎ From next nodes
+  alike : (nodes : List ℕ) → Below first nodes ⊎ From first nodes
+      → Below next nodes ⊎ From next nodes
       → (test : Bool) × Each (λ node. is_in node ≡ test) nodes
   alike nodes (inl low) high = (
     false,

@@ -1,5 +1,5 @@
--- Where the stages of a plan begin, by its groups: all nodes of one outermost feedback loop, or those
--- of one unit of the round outside feedback loops.
+-- Where the stages of a plan begin, by its groups: all nodes of one outermost feedback loop, or
+-- those of one unit of the round outside feedback loops.
 use Rattle.std.specs.Prelude.{ℕ, suc, ◌*◌, ◌/◌, min, Bool, true, ◌&&◌, not, if◌then◌else◌, nat_lt}
 use Rattle.std.specs.Prelude.{nat_le, List, map, length, slice_index, get_or, filter, Option, Some}
 use Rattle.std.specs.Prelude.{None}

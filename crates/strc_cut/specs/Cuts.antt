@@ -1,11 +1,11 @@
--- A plan's round cut into stages between the groups of its nodes (Gordon, Thies and Amarasinghe
+-- A round cut into stages between the groups of its graph's nodes (Gordon, Thies and Amarasinghe
 -- 2006: coarse-grained software pipelining).
 use Rattle.std.specs.Prelude.{◌≡◌, ℕ, suc, ◌<◌, ◌≤◌, Bool, ◌&&◌, ◌||◌, nat_le}
 use Rattle.std.specs.Prelude.{nat_lt, if◌then◌else◌, ℤ, List, [], ◌∷◌, length, Option, Some}
 use Rattle.std.specs.Prelude.{slice_get, slice_index, All, ◌⊎◌}
 use Rattle.strc_semantics.specs.declared.fault.Cause.{Cause}
 use Rattle.strc_semantics.specs.declared.word.Word.{Word}
-use Rattle.strc_graph.specs.Graphs.{NodeCode, reads_input}
+use Rattle.strc_graph.specs.Graphs.{Graph, NodeCode, reads_input}
 use Rattle.strc_graph.specs.Carriers.{carries_in}
 use Rattle.strc_graph.specs.Meaning.{node_meaning}
 use Rattle.strc_stream.specs.Instances.{Stream}
@@ -39,14 +39,17 @@ IsBetweenUnits order bound =
 
 -- bounds of stages: a stage has the nodes from its bound up to the next one's, all stages have
 -- all nodes, and each bound is between groups, and between the units of the round
-pub record IsCut (plan : Planning) (bound : (stage : ℕ) → ℕ) (stages : ℕ) : Type 0 where
+pub record IsCutOf (graph : Graph) (round : List RoundUnit) (bound : (stage : ℕ) → ℕ)
+    (stages : ℕ) : Type 0 where
   pub first : bound 0 ≡ 0
-  pub all : bound stages ≡ length plan.graph.nodes
+  pub all : bound stages ≡ length graph.nodes
   pub rising : (stage : ℕ) → stage < stages → bound stage ≤ bound (suc stage)
-  pub between : (stage : ℕ) → stage ≤ stages
-      → IsBetweenGroups plan.graph.outer_loops (bound stage)
-  pub units : (stage : ℕ) → stage ≤ stages
-      → IsBetweenUnits (round_units plan.fused.round) (bound stage)
+  pub between : (stage : ℕ) → stage ≤ stages → IsBetweenGroups graph.outer_loops (bound stage)
+  pub units : (stage : ℕ) → stage ≤ stages → IsBetweenUnits round (bound stage)
+
+-- of a plan's graph, and of its round after fusion
+abbrev pub IsCut : Planning → (bound : (stage : ℕ) → ℕ) → (stages : ℕ) → Type 0
+IsCut plan = IsCutOf plan.graph (round_units plan.fused.round)
 
 -- the firings of an order that are of nodes from one number on, and before another
 abbrev pub firings_within : (first next : ℕ) → (order : List ℕ) → List ℕ

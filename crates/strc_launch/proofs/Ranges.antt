@@ -1,7 +1,6 @@
 -- Stages that are ranges between bounds.
 use Rattle.std.proofs.Common.{◌≡◌, refl, sym, ap, ◌∙◌, subst, ℕ, zero, suc, ◌+◌, ◌<◌, ◌≤◌}
-use Rattle.std.proofs.Common.{Bool, true, false, cond, leb, arith, leb-true, leb-false, inl, inr}
-use Rattle.std.proofs.Common.{length, true≢false}
+use Rattle.std.proofs.Common.{Bool, true, false, cond, leb, arith, inl, inr, length, true≢false}
 use Rattle.std.specs.Prelude.{eqb}
 use Rattle.std.proofs.lemmas.Bool.{cases_order, cases_lt, eq-eqb, eqb-true, le-leb, lt-leb}
 use Rattle.strc_stage.specs.Plans.{Planning}
@@ -9,11 +8,10 @@ use Rattle.strc_circuit.specs.Parts.{IsOutside, is_within}
 use Rattle.strc_circuit.proofs.PartLists.{within_true, within_false}
 use Rattle.strc_cut.specs.Cuts.{IsCut}
 use Rattle.strc_staging.specs.Ranges.{stage_within}
-use Rattle.strc_staging.proofs.Ranges.{bounds_from}
+use Rattle.strc_staging.proofs.Ranges.{bounds_from, within_at_most, within_from, within_below}
 
 module _ (bound : ℕ → ℕ) where
-  -- ---- one stage after another
-
+  -- one stage after another
   pub stage_first : (node : ℕ) → 0 ≡ stage_within bound 0 node
   unfolding stage_within
   stage_first node = refl
@@ -38,62 +36,20 @@ module _ (bound : ℕ → ℕ) where
       ∙ ap (λ t. cond t (stage + 1) (stage_within bound stage node))
       (lt-leb (bound (stage + 1)) node below))
 
-  -- ---- which nodes a stage has
-
-  at_most : (last v : ℕ) → stage_within bound last v ≤ last
-  unfolding stage_within
-  at_most zero v = omega arith
-  at_most (suc a) v = by_test (leb (bound (suc a)) v) (at_most a v)
-    where
-      by_test : (test : Bool) → stage_within bound a v ≤ a
-          → cond test (suc a) (stage_within bound a v) ≤ suc a
-      by_test true less = omega arith
-      by_test false less = omega (arith, less)
-
-  from_bound : (last v : ℕ) → 0 < stage_within bound last v
-      → bound (stage_within bound last v) ≤ v
-  unfolding stage_within
-  from_bound zero v more = absurd (omega arith)
-  from_bound (suc a) v more = by_test (leb (bound (suc a)) v) refl (from_bound a v) more
-    where
-      by_test : (test : Bool) → leb (bound (suc a)) v ≡ test
-          → (0 < stage_within bound a v → bound (stage_within bound a v) ≤ v)
-          → 0 < cond test (suc a) (stage_within bound a v)
-          → bound (cond test (suc a) (stage_within bound a v)) ≤ v
-      by_test true e ih more = leb-true (bound (suc a)) v e
-      by_test false e ih more = ih more
-
-  below_bound : (last v : ℕ) → stage_within bound last v < last
-      → v < bound (suc (stage_within bound last v))
-  unfolding stage_within
-  below_bound zero v less = absurd (omega arith)
-  below_bound (suc a) v less = by_test (leb (bound (suc a)) v) refl (at_most a v)
-      (below_bound a v) less
-    where
-      by_test : (test : Bool) → leb (bound (suc a)) v ≡ test → stage_within bound a v ≤ a
-          → (stage_within bound a v < a → v < bound (suc (stage_within bound a v)))
-          → cond test (suc a) (stage_within bound a v) < suc a
-          → v < bound (suc (cond test (suc a) (stage_within bound a v)))
-      by_test true e most ih less = absurd (omega arith)
-      by_test false e most ih less = elim (cases_order (stage_within bound a v) a) [
-        | inl same ↦ subst (λ (n : ℕ). v < bound (suc n)) (sym same)
-            (omega (arith, leb-false (bound (suc a)) v e))
-        | inr other ↦ elim other [ inl under ↦ ih under | inr over ↦ absurd (omega arith) ]
-      ]
-
+-- which nodes a stage has
 module _ (plan : Planning) (bound : ℕ → ℕ) (last : ℕ) (cut : IsCut plan bound (suc last)) where
   pub own_from : (stage node : ℕ) → stage_within bound last node ≡ stage → bound stage ≤ node
   own_from zero node is = omega (arith, cut.first)
   own_from (suc stage) node is =
-      subst (λ (n : ℕ). bound n ≤ node) is (from_bound bound last node (omega (arith, is)))
+      subst (λ (n : ℕ). bound n ≤ node) is (within_from bound last node (omega (arith, is)))
 
   pub own_below : (stage node : ℕ) → node < length plan.graph.nodes
       → stage_within bound last node ≡ stage → node < bound (suc stage)
   own_below stage node less is = elim (cases_lt stage last) [
     | inl below ↦ subst (λ (n : ℕ). node < bound (suc n)) is
-        (below_bound bound last node (omega (arith, is, below)))
+        (within_below bound last node (omega (arith, is, below)))
     | inr past ↦
-        let e : suc stage ≡ suc last = omega (arith, is, past, at_most bound last node) in
+        let e : suc stage ≡ suc last = omega (arith, is, past, within_at_most bound last node) in
         subst (λ (n : ℕ). node < bound n) (sym e) (omega (arith, less, cut.all))
   ]
 
@@ -106,17 +62,17 @@ module _ (plan : Planning) (bound : ℕ → ℕ) (last : ℕ) (cut : IsCut plan 
         | inr other ↦ elim other [
           | inl under ↦ absurd (omega (
             arith,
-            below_bound bound last node (omega (arith, under, most)),
+            within_below bound last node (omega (arith, under, most)),
             bounds_from bound (suc last) cut.rising (suc own) stage (omega (arith, under))
                 (omega (arith, most)),
             from,
           ))
           | inr over ↦ absurd (omega (
             arith,
-            at_most bound last node,
-            from_bound bound last node (omega (arith, over)),
+            within_at_most bound last node,
+            within_from bound last node (omega (arith, over)),
             bounds_from bound (suc last) cut.rising (suc stage) own (omega (arith, over))
-                (omega (arith, at_most bound last node)),
+                (omega (arith, within_at_most bound last node)),
             below,
           ))
         ]

@@ -1,9 +1,6 @@
-pub mod Numbered
 pub mod NewLoops
 pub mod Places
 pub mod NewForward
 pub mod SplitUnits
-pub mod FusedNodes
-pub mod EvenBounds
 pub mod Staged
 pub mod Rows

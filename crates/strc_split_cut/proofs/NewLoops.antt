@@ -12,8 +12,8 @@ use Rattle.strc_fiss.specs.Splitting.{new_joiner, new_loop}
 use Rattle.strc_fiss.proofs.Bases.{base_below, base_up}
 use Rattle.strc_fiss.proofs.Lookup.{part_many, part_there}
 use Rattle.strc_cut.specs.Cuts.{IsBetweenGroups}
+use Rattle.strc_cut.proofs.Beginnings.{AreNumbered}
 use Rattle.strc_cut.proofs.GroupBounds.{Loops}
-use Rattle.strc_split_cut.proofs.Numbered.{AreNumbered}
 
 module _ (share : ℕ → Fission) where
   -- the part that has a number

@@ -18,15 +18,10 @@ use Rattle.strc_fiss.specs.Units.{renamed_unit, is_whole, units_of_parts, split_
 use Rattle.strc_fiss.specs.Units.{split_units}
 use Rattle.strc_fiss.proofs.Bases.{base_below, base_up}
 use Rattle.strc_fiss.proofs.Renaming.{last_dealt}
-use Rattle.strc_cut.proofs.FusedSplits.{Each, AllFrom, IsSplit, each_from_all}
+use Rattle.strc_cut.proofs.FusedSplits.{Each, AllFrom, AllPass, IsSplit, each_from_all, passes_all}
 use Rattle.strc_cut.proofs.FusedSplits.{split_from}
 
--- all nodes of units pass
-abbrev pub AllPass : (P : ℕ → Type 0) → List RoundUnit → Type 0
-AllPass P [] = Unit {0}
-AllPass P (unit ∷ later) = Each P unit.nodes × AllPass P later
-
-pub pass_append : (P : ℕ → Type 0) (xs ys : List RoundUnit) → AllPass P xs → AllPass P ys
+pass_append : (P : ℕ → Type 0) (xs ys : List RoundUnit) → AllPass P xs → AllPass P ys
     → AllPass P (xs ++ ys)
 pass_append P [] ys first second = second
 pass_append P (unit ∷ xs) ys first second = (first.0, pass_append P xs ys first.1 second)
@@ -37,25 +32,6 @@ pass_up P value zero holds = tt
 pass_up P value (suc n) holds =
     pass_append P (up_to value n) (value n ∷ [])
     (pass_up P value n (λ k less. holds k (omega (arith, less)))) (holds n (omega arith), tt)
-
-pub passes_all : (P : ℕ → Type 0) (order : List units.Unit.Unit)
-    → All (λ (unit : units.Unit.Unit). All P unit.nodes.items) order
-    → AllPass P (round_units order)
-passes_all P [] all = tt
-passes_all P (unit ∷ order) all = (
-  each_from_all P unit.nodes.items (all 0 unit (omega arith)),
-  passes_all P order (λ k d less. all (suc k) d (omega (arith, less))),
-)
-
-pub from_passes : (bound : ℕ) (order : List RoundUnit) → AllPass (λ node. bound ≤ node) order
-    → AllFrom bound order
-from_passes bound [] all = tt
-from_passes bound (unit ∷ order) all = (all.0, from_passes bound order all.1)
-
-passes_from : (bound : ℕ) (order : List RoundUnit) → AllFrom bound order
-    → AllPass (λ node. bound ≤ node) order
-passes_from bound [] all = tt
-passes_from bound (unit ∷ order) all = (all.0, passes_from bound order all.1)
 
 below_first : (bound : ℕ) (low high : List RoundUnit) → AllPass (λ node. node < bound) low
     → IsSplit bound high → IsSplit bound (low ++ high)
@@ -152,9 +128,8 @@ module _ (share : ℕ → Fission) where
       (split_first v order rest)
   split_first v (unit ∷ order) (inr (own, rest)) =
       split_from (base share v) (split_units share (unit ∷ order))
-      (from_passes (base share v) (split_units share (unit ∷ order))
       (units_pass (λ node. v ≤ node) (λ node. base share v ≤ node) (part_from v) (unit ∷ order)
-      (own, passes_from v order rest)))
+      (own, rest))
 
   -- ---- within the parts of a node
 
@@ -199,14 +174,13 @@ module _ (share : ℕ → Fission) where
         subst (λ (l : List RoundUnit). IsSplit bound (l ++ split_units share (round_units later)))
         (sym (unit_is (round_unit unit) turns nodes))
         (parts_split (split_units share (round_units later))
-        (from_passes bound (split_units share (round_units later))
         (units_pass (λ node. suc v ≤ node) (λ node. bound ≤ node)
         (λ node number less inside. omega (
           arith,
           within,
           inside,
           base_below share v node (omega (arith, less)),
-        )) (round_units later) (passes_all (λ node. suc v ≤ node) later higher))))
+        )) (round_units later) (passes_all (λ node. suc v ≤ node) later higher)))
     split_later (first ∷ before) unit later lower turns nodes higher =
         below_first bound (split_unit share (round_unit first))
         (split_units share (round_units (before ++ unit ∷ later)))

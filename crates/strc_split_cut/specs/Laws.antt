@@ -19,8 +19,7 @@ use Rattle.strc_split.specs.Runs.{graph_after}
 use Rattle.strc_staging.specs.Ranges.{IsRanged, stage_within}
 use Rattle.strc_staging.specs.Staging.{IsStaged}
 use Rattle.strc_cut.specs.Bounds.{stage_count, stage_bound}
-use Rattle.strc_cut.specs.Cuts.{segment_of}
-use Rattle.strc_split_cut.specs.Cuts.{IsCutOf}
+use Rattle.strc_cut.specs.Cuts.{IsCutOf, segment_of}
 
 -- a program's graph and its greedy schedule, where nodes fire so often in a round; and the units
 -- that fusion makes of the round after fission

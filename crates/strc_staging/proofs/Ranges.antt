@@ -12,7 +12,7 @@ use Rattle.strc_staging.specs.StageLaws.{RangesAreStages}
 use Rattle.strc_staging.proofs.Segments.{is_in}
 
 module _ (bound : ℕ → ℕ) where
-  within_at_most : (last v : ℕ) → stage_within bound last v ≤ last
+  pub within_at_most : (last v : ℕ) → stage_within bound last v ≤ last
   unfolding stage_within
   within_at_most zero v = omega arith
   within_at_most (suc a) v = by_test (leb (bound (suc a)) v) (within_at_most a v)
@@ -23,7 +23,7 @@ module _ (bound : ℕ → ℕ) where
       by_test false less = omega (arith, less)
 
   -- A range that isn't the first begins at its nodes or below.
-  within_from : (last v : ℕ) → 0 < stage_within bound last v
+  pub within_from : (last v : ℕ) → 0 < stage_within bound last v
       → bound (stage_within bound last v) ≤ v
   unfolding stage_within
   within_from zero v more = absurd (omega arith)
@@ -37,7 +37,7 @@ module _ (bound : ℕ → ℕ) where
       by_test false e ih more = ih more
 
   -- The next range begins after its nodes.
-  within_below : (last v : ℕ) → stage_within bound last v < last
+  pub within_below : (last v : ℕ) → stage_within bound last v < last
       → v < bound (suc (stage_within bound last v))
   unfolding stage_within
   within_below zero v less = absurd (omega arith)

@@ -14,14 +14,16 @@ group_starts-requires c = record {
   loops = each_node_has_loop c.graph-graph.result.now c.graph-graph.ensures.whole;
   nodes = subst (λ (l : List units.Unit.Unit).
       All (HasNodes (length c.graph-graph.result.now.nodes)) l) (sym c.round.ensures)
-      (subst (λ (g : GraphParts). All (HasNodes (length g.nodes)) c.transformed_schedule.result.now.round)
+      (subst (λ (g : GraphParts).
+      All (HasNodes (length g.nodes)) c.transformed_schedule.result.now.round)
       (sym c.graph-graph.ensures.graph) c.transformed_schedule.ensures.nodes);
 }
 
 pub returns : goal.returns
 returns c = IfOk-weaker c.shared.result _ _
     (λ bounds. bounds_are_shared c.args.plan.now.graph.outer_loops
-    (round_units c.args.plan.now.fused.round) c.args.workers (length c.nodes.result.now) c.min-stages.result c.deref.result.now bounds.items
+    (round_units c.args.plan.now.fused.round) c.args.workers (length c.nodes.result.now)
+    c.min-stages.result c.deref.result.now bounds.items
     (ap (λ (g : GraphParts). length g.outer_loops) (sym c.graph-graph.ensures.graph)
     ∙ each_node_has_loop c.graph-graph.result.now c.graph-graph.ensures.whole
     ∙ sym (ap length c.nodes.ensures))
