@@ -18,6 +18,7 @@ use Rattle.strc_parcel.specs.declared.stop.Stop.{Stop}
 use Rattle.strc_parcel.specs.Parcels.{ParcelView, parcel, empty_load}
 use Rattle.strc_stage.specs.Plans.{Planning}
 use Rattle.strc_staged.specs.Beginnings.{IsBeginning, IsFree, IsStageOf, crosses, rooms_of}
+use Rattle.strc_staged.specs.Runnings.{running_of}
 use Rattle.strc_staged.specs.Steps.{Gathered, StageState}
 use Rattle.strc_stages.specs.Blocks as blocks
 use Rattle.strc_stages.specs.Blocks.{IsFreeFor}
@@ -88,14 +89,15 @@ module _ (plan : Planning) (bounds : List ℕ) (circuit : CircuitView)
     (parts : AreParts plan bounds circuit started rounds stages free words) where
   free_is : (first : StageParts) (own : ParcelView) → slice_get stages 0 ≡ Some first
       → IsFreeFor first own
-      → IsFree plan (bound_in bounds) (last_of bounds) circuit started own
+      → IsFree (running_of plan) (bound_in bounds) (last_of bounds) circuit started own
   free_is first own there (inl is) =
       let made = parts.made 0 first there in
       inl (is
       ∙ ap (λ (rooms : List ℕ). parcel (empty_load rooms first.tape_count) None false)
       (ap (map blocks.room_of) made.blocks ∙ rooms_are plan bounds 0)
       ∙ ap (λ (tapes : ℕ). parcel (empty_load
-      (rooms_of (crosses (bound_in bounds) (last_of bounds)) plan plan.graph.channels) tapes)
+      (rooms_of (crosses (bound_in bounds) (last_of bounds)) (running_of plan)
+      plan.graph.channels) tapes)
       None false) made.tapes)
   free_is first own there (inr is) = inr is
 
@@ -108,8 +110,8 @@ module _ (plan : Planning) (bounds : List ℕ) (circuit : CircuitView)
   going : nat_eq rounds 0 ≡ false
   going = positive rounds parts.some
 
-  pub is_beginning : IsBeginning plan (bound_in bounds) (last_of bounds) circuit started rounds
-      (record {
+  pub is_beginning : IsBeginning (running_of plan) (bound_in bounds) (last_of bounds) circuit
+      started rounds (record {
         stages = map see stages;
         free = free;
         collector = sees (begun words rounds);
@@ -134,7 +136,8 @@ module _ (plan : Planning) (bounds : List ℕ) (circuit : CircuitView)
     each = λ number own there.
         let image = image_of see stages number own there in
         subst (λ (stage : actors.Stage StageState Stop).
-        IsStageOf plan (bound_in bounds) (last_of bounds) circuit started number stage.inner)
+        IsStageOf (running_of plan) (bound_in bounds) (last_of bounds) circuit started number
+        stage.inner)
         image.is (parts.made number image.own image.there).state;
     free = λ number own there.
         let (first, is) = first_there stages (omega (arith, parts.each)) in

@@ -11,6 +11,7 @@ use Rattle.strc_staging.specs.Ranges.{stage_within}
 use Rattle.strc_staged.specs.Beginnings.{crosses, crossings_from, entering_at, leaving_at}
 use Rattle.strc_staged.specs.Beginnings.{ends_in, begins_in, rooms_of, tapes_from}
 use Rattle.strc_staged.specs.Blocks.{raised}
+use Rattle.strc_staged.specs.Runnings.{running_of}
 use Rattle.strc_staged.specs.declared.crossing.Crossing.{Crossing}
 use Rattle.strc_staged.specs.declared.crossing.TapeOf.{TapeOf}
 use Rattle.strc_stages.specs.Blocks as blocks
@@ -82,16 +83,17 @@ module _ (plan : Planning) (bounds : List ℕ) (stage : ℕ) where
 
   rooms_from : (channels : List Channel)
       → map blocks.room_of (blocks_in stage (map (link_of plan bounds) channels))
-      ≡ rooms_of (crosses (bound_in bounds) (last_of bounds)) plan channels
+      ≡ rooms_of (crosses (bound_in bounds) (last_of bounds)) (running_of plan) channels
   rooms_from [] = refl
   rooms_from (channel ∷ channels) =
       room_step (crosses (bound_in bounds) (last_of bounds) channel)
       (block_before stage (link_of plan bounds channel))
       (blocks_in stage (map (link_of plan bounds) channels))
-      (rooms_of (crosses (bound_in bounds) (last_of bounds)) plan channels) (rooms_from channels)
+      (rooms_of (crosses (bound_in bounds) (last_of bounds)) (running_of plan) channels)
+      (rooms_from channels)
 
   pub rooms_are : map blocks.room_of (blocks_in stage (links_of plan bounds))
-      ≡ rooms_of (crosses (bound_in bounds) (last_of bounds)) plan plan.graph.channels
+      ≡ rooms_of (crosses (bound_in bounds) (last_of bounds)) (running_of plan) plan.graph.channels
   rooms_are = rooms_from plan.graph.channels
 
 -- ---- tapes

@@ -9,7 +9,7 @@ use Rattle.strc_cut.specs.Bounds.{stage_bound, stage_bounds, stage_count}
 use Rattle.strc_cut.specs.Cuts.{IsBetweenGroups, IsBetweenUnits, IsCut}
 use Rattle.strc_cut.proofs.EvenShares.{bounds_are_a_cut}
 use Rattle.strc_cut.proofs.Shares.{bounds_are_listed}
-use Rattle.strc_staged.specs.Beginnings.{round_pushes}
+use Rattle.strc_staged.specs.Runnings.{running_of, round_pushes}
 use Rattle.strc_launch.specs.Bounds.{bound_in, last_of}
 use Rattle.strc_launch.specs.Links.{link_of, room_of}
 
@@ -62,7 +62,8 @@ module _ (plan : Planning) (workers : ℕ) (plan_is : IsPlan plan) (some : 0 < w
 
 -- the room of each channel
 pub link_rooms : (plan : Planning) (at_bounds : List ℕ) (channels : List Channel)
-    → map room_of (map (link_of plan at_bounds) channels) ≡ map (round_pushes plan) channels
+    → map room_of (map (link_of plan at_bounds) channels)
+    ≡ map (round_pushes (running_of plan)) channels
 link_rooms plan at_bounds [] = refl
 link_rooms plan at_bounds (channel ∷ channels) =
-    ap (λ l. round_pushes plan channel ∷ l) (link_rooms plan at_bounds channels)
+    ap (λ l. round_pushes (running_of plan) channel ∷ l) (link_rooms plan at_bounds channels)

@@ -20,7 +20,8 @@ use Rattle.strc_circuit.specs.Parts.{IsOutside, IsPartOf, IsPartCircuit}
 use Rattle.strc_circuit.proofs.PartCircuits.{parts_are_part_circuits}
 use Rattle.strc_runner.specs.Parts.{IsPart}
 use Rattle.strc_stage.specs.Plans.{Planning}
-use Rattle.strc_staged.specs.Beginnings.{IsCircuitOf, IsMachineOf, is_own, round_pushes}
+use Rattle.strc_staged.specs.Beginnings.{IsCircuitOf, IsMachineOf, is_own}
+use Rattle.strc_staged.specs.Runnings.{running_of, round_pushes}
 use Rattle.strc_launch.specs.Bounds.{bound_in, last_of}
 use Rattle.strc_launch.specs.Cuts.{IsCutAt}
 use Rattle.strc_launch.proofs.Ranges.{own_from, own_below, is_outside}
@@ -45,7 +46,7 @@ pub record IsParted (plan : Planning) (bounds : List ℕ) (circuit own : Circuit
   pub next_is : next ≡ bound_in bounds (suc stage)
   pub whole : IsCircuit plan.graph circuit
   pub of : IsPartOf first next circuit own
-  pub rooms_are : rooms ≡ map (round_pushes plan) plan.graph.channels
+  pub rooms_are : rooms ≡ map (round_pushes (running_of plan)) plan.graph.channels
   pub each_fields : length before.fields ≡ length plan.graph.nodes
   pub each_fired : length before.fired ≡ length plan.graph.nodes
   pub is : IsPart plan.graph first next rooms before part
@@ -93,7 +94,7 @@ module _ (plan : Planning) (bounds : List ℕ) (circuit own : CircuitView) (room
   last = last_of bounds
 
   abbrev IsOwn : ℕ → Type 0
-  IsOwn node = is_own plan bound last circuit before stage node
+  IsOwn node = is_own (running_of plan) bound last circuit before stage node
 
   from : (node : ℕ) → IsOwn node → first ≤ node
   from node is = omega (
@@ -130,7 +131,7 @@ module _ (plan : Planning) (bounds : List ℕ) (circuit own : CircuitView) (room
         (omega (arith, past, ap length parted.whole.codes)))
   ]
 
-  pub circuit_of : IsCircuitOf plan bound last circuit before stage own
+  pub circuit_of : IsCircuitOf (running_of plan) bound last circuit before stage own
   circuit_of = record {
     each = part_circuit.each ∙ sym (ap length parted.whole.codes);
     codes = codes_are;
@@ -172,23 +173,23 @@ module _ (plan : Planning) (bounds : List ℕ) (circuit own : CircuitView) (room
         (below channel.target.node (port_there plan.graph.nodes channel.target.node
         channel.target.port joins.target) is)
 
-    room_is : slice_index rooms number ≡ round_pushes plan channel
+    room_is : slice_index rooms number ≡ round_pushes (running_of plan) channel
     room_is =
         ap (λ (l : List ℕ). slice_index l number) parted.rooms_are
-        ∙ get_or-map (round_pushes plan) plan.graph.channels number channel 0
+        ∙ get_or-map (round_pushes (running_of plan)) plan.graph.channels number channel 0
         (slice_get_within plan.graph.channels number channel there)
-        ∙ ap (round_pushes plan)
+        ∙ ap (round_pushes (running_of plan))
         (get_or_from_slice_get plan.graph.channels number channel channel there)
 
     leaving_is : (source : channel.source.node < length plan.graph.nodes)
         → IsOwn channel.source.node → (IsOwn channel.target.node → ⊥)
-        → ring_at part.rings number ≡ buffer [] (round_pushes plan channel)
+        → ring_at part.rings number ≡ buffer [] (round_pushes (running_of plan) channel)
     leaving_is source is other =
         parted.is.begun number channel there (outside channel.target.node other)
         (from channel.source.node is) (below channel.source.node source is)
         ∙ ap (λ (n : ℕ). empty_ring n) room_is
 
-  pub machine_of : IsMachineOf plan bound last circuit before stage part
+  pub machine_of : IsMachineOf (running_of plan) bound last circuit before stage part
   machine_of = record {
     each_fields = parted.is.each_fields;
     each_fired = parted.is.each_fired;

@@ -4,7 +4,7 @@ use Rattle.strc_graph.specs.Graphs.{IsGraph}
 use Rattle.strc_graph.specs.Tapes.{tape_nodes}
 use Rattle.strc_stage.specs.Plans.{Planning, IsPlan}
 use Rattle.strc_cut.specs.Cuts.{IsCut}
-use Rattle.strc_staged.specs.Beginnings.{round_pushes}
+use Rattle.strc_staged.specs.Runnings.{running_of, round_pushes}
 use Rattle.strc_launch.specs.Bounds.{bound_in, last_of}
 use Rattle.strc_launch.specs.Links.{links_of}
 use Rattle.strc_launch.specs.declared.cutting.Cut.{Cut}
@@ -19,5 +19,5 @@ pub record IsCutAt (plan : Planning) (bounds : List ℕ) : Type 0 where
 pub record IsCutting (plan : Planning) (cut : Cut) : Type 0 where
   pub at : IsCutAt plan cut.bounds.items
   pub links : cut.links.items ≡ links_of plan cut.bounds.items
-  pub rooms : cut.rooms.items ≡ map (round_pushes plan) plan.graph.channels
+  pub rooms : cut.rooms.items ≡ map (round_pushes (running_of plan)) plan.graph.channels
   pub tapes : cut.tapes.items ≡ tape_nodes plan.graph.nodes

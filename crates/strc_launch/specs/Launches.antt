@@ -15,6 +15,7 @@ use Rattle.strc_runner.specs.declared.machine.Stop.{Stop}
 use Rattle.strc_runner.specs.declared.machine.Stop.TheVariants as stops
 use Rattle.strc_stage.specs.Plans.{Planning, IsPlan}
 use Rattle.strc_staged.specs.Beginnings.{IsBeginning}
+use Rattle.strc_staged.specs.Runnings.{running_of}
 use Rattle.strc_staged.specs.Steps.{StageState, Gathered}
 use Rattle.strc_stages.specs.Collectors.{sees}
 use Rattle.strc_stages.specs.Stages.{see}
@@ -46,7 +47,7 @@ pub record IsRingOf (plan : Planning) (circuit : CircuitView) (started : Machine
       ≡ stage_count plan.graph.outer_loops (round_units plan.fused.round) workers
   pub cut : IsCut plan (bound_in (bounds_of plan workers))
       (suc (last_of (bounds_of plan workers)))
-  pub beginning : IsBeginning plan (bound_in (bounds_of plan workers))
+  pub beginning : IsBeginning (running_of plan) (bound_in (bounds_of plan workers))
       (last_of (bounds_of plan workers)) circuit started rounds (start_of ring)
   pub made : AreMade plan (bounds_of plan workers) circuit started rounds ring.stages.items
 

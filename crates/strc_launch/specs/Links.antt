@@ -4,7 +4,7 @@ use Rattle.std.specs.Prelude.{if◌then◌else◌}
 use Rattle.strc_graph.specs.Graphs.{Channel}
 use Rattle.strc_stage.specs.Plans.{Planning}
 use Rattle.strc_staging.specs.Ranges.{stage_within}
-use Rattle.strc_staged.specs.Beginnings.{round_pushes}
+use Rattle.strc_staged.specs.Runnings.{running_of, round_pushes}
 use Rattle.strc_staged.specs.Blocks.{raised}
 use Rattle.strc_staged.specs.declared.crossing.Crossing.{Crossing}
 use Rattle.strc_stages.specs.declared.stage.Block.{Block}
@@ -17,7 +17,7 @@ abbrev pub link_of : Planning → (bounds : List ℕ) → Channel → Link
 link_of plan bounds channel = record {
   from = stage_within (bound_in bounds) (last_of bounds) channel.source.node;
   to = stage_within (bound_in bounds) (last_of bounds) channel.target.node;
-  room = round_pushes plan channel;
+  room = round_pushes (running_of plan) channel;
 }
 
 abbrev pub links_of : Planning → (bounds : List ℕ) → List Link

@@ -11,7 +11,7 @@ use Rattle.strc_outcome.specs.declared.outcome.Outcome.{Outcome}
 use Rattle.strc_outcome.specs.declared.refusal.RunRefusal.{RunRefusal}
 use Rattle.strc_sched.specs.Plain.{AnswersGraph, IsEnding}
 use Rattle.strc_stage.specs.Plans.{Planning, IsPlan}
-use Rattle.strc_staged.proofs.Alike.{stages_run_alike}
+use Rattle.strc_staged.proofs.PlanAlike.{plans_run_alike}
 use Rattle.strc_launch.specs.declared.ringing.Ring.{Ring}
 use Rattle.strc_launch.specs.Launches.{HasBegun, HasFaulted, bounds_of, start_of}
 use Rattle.strc_launch.specs.Bounds.{bound_in, last_of}
@@ -37,7 +37,7 @@ module _ (plan : Planning) (is : IsPlan plan) (input : List ℤ) (rounds : ℕ) 
             program is.planned ready.known few supplied ready.circuit_is ready.input_is
             ready.machine_is;
         reported = tells whole
-            (stages_run_alike plan is input rounds (bound_in bounds) (last_of bounds) begun.circuit
+            (plans_run_alike plan is input rounds (bound_in bounds) (last_of bounds) begun.circuit
             begun.machine begun.started (start_of ring) core ready.known few supplied
             begun.ring_is.cut ready.circuit_is ready.input_is ready.machine_is begun.went
             begun.ring_is.beginning state over);

@@ -8,10 +8,9 @@ use Rattle.std.proofs.lemmas.Option.{none-some, same_Some}
 use mathlib.Core.Logic.{inl, inr}
 use Rattle.strc_graph.specs.Graphs.{NodeCode, Channel, gives_words}
 use Rattle.strc_graph.specs.Tapes.{tape_nodes_from}
-use Rattle.strc_stage.specs.Plans.{Planning}
 use Rattle.strc_staged.specs.Steps.{Crossing, TapeOf}
 use Rattle.strc_staged.specs.Beginnings.{stage_at, crosses, crossings_from, tapes_from, rooms_of}
-use Rattle.strc_staged.specs.Beginnings.{round_pushes}
+use Rattle.strc_staged.specs.Runnings.{Running, round_pushes}
 use Rattle.strc_staged.specs.Blocks.{raised, passed_before, block_of}
 use Rattle.strc_staged.proofs.Folds.{In, Rising}
 
@@ -239,36 +238,36 @@ module _ (bound : (stage : ℕ) → ℕ) (last : ℕ) where
         by_test rest above ih false pick = ih block
 
   -- The rooms of the blocks.
-  pub room_there : (plan : Planning) (channels : List Channel) (k : ℕ) (channel : Channel)
+  pub room_there : (running : Running) (channels : List Channel) (k : ℕ) (channel : Channel)
       → slice_get channels k ≡ Some channel → crosses bound last channel ≡ true
-      → (block_before channels k < length (rooms_of (crosses bound last) plan channels))
-      × (slice_index (rooms_of (crosses bound last) plan channels) (block_before channels k)
-      ≡ round_pushes plan channel)
-  room_there plan [] k channel there crossing = absurd (none-some channel there)
-  room_there plan (first ∷ channels) zero channel there crossing =
+      → (block_before channels k < length (rooms_of (crosses bound last) running channels))
+      × (slice_index (rooms_of (crosses bound last) running channels) (block_before channels k)
+      ≡ round_pushes running channel)
+  room_there running [] k channel there crossing = absurd (none-some channel there)
+  room_there running (first ∷ channels) zero channel there crossing =
       let same : first ≡ channel = same_Some first channel there in
-      subst (λ (c : Channel). (0 < length (rooms_of (crosses bound last) plan (c ∷ channels)))
-      × (slice_index (rooms_of (crosses bound last) plan (c ∷ channels)) 0
-      ≡ round_pushes plan channel)) (sym same)
-      (by_test (rooms_of (crosses bound last) plan channels)
+      subst (λ (c : Channel). (0 < length (rooms_of (crosses bound last) running (c ∷ channels)))
+      × (slice_index (rooms_of (crosses bound last) running (c ∷ channels)) 0
+      ≡ round_pushes running channel)) (sym same)
+      (by_test (rooms_of (crosses bound last) running channels)
       (crosses bound last channel) crossing)
     where
       by_test : (rest : List ℕ) (test : Bool) → test ≡ true
-          → (0 < length (if test then round_pushes plan channel ∷ rest else rest))
-          × (slice_index (if test then round_pushes plan channel ∷ rest else rest) 0
-          ≡ round_pushes plan channel)
+          → (0 < length (if test then round_pushes running channel ∷ rest else rest))
+          × (slice_index (if test then round_pushes running channel ∷ rest else rest) 0
+          ≡ round_pushes running channel)
       by_test rest true e = (omega arith, refl)
       by_test rest false e = absurd (true≢false (sym e))
-  room_there plan (first ∷ channels) (suc k) channel there crossing =
-      by_test (rooms_of (crosses bound last) plan channels) (crosses bound last first)
-      (room_there plan channels k channel there crossing)
+  room_there running (first ∷ channels) (suc k) channel there crossing =
+      by_test (rooms_of (crosses bound last) running channels) (crosses bound last first)
+      (room_there running channels k channel there crossing)
     where
       by_test : (rest : List ℕ) (test : Bool) → (block_before channels k < length rest)
-          × (slice_index rest (block_before channels k) ≡ round_pushes plan channel)
+          × (slice_index rest (block_before channels k) ≡ round_pushes running channel)
           → (raised test (block_before channels k)
-          < length (if test then round_pushes plan first ∷ rest else rest))
-          × (slice_index (if test then round_pushes plan first ∷ rest else rest)
-          (raised test (block_before channels k)) ≡ round_pushes plan channel)
+          < length (if test then round_pushes running first ∷ rest else rest))
+          × (slice_index (if test then round_pushes running first ∷ rest else rest)
+          (raised test (block_before channels k)) ≡ round_pushes running channel)
       by_test rest true (less, same) = (omega (arith, less), same)
       by_test rest false (less, same) = (less, same)
 

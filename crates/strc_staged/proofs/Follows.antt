@@ -18,6 +18,7 @@ use Rattle.strc_parcel.specs.Parcels.{Load, ParcelView}
 use Rattle.strc_admissible.specs.Fits.{Queues}
 use Rattle.strc_admissible.specs.Machine as machines
 use Rattle.strc_admissible.specs.Machine.{MachineView}
+use Rattle.strc_restart.specs.Restart.{numbered_on}
 use Rattle.strc_staging.specs.Parcels.{HasMoved, IsWorking}
 use Rattle.strc_staging.specs.Stages.{Parcel, Parcel.Moves, Parcel.Halts, Stage, Stage.Works}
 use Rattle.strc_staging.specs.Stages.{Stage.Halted, Stepped, entered, sent, step}
@@ -152,12 +153,14 @@ module _ (s : Setting) where
 
   -- ---- parcels of both
 
-  -- a parcel that goes on has the same blocks and words; one that is stopped by a fault names it
+  -- a parcel that goes on has the same blocks and words; one that is stopped by a fault names it,
+  -- by the firing of the node's whole life
   abbrev pub Relates : Option Stop → Load → Generic → Type 0
   Relates None load (Moves blocks words) = IsLoaded s load blocks words
   Relates None load (Halts why) = ⊥
   Relates (Some (stop.Fault node firing cause)) load parcel =
-      parcel ≡ Halts (Some (record { node = node; firing = firing; cause = cause }))
+      (why : generic.Stop Cause) × (parcel ≡ Halts (Some why))
+      × (numbered_on s.from why ≡ record { node = node; firing = firing; cause = cause })
   Relates (Some stop.NoMemory) load parcel = Unit {0}
 
   -- the first so many, up to the first stop
@@ -201,17 +204,18 @@ module _ (s : Setting) where
 
       passes : (parcel : Generic) (node firing : ℕ) (cause : Cause)
           → q.stop ≡ Some (stop.Fault node firing cause)
-          → parcel ≡ Halts (Some (record { node = node; firing = firing; cause = cause }))
+          → (why : generic.Stop Cause) → parcel ≡ Halts (Some why)
+          → numbered_on s.from why ≡ record { node = node; firing = firing; cause = cause }
           → Goal p.stop (one_made a (Works now) parcel p.stop)
       unfolding step
-      passes parcel node firing cause e f =
+      passes parcel node firing cause e why f same =
           known parcel (Some (stop.Fault node firing cause)) (record {
             stage = Halted;
-            parcel = Halts (Some (record { node = node; firing = firing; cause = cause }));
+            parcel = Halts (Some why);
           })
           (step_passes worker later q p (stop.Fault node firing cause) does e)
           (ap (λ (g : Generic). one_made a (Works now) g (Some (stop.Fault node firing cause))) f)
-          (refl, λ g. absurd (true≢false (ap is_some g)))
+          ((why, refl, same), λ g. absurd (true≢false (ap is_some g)))
 
       module _ (blocks : ℕ → ByPort) (words : ℕ → List Word)
           (moved : HasMoved (staging s) a t blocks words) (loaded : IsLoaded s q.load blocks words)
@@ -226,8 +230,8 @@ module _ (s : Setting) where
 
         went_on : (fifo : FifoProgress (List ℤ) Cause Word) (run : machines.Progress)
             → progress ≡ fifo → stage_run worker.inner q.load machine ≡ run
-            → StepsAlike s.plan s.bound s.last s.circuit (staging s) a worker.inner q.load blocks
-            words fifo run
+            → StepsAlike s.running s.from s.bound s.last s.circuit (staging s) a worker.inner
+            q.load blocks words fifo run
             → StepComes (staging s) a t blocks words fifo
             → IsDone worker later q p (due_stop_of worker.inner q.load worker.inner.machine)
             → Goal p.stop (one_made a (Works now) (Moves blocks words) p.stop)
@@ -261,7 +265,7 @@ module _ (s : Setting) where
             known (Moves blocks words) (Some (stop.Fault node firing cause))
             (sent (staging s) a blocks words (FifoStopped why))
             (done.stop ∙ due) (ap (sent (staging s) a blocks words) went) (
-              ap (λ (w : generic.Stop Cause). Halts (Some w)) same,
+              (why, refl, same),
               λ g. absurd (true≢false (ap is_some g)),
             )
         went_on (FifoWent next) (machines.Stopped node firing cause) went ran same comes done =
@@ -285,8 +289,8 @@ module _ (s : Setting) where
       one_follows (Moves blocks words) None e loaded are =
           moves blocks words are.0 loaded e are.1
       one_follows (Halts why) None e loaded are = absurd loaded
-      one_follows parcel (Some (stop.Fault node firing cause)) e same are =
-          passes parcel node firing cause e same
+      one_follows parcel (Some (stop.Fault node firing cause)) e (why, is, same) are =
+          passes parcel node firing cause e why is same
       one_follows parcel (Some stop.NoMemory) e same are =
           memory parcel (step_passes worker later q p stop.NoMemory does e)
 

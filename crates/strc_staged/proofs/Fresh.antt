@@ -105,7 +105,7 @@ module _ (s : Setting) where
   )
 
   pub free_spent : (started : MachineView) (p : ParcelView)
-      → IsFree s.plan s.bound s.last s.circuit started p → IsSpent p
+      → IsFree s.running s.bound s.last s.circuit started p → IsSpent p
   free_spent started p (inl e) = inl (
     ap (λ (q : ParcelView). q.stop) e,
     subst IsClear (ap (λ (q : ParcelView). q.load) (sym e)) (record {

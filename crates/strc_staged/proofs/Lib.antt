@@ -1,4 +1,6 @@
 pub mod Folds
+pub mod Lifting
+pub mod Ports
 pub mod OwnSteps
 pub mod OwnRuns
 pub mod Crossings
@@ -14,3 +16,9 @@ pub mod Chain
 pub mod Alike
 pub mod ParcelsFit
 pub mod Rows
+pub mod Room
+pub mod PlanKeeps
+pub mod PlanStarted
+pub mod PlanCounts
+pub mod PlanRunning
+pub mod PlanAlike

@@ -1,6 +1,6 @@
 -- One step of a stage over rings is that of the generic stage.
 use Rattle.std.proofs.Common.{◌≡◌, refl, sym, ap, ◌∙◌, subst, ℕ, suc, ◌+◌, ◌-◌, ◌<◌, ◌≤◌, ℤ}
-use Rattle.std.proofs.Common.{Bool, true, false, cond, List, [], ◌∷◌, ◌++◌, length, take, Some}
+use Rattle.std.proofs.Common.{Bool, true, false, cond, eqb, List, [], ◌∷◌, ◌++◌, length, take, Some}
 use Rattle.std.proofs.Common.{slice_get, slice_index, slice_index_or, inl, inr, arith}
 use Rattle.std.proofs.Common.{append-nil, eqb-true}
 use Rattle.std.proofs.lemmas.Bool.{cases_eq, cases_lt, eq-eqb, lt-ltb, le-ltb}
@@ -13,21 +13,14 @@ use Rattle.strc_dataflow.specs.Node.{ByPort, total}
 use Rattle.strc_dataflow.specs.Order as orders
 use Rattle.strc_dataflow.specs.Queues.{FifoProgress, FifoProgress.FifoWent, fifo_go}
 use Rattle.strc_dataflow.specs.Queues.{FifoProgress.FifoStopped}
-use Rattle.strc_dataflow.specs.Streams.{flat}
 use Rattle.strc_dataflow.proofs.WholeRun.{counted-firing_count}
 use Rattle.strc_graph.specs.Graphs.{NodeCode, Channel, gives_words}
-use Rattle.strc_graph.specs.Meaning.{node_meaning}
-use Rattle.strc_graph.specs.Rates.{pushes_at}
 use Rattle.strc_parcel.specs.Parcels as parcels
 use Rattle.strc_parcel.specs.Parcels.{Load, block_at}
 use Rattle.strc_admissible.specs.Fits.{Queues}
-use Rattle.strc_admissible.specs.Laws.{round_order}
 use Rattle.strc_admissible.specs.Machine as machines
 use Rattle.strc_admissible.specs.Machine.{MachineView, order_run, words_at}
 use Rattle.strc_admissible.specs.Rings.{Ring, ring_at}
-use Rattle.strc_admissible.proofs.Rounds.{round_nodes}
-use Rattle.strc_order.specs.Order.{firing_count}
-use Rattle.strc_order.proofs.FiringCounts.{turns_same, firing_count_append}
 use Rattle.strc_staging.specs.Cut.{AllIn}
 use Rattle.strc_staging.specs.Parcels.{HasMoved, IsWorking}
 use Rattle.strc_staging.specs.Stages.{entered, sent_blocks, sent_words}
@@ -40,7 +33,8 @@ use Rattle.strc_staged.specs.Steps.{StageState, machine_entered, machine_left, e
 use Rattle.strc_staged.specs.Steps.{load_entered, load_left, load_worded, with_machine}
 use Rattle.strc_staged.specs.Steps.{stage_run}
 use Rattle.strc_staged.specs.Beginnings.{crosses, entering_at, leaving_at}
-use Rattle.strc_staged.specs.Beginnings.{tapes_at, round_pushes}
+use Rattle.strc_staged.specs.Beginnings.{tapes_at}
+use Rattle.strc_staged.specs.Runnings.{round_pushes}
 use Rattle.strc_staged.specs.Blocks.{IsShaped, passed_before}
 use Rattle.strc_staged.specs.Holding.{StepsAlike}
 use Rattle.strc_staged.specs.Laws.{StageStepsAlike}
@@ -48,6 +42,7 @@ use Rattle.strc_staged.proofs.Crossings.{block_before, room_there, tape_there}
 use Rattle.strc_staged.proofs.Held.{IsHeld, IsLoaded, rooms, tape_count, size, starts, first}
 use Rattle.strc_staged.proofs.Held.{fits_here, first_simulates, crosses_from, crosses_to, not_own}
 use Rattle.strc_staged.proofs.Held.{no_block}
+use Rattle.strc_staged.proofs.Lifting.{lifted, lifted_progress, lifted_go, lowered}
 use Rattle.strc_staged.proofs.OwnSteps.{SimulatesOwn, FitOwn, IsAlikeOwn}
 use Rattle.strc_staged.proofs.OwnRuns.{AreOwn, go, left_alike, order_same}
 use Rattle.strc_staged.proofs.Passing.{entered_shaped, left_shaped, worded_shaped}
@@ -55,8 +50,20 @@ use Rattle.strc_staged.proofs.Passing.{ring_left, ring_not_left, rings_left_leng
 use Rattle.strc_staged.proofs.Passing.{words_left_length, block_entered, block_not_entered}
 use Rattle.strc_staged.proofs.Passing.{block_left, block_not_left, block_worded, tape_worded}
 use Rattle.strc_staged.proofs.Passing.{tape_not_worded, words_gone, words_left_entered}
-use Rattle.strc_staged.proofs.Setting.{Setting, tree, staging, stage_of, own, is_staging}
+use Rattle.strc_staged.proofs.Setting.{Setting, meaning, again, staging, stage_of, own}
+use Rattle.strc_staged.proofs.Setting.{is_staging}
 use Rattle.strc_staged.proofs.Setting.{origin_is, port_is, forward, firing_append, round_front}
+
+-- more firings of others
+raised_more : (order : List ℕ) (node other : ℕ) → 0 < orders.firing_count order other
+    → 0 < orders.firing_count (node ∷ order) other
+unfolding orders.firing_count orders.raised
+raised_more order node other some =
+    by_test (orders.firing_count order other) (eqb other node) some
+  where
+    by_test : (count : ℕ) (test : Bool) → 0 < count → 0 < cond test (suc count) count
+    by_test count true less = omega arith
+    by_test count false less = less
 
 module _ (s : Setting) (a t : ℕ) (is_stage : a < suc s.last) (is_round : t < s.rounds)
     (now : Queues) (blocks : ℕ → ByPort) (words : ℕ → List Word)
@@ -64,13 +71,13 @@ module _ (s : Setting) (a t : ℕ) (is_stage : a < suc s.last) (is_round : t < s
     (state : StageState) (held : IsHeld s a state now) (load : Load)
     (loaded : IsLoaded s load blocks words) where
   abbrev entering : List Crossing
-  entering = entering_at s.bound s.last a s.plan.graph.channels
+  entering = entering_at s.bound s.last a s.running.graph.channels
 
   abbrev leaving : List Crossing
-  leaving = leaving_at s.bound s.last a s.plan.graph.channels
+  leaving = leaving_at s.bound s.last a s.running.graph.channels
 
   abbrev tapes : List TapeOf
-  tapes = tapes_at s.bound s.last a s.plan.graph.nodes
+  tapes = tapes_at s.bound s.last a s.running.graph.nodes
 
   abbrev begin : Queues
   begin = starts s a t is_stage is_round now blocks words working moved
@@ -80,91 +87,113 @@ module _ (s : Setting) (a t : ℕ) (is_stage : a < suc s.last) (is_round : t < s
 
   -- ---- what the order comes to
 
-  round_in : (node : ℕ) → 0 < firing_count (round_order s.plan.fused) node
-      → node < length s.plan.graph.nodes
-  round_in = round_nodes s.plan.graph s.plan.fused s.is.planned
+  abbrev own_order : List ℕ → Type 0
+  own_order = AreOwn s.by_source s.running.graph s.is.joins s.is.windows s.circuit
+      s.is.is_circuit (own s a) (size s a)
 
   own_nodes : (order : List ℕ) → AllIn (own s a) order
-      → ((node : ℕ) → 0 < firing_count order node → node < length s.plan.graph.nodes)
-      → AreOwn (tree s) s.plan.graph s.is.whole.program s.is.planned.unfissioned s.circuit
-      s.is_circuit s.input s.reads_it (own s a) (size s a) order
+      → ((node : ℕ) → 0 < orders.firing_count order node → node < length s.running.graph.nodes)
+      → own_order order
+  unfolding orders.firing_count orders.raised
   own_nodes [] all within = tt
   own_nodes (node ∷ order) (is_own, all) within = (
-    within node (omega (arith, turns_same 1 node node refl)),
+    within node (omega (
+      arith,
+      ap (λ (b : Bool). cond b (suc (orders.firing_count order node))
+          (orders.firing_count order node)) (eq-eqb node node refl),
+    )),
     is_own,
-    own_nodes order all (λ other some. within other (omega (arith, some))),
+    own_nodes order all (λ other some. within other (raised_more order node other some)),
   )
 
-  segment_in : (node : ℕ) → 0 < firing_count segment node → node < length s.plan.graph.nodes
+  segment_in : (node : ℕ) → 0 < orders.firing_count segment node
+      → node < length s.running.graph.nodes
   segment_in node some =
       let (back, front) = round_front s a segment [] is_stage (append-nil segment) in
-      round_in node (omega (
+      s.is.nodes node (omega (
         arith,
         some,
-        ap (λ (l : List ℕ). firing_count l node) front,
-        firing_count_append (joined (staging s).segment a ++ segment) back node,
-        firing_count_append (joined (staging s).segment a) segment node,
+        (is_staging s).solved.schedule.round_counts node,
+        ap (λ (l : List ℕ). orders.firing_count l node) front,
+        firing_append (joined (staging s).segment a ++ segment) back node,
+        firing_append (joined (staging s).segment a) segment node,
       ))
 
   all_own : AllIn (own s a) segment
   all_own = (is_staging s).staged.own a is_stage
 
-  alike : IsAlikeOwn s.plan.graph (own s a) (size s a) s.input (go (tree s) segment begin)
-      (order_run state.circuit segment
-      (first s a t is_stage is_round now blocks words working moved state held load loaded))
+  abbrev begun : MachineView
+  begun = first s a t is_stage is_round now blocks words working moved state held load loaded
+
+  abbrev go_on : List ℕ → Queues → FifoProgress (List ℤ) Cause Word
+  go_on = fifo_go (meaning s) (again s)
+
+  -- rings have room wherever the graph goes on to
+  fits_lifted : (done left : List ℕ) (next : Queues) → done ++ left ≡ segment
+      → go s.by_source done (lifted s.from begin) ≡ FifoWent next
+      → FitOwn s.running.graph.channels (own s a) (size s a) next
+  fits_lifted done left next same went =
+      let (other, came, is) = lowered s.from (go_on done begin) next
+      (sym (lifted_go s.from s.by_source done begin) ∙ went) in
+      subst (FitOwn s.running.graph.channels (own s a) (size s a)) is
+      (fits_here s a t is_stage is_round now blocks words working moved done left other same came)
+
+  alike : IsAlikeOwn s.running.graph (own s a) (size s a) s.circuit.input
+      (lifted_progress s.from (go_on segment begin)) (order_run state.circuit segment begun)
   unfolding fifo_go
-  alike = subst (IsAlikeOwn s.plan.graph (own s a) (size s a) s.input (go (tree s) segment begin))
-      (sym (order_same s.circuit state.circuit (own s a) held.agrees segment all_own
-      (first s a t is_stage is_round now blocks words working moved state held load loaded)))
-      (left_alike (tree s) s.plan.graph s.is.whole.program s.is.planned.unfissioned s.circuit
-      s.is_circuit s.input s.reads_it (own s a) (size s a) segment begin
-      (λ done left next same went. fits_here s a t is_stage is_round now blocks words working moved
-      done left next same went)
-      [] segment begin
-      (first s a t is_stage is_round now blocks words working moved state held load loaded)
+  alike = subst (λ (progress : FifoProgress (List ℤ) Cause Word). IsAlikeOwn s.running.graph
+      (own s a) (size s a) s.circuit.input progress (order_run state.circuit segment begun))
+      (lifted_go s.from s.by_source segment begin)
+      (subst (IsAlikeOwn s.running.graph (own s a) (size s a) s.circuit.input
+      (go s.by_source segment (lifted s.from begin)))
+      (sym (order_same s.circuit state.circuit (own s a) held.agrees segment all_own begun))
+      (left_alike s.by_source s.running.graph s.is.joins s.is.windows s.circuit s.is.is_circuit
+      (own s a) (size s a) segment (lifted s.from begin) fits_lifted [] segment
+      (lifted s.from begin) begun
       (own_nodes segment all_own segment_in) refl refl
       (first_simulates s a t is_stage is_round now blocks words working moved state held load
-      loaded))
+      loaded)))
 
-  module _ (next : Queues) (went : go (tree s) segment begin ≡ FifoWent next)
+  module _ (next : Queues) (went : go_on segment begin ≡ FifoWent next)
       (machine : MachineView)
-      (simulates : SimulatesOwn s.plan.graph (own s a) (size s a) s.input next machine) where
-    fit : FitOwn s.plan.graph.channels (own s a) (size s a) next
+      (simulates : SimulatesOwn s.running.graph (own s a) (size s a) s.circuit.input
+      (lifted s.from next) machine) where
+    fit : FitOwn s.running.graph.channels (own s a) (size s a) (lifted s.from next)
     fit = fits_here s a t is_stage is_round now blocks words working moved segment [] next
         (append-nil segment) went
 
     -- ---- the stage
 
     left_ending : (number : ℕ) (channel : Channel)
-        → slice_get s.plan.graph.channels number ≡ Some channel
+        → slice_get s.running.graph.channels number ≡ Some channel
         → own s a channel.target.node ≡ true
         → ring_at (machine_left leaving tapes machine).rings number
         ≡ buffer (next.queues channel.target.node channel.target.port)
-        (slice_index s.plan.fused.sizes number)
+        (slice_index s.running.sizes number)
     left_ending number channel there target =
         let to = in_is (stage_of s) a channel.target.node target in
-        ring_not_left s.bound s.last a s.plan.graph.channels number channel there machine.rings
+        ring_not_left s.bound s.last a s.running.graph.channels number channel there machine.rings
         simulates.each_ring
         (λ crossing begins. crosses_to s channel crossing
         (eqb-true (stage_of s channel.source.node) a begins ∙ sym to))
         ∙ simulates.rings number channel there (inr target)
         ∙ ap (λ (b : Bool). buffer (next.queues channel.target.node channel.target.port)
-        (cond b (slice_index s.plan.fused.sizes number) (round_pushes s.plan channel))) target
+        (cond b (slice_index s.running.sizes number) (round_pushes s.running channel))) target
 
     left_leaving : (number : ℕ) (channel : Channel)
-        → slice_get s.plan.graph.channels number ≡ Some channel
+        → slice_get s.running.graph.channels number ≡ Some channel
         → own s a channel.source.node ≡ true → own s a channel.target.node ≡ false
         → ring_at (machine_left leaving tapes machine).rings number
-        ≡ buffer [] (round_pushes s.plan channel)
+        ≡ buffer [] (round_pushes s.running channel)
     left_leaving number channel there source target =
         let from = in_is (stage_of s) a channel.source.node source in
         let crossing = crosses_from s channel
         (λ same. not_own s a channel.target.node target (sym same ∙ from)) in
-        ring_left s.bound s.last a s.plan.graph.channels number channel there machine.rings
+        ring_left s.bound s.last a s.running.graph.channels number channel there machine.rings
         simulates.each_ring crossing (eq-eqb (stage_of s channel.source.node) a from)
         ∙ ap emptied_ring (simulates.rings number channel there (inl source))
         ∙ ap (λ (b : Bool). buffer []
-        (cond b (slice_index s.plan.fused.sizes number) (round_pushes s.plan channel))) target
+        (cond b (slice_index s.running.sizes number) (round_pushes s.running channel))) target
 
     left_held : IsHeld s a (with_machine state (Some (machine_left leaving tapes machine))) next
     left_held = record {
@@ -184,7 +213,7 @@ module _ (s : Setting) (a t : ℕ) (is_stage : a < suc s.last) (is_round : t < s
       ending = left_ending;
       leaving = left_leaving;
       words = λ node code there gives is_own.
-          words_gone s.bound s.last a s.plan.graph.nodes node code there gives machine.words
+          words_gone s.bound s.last a s.running.graph.nodes node code there gives machine.words
           simulates.each_words (in_is (stage_of s) a node is_own);
     }
 
@@ -206,7 +235,7 @@ module _ (s : Setting) (a t : ℕ) (is_stage : a < suc s.last) (is_round : t < s
     shaped_gone = left_shaped (rooms s) (tape_count s) leaving machine.rings came shaped_came
 
     module _ (number : ℕ) (channel : Channel)
-        (there : slice_get s.plan.graph.channels number ≡ Some channel)
+        (there : slice_get s.running.graph.channels number ≡ Some channel)
         (crossing : crosses s.bound s.last channel ≡ true) where
       abbrev from : ℕ
       from = stage_of s channel.source.node
@@ -215,7 +244,7 @@ module _ (s : Setting) (a t : ℕ) (is_stage : a < suc s.last) (is_round : t < s
       to = stage_of s channel.target.node
 
       abbrev b : ℕ
-      b = block_before s.bound s.last s.plan.graph.channels number
+      b = block_before s.bound s.last s.running.graph.channels number
 
       abbrev queue : List ℤ
       queue = next.queues channel.target.node channel.target.port
@@ -223,8 +252,9 @@ module _ (s : Setting) (a t : ℕ) (is_stage : a < suc s.last) (is_round : t < s
       abbrev block : List ℤ
       block = blocks channel.target.node channel.target.port
 
-      room : (b < length (rooms s)) × (slice_index (rooms s) b ≡ round_pushes s.plan channel)
-      room = room_there s.bound s.last s.plan s.plan.graph.channels number channel there crossing
+      room : (b < length (rooms s)) × (slice_index (rooms s) b ≡ round_pushes s.running channel)
+      room = room_there s.bound s.last s.running s.running.graph.channels number channel there
+          crossing
 
       -- what another stage sends doesn't change
       none_queued : (from ≡ a → ⊥) → a < to → queue ≡ []
@@ -233,12 +263,12 @@ module _ (s : Setting) (a t : ℕ) (is_stage : a < suc s.last) (is_round : t < s
           let three = step_fits (staging s) a t now next blocks words segment [] (is_staging s)
           is_stage is_round working moved (sym (append-nil segment)) went in
           let u = channel.source.node in
-          let pushed : ℕ → ℕ = λ n. total (pushes_at ((flat (tree s)).code u)) n
+          let pushed : ℕ → ℕ = λ n. total ((meaning s).pushed ((again s).code u)) n
           channel.source.port in
           let e = subst (λ (origin : Origin). length queue
-          + orders.supply_of node_meaning (flat (tree s)) s.input
+          + orders.supply_of (meaning s) (again s) []
           (orders.counted (counts (staging s) t) (joined (staging s).segment a)) origin
-          ≡ orders.supply_of node_meaning (flat (tree s)) s.input
+          ≡ orders.supply_of (meaning s) (again s) []
           (orders.counted (counts (staging s) t) (joined (staging s).segment a ++ segment)) origin)
           (origin_is s number channel there)
           (three.2 channel.target.node channel.target.port later (port_is s number channel there))
@@ -261,16 +291,16 @@ module _ (s : Setting) (a t : ℕ) (is_stage : a < suc s.last) (is_round : t < s
 
       here_sent : to ≡ a → block_at gone b ≡ []
       here_sent at =
-          block_not_left s.bound s.last a s.plan.graph.channels number channel there (rooms s)
+          block_not_left s.bound s.last a s.running.graph.channels number channel there (rooms s)
           (tape_count s) crossing room.0 machine.rings came
           (λ begins. crosses_to s channel crossing
           (eqb-true from a begins ∙ sym at))
-          ∙ block_entered s.bound s.last a s.plan.graph.channels number channel there (rooms s)
+          ∙ block_entered s.bound s.last a s.running.graph.channels number channel there (rooms s)
           (tape_count s) crossing room.0 load loaded.shaped (eq-eqb to a at)
 
       came_same : (to ≡ a → ⊥) → block_at came b ≡ block
       came_same other =
-          block_not_entered s.bound s.last a s.plan.graph.channels number channel there (rooms s)
+          block_not_entered s.bound s.last a s.running.graph.channels number channel there (rooms s)
           (tape_count s) crossing room.0 load (λ ends. other (eqb-true to a ends))
           ∙ loaded.blocks_are number channel there crossing
 
@@ -281,13 +311,13 @@ module _ (s : Setting) (a t : ℕ) (is_stage : a < suc s.last) (is_round : t < s
           let later = forward s number channel there in
           let none = no_block s a t blocks words moved number channel
           there (omega (arith, at)) (omega (arith, at, later)) in
-          let size_is : size s a number channel ≡ round_pushes s.plan channel =
-          ap (λ (c : Bool). cond c (slice_index s.plan.fused.sizes number)
-          (round_pushes s.plan channel)) target in
+          let size_is : size s a number channel ≡ round_pushes s.running channel =
+          ap (λ (c : Bool). cond c (slice_index s.running.sizes number)
+          (round_pushes s.running channel)) target in
           let items : (ring_at machine.rings number).items ≡ queue =
           ap (λ (r : Ring). r.items) (simulates.rings number channel there (inl source)) in
           let fits = fit.items number channel there (inl source) in
-          block_left s.bound s.last a s.plan.graph.channels number channel there (rooms s)
+          block_left s.bound s.last a s.running.graph.channels number channel there (rooms s)
           (tape_count s) crossing room.0 machine.rings came shaped_came (eq-eqb from a at)
           ∙ ap (λ (l : List ℤ). l ++ take (slice_index_or (rooms s) b 0 - length l)
           (ring_at machine.rings number).items) (came_same other)
@@ -299,7 +329,7 @@ module _ (s : Setting) (a t : ℕ) (is_stage : a < suc s.last) (is_round : t < s
 
       other_sent : (from ≡ a → ⊥) → (to ≡ a → ⊥) → block_at gone b ≡ block
       other_sent away other =
-          block_not_left s.bound s.last a s.plan.graph.channels number channel there (rooms s)
+          block_not_left s.bound s.last a s.running.graph.channels number channel there (rooms s)
           (tape_count s) crossing room.0 machine.rings came
           (λ begins. away (eqb-true from a begins))
           ∙ came_same other
@@ -333,20 +363,20 @@ module _ (s : Setting) (a t : ℕ) (is_stage : a < suc s.last) (is_round : t < s
         ]
       ]
 
-    word_sent : (node : ℕ) (code : NodeCode) → slice_get s.plan.graph.nodes node ≡ Some code
+    word_sent : (node : ℕ) (code : NodeCode) → slice_get s.running.graph.nodes node ≡ Some code
         → gives_words code ≡ true → (test : Bool) → own s a node ≡ test
-        → parcels.words_at sent (passed_before gives_words s.plan.graph.nodes node)
+        → parcels.words_at sent (passed_before gives_words s.running.graph.nodes node)
         ≡ cond test (next.runs node).words (words node)
     word_sent node code there gives true e =
-        tape_worded s.bound s.last a s.plan.graph.nodes node code there gives (rooms s)
+        tape_worded s.bound s.last a s.running.graph.nodes node code there gives (rooms s)
         (tape_count s) machine.words gone shaped_gone
-        (tape_there 0 s.plan.graph.nodes node code there gives) (in_is (stage_of s) a node e)
+        (tape_there 0 s.running.graph.nodes node code there gives) (in_is (stage_of s) a node e)
         ∙ simulates.words node code there gives e
     word_sent node code there gives false e =
-        tape_not_worded s.bound s.last a s.plan.graph.nodes node code there gives machine.words
+        tape_not_worded s.bound s.last a s.running.graph.nodes node code there gives machine.words
         gone (not_own s a node e)
         ∙ ap (λ (l : List (List Word)). slice_index_or l
-        (passed_before gives_words s.plan.graph.nodes node) [])
+        (passed_before gives_words s.running.graph.nodes node) [])
         (words_left_entered entering leaving machine.rings load)
         ∙ loaded.words_are node code there gives
 
@@ -363,11 +393,12 @@ module _ (s : Setting) (a t : ℕ) (is_stage : a < suc s.last) (is_round : t < s
 
   -- both went on alike, or both stopped at the same fault
   abbrev pub Alike : FifoProgress (List ℤ) Cause Word → machines.Progress → Type 0
-  Alike = StepsAlike s.plan s.bound s.last s.circuit (staging s) a state load blocks words
+  Alike = StepsAlike s.running s.from s.bound s.last s.circuit (staging s) a state load blocks words
 
   alike_by : (progress : FifoProgress (List ℤ) Cause Word) (its : machines.Progress)
-      → go (tree s) segment begin ≡ progress
-      → IsAlikeOwn s.plan.graph (own s a) (size s a) s.input progress its
+      → go_on segment begin ≡ progress
+      → IsAlikeOwn s.running.graph (own s a) (size s a) s.circuit.input
+      (lifted_progress s.from progress) its
       → Alike progress its
   alike_by (FifoWent next) (machines.Went machine) went simulates = (
     subst (λ (l : List Crossing). IsHeld s a (with_machine state
@@ -389,8 +420,7 @@ module _ (s : Setting) (a t : ℕ) (is_stage : a < suc s.last) (is_round : t < s
   alike_by (FifoWent next) (machines.Stopped node firing cause) went same = absurd same
   alike_by (FifoStopped stop) (machines.Went machine) went same = absurd same
 
-  run_is : stage_run state load held.machine ≡ order_run state.circuit segment
-      (first s a t is_stage is_round now blocks words working moved state held load loaded)
+  run_is : stage_run state load held.machine ≡ order_run state.circuit segment begun
   unfolding stage_run
   run_is =
       ap (λ (order : List ℕ). order_run state.circuit order
@@ -403,26 +433,21 @@ module _ (s : Setting) (a t : ℕ) (is_stage : a < suc s.last) (is_round : t < s
       (fifo_go (staging s).meaning (staging s).graph ((staging s).segment a)
       (entered (staging s) a now blocks)) (stage_run state load held.machine)
   step_alike =
-      subst (Alike (go (tree s) segment begin)) (sym run_is)
-      (alike_by (go (tree s) segment begin) (order_run state.circuit segment
-      (first s a t is_stage is_round now blocks words working moved state held load loaded)) refl
-      alike)
+      subst (Alike (go_on segment begin)) (sym run_is)
+      (alike_by (go_on segment begin) (order_run state.circuit segment begun) refl alike)
 
 pub stage_steps_alike : StageStepsAlike
-stage_steps_alike plan is input rounds bound last circuit stage round now blocks words state load
-    held known few supplied cut is_circuit reads_it is_stage is_round working moved loaded =
+stage_steps_alike running by_source from rounds bound last circuit inputs stage round now blocks
+    words state load held is staging is_stage is_round working moved loaded =
     step_alike (record {
-      plan = plan;
-      is = is;
-      input = input;
+      running = running;
+      by_source = by_source;
+      from = from;
       rounds = rounds;
       bound = bound;
       last = last;
       circuit = circuit;
-      known = known;
-      few = few;
-      supplied = supplied;
-      cut = cut;
-      is_circuit = is_circuit;
-      reads_it = reads_it;
+      is = is;
+      inputs = inputs;
+      is_staging = staging;
     }) stage round is_stage is_round now blocks words working moved state held load loaded

@@ -1,27 +1,26 @@
 -- The run of a stage's order over rings comes to what it comes to over queues; and a stage's own
 -- circuit is as good as the whole one.
-use Rattle.std.proofs.Common.{◌≡◌, refl, sym, ap, ◌∙◌, ℕ, ◌<◌, ℤ, Bool, true, false}
+use Rattle.std.proofs.Common.{◌≡◌, refl, sym, ap, ◌∙◌, ℕ, ◌<◌, ℤ, Bool, true}
 use Rattle.std.proofs.Common.{List, [], ◌∷◌, ◌++◌, length, get_or, Option, Some, None, slice_get}
 use Rattle.std.proofs.Common.{slice_index, slice_index_or, append_assoc}
 use Rattle.std.proofs.lemmas.Option.{slice_get-get_or}
 use Rattle.strc_semantics.specs.declared.fault.Cause.{Cause}
 use Rattle.strc_semantics.specs.declared.word.Word.{Word}
+use Rattle.strc_dataflow.specs.Flat as flat
 use Rattle.strc_dataflow.specs.Queues.{FifoProgress, FifoProgress.FifoWent}
 use Rattle.strc_dataflow.specs.Queues.{FifoProgress.FifoStopped, fifo_fire, fifo_then, fifo_go}
-use Rattle.strc_dataflow.specs.Streams.{Stream, flat}
 use Rattle.strc_graph.specs.Graphs.{NodeCode, Identity, FileReader, Channel, Graph, reads_input}
-use Rattle.strc_graph.specs.FlatGraphs.{IsProgram}
 use Rattle.strc_graph.specs.Meaning.{node_meaning}
-use Rattle.strc_graph.specs.Rates.{fires_by_rounds}
+use Rattle.strc_admissible.specs.ByChannels.{IsByChannels}
 use Rattle.strc_admissible.specs.Circuits.{IsCircuit}
 use Rattle.strc_admissible.specs.Fits.{Queues, FitThen}
 use Rattle.strc_admissible.specs.Machine as machines
 use Rattle.strc_admissible.specs.Machine.{CircuitView, MachineView, next_step, after_step}
 use Rattle.strc_admissible.specs.Machine.{then_go, order_run}
+use Rattle.strc_admissible.specs.NodeSteps.{HasOwnWindow}
 use Rattle.strc_admissible.specs.Rings.{Ring}
 use Rattle.strc_admissible.specs.Steps.{Step, maybe_step, node_step}
 use Rattle.strc_admissible.specs.Wiring.{ports_at}
-use Rattle.strc_admissible.proofs.Codes.{code_is}
 use Rattle.strc_staging.specs.Cut.{AllIn}
 use Rattle.strc_staged.specs.Holding.{AgreeAt}
 use Rattle.strc_staged.proofs.OwnSteps.{SimulatesOwn, FitOwn, IsAlikeOwn, fire_alike}
@@ -83,9 +82,9 @@ module _ (circuit other : CircuitView) (own : ℕ → Bool)
 
 -- ---- an order
 
-module _ (tree : Stream NodeCode) where
+module _ (by_source : flat.Graph NodeCode) where
   abbrev pub go : List ℕ → Queues → FifoProgress (List ℤ) Cause Word
-  go = fifo_go node_meaning (flat tree)
+  go = fifo_go node_meaning by_source
 
   then_then : (a b : List ℕ) (progress : FifoProgress (List ℤ) Cause Word)
       → ((now : Queues) → go (a ++ b) now ≡ fifo_then (go b) (go a now))
@@ -99,22 +98,23 @@ module _ (tree : Stream NodeCode) where
   unfolding fifo_go fifo_then
   go_append [] b now = refl
   go_append (node ∷ a) b now =
-      then_then a b (fifo_fire node_meaning (flat tree) now node) (go_append a b)
+      then_then a b (fifo_fire node_meaning by_source now node) (go_append a b)
 
-module _ (tree : Stream NodeCode) (graph : Graph) (program : IsProgram tree graph)
-    (each : (node : ℕ) (code : NodeCode) → slice_get graph.nodes node ≡ Some code
-    → fires_by_rounds code ≡ false)
-    (circuit : CircuitView) (is : IsCircuit graph circuit) (input : List ℤ)
-    (reads_it : circuit.input ≡ input) (own : ℕ → Bool) (size : ℕ → Channel → ℕ) where
+module _ (by_source : flat.Graph NodeCode) (graph : Graph) (joins : IsByChannels by_source graph)
+    (windows : (node firing : ℕ) → node < length graph.nodes
+    → HasOwnWindow (by_source.code node) firing) (circuit : CircuitView)
+    (is : IsCircuit graph circuit) (own : ℕ → Bool) (size : ℕ → Channel → ℕ) where
+  abbrev input : List ℤ
+  input = circuit.input
+
   abbrev Alike : FifoProgress (List ℤ) Cause Word → machines.Progress → Type 0
   Alike = IsAlikeOwn graph own size input
 
   node_there : (node : ℕ) → node < length graph.nodes
-      → slice_get graph.nodes node ≡ Some ((flat tree).code node)
+      → slice_get graph.nodes node ≡ Some (by_source.code node)
   node_there node within =
       let there = slice_get-get_or graph.nodes node Identity within in
-      there ∙ ap Some (sym (code_is tree graph program.flat node (get_or graph.nodes node Identity)
-      there))
+      there ∙ ap Some (sym (joins.codes node (get_or graph.nodes node Identity) there))
 
   -- nodes of the graph that are looked at
   abbrev pub AreOwn : List ℕ → Type 0
@@ -123,22 +123,22 @@ module _ (tree : Stream NodeCode) (graph : Graph) (program : IsProgram tree grap
 
   module _ (order : List ℕ) (start : Queues)
       (fits : (done left : List ℕ) (now : Queues) → done ++ left ≡ order
-      → go tree done start ≡ FifoWent now → FitOwn graph.channels own size now) where
+      → go by_source done start ≡ FifoWent now → FitOwn graph.channels own size now) where
     further : (done left : List ℕ) (node : ℕ) (now next : Queues) → done ++ node ∷ left ≡ order
-        → go tree done start ≡ FifoWent now
-        → fifo_fire node_meaning (flat tree) now node ≡ FifoWent next
+        → go by_source done start ≡ FifoWent now
+        → fifo_fire node_meaning by_source now node ≡ FifoWent next
         → ((done ++ node ∷ []) ++ left ≡ order)
-        × (go tree (done ++ node ∷ []) start ≡ FifoWent next)
+        × (go by_source (done ++ node ∷ []) start ≡ FifoWent next)
     unfolding fifo_go fifo_then
     further done left node now next e went fires = (
       append_assoc done (node ∷ []) left ∙ e,
-      go_append tree done (node ∷ []) start ∙ ap (fifo_then (go tree (node ∷ []))) went
-          ∙ ap (fifo_then (go tree [])) fires,
+      go_append by_source done (node ∷ []) start ∙ ap (fifo_then (go by_source (node ∷ []))) went
+          ∙ ap (fifo_then (go by_source [])) fires,
     )
 
     fit_then : (done left : List ℕ) (node : ℕ) (now : Queues) → done ++ node ∷ left ≡ order
-        → go tree done start ≡ FifoWent now → (progress : FifoProgress (List ℤ) Cause Word)
-        → fifo_fire node_meaning (flat tree) now node ≡ progress
+        → go by_source done start ≡ FifoWent now → (progress : FifoProgress (List ℤ) Cause Word)
+        → fifo_fire node_meaning by_source now node ≡ progress
         → FitThen (FitOwn graph.channels own size) progress
     fit_then done left node now e went (FifoWent next) fires =
         let more = further done left node now next e went fires in
@@ -146,15 +146,15 @@ module _ (tree : Stream NodeCode) (graph : Graph) (program : IsProgram tree grap
     fit_then done left node now e went (FifoStopped stop) fires = tt
 
     then_alike : (done left : List ℕ) (node : ℕ) (now : Queues) → done ++ node ∷ left ≡ order
-        → go tree done start ≡ FifoWent now
+        → go by_source done start ≡ FifoWent now
         → (progress : FifoProgress (List ℤ) Cause Word) (its : machines.Progress)
-        → fifo_fire node_meaning (flat tree) now node ≡ progress → Alike progress its
+        → fifo_fire node_meaning by_source now node ≡ progress → Alike progress its
         → ((next : Queues) (machine : MachineView)
         → (done ++ node ∷ []) ++ left ≡ order
-        → go tree (done ++ node ∷ []) start ≡ FifoWent next
+        → go by_source (done ++ node ∷ []) start ≡ FifoWent next
         → SimulatesOwn graph own size input next machine
-        → Alike (go tree left next) (order_run circuit left machine))
-        → Alike (fifo_then (go tree left) progress) (then_go (order_run circuit left) its)
+        → Alike (go by_source left next) (order_run circuit left machine))
+        → Alike (fifo_then (go by_source left) progress) (then_go (order_run circuit left) its)
     unfolding fifo_then
     then_alike done left node now e went (FifoWent next) (machines.Went machine) fires alike
         later =
@@ -169,17 +169,17 @@ module _ (tree : Stream NodeCode) (graph : Graph) (program : IsProgram tree grap
 
     -- where each front leaves a state that fits, what is left of the order runs alike
     pub left_alike : (done left : List ℕ) (now : Queues) (machine : MachineView)
-        → AreOwn left → done ++ left ≡ order → go tree done start ≡ FifoWent now
+        → AreOwn left → done ++ left ≡ order → go by_source done start ≡ FifoWent now
         → SimulatesOwn graph own size input now machine
-        → Alike (go tree left now) (order_run circuit left machine)
+        → Alike (go by_source left now) (order_run circuit left machine)
     unfolding fifo_go
     left_alike done [] now machine all e went simulates = simulates
     left_alike done (node ∷ left) now machine (within, is_own, all) e went simulates =
         let there = node_there node within in
-        then_alike done left node now e went (fifo_fire node_meaning (flat tree) now node)
+        then_alike done left node now e went (fifo_fire node_meaning by_source now node)
         (after_step machine node (next_step circuit machine node)) refl
-        (fire_alike tree graph program circuit is input reads_it own size now machine simulates
-        node within is_own there (each node ((flat tree).code node) there)
-        (fit_then done left node now e went (fifo_fire node_meaning (flat tree) now node) refl))
+        (fire_alike by_source graph joins circuit is own size now machine simulates node within
+        is_own there (windows node (now.runs node).fired within)
+        (fit_then done left node now e went (fifo_fire node_meaning by_source now node) refl))
         (λ next later more gone held.
         left_alike (done ++ node ∷ []) left next later all more gone held)

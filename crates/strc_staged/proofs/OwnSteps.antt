@@ -12,7 +12,8 @@ use Rattle.std.proofs.lemmas.List.{drop-drop}
 use Rattle.circular_buffer.specs.Buffer.{buffer}
 use Rattle.strc_semantics.specs.declared.fault.Cause.{Cause}
 use Rattle.strc_semantics.specs.declared.word.Word.{Word}
-use Rattle.strc_dataflow.specs.Flat.{Source}
+use Rattle.strc_dataflow.specs.Flat as flat
+use Rattle.strc_dataflow.specs.Flat.{Origin}
 use Rattle.strc_dataflow.specs.Histories.{Run, after_firing}
 use Rattle.strc_dataflow.specs.Machine.{Stop, put}
 use Rattle.strc_dataflow.specs.Node as generic
@@ -20,11 +21,9 @@ use Rattle.strc_dataflow.specs.Node.{ByPort, Fired.Fires, Fired.Faults}
 use Rattle.strc_dataflow.specs.Queues.{FifoProgress, FifoProgress.FifoWent, added, moved}
 use Rattle.strc_dataflow.specs.Queues.{FifoProgress.FifoStopped, holds, fronts}
 use Rattle.strc_dataflow.specs.Queues.{fifo_after, fifo_if, fifo_fire}
-use Rattle.strc_dataflow.specs.Streams.{Stream, flat}
 use Rattle.strc_graph.specs.Graphs.{NodeCode, FileReader, Channel, Graph, gives_words}
-use Rattle.strc_graph.specs.FlatGraphs.{IsProgram}
 use Rattle.strc_graph.specs.Meaning.{node_meaning, node_fired}
-use Rattle.strc_graph.specs.Rates.{fires_by_rounds, pops_at}
+use Rattle.strc_graph.specs.Rates.{pops_at}
 use Rattle.strc_admissible.specs.ByChannels.{IsByChannels}
 use Rattle.strc_admissible.specs.Circuits.{IsCircuit}
 use Rattle.strc_admissible.specs.Fits.{Queues, FitThen}
@@ -32,16 +31,16 @@ use Rattle.strc_admissible.specs.Machine as machines
 use Rattle.strc_admissible.specs.Machine.{CircuitView, MachineView, one_more, words_at}
 use Rattle.strc_admissible.specs.Machine.{more_words, step_at, next_step, after_step}
 use Rattle.strc_admissible.specs.NodeSteps.{ArePlaced, Moves, Matches, Shows, finds_in, sees_of}
+use Rattle.strc_admissible.specs.NodeSteps.{HasOwnWindow}
 use Rattle.strc_admissible.specs.Rings.{Ring, ring_at, items_at}
 use Rattle.strc_admissible.specs.Steps as steps
 use Rattle.strc_admissible.specs.Steps.{Step, maybe_step, node_step}
 use Rattle.strc_admissible.specs.Wiring.{ports_at}
 use Rattle.strc_admissible.proofs.Advancing.{next_queues, next_machine}
 use Rattle.strc_admissible.proofs.Ends.{are_placed, idle_empty, carrier_fed}
-use Rattle.strc_admissible.proofs.NodeSteps.{node_matches, window_unasked}
+use Rattle.strc_admissible.proofs.NodeSteps.{node_matches}
 use Rattle.strc_admissible.proofs.Orders.{is_reader}
 use Rattle.strc_admissible.proofs.Simulation.{ring_holds}
-use Rattle.strc_admissible.proofs.TreeGraphs.{by_channels}
 
 -- a channel begins or ends at a node that is looked at
 abbrev pub Touches : (own : ℕ → Bool) → Channel → Type 0
@@ -98,14 +97,17 @@ unfolding put
 put_other now node run other differs =
     ap (λ (test : Bool). cond test run (now other)) (ne_eqb other node differs)
 
-module _ (tree : Stream NodeCode) (graph : Graph) (program : IsProgram tree graph)
-    (circuit : CircuitView) (is : IsCircuit graph circuit) (input : List ℤ)
-    (reads_it : circuit.input ≡ input) (own : ℕ → Bool) (size : ℕ → Channel → ℕ) (now : Queues)
-    (machine : MachineView) (simulates : SimulatesOwn graph own size input now machine) (node : ℕ)
+module _ (by_source : flat.Graph NodeCode) (graph : Graph) (joins : IsByChannels by_source graph)
+    (circuit : CircuitView) (is : IsCircuit graph circuit) (own : ℕ → Bool)
+    (size : ℕ → Channel → ℕ) (now : Queues) (machine : MachineView)
+    (simulates : SimulatesOwn graph own size circuit.input now machine) (node : ℕ)
     (within : node < length graph.nodes) (is_own : own node ≡ true)
-    (there : slice_get graph.nodes node ≡ Some ((flat tree).code node)) where
+    (there : slice_get graph.nodes node ≡ Some (by_source.code node)) where
+  abbrev input : List ℤ
+  input = circuit.input
+
   abbrev code : NodeCode
-  code = (flat tree).code node
+  code = by_source.code node
 
   abbrev firing : ℕ
   firing = (now.runs node).fired
@@ -122,16 +124,13 @@ module _ (tree : Stream NodeCode) (graph : Graph) (program : IsProgram tree grap
   abbrev count : ℕ
   count = length graph.nodes
 
-  joins : IsByChannels (flat tree) graph
-  joins = by_channels tree graph program
-
   module _ (fields : List ℤ) (pushes : ByPort) (words : List Word) (after : List Ring)
       (moves : Moves inputs outputs (pops_at code firing) pushes machine.rings after) where
     abbrev run : Run (List ℤ) Cause Word
     run = after_firing node_meaning code (now.runs node) (Fires fields pushes words)
 
     abbrev next : Queues
-    next = next_queues (flat tree) now node fields pushes words
+    next = next_queues by_source now node fields pushes words
 
     abbrev later : MachineView
     later = next_machine machine node fields after words
@@ -214,8 +213,8 @@ module _ (tree : Stream NodeCode) (graph : Graph) (program : IsProgram tree grap
         → next.queues other 0 ≡ drop (next.runs other).fired input
     unfolding moved added
     next_reads other text reader mine =
-        ap (λ (source : Source). drop (cond (eqb other node) (pops_at code firing 0) 0)
-        (now.queues other 0) ++ added node pushes source.origin) (program.inputs other text reader)
+        ap (λ (origin : Origin). drop (cond (eqb other node) (pops_at code firing 0) 0)
+        (now.queues other 0) ++ added node pushes origin) (joins.inputs other text reader)
         ∙ append-nil (drop (cond (eqb other node) (pops_at code firing 0) 0) (now.queues other 0))
         ∙ rest_read other text reader mine (eqb other node) refl
 
@@ -254,7 +253,7 @@ module _ (tree : Stream NodeCode) (graph : Graph) (program : IsProgram tree grap
       fields = next_fields;
       fired = next_fired (fit.firings node is_own);
       rings = λ number channel listed touches.
-          ring_holds (flat tree) graph joins circuit is node (pops_at code firing) pushes
+          ring_holds by_source graph joins circuit is node (pops_at code firing) pushes
           machine.rings after moves number channel listed now firing (size number channel) refl
           (simulates.rings number channel listed touches)
           (fit.items number channel listed touches);
@@ -273,31 +272,29 @@ module _ (tree : Stream NodeCode) (graph : Graph) (program : IsProgram tree grap
       ∙ ap (λ (found : Option NodeCode). maybe_step found firing state inputs outputs
       circuit.input machine.rings)
       (ap (λ (codes : List NodeCode). slice_get codes node) is.codes ∙ there)
-      ∙ ap (λ (l : List ℤ). node_step code firing state inputs outputs l machine.rings)
-      reads_it
 
   placed : ArePlaced inputs outputs (length machine.rings)
   placed = subst (λ (n : ℕ). ArePlaced inputs outputs n) (sym simulates.each_ring)
-      (are_placed (flat tree) graph joins circuit is node)
+      (are_placed by_source graph joins circuit is node)
 
   shows : Shows inputs machine.rings (now.queues node) code
   shows = record {
     holds = λ port carries.
         let (number, channel, listed, ends, ring) =
-        carrier_fed (flat tree) graph joins circuit is node code there port carries in
+        carrier_fed by_source graph joins circuit is node code there port carries in
         ap (items_at machine.rings) ring
         ∙ ap (λ (r : Ring). r.items) (simulates.rings number channel listed
         (inr (ap (λ end. own end.node) ends ∙ is_own)))
         ∙ ap (λ end. now.queues end.node end.port) ends;
-    empty = idle_empty (flat tree) graph joins circuit is node code there;
+    empty = idle_empty by_source graph joins circuit is node code there;
   }
 
-  step_matches : fires_by_rounds code ≡ false
+  step_matches : HasOwnWindow code firing
       → Matches inputs outputs (pops_at code firing) machine.rings
       (finds_in code firing (now.queues node))
       (node_fired code firing state (sees_of code firing (now.queues node)))
       (next_step circuit machine node)
-  step_matches alone =
+  step_matches window =
       subst (Matches inputs outputs (pops_at code firing) machine.rings
       (finds_in code firing (now.queues node))
       (node_fired code firing state (sees_of code firing (now.queues node)))) (sym step_is)
@@ -305,22 +302,22 @@ module _ (tree : Stream NodeCode) (graph : Graph) (program : IsProgram tree grap
       shows
       (λ reader. let reads = is_reader code reader in
       simulates.reads node reads.0 (there ∙ ap Some reads.1) is_own)
-      (window_unasked code firing alone))
+      window)
 
   -- a firing that finds its windows or doesn't
   abbrev found_progress : Bool → generic.Fired (List ℤ) Cause Word
       → FifoProgress (List ℤ) Cause Word
-  found_progress true fired = fifo_after node_meaning (flat tree) now node fired
+  found_progress true fired = fifo_after node_meaning by_source now node fired
   found_progress false fired = FifoWent now
 
-  progress_is : (found : Bool) → fifo_if node_meaning (flat tree) now node found
+  progress_is : (found : Bool) → fifo_if node_meaning by_source now node found
       ≡ found_progress found (node_meaning.fire code firing state
-      (fronts node_meaning (flat tree) node firing (now.queues node)))
+      (fronts node_meaning by_source node firing (now.queues node)))
   unfolding fifo_if
   progress_is true = refl
   progress_is false = refl
 
-  fire_is : fifo_fire node_meaning (flat tree) now node
+  fire_is : fifo_fire node_meaning by_source now node
       ≡ found_progress (finds_in code firing (now.queues node))
       (node_fired code firing state (sees_of code firing (now.queues node)))
   unfolding fifo_fire holds fronts
@@ -337,10 +334,10 @@ module _ (tree : Stream NodeCode) (graph : Graph) (program : IsProgram tree grap
   found_alike false fired steps.Stays matches fit = simulates
   found_alike true (Fires fields pushes words) (steps.Goes its after printed) matches fit =
       subst (λ (l : List ℤ). SimulatesOwn graph own size input
-      (next_queues (flat tree) now node fields pushes words)
+      (next_queues by_source now node fields pushes words)
       (next_machine machine node l after printed)) (sym matches.0)
       (subst (λ (l : List Word). SimulatesOwn graph own size input
-      (next_queues (flat tree) now node fields pushes words)
+      (next_queues by_source now node fields pushes words)
       (next_machine machine node fields after l)) (sym matches.1)
       (next_simulates fields pushes words after matches.2 fit))
   found_alike true (Faults cause) (steps.Faults its) matches fit =
@@ -349,14 +346,14 @@ module _ (tree : Stream NodeCode) (graph : Graph) (program : IsProgram tree grap
   found_alike found fired step matches fit = absurd matches
 
   -- a firing of one of these nodes
-  pub fire_alike : fires_by_rounds code ≡ false
-      → FitThen (FitOwn graph.channels own size) (fifo_fire node_meaning (flat tree) now node)
-      → IsAlikeOwn graph own size input (fifo_fire node_meaning (flat tree) now node)
+  pub fire_alike : HasOwnWindow code firing
+      → FitThen (FitOwn graph.channels own size) (fifo_fire node_meaning by_source now node)
+      → IsAlikeOwn graph own size input (fifo_fire node_meaning by_source now node)
       (after_step machine node (next_step circuit machine node))
-  fire_alike alone fit =
+  fire_alike window fit =
       subst (λ (progress : FifoProgress (List ℤ) Cause Word). IsAlikeOwn graph own size input
       progress (after_step machine node (next_step circuit machine node))) (sym fire_is)
       (found_alike (finds_in code firing (now.queues node))
       (node_fired code firing state (sees_of code firing (now.queues node)))
-      (next_step circuit machine node) (step_matches alone)
+      (next_step circuit machine node) (step_matches window)
       (subst (FitThen (FitOwn graph.channels own size)) fire_is fit))

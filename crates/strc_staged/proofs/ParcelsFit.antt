@@ -1,5 +1,5 @@
 -- Each parcel that a stage or the collector can take has what it is to have there.
-use Rattle.std.proofs.Common.{◌≡◌, refl, sym, ap, ◌∙◌, subst, ℕ, zero, suc, ◌+◌, ◌-◌, ◌<◌, ◌≤◌}
+use Rattle.std.proofs.Common.{◌≡◌, refl, sym, ap, ◌∙◌, subst, ℕ, zero, suc, ◌+◌, ◌*◌, ◌-◌, ◌<◌, ◌≤◌}
 use Rattle.std.proofs.Common.{List, [], ◌∷◌, ◌++◌, length, map, Option, Some, None}
 use Rattle.std.proofs.Common.{is_some, IsSome, slice_get, option_to_list, arith, true≢false}
 use Rattle.std.proofs.Common.{append_assoc, length-append}
@@ -20,14 +20,12 @@ use Rattle.strc_core.proofs.Steps.{stepped, gathers}
 use Rattle.strc_core.proofs.Stopping.{runs_stay_stopped}
 use Rattle.strc_parcel.specs.declared.stop.Stop.{Stop}
 use Rattle.strc_parcel.specs.Parcels.{Load, ParcelView}
-use Rattle.strc_admissible.specs.Circuits.{IsFirst}
-use Rattle.strc_admissible.specs.Laws.{startup_order}
-use Rattle.strc_admissible.specs.Machine as machines
-use Rattle.strc_admissible.specs.Machine.{MachineView, order_run}
+use Rattle.strc_admissible.specs.Machine.{MachineView}
+use Rattle.strc_admissible.specs.Simulation.{Simulates}
 use Rattle.strc_staging.specs.Parcels.{HasMoved}
 use Rattle.strc_staging.specs.Stages.{Parcel.Moves, Parcel.Halts}
 use Rattle.strc_staging.specs.Workers.{AreParcels}
-use Rattle.strc_cut.proofs.BlockRates.{blocks_have_round_rates}
+use Rattle.strc_staging.proofs.Fits.{block_at_rate}
 use Rattle.strc_staged.specs.Beginnings.{IsBeginning}
 use Rattle.strc_staged.specs.Blocks.{FitsBefore}
 use Rattle.strc_staged.specs.Laws.{ParcelsFit}
@@ -39,7 +37,8 @@ use Rattle.strc_staged.proofs.Follows.{Worker, Generic, Related, Relates}
 use Rattle.strc_staged.proofs.Fresh.{AreSpent, AreUnstopped, IsClear, IsSpent}
 use Rattle.strc_staged.proofs.Held.{IsLoaded, crosses_from, no_block}
 use Rattle.strc_staged.proofs.Links.{StagePart, made_by, received_at, made_at}
-use Rattle.strc_staged.proofs.Setting.{Setting, staging, stage_of}
+use Rattle.strc_staged.proofs.Setting.{Setting, setting, staging, stage_of, is_staging}
+use Rattle.strc_staged.proofs.Setting.{rate_at, port_is, origin_is}
 
 -- ---- lists in which stops stay
 
@@ -195,14 +194,19 @@ module _ (s : Setting) where
 
   -- such a parcel fits
   moving_fits : (b t : ℕ) (p : ParcelView) → t < s.rounds → IsMoving b t p
-      → FitsBefore s.plan s.bound s.last b p.load
+      → FitsBefore s.running s.bound s.last b p.load
   moving_fits b t p is_round is = record {
     shaped = is.loaded.shaped;
     moving = λ number channel listed early later.
         ap length (is.loaded.blocks_are number channel listed
         (crosses_from s channel (λ e. omega (arith, early, later, e))))
-        ∙ blocks_have_round_rates s.plan s.is s.input s.rounds s.bound s.last b t is.blocks
-        is.words number channel s.known s.supplied s.cut is_round is.moved listed later early;
+        ∙ block_at_rate (staging s) b t is.blocks is.words channel.target.node
+        channel.target.port channel.source.node channel.source.port (is_staging s)
+        (λ i more. rate_at s number channel listed i ∙ sym (rate_at s number channel listed 0))
+        is_round is.moved later (port_is s number channel listed)
+        (origin_is s number channel listed) early
+        ∙ ap (λ (n : ℕ). s.running.counts channel.source.node * n)
+        (rate_at s number channel listed 0);
     not_begun = λ number channel listed crossing late.
         is.loaded.blocks_are number channel listed crossing
         ∙ elim (cases_lt (stage_of s channel.target.node) b) [
@@ -214,7 +218,7 @@ module _ (s : Setting) where
         ∙ is.moved.spent channel.target.node channel.target.port past;
   }
 
-  clear_fits : (load : Load) → IsClear s load → FitsBefore s.plan s.bound s.last 0 load
+  clear_fits : (load : Load) → IsClear s load → FitsBefore s.running s.bound s.last 0 load
   clear_fits load clear = record {
     shaped = clear.shaped;
     moving = λ number channel listed early later. absurd (omega (arith, early));
@@ -335,15 +339,14 @@ module _ (s : Setting) where
         stays_last stages₀ (next ∷ parts) (omega arith) steps linked
     stays_last [] (part ∷ parts) some steps linked = absurd steps
 
-module _ (s : Setting) (machine started : MachineView)
-    (first : IsFirst s.plan.graph s.plan.fused.sizes machine)
-    (ran : order_run s.circuit (startup_order s.plan.fused) machine ≡ machines.Went started)
+module _ (s : Setting) (started : MachineView)
+    (holds : Simulates s.running.graph s.running.sizes s.circuit.input s.from started)
     (start : Start StageState Load Stop Gathered)
-    (beginning : IsBeginning s.plan s.bound s.last s.circuit started s.rounds start)
+    (beginning : IsBeginning s.running s.bound s.last s.circuit started s.rounds start)
     (core : Core StageState Load Stop Gathered) (state : IsState stage_work start core) where
   -- the lists of the state
-  abbrev its : AreParts s machine started first ran start beginning core state
-  its = are_parts s machine started first ran start beginning core state
+  abbrev its : AreParts s started holds start beginning core state
+  its = are_parts s started holds start beginning core state
 
   abbrev got : List ParcelView
   got = its.end.received
@@ -352,10 +355,10 @@ module _ (s : Setting) (machine started : MachineView)
   at_head = start.free ++ its.end.sent
 
   abbrev on_link : ℕ → List Generic
-  on_link = given s machine started first ran start beginning core state
+  on_link = given s started holds start beginning core state
 
   abbrev took : List Generic
-  took = collected s machine started first ran start beginning core state
+  took = collected s started holds start beginning core state
 
   count : length core.stages ≡ length its.parts
   unfolding core_of
@@ -370,8 +373,8 @@ module _ (s : Setting) (machine started : MachineView)
   related_so_far : (n : ℕ) → AreUnstopped s n got → Related s n got took
   related_so_far zero unstopped = tt
   related_so_far (suc n) unstopped =
-      reach s machine started first ran start beginning core state beginning.going n
-      (unstopped_fewer s machine started first ran start beginning core state beginning.going n
+      reach s started holds start beginning core state beginning.going n
+      (unstopped_fewer s started holds start beginning core state beginning.going n
       got unstopped)
 
   -- how far a parcel that isn't stopped shows that the collector has taken no stopped one
@@ -399,14 +402,14 @@ module _ (s : Setting) (machine started : MachineView)
               unstopped = unstopped_upto s got j r
                   (stays_last s got start.stages its.parts (omega (
                     arith,
-                    part_count s machine started first ran start beginning core state,
+                    part_count s started holds start beginning core state,
                   )) its.joined.steps its.joined.links) taken_r none_r;
             }
       ]
 
   fits_at : (b : ℕ) (p : ParcelView) (rest : List ParcelView) → b ≤ suc s.last
       → slice_get core.links (events.before (length core.stages) b) ≡ Some (p ∷ rest)
-      → p.stop ≡ None → FitsBefore s.plan s.bound s.last b p.load
+      → p.stop ≡ None → FitsBefore s.running s.bound s.last b p.load
   unfolding events.before
   fits_at zero p rest less e none =
       let left : its.end.left ≡ p ∷ rest = same_Some its.end.left (p ∷ rest)
@@ -419,7 +422,7 @@ module _ (s : Setting) (machine started : MachineView)
       ∙ ap (λ (l : List ParcelView). xs ++ l) left in
       let far = reached 0 (length xs) p (omega arith)
       (ap (λ (l : List ParcelView). slice_get l (length xs)) is ∙ there xs p rest) none in
-      let spent = came_spent s machine started first ran start beginning core state
+      let spent = came_spent s started holds start beginning core state
       beginning.going far.n far.unstopped (related_so_far far.n far.unstopped) in
       elim (spent_there s (length start.free + far.n) xs p rest far.far
       (subst (AreSpent s (length start.free + far.n)) is spent)) [
@@ -427,7 +430,7 @@ module _ (s : Setting) (machine started : MachineView)
         | inr memory ↦ absurd (true≢false (sym (ap is_some memory) ∙ ap is_some none))
       ]
   fits_at (suc b) p rest less e none =
-      let parts_are = part_count s machine started first ran start beginning core state in
+      let parts_are = part_count s started holds start beginning core state in
       let below : b < length its.parts = omega (arith, less, parts_are) in
       let (more, is) = left_at s got start.stages its.parts at_head its.end.left (p ∷ rest)
       its.joined.steps its.joined.links b below
@@ -437,41 +440,28 @@ module _ (s : Setting) (machine started : MachineView)
       let far = reached (suc b) (length xs) p (omega (arith, below))
       (ap (λ (l : List ParcelView). slice_get l (length xs)) is ∙ there xs p (rest ++ more)) none
       in
-      let related = each_related s machine started first ran start beginning core state
+      let related = each_related s started holds start beginning core state
       beginning.going far.n far.unstopped (related_so_far far.n far.unstopped) (suc b)
       (omega (arith, below)) in
       let stays = stays_at s got start.stages its.parts at_head its.joined.steps b below in
       let in_time : 0 + length xs < s.rounds = omega (
         arith,
         made_few s got start.stages its.parts at_head s.rounds its.joined.steps its.joined.links
-            (few s machine started first ran start beginning core state) b below,
+            (few s started holds start beginning core state) b below,
         ap length is,
         length-append xs (p ∷ (rest ++ more)),
       ) in
       moving_fits s (suc b) (0 + length xs) p in_time
-      (moving_there s (taken s machine started first ran start beginning core state (suc s.last))
+      (moving_there s (taken s started holds start beginning core state (suc s.last))
       (length start.free + far.n) (suc b) 0 xs p (rest ++ more) (on_link (suc b)) far.far
       (running_before xs p (rest ++ more) (subst StayStopped is stays) none) none
       (subst (λ (l : List ParcelView). Related s (length start.free + far.n) l (on_link (suc b)))
       is related)
-      (given_are s machine started first ran start beginning core state (suc b)
+      (given_are s started holds start beginning core state (suc b)
       (omega (arith, below))))
 
 pub parcels_fit : ParcelsFit
-parcels_fit plan is input rounds bound last circuit machine started start core known few supplied
-    cut is_circuit reads_it first ran beginning state =
-    fits_at (record {
-      plan = plan;
-      is = is;
-      input = input;
-      rounds = rounds;
-      bound = bound;
-      last = last;
-      circuit = circuit;
-      known = known;
-      few = few;
-      supplied = supplied;
-      cut = cut;
-      is_circuit = is_circuit;
-      reads_it = reads_it;
-    }) machine started first ran start beginning core state
+parcels_fit running by_source from rounds bound last circuit started start core is holds beginning
+    state =
+    fits_at (setting running by_source from rounds bound last circuit is) started holds start
+    beginning core state

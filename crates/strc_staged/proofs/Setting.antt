@@ -1,93 +1,68 @@
--- A plan that is cut into stages, with what is known of it.
-use Rattle.std.proofs.Common.{◌≡◌, refl, sym, ap, ◌∙◌, subst, ℕ, zero, suc, ◌+◌, ◌*◌, ◌-◌, ◌<◌, ◌≤◌}
-use Rattle.std.proofs.Common.{◌^◌, ℤ, Bool, true, false, List, [], ◌++◌, length, Option, Some, None}
-use Rattle.std.proofs.Common.{slice_get, slice_index, inl, inr, ◌⊎◌, arith, true≢false, append-nil}
-use Rattle.std.proofs.Common.{append_assoc}
-use Rattle.std.specs.Option.{option_map_or}
-use Rattle.std.proofs.Math.Nat.{mul-le-mul_left, mul-le-mul_right}
+-- A running graph with its generic stages, and what is known of them.
+use Rattle.std.proofs.Common.{◌≡◌, sym, ap, ◌∙◌, subst, ℕ, zero, suc, ◌+◌, ◌*◌, ◌-◌, ◌<◌, ◌≤◌}
+use Rattle.std.proofs.Common.{◌^◌, ℤ, Bool, true, List, [], ◌++◌, Some, slice_get, slice_index}
+use Rattle.std.proofs.Common.{append-nil, append_assoc, arith}
+use Rattle.std.proofs.Math.Nat.{mul-le-mul_right}
 use Rattle.strc_semantics.specs.declared.fault.Cause.{Cause}
 use Rattle.strc_semantics.specs.declared.word.Word.{Word}
-use Rattle.strc_dataflow.specs.Flat.{Origin, Origin.Port, Source, arrived, items_of}
+use Rattle.strc_dataflow.specs.Flat as flat
+use Rattle.strc_dataflow.specs.Flat.{Origin, Origin.Port, arrived, items_of}
 use Rattle.strc_dataflow.specs.Histories.{Run}
-use Rattle.strc_dataflow.specs.Node.{total}
+use Rattle.strc_dataflow.specs.Node.{ByPort, Meaning, total}
 use Rattle.strc_dataflow.specs.Order as orders
-use Rattle.strc_dataflow.specs.Streams.{Stream, flat}
 use Rattle.strc_dataflow.proofs.Again.{total_repeats}
 use Rattle.strc_dataflow.proofs.WholeRun.{counted-firing_count}
-use Rattle.strc_graph.specs.Graphs.{NodeCode, FileReader, Channel, Graph, source_of}
-use Rattle.strc_graph.specs.Carriers.{carries_in, carries_out, JoinsCarriers}
-use Rattle.strc_graph.specs.Meaning.{ports_in, node_meaning}
-use Rattle.strc_graph.specs.Rates.{pushes_at}
-use Rattle.strc_graph.proofs.Carriers.{carrier_is_input}
-use Rattle.strc_graph.proofs.Firings.{pushes_settle}
-use Rattle.strc_stream.specs.Flattening.{tree_of}
-use Rattle.strc_balance.specs.Balance.{count_at, count_limit}
-use Rattle.strc_startup.specs.Rates.{push_at, rates_of, rates_of_channel}
-use Rattle.strc_order.specs.Buffers.{peak_fill}
-use Rattle.strc_order.specs.Firings.{Firings, fill}
-use Rattle.strc_order.specs.Order.{firing_count, after}
-use Rattle.strc_order.specs.Rounds.{IsPastPrework, rounds_on}
-use Rattle.strc_order.proofs.PastPrework.{all_past_prework}
-use Rattle.strc_order.proofs.Repeating.{no_buffer_overflows}
-use Rattle.strc_admissible.specs.Circuits.{IsCircuit}
-use Rattle.strc_admissible.specs.Laws.{startup_order, round_order, counts_at}
+use Rattle.strc_graph.specs.Graphs.{NodeCode, Channel, Graph}
+use Rattle.strc_graph.specs.Meaning.{node_meaning}
+use Rattle.strc_startup.specs.Rates.{push_at}
+use Rattle.strc_admissible.specs.Fits.{Queues}
 use Rattle.strc_admissible.specs.Machine.{CircuitView}
-use Rattle.strc_admissible.specs.Planned.{AreKnown, items_read}
-use Rattle.strc_admissible.proofs.Codes.{code_is}
-use Rattle.strc_admissible.proofs.Orders.{counted_is}
-use Rattle.strc_admissible.proofs.Peaks.{front_fill}
-use Rattle.strc_admissible.proofs.Rounds.{at_startup, in_round, past_prework, balances, counts_are}
-use Rattle.strc_admissible.proofs.Supplies.{element, target_node, fill_is}
-use Rattle.strc_admissible.proofs.Windows.{rates_there}
-use Rattle.strc_stage.specs.Plans.{Planning, IsPlan}
-use Rattle.strc_stage.proofs.Fused.{fused_startup, fused_round}
+use Rattle.strc_restart.specs.Restart.{Restarted, restarted_meaning, restarted, taken_in}
+use Rattle.strc_restart.specs.Chains.{staging_from}
+use Rattle.strc_restart.proofs.Chains.{restarted_is_staging}
 use Rattle.strc_staging.specs.Ranges.{stage_within}
-use Rattle.strc_staging.specs.Rewired.{StagedStream, staging_of}
 use Rattle.strc_staging.specs.Staging.{Staging, joined, before, in_stage, IsStaging, IsFromUpTo}
 use Rattle.strc_staging.specs.Staging.{counts}
-use Rattle.strc_staging.proofs.Rewired.{stream_is_staging}
 use Rattle.strc_staging.proofs.Orders.{counted_append}
 use Rattle.strc_staging.proofs.Segments.{joined_count, less_before, in_is}
 use Rattle.strc_staging.proofs.Cut.{cut_in}
-use Rattle.strc_cut.specs.Cuts.{IsCut, staged_stream}
-use Rattle.strc_cut.proofs.Staged.{plans_are_staged}
-use Rattle.strc_staged.specs.Beginnings.{round_pushes}
+use Rattle.strc_staged.specs.Runnings.{Running, resumed, IsRunning, round_pushes}
+use Rattle.strc_staged.proofs.Ports.{port_inside}
 
--- a plan with input for so many rounds, cut into stages, and the circuit of its graph
+-- a graph that goes on from a state for so many rounds, its circuit, and inputs of the generic
+-- stages of the graph restarted there
 pub record Setting : Type 0 where
-  pub plan : Planning
-  pub is : IsPlan plan
-  pub input : List ℤ
+  pub running : Running
+  pub by_source : flat.Graph NodeCode
+  pub from : Queues
   pub rounds : ℕ
   pub bound : (stage : ℕ) → ℕ
   pub last : ℕ
   pub circuit : CircuitView
-  pub known : AreKnown plan.graph
-  pub few : rounds < 2 ^ 32
-  pub supplied : items_read plan.graph.nodes (counts_at plan.fused rounds) ≤ length input
-  pub cut : IsCut plan bound (suc last)
-  pub is_circuit : IsCircuit plan.graph circuit
-  pub reads_it : circuit.input ≡ input
+  pub is : IsRunning running by_source from rounds bound last circuit
+  pub inputs : ℕ → ℕ → ByPort
+  pub is_staging : IsStaging (staging_from (resumed running by_source from rounds bound last)
+      inputs)
 
--- an input port that carries items is one of a node's
-port_there : (code : NodeCode) (port : ℕ) → carries_in code port ≡ true → port < ports_in code
-port_there (FileReader text) port carries =
-    absurd (omega (arith, carrier_is_input (FileReader text) port carries))
-port_there code port carries = carrier_is_input code port carries
-
-code_found : (found : Option NodeCode) (port : ℕ)
-    → option_map_or (λ code. carries_out code port) found false ≡ true
-    → (code : NodeCode) × (found ≡ Some code)
-code_found None port e = absurd (true≢false (sym e))
-code_found (Some code) port e = (code, refl)
-
--- the first firing is past, or like all others
-settled : (code : NodeCode) (port count : ℕ)
-    → (0 < count) ⊎ (pushes_at code 0 port ≡ pushes_at code 1 port) → (firing : ℕ)
-    → count ≤ firing → pushes_at code firing port ≡ pushes_at code 1 port
-settled code port count past (suc firing) more = pushes_settle code firing port
-settled code port count (inl some) zero more = absurd (omega (arith, some, more))
-settled code port count (inr same) zero more = same
+-- a running graph has such inputs
+abbrev pub setting : (running : Running) (by_source : flat.Graph NodeCode) (from : Queues)
+    (rounds : ℕ) (bound : (stage : ℕ) → ℕ) (last : ℕ) (circuit : CircuitView)
+    → IsRunning running by_source from rounds bound last circuit → Setting
+setting running by_source from rounds bound last circuit is =
+    record {
+      running = running;
+      by_source = by_source;
+      from = from;
+      rounds = rounds;
+      bound = bound;
+      last = last;
+      circuit = circuit;
+      is = is;
+      inputs = (restarted_is_staging (resumed running by_source from rounds bound last)
+          is.resumption).0;
+      is_staging = (restarted_is_staging (resumed running by_source from rounds bound last)
+          is.resumption).1;
+    }
 
 total_grows : (rate : ℕ → ℕ → ℕ) (port n more : ℕ) → total rate n port ≤ total rate (n + more) port
 unfolding total
@@ -104,13 +79,6 @@ total_within rate port n later less =
     let e : n + (later - n) ≡ later = omega (arith, less) in
     omega (arith, total_grows rate port n (later - n), ap (λ (m : ℕ). total rate m port) e)
 
--- how often a node can fire
-number_bound : (startup round rounds : ℕ) → startup ≤ count_limit → round ≤ count_limit
-    → rounds < 2 ^ 32 → startup + rounds * round < 2 ^ 64
-number_bound startup round rounds first each few =
-    let most : rounds * round ≤ rounds * count_limit = mul-le-mul_left rounds each in
-    omega (arith, first, most, few)
-
 pub firing_append : (xs ys : List ℕ) (v : ℕ)
     → orders.firing_count (xs ++ ys) v ≡ orders.firing_count xs v + orders.firing_count ys v
 firing_append xs ys v =
@@ -125,16 +93,17 @@ firing_append xs ys v =
 
 module _ (s : Setting) where
   abbrev pub graph : Graph
-  graph = s.plan.graph
+  graph = s.running.graph
 
-  abbrev pub tree : Stream NodeCode
-  tree = tree_of s.is.whole.stream
+  -- the restarted graph
+  abbrev pub meaning : Meaning (Restarted NodeCode (List ℤ)) (List ℤ) Cause Word
+  meaning = restarted_meaning node_meaning
 
-  abbrev pub staged : StagedStream NodeCode (List ℤ) Cause Word
-  staged = staged_stream s.plan s.is.whole.stream s.input s.rounds s.bound s.last
+  abbrev pub again : flat.Graph (Restarted NodeCode (List ℤ))
+  again = restarted s.from s.by_source
 
-  abbrev pub staging : Staging NodeCode (List ℤ) Cause Word
-  staging = staging_of staged
+  abbrev pub staging : Staging (Restarted NodeCode (List ℤ)) (List ℤ) Cause Word
+  staging = staging_from (resumed s.running s.by_source s.from s.rounds s.bound s.last) s.inputs
 
   abbrev pub stage_of : ℕ → ℕ
   stage_of = stage_within s.bound s.last
@@ -143,11 +112,10 @@ module _ (s : Setting) where
   own a = in_stage stage_of a
 
   pub is_staging : IsStaging staging
-  is_staging = (stream_is_staging staged
-      (plans_are_staged s.plan s.is s.input s.rounds s.bound s.last s.known s.supplied s.cut)).1
+  is_staging = s.is_staging
 
   abbrev pub round_of : ℕ → ℕ
-  round_of = firing_count (round_order s.plan.fused)
+  round_of = s.running.counts
 
   -- ---- counts
 
@@ -194,7 +162,7 @@ module _ (s : Setting) where
   pub round_front : (a : ℕ) (done left : List ℕ) → a < suc s.last
       → done ++ left ≡ staging.segment a
       → (back : List ℕ)
-      × ((joined staging.segment a ++ done) ++ back ≡ round_order s.plan.fused)
+      × ((joined staging.segment a ++ done) ++ back ≡ s.running.order)
   unfolding joined
   round_front a done left is_stage same =
       let (rest, e) = joined_split a (s.last - a) in (
@@ -216,10 +184,10 @@ module _ (s : Setting) where
     abbrev pub reached : ℕ → ℕ
     reached = orders.counted (counts staging t) (joined staging.segment a ++ done)
 
-    pub reached_fires : (v : ℕ) → in_stage stage_of a v ≡ true → reached v < 2 ^ 64
+    pub reached_fires : (v : ℕ) → in_stage stage_of a v ≡ true
+        → (s.from.runs v).fired + reached v < 2 ^ 64
     unfolding orders.counts_after
     reached_fires v is_own =
-        let planned = s.is.planned in
         let most : (t + 1) * round_of v ≤ s.rounds * round_of v =
         mul-le-mul_right (round_of v) (omega (arith, is_round)) in
         omega (
@@ -227,101 +195,39 @@ module _ (s : Setting) where
           counted-firing_count (joined staging.segment a ++ done) (counts staging t) v,
           segment_fires a v done left is_stage (omega (arith, in_is stage_of a v is_own)) same,
           most,
-          ap (λ (n : ℕ). s.rounds * n) (planned.schedule.round_order.all v),
-          planned.schedule.startup_order.all v,
-          number_bound (at_startup s.plan.graph s.plan.fused planned v)
-              (in_round s.plan.graph s.plan.fused planned v) s.rounds
-              (planned.startup_within v) (planned.round_within v) s.few,
+          s.is.numbered v,
         )
 
-    -- ---- channels
-
-    module _ (number : ℕ) (channel : Channel)
-        (there : slice_get s.plan.graph.channels number ≡ Some channel) where
-      round_peak : peak_fill (rates_of_channel s.plan.graph.nodes channel)
-          (rounds_on (at_startup s.plan.graph s.plan.fused s.is.planned) t
-          (in_round s.plan.graph s.plan.fused s.is.planned)) (round_order s.plan.fused)
-          ≤ slice_index s.plan.fused.sizes number
-      round_peak =
-          no_buffer_overflows (rates_of s.plan.graph)
-          (at_startup s.plan.graph s.plan.fused s.is.planned)
-          (in_round s.plan.graph s.plan.fused s.is.planned) s.plan.fused
-          s.is.planned.schedule (past_prework s.plan.graph s.plan.fused s.is.planned)
-          (balances s.plan.graph s.plan.fused s.is.planned) t number
-          (rates_of_channel s.plan.graph.nodes channel)
-          (rates_there s.plan.graph number channel there)
-
-      -- what is on a channel fits into its buffer
-      pub fill_fits : orders.fill node_meaning (flat tree) s.input reached channel.target.node
-          channel.target.port ≤ slice_index s.plan.fused.sizes number
-      fill_fits =
-          let rates = rates_of_channel s.plan.graph.nodes channel in
-          let planned = s.is.planned in
-          let (back, front) = round_front a done left is_stage same in
-          let xs = joined staging.segment a ++ done in
-          let filled = fill_is tree s.plan.graph s.input s.is.whole.program.flat
-          planned.unfissioned number channel there reached
-          ∙ ap (fill rates) (counted_is (counts staging t) xs)
-          ∙ ap (λ (c : Firings). fill rates (after c xs))
-          (counts_are s.plan.graph s.plan.fused planned t) in
-          let least = front_fill rates
-          (rounds_on (at_startup s.plan.graph s.plan.fused planned) t
-          (in_round s.plan.graph s.plan.fused planned)) xs back
-          (round_order s.plan.fused) front in
-          omega (arith, filled, least, round_peak)
+    -- what is on a channel fits into its ring
+    pub fill_fits : (number : ℕ) (channel : Channel)
+        → slice_get s.running.graph.channels number ≡ Some channel
+        → orders.fill meaning again [] reached channel.target.node channel.target.port
+        ≤ slice_index s.running.sizes number
+    fill_fits number channel there =
+        let (back, front) = round_front a done left is_stage same in
+        s.is.room t is_round (joined staging.segment a ++ done) back front number channel there
 
   module _ (number : ℕ) (channel : Channel)
-      (there : slice_get s.plan.graph.channels number ≡ Some channel) where
-    source_code : (code : NodeCode)
-        × (slice_get s.plan.graph.nodes channel.source.node ≡ Some code)
-    source_code = code_found (slice_get s.plan.graph.nodes channel.source.node)
-        channel.source.port
-        (element (JoinsCarriers s.plan.graph.nodes) s.plan.graph.channels number channel
-        s.is.whole.program.flat.joined there).source
-
+      (there : slice_get s.running.graph.channels number ≡ Some channel) where
     abbrev rate : ℕ → ℕ
-    rate firing = pushes_at ((flat tree).code channel.source.node) firing channel.source.port
+    rate firing = meaning.pushed (again.code channel.source.node) firing channel.source.port
 
-    push_is : (firing : ℕ) → push_at s.plan.graph.nodes firing channel.source ≡ rate firing
-    push_is firing =
-        ap (λ (found : Option NodeCode).
-        option_map_or (λ node. pushes_at node firing channel.source.port) found 0) source_code.1
-        ∙ ap (λ (code : NodeCode). pushes_at code firing channel.source.port)
-        (sym (code_is tree s.plan.graph s.is.whole.program.flat channel.source.node
-        source_code.0 source_code.1))
+    pub rate_at : (firing : ℕ)
+        → meaning.pushed (again.code channel.source.node) firing channel.source.port
+        ≡ push_at s.running.graph.nodes 1 channel.source
+    unfolding restarted_meaning restarted
+    rate_at firing =
+        s.is.pushes number channel there ((s.from.runs channel.source.node).fired + firing)
+        (omega arith)
 
-    past : (0 < count_at s.plan.startup_counts channel.source.node) ⊎ (rate 0 ≡ rate 1)
-    past = elim (element (IsPastPrework (count_at s.plan.startup_counts)) (rates_of s.plan.graph)
-        number (rates_of_channel s.plan.graph.nodes channel)
-        (all_past_prework s.plan.graph s.plan.startup_counts s.is.planned.rated
-        s.is.startup.least.primed)
-        (rates_there s.plan.graph number channel there)).source [
-          | inl some ↦ inl some
-          | inr same ↦ inr (sym (push_is 0) ∙ same ∙ push_is 1)
-        ]
-
-    rate_at : (firing : ℕ)
-        → firing_count (startup_order s.plan.fused) channel.source.node ≤ firing
-        → rate firing ≡ rate 1
-    rate_at firing more =
-        settled ((flat tree).code channel.source.node) channel.source.port
-        (count_at s.plan.startup_counts channel.source.node) past firing
-        (omega (arith, more, fused_startup s.plan s.is channel.source.node))
-
-    pub origin_is : ((flat tree).source channel.target.node channel.target.port).origin
+    pub origin_is : (again.source channel.target.node channel.target.port).origin
         ≡ Port channel.source.node channel.source.port
-    origin_is = ap (λ (source : Source). source.origin)
-        (element (λ (c : Channel).
-        (flat tree).source c.target.node c.target.port ≡ source_of c)
-        s.plan.graph.channels number channel s.is.whole.program.flat.channels there)
+    unfolding restarted taken_in
+    origin_is = ap taken_in (s.is.joins.origins number channel there)
 
-    pub port_is : channel.target.port < ports_in ((flat tree).code channel.target.node)
-    port_is =
-        let (code, found, carries) = target_node tree s.plan.graph []
-        s.is.whole.program.flat s.is.planned.unfissioned number channel there in
-        subst (λ (c : NodeCode). channel.target.port < ports_in c)
-        (sym (code_is tree s.plan.graph s.is.whole.program.flat channel.target.node code found))
-        (port_there code channel.target.port carries)
+    pub port_is : channel.target.port < meaning.ports (again.code channel.target.node)
+    unfolding restarted_meaning restarted
+    port_is = port_inside s.by_source s.running.graph s.is.joins number channel there
 
     -- channels go forward
     pub forward : stage_of channel.source.node ≤ stage_of channel.target.node
@@ -339,21 +245,20 @@ module _ (s : Setting) where
 
       -- what has been pushed since the segment began
       pub pushed_fits : (many : ℕ)
-          → many + orders.supply_of node_meaning (flat tree) s.input at_first
-          ((flat tree).source channel.target.node channel.target.port).origin
-          ≡ orders.supply_of node_meaning (flat tree) s.input at_end
-          ((flat tree).source channel.target.node channel.target.port).origin
-          → many ≤ round_pushes s.plan channel
+          → many + orders.supply_of meaning again [] at_first
+          (again.source channel.target.node channel.target.port).origin
+          ≡ orders.supply_of meaning again [] at_end
+          (again.source channel.target.node channel.target.port).origin
+          → many ≤ round_pushes s.running channel
       unfolding orders.supply_of orders.counts_after
       pushed_fits many e =
           let u = channel.source.node in
           let q = channel.source.port in
-          let startup = firing_count (startup_order s.plan.fused) u in
-          let pushes : ℕ → ℕ → ℕ = pushes_at ((flat tree).code u) in
+          let pushes : ℕ → ℕ → ℕ = meaning.pushed (again.code u) in
           let now : ℕ = counts staging t u in
           let here = subst (λ (origin : Origin).
-          many + orders.supply_of node_meaning (flat tree) s.input at_first origin
-          ≡ orders.supply_of node_meaning (flat tree) s.input at_end origin) origin_is e in
+          many + orders.supply_of meaning again [] at_first origin
+          ≡ orders.supply_of meaning again [] at_end origin) origin_is e in
           let first : total pushes now q ≤ total pushes (at_first u) q =
           total_within pushes q now (at_first u)
           (omega (arith, counted-firing_count (joined staging.segment a) (counts staging t) u)) in
@@ -363,23 +268,20 @@ module _ (s : Setting) where
             counted-firing_count (joined staging.segment a ++ done) (counts staging t) u,
             segment_fires a u done left is_stage (omega (arith, is_own)) same,
           )) in
-          let repeats = total_repeats pushes q startup
-          (λ i more. rate_at i more ∙ sym (rate_at startup (omega arith))) now (omega arith)
-          (round_of u) in
-          let rates : round_of u * pushes startup q ≡ round_pushes s.plan channel =
-          ap (λ (n : ℕ). n * pushes startup q) (fused_round s.plan s.is u)
-          ∙ ap (λ (n : ℕ). count_at s.plan.round_counts u * n)
-          (rate_at startup (omega arith) ∙ sym (push_is 1)) in
+          let repeats = total_repeats pushes q 0 (λ i more. rate_at i ∙ sym (rate_at 0)) now
+          (omega arith) (round_of u) in
+          let rates : round_of u * pushes 0 q ≡ round_pushes s.running channel =
+          ap (λ (n : ℕ). round_of u * n) (rate_at 0) in
           omega (arith, here, first, end, repeats, rates)
 
   -- what has come by a channel
   pub arrived_by : (runs : ℕ → Run (List ℤ) Cause Word) (number : ℕ) (channel : Channel)
-      → slice_get s.plan.graph.channels number ≡ Some channel
-      → arrived s.input runs ((flat tree).source channel.target.node channel.target.port)
-      ≡ ((flat tree).source channel.target.node channel.target.port).enqueued
+      → slice_get s.running.graph.channels number ≡ Some channel
+      → arrived [] runs (again.source channel.target.node channel.target.port)
+      ≡ (again.source channel.target.node channel.target.port).enqueued
       ++ (runs channel.source.node).pushes channel.source.port
   unfolding arrived items_of
   arrived_by runs number channel there =
-      ap (λ (origin : Origin). ((flat tree).source channel.target.node
-      channel.target.port).enqueued ++ items_of s.input runs origin)
+      ap (λ (origin : Origin). (again.source channel.target.node
+      channel.target.port).enqueued ++ items_of [] runs origin)
       (origin_is number channel there)

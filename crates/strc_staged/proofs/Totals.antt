@@ -13,6 +13,7 @@ use Rattle.strc_core.specs.Endings.{AreRunning, gathered_of}
 use Rattle.strc_parcel.specs.declared.stop.Stop.{Stop}
 use Rattle.strc_parcel.specs.declared.stop.Stop.TheVariants as stop
 use Rattle.strc_parcel.specs.Parcels.{Load, ParcelView}
+use Rattle.strc_restart.specs.Restart.{numbered_on}
 use Rattle.strc_staging.specs.Stages.{Parcel.Moves, Parcel.Halts, collected}
 use Rattle.strc_staging.specs.Workers.{collects}
 use Rattle.strc_staged.specs.Steps.{Gathered, stage_work, words_joined, with_round}
@@ -92,12 +93,12 @@ joined_map a b (v ∷ nodes) = ap (λ (l : List (List Word)). (a v ++ b v) ∷ l
 
 module _ (s : Setting) where
   abbrev pub tapes_of : (ℕ → List Word) → List (List Word)
-  tapes_of words = map words (tape_nodes s.plan.graph.nodes)
+  tapes_of words = map words (tape_nodes s.running.graph.nodes)
 
   load_tapes : (load : Load) (blocks : ℕ → ℕ → List ℤ) (words : ℕ → List Word)
       → IsLoaded s load blocks words → load.words ≡ tapes_of words
   load_tapes load blocks words loaded =
-      tapes_are 0 s.plan.graph.nodes load.words words loaded.shaped.words
+      tapes_are 0 s.running.graph.nodes load.words words loaded.shaped.words
       (λ k code there gives. loaded.words_are k code there gives
       ∙ ap words (let e : k ≡ 0 + k = omega arith in e))
 
@@ -107,7 +108,7 @@ module _ (s : Setting) where
   round_tapes total load blocks words new loaded same =
       ap (λ (l : List (List Word)). words_joined l load.words) same
       ∙ ap (words_joined (tapes_of words)) (load_tapes load blocks new loaded)
-      ∙ joined_map words new (tape_nodes s.plan.graph.nodes)
+      ∙ joined_map words new (tape_nodes s.running.graph.nodes)
 
   abbrev gathered : Gathered → List ParcelView → Gathered
   gathered total taken = gathered_of stage_work total taken
@@ -119,6 +120,14 @@ module _ (s : Setting) where
   moves_by None load (Moves blocks words) e loaded = (blocks, words, refl, loaded)
   moves_by None load (Halts why) e loaded = absurd loaded
   moves_by (Some why) load parcel e relates = absurd (true≢false (ap is_some e))
+
+  -- a parcel that a fault stopped names it
+  named_by : (given : Option Stop) (load : Load) (parcel : Generic) (node firing : ℕ)
+      (cause : Cause) → given ≡ Some (stop.Fault node firing cause) → Relates s given load parcel
+      → (why : generic.Stop Cause) × (parcel ≡ Halts (Some why))
+      × (numbered_on s.from why ≡ record { node = node; firing = firing; cause = cause })
+  named_by given load parcel node firing cause e relates =
+      subst (λ (o : Option Stop). Relates s o load parcel) e relates
 
   -- all rounds were gathered
   pub record IsAll (left q : ℕ) (words : ℕ → List Word) (total : Gathered)
@@ -157,11 +166,15 @@ module _ (s : Setting) where
 
   -- a parcel is stopped by a fault
   pub record IsUpTo (left q : ℕ) (words : ℕ → List Word) (total : Gathered)
-      (front : List ParcelView) (fault : generic.Stop Cause) (others : List Generic) : Type 0 where
-    pub last : ℕ → List Word
-    pub outcome : collects (staging s) left q words others
-        ≡ Some (RoundFault (q + length front) fault last)
-    pub tapes : (gathered total front).words ≡ tapes_of last
+      (front : List ParcelView) (node firing : ℕ) (cause : Cause) (others : List Generic) : Type 0
+    where
+      pub last : ℕ → List Word
+      pub why : generic.Stop Cause
+      pub named : numbered_on s.from why
+          ≡ record { node = node; firing = firing; cause = cause }
+      pub outcome : collects (staging s) left q words others
+          ≡ Some (RoundFault (q + length front) why last)
+      pub tapes : (gathered total front).words ≡ tapes_of last
 
   pub up_to_gathered : (left q : ℕ) (words : ℕ → List Word) (total : Gathered)
       (front : List ParcelView) (p : ParcelView) (rest : List ParcelView) (others : List Generic)
@@ -169,33 +182,33 @@ module _ (s : Setting) where
       → total.words ≡ tapes_of words → AreRunning front
       → p.stop ≡ Some (stop.Fault node firing cause)
       → Related s (suc (length front)) (front ++ (p ∷ rest)) others
-      → IsUpTo left q words total front
-      (record { node = node; firing = firing; cause = cause }) others
+      → IsUpTo left q words total front node firing cause others
   unfolding collects collected
   up_to_gathered (suc left) q words total [] p rest (parcel ∷ others) node firing cause less same
       running stopped related =
-      let fault : generic.Stop Cause = record { node = node; firing = firing; cause = cause } in
-      let halts : parcel ≡ Halts (Some fault) =
-      subst (λ (why : Option Stop). Relates s why p.load parcel) stopped related.0 in
+      let (why, halts, named) = named_by p.stop p.load parcel node firing cause stopped related.0 in
       record {
         last = words;
+        why = why;
+        named = named;
         outcome = ap (λ (g : Generic). collects (staging s) (suc left) q words (g ∷ others)) halts
-            ∙ ap (λ (n : ℕ). Some (RoundFault n fault words))
+            ∙ ap (λ (n : ℕ). Some (RoundFault n why words))
             (let e : q ≡ q + 0 = omega arith in e);
         tapes = same;
       }
   up_to_gathered (suc left) q words total (f ∷ front) p rest (parcel ∷ others) node firing cause
       less same (none, running) stopped related =
-      let fault : generic.Stop Cause = record { node = node; firing = firing; cause = cause } in
       let (blocks, new, moves, loaded) = moves_by f.stop f.load parcel none related.0 in
       let later = up_to_gathered left (suc q) (λ v. words v ++ new v) (with_round total f.load)
       front p rest others node firing cause (omega (arith, less))
       (round_tapes total f.load blocks words new loaded same) running stopped (related.1 none) in
       record {
         last = later.last;
+        why = later.why;
+        named = later.named;
         outcome = ap (λ (g : Generic). collects (staging s) (suc left) q words (g ∷ others)) moves
             ∙ later.outcome
-            ∙ ap (λ (n : ℕ). Some (RoundFault n fault later.last))
+            ∙ ap (λ (n : ℕ). Some (RoundFault n later.why later.last))
             (let e : suc q + length front ≡ q + suc (length front) = omega arith in e);
         tapes = later.tapes;
       }

@@ -1,13 +1,10 @@
--- What a ring of stages begins with: the machine after start-up, cut into stages.
-use Rattle.std.specs.Prelude.{◌≡◌, ◌⊎◌, ℕ, suc, ◌*◌, Bool, true, false, not, eqb}
+-- What a ring of stages begins with: a machine that rounds go on from, cut into stages.
+use Rattle.std.specs.Prelude.{◌≡◌, ◌⊎◌, ℕ, suc, Bool, true, false, not, eqb}
 use Rattle.std.specs.Prelude.{if◌then◌else◌, List, [], ◌∷◌, length, map, Some}
 use Rattle.std.specs.Prelude.{None, slice_get, slice_index, slice_index_or}
 use Rattle.circular_buffer.specs.Buffer.{buffer}
 use Rattle.strc_graph.specs.Graphs.{NodeCode, Channel, reads_input, gives_words}
 use Rattle.strc_graph.specs.Tapes.{tape_nodes}
-use Rattle.strc_startup.specs.Rates.{push_at}
-use Rattle.strc_balance.specs.Balance.{count_at}
-use Rattle.strc_admissible.specs.Laws.{round_order}
 use Rattle.strc_admissible.specs.Machine.{CircuitView, MachineView, words_at}
 use Rattle.strc_admissible.specs.Rings.{ring_at}
 use Rattle.strc_admissible.specs.Wiring.{ports_at}
@@ -16,9 +13,9 @@ use Rattle.strc_core.specs.States.{Start, IsStart}
 use Rattle.strc_parcel.specs.declared.stop.Stop.{Stop}
 use Rattle.strc_parcel.specs.declared.stop.Stop.TheVariants as stop
 use Rattle.strc_parcel.specs.Parcels.{Load, ParcelView, parcel, empty_load}
-use Rattle.strc_stage.specs.Plans.{Planning}
 use Rattle.strc_staging.specs.Ranges.{stage_within}
 use Rattle.strc_cut.specs.Cuts.{segment_of}
+use Rattle.strc_staged.specs.Runnings.{Running, round_pushes}
 use Rattle.strc_staged.specs.Steps.{Crossing, TapeOf, StageState, Gathered}
 
 -- Stages whose nodes go from one bound up to the next.
@@ -67,19 +64,14 @@ module _ (bound : (stage : ℕ) → ℕ) (last : ℕ) where
   abbrev pub tapes_at : (stage : ℕ) → List NodeCode → List TapeOf
   tapes_at = tapes_from 0 0
 
--- How many items a channel's source pushes in a round.
-abbrev pub round_pushes : Planning → Channel → ℕ
-round_pushes plan channel =
-    count_at plan.round_counts channel.source.node * push_at plan.graph.nodes 1 channel.source
-
 -- The room of each block.
-abbrev pub rooms_of : (crosses : Channel → Bool) → Planning → List Channel → List ℕ
-rooms_of crosses plan [] = []
-rooms_of crosses plan (channel ∷ channels) =
-    if crosses channel then round_pushes plan channel ∷ rooms_of crosses plan channels
-    else rooms_of crosses plan channels
+abbrev pub rooms_of : (crosses : Channel → Bool) → Running → List Channel → List ℕ
+rooms_of crosses running [] = []
+rooms_of crosses running (channel ∷ channels) =
+    if crosses channel then round_pushes running channel ∷ rooms_of crosses running channels
+    else rooms_of crosses running channels
 
-module _ (plan : Planning) (bound : (stage : ℕ) → ℕ) (last : ℕ) (circuit : CircuitView)
+module _ (running : Running) (bound : (stage : ℕ) → ℕ) (last : ℕ) (circuit : CircuitView)
     (started : MachineView) where
   abbrev pub is_own : (stage node : ℕ) → Type 0
   is_own stage node = stage_at bound last node ≡ stage
@@ -97,34 +89,35 @@ module _ (plan : Planning) (bound : (stage : ℕ) → ℕ) (last : ℕ) (circuit
         → slice_get circuit.codes node ≡ Some code → reads_input code ≡ true
         → own.input ≡ circuit.input
 
-  -- A stage's machine has what start-up left of its own nodes, and the rings of the channels that
-  -- end there; those of channels that leave are empty, with room for a round. There are no words.
+  -- A stage's machine has what the ring's first machine has of its own nodes, and the rings of the
+  -- channels that end there; those of channels that leave are empty, with room for a round. There
+  -- are no words.
   pub record IsMachineOf (stage : ℕ) (machine : MachineView) : Type 0 where
-    pub each_fields : length machine.fields ≡ length plan.graph.nodes
-    pub each_fired : length machine.fired ≡ length plan.graph.nodes
-    pub each_ring : length machine.rings ≡ length plan.graph.channels
-    pub each_words : length machine.words ≡ length plan.graph.nodes
+    pub each_fields : length machine.fields ≡ length running.graph.nodes
+    pub each_fired : length machine.fired ≡ length running.graph.nodes
+    pub each_ring : length machine.rings ≡ length running.graph.channels
+    pub each_words : length machine.words ≡ length running.graph.nodes
     pub fields : (node : ℕ) → is_own stage node
         → slice_index_or machine.fields node [] ≡ slice_index_or started.fields node []
     pub fired : (node : ℕ) → is_own stage node
         → slice_index machine.fired node ≡ slice_index started.fired node
     pub ending : (number : ℕ) (channel : Channel)
-        → slice_get plan.graph.channels number ≡ Some channel
+        → slice_get running.graph.channels number ≡ Some channel
         → is_own stage channel.target.node
         → ring_at machine.rings number ≡ ring_at started.rings number
     pub leaving : (number : ℕ) (channel : Channel)
-        → slice_get plan.graph.channels number ≡ Some channel
+        → slice_get running.graph.channels number ≡ Some channel
         → is_own stage channel.source.node → ¬ is_own stage channel.target.node
-        → ring_at machine.rings number ≡ buffer [] (round_pushes plan channel)
+        → ring_at machine.rings number ≡ buffer [] (round_pushes running channel)
     pub words : (node : ℕ) → words_at machine.words node ≡ []
 
   -- A stage before its first step.
   pub record IsStageOf (stage : ℕ) (state : StageState) : Type 0 where
     pub circuit_is : IsCircuitOf stage state.circuit
-    pub order_is : state.order ≡ segment_of bound (round_order plan.fused) stage
-    pub entering_is : state.entering ≡ entering_at bound last stage plan.graph.channels
-    pub leaving_is : state.leaving ≡ leaving_at bound last stage plan.graph.channels
-    pub tapes_are : state.tapes ≡ tapes_at bound last stage plan.graph.nodes
+    pub order_is : state.order ≡ segment_of bound running.order stage
+    pub entering_is : state.entering ≡ entering_at bound last stage running.graph.channels
+    pub leaving_is : state.leaving ≡ leaving_at bound last stage running.graph.channels
+    pub tapes_are : state.tapes ≡ tapes_at bound last stage running.graph.nodes
     pub machine : MachineView
     pub machine_is : state.machine ≡ Some machine
     pub is_machine : IsMachineOf stage machine
@@ -132,14 +125,14 @@ module _ (plan : Planning) (bound : (stage : ℕ) → ℕ) (last : ℕ) (circuit
   -- A free parcel is empty, with room for the items of a round, or memory stopped it.
   abbrev pub IsFree : ParcelView → Type 0
   IsFree free =
-      (free ≡ parcel (empty_load (rooms_of (crosses bound last) plan plan.graph.channels)
-      (length (tape_nodes plan.graph.nodes))) None false)
+      (free ≡ parcel (empty_load (rooms_of (crosses bound last) running running.graph.channels)
+      (length (tape_nodes running.graph.nodes))) None false)
       ⊎ (free ≡ parcel (empty_load [] 0) (Some stop.NoMemory) false)
 
-  -- The words that start-up gave, by tape.
+  -- The words that were given before, by tape.
   abbrev pub first_total : Gathered
   first_total = record {
-    words = map (words_at started.words) (tape_nodes plan.graph.nodes);
+    words = map (words_at started.words) (tape_nodes running.graph.nodes);
     rounds = 0;
   }
 

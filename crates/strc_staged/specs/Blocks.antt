@@ -4,8 +4,8 @@ use Rattle.std.specs.Prelude.{length, Some, slice_get}
 use Rattle.strc_graph.specs.Graphs.{NodeCode, Channel, gives_words}
 use Rattle.strc_graph.specs.Tapes.{tape_nodes}
 use Rattle.strc_parcel.specs.Parcels.{Load, block_at}
-use Rattle.strc_stage.specs.Plans.{Planning}
-use Rattle.strc_staged.specs.Beginnings.{stage_at, crosses, rooms_of, round_pushes}
+use Rattle.strc_staged.specs.Beginnings.{stage_at, crosses, rooms_of}
+use Rattle.strc_staged.specs.Runnings.{Running, round_pushes}
 
 abbrev pub raised : Bool → ℕ → ℕ
 raised true n = suc n
@@ -31,26 +31,26 @@ pub record IsShaped (rooms : List ℕ) (tapes : ℕ) (load : Load) : Type 0 wher
   pub rooms_are : load.rooms ≡ rooms
   pub words : length load.words ≡ tapes
 
-module _ (plan : Planning) (bound : (stage : ℕ) → ℕ) (last : ℕ) where
+module _ (running : Running) (bound : (stage : ℕ) → ℕ) (last : ℕ) where
   abbrev pub IsLoadOf : Load → Type 0
-  IsLoadOf load = IsShaped (rooms_of (crosses bound last) plan plan.graph.channels)
-      (length (tape_nodes plan.graph.nodes)) load
+  IsLoadOf load = IsShaped (rooms_of (crosses bound last) running running.graph.channels)
+      (length (tape_nodes running.graph.nodes)) load
 
   -- What a load has before a stage: of each channel that began in an earlier stage and has not come
   -- to its end a round's items, for which its block has just the room; of all others none.
   pub record FitsBefore (stage : ℕ) (load : Load) : Type 0 where
     pub shaped : IsLoadOf load
     pub moving : (number : ℕ) (channel : Channel)
-        → slice_get plan.graph.channels number ≡ Some channel
+        → slice_get running.graph.channels number ≡ Some channel
         → stage_at bound last channel.source.node < stage
         → stage ≤ stage_at bound last channel.target.node
-        → length (block_at load (block_of bound last plan.graph.channels number))
-        ≡ round_pushes plan channel
+        → length (block_at load (block_of bound last running.graph.channels number))
+        ≡ round_pushes running channel
     pub not_begun : (number : ℕ) (channel : Channel)
-        → slice_get plan.graph.channels number ≡ Some channel → crosses bound last channel ≡ true
+        → slice_get running.graph.channels number ≡ Some channel → crosses bound last channel ≡ true
         → stage ≤ stage_at bound last channel.source.node
-        → block_at load (block_of bound last plan.graph.channels number) ≡ []
+        → block_at load (block_of bound last running.graph.channels number) ≡ []
     pub at_end : (number : ℕ) (channel : Channel)
-        → slice_get plan.graph.channels number ≡ Some channel → crosses bound last channel ≡ true
+        → slice_get running.graph.channels number ≡ Some channel → crosses bound last channel ≡ true
         → stage_at bound last channel.target.node < stage
-        → block_at load (block_of bound last plan.graph.channels number) ≡ []
+        → block_at load (block_of bound last running.graph.channels number) ≡ []

@@ -1,33 +1,126 @@
 -- What a ring of stages is worth.
 use Rattle.std.specs.Prelude.{◌≡◌, ℕ, suc, ◌<◌, ◌≤◌, ◌^◌, true, ℤ, List, length, map, Option}
 use Rattle.std.specs.Prelude.{Some, None, ◌∷◌, slice_get}
+use Rattle.strc_semantics.specs.declared.fault.Cause.{Cause}
 use Rattle.strc_semantics.specs.declared.word.Word.{Word}
+use Rattle.strc_dataflow.specs.Answer.{Outcome, Outcome.Done, Outcome.RoundFault}
+use Rattle.strc_dataflow.specs.Flat as flat
+use Rattle.strc_dataflow.specs.Node.{ByPort}
+use Rattle.strc_dataflow.specs.Queues.{fifo_go, fifo_rounds}
 use Rattle.strc_graph.specs.Graphs.{NodeCode}
+use Rattle.strc_graph.specs.Meaning.{node_meaning}
 use Rattle.strc_graph.specs.Tapes.{tape_nodes}
+use Rattle.strc_admissible.specs.ByChannels.{IsByChannels}
 use Rattle.strc_admissible.specs.Circuits.{IsCircuit, IsFirst}
+use Rattle.strc_admissible.specs.Fits.{Queues}
 use Rattle.strc_admissible.specs.Laws.{startup_order, round_order, counts_at}
 use Rattle.strc_admissible.specs.Machine.{CircuitView, MachineView, Went, order_run, whole_run}
 use Rattle.strc_admissible.specs.Machine.{Ending, Ended, FaultedIn, words_at}
 use Rattle.strc_admissible.specs.Planned.{AreKnown, items_read}
+use Rattle.strc_admissible.specs.Simulation.{Simulates}
 use Rattle.strc_core.specs.Events.{is_over, before}
 use Rattle.strc_core.specs.States.{Start, Core, IsState}
 use Rattle.strc_parcel.specs.declared.stop.Stop.{Stop}
 use Rattle.strc_parcel.specs.declared.stop.Stop.TheVariants as stop
 use Rattle.strc_parcel.specs.Parcels.{Load, ParcelView}
 use Rattle.strc_stage.specs.Plans.{Planning, IsPlan}
-use Rattle.strc_cut.specs.Cuts.{IsCut, segment_of, staged_stream}
-use Rattle.strc_dataflow.specs.Node.{ByPort}
-use Rattle.strc_dataflow.specs.Queues.{fifo_go}
-use Rattle.strc_graph.specs.Meaning.{node_meaning}
-use Rattle.strc_admissible.specs.Fits.{Queues}
+use Rattle.strc_cut.specs.Cuts.{IsCut, segment_of}
+use Rattle.strc_restart.specs.Chains.{meaning_from, graph_from, staging_from}
+use Rattle.strc_restart.specs.Rounds.{RepeatsByRounds, IsBalancedByRounds}
+use Rattle.strc_restart.specs.Schedules.{fired_in}
 use Rattle.strc_staging.specs.Parcels.{HasMoved, IsWorking}
-use Rattle.strc_staging.specs.Rewired.{staging_of}
 use Rattle.strc_staging.specs.Stages.{entered}
-use Rattle.strc_stream.specs.Flattening.{meaning_of}
+use Rattle.strc_staging.specs.Staging.{IsStaging}
 use Rattle.strc_staged.specs.Steps.{StageState, Gathered, stage_work, stage_run}
 use Rattle.strc_staged.specs.Beginnings.{IsBeginning}
 use Rattle.strc_staged.specs.Blocks.{FitsBefore}
 use Rattle.strc_staged.specs.Holding.{IsHeld, IsLoaded, StepsAlike}
+use Rattle.strc_staged.specs.Runnings.{Running, running_of, resumed, HasRoom, IsRunning}
+
+-- ---- rounds that go on from a state
+
+-- Where rates repeat round by round from the state on, and the channels balance over a round, rings
+-- that have room in one round have room in each.
+abbrev pub RoundsHaveRoom : Type 0
+RoundsHaveRoom =
+    (running : Running) (by_source : flat.Graph NodeCode) (from : Queues)
+    → IsByChannels by_source running.graph
+    → RepeatsByRounds node_meaning by_source (fired_in node_meaning by_source from) running.counts
+    → IsBalancedByRounds node_meaning by_source (fired_in node_meaning by_source from)
+    running.counts
+    → HasRoom running by_source from 0
+    → (round : ℕ) → HasRoom running by_source from round
+
+-- What a collector has come to is an outcome: the words of the nodes by tape; or the same fault in
+-- the same round, with the words before it. Out of memory tells nothing.
+abbrev pub TellsOutcome : List NodeCode → Gathered → Option Stop → Outcome Cause Word → Type 0
+TellsOutcome codes total None (Done words) = total.words ≡ map words (tape_nodes codes)
+TellsOutcome codes total (Some (stop.Fault node firing cause)) (RoundFault round why words) =
+    (round ≡ total.rounds) × (why ≡ record { node = node; firing = firing; cause = cause })
+    × (total.words ≡ map words (tape_nodes codes))
+TellsOutcome codes total (Some stop.NoMemory) outcome = Unit {0}
+TellsOutcome _ _ _ _ = ⊥
+
+-- A ring of stages that is over, by whatever events, has come to the outcome of the rounds of the
+-- graph over queues, from the state that the stages began with.
+abbrev pub StagesRunAlike : Type 0
+StagesRunAlike =
+    (running : Running) (by_source : flat.Graph NodeCode) (from : Queues) (rounds : ℕ)
+    (bound : (stage : ℕ) → ℕ) (last : ℕ) (circuit : CircuitView) (started : MachineView)
+    (start : Start StageState Load Stop Gathered) (core : Core StageState Load Stop Gathered)
+    → IsRunning running by_source from rounds bound last circuit
+    → Simulates running.graph running.sizes circuit.input from started
+    → IsBeginning running bound last circuit started rounds start
+    → IsState stage_work start core → is_over core ≡ true
+    → TellsOutcome running.graph.nodes core.collector.total core.collector.stop
+    (fifo_rounds node_meaning by_source circuit.input running.order rounds 0 from)
+
+-- In any state each parcel that waits for a stage, or for the collector, is stopped or has just
+-- what is to come there in its round.
+abbrev pub ParcelsFit : Type 0
+ParcelsFit =
+    (running : Running) (by_source : flat.Graph NodeCode) (from : Queues) (rounds : ℕ)
+    (bound : (stage : ℕ) → ℕ) (last : ℕ) (circuit : CircuitView) (started : MachineView)
+    (start : Start StageState Load Stop Gathered) (core : Core StageState Load Stop Gathered)
+    → IsRunning running by_source from rounds bound last circuit
+    → Simulates running.graph running.sizes circuit.input from started
+    → IsBeginning running bound last circuit started rounds start
+    → IsState stage_work start core
+    → (actor : ℕ) (parcel : ParcelView) (rest : List ParcelView) → actor ≤ suc last
+    → slice_get core.links (before (length core.stages) actor) ≡ Some (parcel ∷ rest)
+    → parcel.stop ≡ None
+    → FitsBefore running bound last actor parcel.load
+
+-- One step of a stage over rings. Where it holds the state of the generic stage before a round, and
+-- a load holds what has moved so far in the round, its order comes to what that of the generic
+-- stage comes to; and it holds what that leaves, and sends on what that sends. The generic stages
+-- are those of the graph restarted at the state.
+abbrev pub StageStepsAlike : Type 0
+StageStepsAlike =
+    (running : Running) (by_source : flat.Graph NodeCode) (from : Queues) (rounds : ℕ)
+    (bound : (stage : ℕ) → ℕ) (last : ℕ) (circuit : CircuitView) (inputs : ℕ → ℕ → ByPort)
+    (stage round : ℕ) (now : Queues) (blocks : ℕ → ByPort) (words : ℕ → List Word)
+    (state : StageState) (load : Load)
+    (held : IsHeld running from bound last circuit stage state now)
+    → IsRunning running by_source from rounds bound last circuit
+    → IsStaging (staging_from (resumed running by_source from rounds bound last) inputs)
+    → stage < suc last → round < rounds
+    → IsWorking (staging_from (resumed running by_source from rounds bound last) inputs) stage
+    round now
+    → HasMoved (staging_from (resumed running by_source from rounds bound last) inputs) stage
+    round blocks words
+    → IsLoaded running bound last load blocks words
+    → StepsAlike running from bound last circuit
+    (staging_from (resumed running by_source from rounds bound last) inputs) stage state load
+    blocks words
+    (fifo_go (meaning_from (resumed running by_source from rounds bound last))
+    (graph_from (resumed running by_source from rounds bound last))
+    (segment_of bound running.order stage)
+    (entered (staging_from (resumed running by_source from rounds bound last) inputs) stage now
+    blocks))
+    (stage_run state load held.machine)
+
+-- ---- a plan's rounds after its start-up
 
 -- The words of each tape are those of its node.
 abbrev pub HasTapes : List NodeCode → (tapes words : List (List Word)) → Type 0
@@ -43,8 +136,8 @@ TellsEnding codes total (Some stop.NoMemory) ending = Unit {0}
 TellsEnding _ _ _ _ = ⊥
 
 -- A ring of a plan's stages that is over, by whatever events, has come to what one thread comes to.
-abbrev pub StagesRunAlike : Type 0
-StagesRunAlike =
+abbrev pub PlansRunAlike : Type 0
+PlansRunAlike =
     (plan : Planning) (is : IsPlan plan) (input : List ℤ) (rounds : ℕ)
     (bound : (stage : ℕ) → ℕ) (last : ℕ) (circuit : CircuitView) (machine started : MachineView)
     (start : Start StageState Load Stop Gathered) (core : Core StageState Load Stop Gathered)
@@ -54,15 +147,14 @@ StagesRunAlike =
     → IsCircuit plan.graph circuit → circuit.input ≡ input
     → IsFirst plan.graph plan.fused.sizes machine
     → order_run circuit (startup_order plan.fused) machine ≡ Went started
-    → IsBeginning plan bound last circuit started rounds start
+    → IsBeginning (running_of plan) bound last circuit started rounds start
     → IsState stage_work start core → is_over core ≡ true
     → TellsEnding plan.graph.nodes core.collector.total core.collector.stop
     (whole_run circuit (startup_order plan.fused) (round_order plan.fused) rounds machine)
 
--- In any state each parcel that waits for a stage, or for the collector, is stopped or has just
--- what is to come there in its round.
-abbrev pub ParcelsFit : Type 0
-ParcelsFit =
+-- And its parcels fit in any state.
+abbrev pub PlansParcelsFit : Type 0
+PlansParcelsFit =
     (plan : Planning) (is : IsPlan plan) (input : List ℤ) (rounds : ℕ)
     (bound : (stage : ℕ) → ℕ) (last : ℕ) (circuit : CircuitView) (machine started : MachineView)
     (start : Start StageState Load Stop Gathered) (core : Core StageState Load Stop Gathered)
@@ -72,37 +164,9 @@ ParcelsFit =
     → IsCircuit plan.graph circuit → circuit.input ≡ input
     → IsFirst plan.graph plan.fused.sizes machine
     → order_run circuit (startup_order plan.fused) machine ≡ Went started
-    → IsBeginning plan bound last circuit started rounds start
+    → IsBeginning (running_of plan) bound last circuit started rounds start
     → IsState stage_work start core
     → (actor : ℕ) (parcel : ParcelView) (rest : List ParcelView) → actor ≤ suc last
     → slice_get core.links (before (length core.stages) actor) ≡ Some (parcel ∷ rest)
     → parcel.stop ≡ None
-    → FitsBefore plan bound last actor parcel.load
-
--- One step of a stage over rings. Where it holds the state of the generic stage before a round, and
--- a load holds what has moved so far in the round, its order comes to what that of the generic
--- stage comes to; and it holds what that leaves, and sends on what that sends.
-abbrev pub StageStepsAlike : Type 0
-StageStepsAlike =
-    (plan : Planning) (is : IsPlan plan) (input : List ℤ) (rounds : ℕ)
-    (bound : (stage : ℕ) → ℕ) (last : ℕ) (circuit : CircuitView) (stage round : ℕ) (now : Queues)
-    (blocks : ℕ → ByPort) (words : ℕ → List Word) (state : StageState) (load : Load)
-    (held : IsHeld plan bound last circuit stage state now)
-    → AreKnown plan.graph → rounds < 2 ^ 32
-    → items_read plan.graph.nodes (counts_at plan.fused rounds) ≤ length input
-    → IsCut plan bound (suc last)
-    → IsCircuit plan.graph circuit → circuit.input ≡ input
-    → stage < suc last → round < rounds
-    → IsWorking (staging_of (staged_stream plan is.whole.stream input rounds bound last)) stage
-    round now
-    → HasMoved (staging_of (staged_stream plan is.whole.stream input rounds bound last)) stage
-    round blocks words
-    → IsLoaded plan bound last load blocks words
-    → StepsAlike plan bound last circuit
-    (staging_of (staged_stream plan is.whole.stream input rounds bound last)) stage state load
-    blocks words
-    (fifo_go node_meaning (meaning_of is.whole.stream)
-    (segment_of bound (round_order plan.fused) stage)
-    (entered (staging_of (staged_stream plan is.whole.stream input rounds bound last)) stage now
-    blocks))
-    (stage_run state load held.machine)
+    → FitsBefore (running_of plan) bound last actor parcel.load

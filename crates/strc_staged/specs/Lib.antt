@@ -1,4 +1,5 @@
 pub mod Steps
+pub mod Runnings
 pub mod Beginnings
 pub mod Blocks
 pub mod Holding

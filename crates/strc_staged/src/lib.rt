@@ -1,21 +1,22 @@
 // Takes nothing: but for two pairs of numbers it has no code.
-// Gives what a stage of a plan does with a parcel, over the machine of rings, what the collector
-// does, and what a ring of them begins with; and laws.
-// The theorem to rely on: `stages_run_alike`, by which a ring that is over has come to what one
-// thread comes to.
-// Stands on strc_core, whose rings it speaks of, strc_cut and strc_staging, whose laws on stages it
-// uses, and strc_admissible, whose machine the stages have.
+// Gives what a stage does with a parcel, over the machine of rings, what the collector does, what a
+// ring of them begins with, and what is asked of a graph whose rounds they run; and laws.
+// The theorem to rely on: `stages_run_alike`, by which a ring that is over has come to the outcome
+// of the rounds, from the state that the ring began with.
+// Stands on strc_core, whose rings it speaks of, strc_staging, strc_restart and strc_cut, whose
+// laws on stages it uses, and strc_admissible, whose machine the stages have.
 #![tactic(auto)]
 
 mod crossing;
 
-ghost use Rattle.strc_staged.specs.Laws.{ParcelsFit, StageStepsAlike, StagesRunAlike};
+ghost use Rattle.strc_staged.specs.Laws.{ParcelsFit, PlansParcelsFit, PlansRunAlike};
+ghost use Rattle.strc_staged.specs.Laws.{RoundsHaveRoom, StageStepsAlike, StagesRunAlike};
 ghost use Rattle.strc_staged.specs.Rows.{TwoStagesRow};
 
 pub use crossing::{Crossing, TapeOf};
 
-/// A ring of a plan's stages that is over, by whatever events, has come to what one thread comes
-/// to.
+/// A ring of stages that is over, by whatever events, has come to the outcome of the rounds of the
+/// graph that it runs, from the state that it began with.
 pub fn stages_run_alike()
     ensures { StagesRunAlike }
 {}
@@ -28,6 +29,22 @@ pub fn stage_steps_alike()
 /// Each parcel that waits for a stage is stopped, or has the blocks that are to come there.
 pub fn parcels_fit()
     ensures { ParcelsFit }
+{}
+
+/// Rings that have room in one round have room in each, where rates repeat round by round.
+pub fn rounds_have_room()
+    ensures { RoundsHaveRoom }
+{}
+
+/// A ring of a plan's stages that is over, by whatever events, has come to what one thread comes
+/// to.
+pub fn plans_run_alike()
+    ensures { PlansRunAlike }
+{}
+
+/// In a ring of a plan's stages the parcels fit, too.
+pub fn plans_parcels_fit()
+    ensures { PlansParcelsFit }
 {}
 
 /// A source and a writer in a stage each, with a fault in the first stage in round 1.

@@ -9,6 +9,7 @@ use Rattle.strc_circuit.specs.Circuits.{circuit_view}
 use Rattle.strc_runner.specs.Running.{machine_view}
 use Rattle.strc_stage.specs.Plans.{planning_of}
 use Rattle.strc_staged.specs.Beginnings.{IsBeginning}
+use Rattle.strc_staged.specs.Runnings.{running_of}
 use Rattle.strc_stages.specs.Collectors.{begun}
 use Rattle.strc_stages.specs.declared.collector.CollectorParts.{CollectorParts}
 use Rattle.strc_launch.specs.Bounds.{bound_in, last_of}
@@ -64,8 +65,8 @@ returns c =
     })) (sym c.new.ensures) (record {
       count = stages_are plan workers is c.requires.stages.some_worker some;
       cut = bounds_cut plan workers is c.requires.stages.some_worker some;
-      beginning = subst (λ (l : List ℕ). IsBeginning plan (bound_in l) (last_of l) circuit started
-          c.args.rounds (start_of (record {
+      beginning = subst (λ (l : List ℕ). IsBeginning (running_of plan) (bound_in l) (last_of l)
+          circuit started c.args.rounds (start_of (record {
             stages = c.in_ok-stages.stages;
             free = c.in_ok-free.free;
             collector = begun c.in_ok-words.words c.args.rounds;
