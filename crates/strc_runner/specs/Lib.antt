@@ -6,3 +6,4 @@ pub mod Blocks
 pub mod Batches
 pub mod Parts
 pub mod Memory
+pub mod Keeping

@@ -13,6 +13,7 @@ pub mod batches;
 mod block;
 mod filter;
 mod identity;
+mod keeping;
 pub mod laws;
 pub mod machine;
 mod parting;
