@@ -1,15 +1,16 @@
 -- A schedule is fused, or its buffers would pass the limit then, and never both.
 use Rattle.std.proofs.Common.{◌≡◌, ◌∙◌, sym, ap, subst, ℕ, ◌<◌, ◌≤◌, List, [], ◌∷◌, length, map, get_or}
-use Rattle.std.proofs.Common.{arith}
+use Rattle.std.proofs.Common.{All, arith}
 use Rattle.std.specs.Prelude.{max, slice_index}
 use Rattle.std.proofs.lemmas.List.{length-map}
 use Rattle.std.proofs.lemmas.Option.{slice_get-get_or}
 use Rattle.strc_graph.specs.Graphs.{Graph}
 use Rattle.strc_startup.specs.Rates.{rates_of}
 use Rattle.strc_startup.specs.declared.channel_rates.ChannelRates.{ChannelRates}
-use Rattle.strc_order.specs.Buffers.{peak_fill}
+use Rattle.strc_order.specs.Buffers.{peak_fill, size_limit}
 use Rattle.strc_order.specs.Firings.{Firings, none_fired}
 use Rattle.strc_order.specs.Greedy.{firings_of}
+use Rattle.strc_order.specs.Peaks.{AreRaised}
 use Rattle.strc_order.specs.Schedules.{IsSchedule, ScheduleParts}
 use Rattle.strc_order.specs.RoundRates.{round_rates_of, round_rates_of_channel}
 use Rattle.strc_order.specs.Sizing.{PassesOn, all_rates_on, round_rates_on}
@@ -51,13 +52,29 @@ few_channels graph fills = omega (
   length-map graph.channels (round_rates_of_channel graph.nodes),
 )
 
+-- sizes within the limit, which are the greatest numbers of items, and one that passes it
+pub never_both : (graph : Graph) (last order greatest sizes : List ℕ) (channel : ℕ)
+    → length sizes ≡ length graph.channels → All (λ size. size ≤ size_limit) sizes
+    → AreRaised (round_rates_on graph last) none_fired order greatest sizes
+    → PassesOn (round_rates_on graph last) none_fired order greatest channel → ⊥
+never_both graph last order greatest sizes channel each within raised passes =
+    let channels = round_rates_on graph last in
+    let rates = get_or channels channel nothing in
+    let inside : channel < length channels = omega (arith, passes.past.there, passes.each) in
+    let there = slice_get-get_or channels channel nothing inside in
+    let past = passes.past.passes in
+    let same : slice_index passes.sizes channel ≡ slice_index sizes channel =
+    passes.raised channel rates there ∙ sym (raised channel rates there) in
+    let few = within channel 0 (omega (arith, inside, few_channels graph last, each)) in
+    absurd (omega (arith, past, same, few))
+
 module _ (graph : Graph) (counts firings : Firings) (one other : ScheduleParts)
     (is : IsSchedule (rates_of graph) counts firings one)
     (again : IsSchedule (rates_of graph) counts firings other) where
-  same_last : other.last ≡ one.last
+  pub same_last : other.last ≡ one.last
   same_last = again.last ∙ sym is.last
 
-  same_greatest : other.greatest ≡ one.greatest
+  pub same_greatest : other.greatest ≡ one.greatest
   same_greatest =
       again.greatest
       ∙ ap (λ (l : List ℕ). map (λ rates. peak_fill rates none_fired l) (rates_of graph))
@@ -89,12 +106,5 @@ fused_or_refused graph counts firings threshold one other fused channel is again
     (firings_of fused.round) l channel) (same_greatest graph counts firings one other is again)
     (subst (λ (l : List ℕ). PassesOn (round_rates_on graph other.last) none_fired l
     other.greatest channel) firings_are pass.passes)) in
-    let channels = round_rates_on graph one.last in
-    let rates = get_or channels channel nothing in
-    let inside : channel < length channels = omega (arith, passes.past.there, passes.each) in
-    let there = slice_get-get_or channels channel nothing inside in
-    let past = passes.past.passes in
-    let same : slice_index passes.sizes channel ≡ slice_index fused.sizes channel =
-    passes.raised channel rates there ∙ sym (fusion.sizes channel rates there) in
-    let few = fusion.within channel 0 (omega (arith, inside, few_channels graph one.last, fusion.each)) in
-    absurd (omega (arith, past, same, few))
+    never_both graph one.last (firings_of fused.round) one.greatest fused.sizes channel fusion.each
+    fusion.within fusion.sizes passes

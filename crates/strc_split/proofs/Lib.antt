@@ -21,3 +21,4 @@ pub mod SplitRounds
 pub mod Splits
 pub mod Steady
 pub mod Trees
+pub mod Refusals

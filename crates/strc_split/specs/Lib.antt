@@ -10,3 +10,4 @@ pub mod RunRows
 pub mod Runs
 pub mod Sources
 pub mod Trees
+pub mod Refusals

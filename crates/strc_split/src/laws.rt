@@ -6,6 +6,7 @@ ghost use Rattle.strc_split.specs.Fusions.{FusionFollowsFission, FusedFissionKee
 ghost use Rattle.strc_split.specs.Laws.{SplitGraphsAreSplit};
 ghost use Rattle.strc_split.specs.Orders.{SplitRoundsAreOrders};
 ghost use Rattle.strc_split.specs.Owners.{OwnersAreOrigins};
+ghost use Rattle.strc_split.specs.Refusals.{TransformedOrRefused};
 ghost use Rattle.strc_split.specs.Rounds.{GreedyRoundsAreOwn};
 ghost use Rattle.strc_split.specs.Rows.{SplitRow};
 ghost use Rattle.strc_split.specs.RunRows.{RunRow};
@@ -62,6 +63,12 @@ pub fn fused_fission_keeps_answers()
 /// In the round after fission each firing finds its windows.
 pub fn split_rounds_are_orders()
     ensures { SplitRoundsAreOrders }
+{}
+
+/// What fission and fusion make of a greedy schedule is within the limits, or passes one, and never
+/// both.
+pub fn transformed_or_refused()
+    ensures { TransformedOrRefused }
 {}
 
 /// A filter that is split in two ways: what comes to each port before and after it.
