@@ -13,3 +13,4 @@ pub mod BatchLists
 pub mod TurnFirings
 pub mod PartLists
 pub mod PartMachines
+pub mod KeptNodes

@@ -8,3 +8,4 @@ pub mod Batches
 pub mod Parts
 pub mod Memory
 pub mod Handing
+pub mod Keeping

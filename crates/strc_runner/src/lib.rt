@@ -16,6 +16,7 @@ mod chains;
 mod filter;
 mod handing;
 mod identity;
+mod keeping;
 pub mod laws;
 pub mod machine;
 mod parting;

@@ -1,0 +1,4 @@
+pub mod Nodes
+pub mod Filling
+pub mod HandedOn
+pub mod Numbers

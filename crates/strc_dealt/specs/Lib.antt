@@ -1,0 +1,4 @@
+pub mod Origins
+pub mod Dealt
+pub mod Handing
+pub mod Rows
