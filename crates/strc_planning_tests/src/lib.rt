@@ -2,9 +2,9 @@
 // Gives the counts, the schedules and the runs of small graphs, each worked out by hand.
 // There is no theorem here; the values are those of the balance equations, of the greedy order and
 // of what each node does.
-// Stands on strc_balance, strc_startup, strc_order and strc_sched, which it calls, and on
-// strc_graph, strc_work and strc_parse, of whose graphs, filters and texts it makes what they are
-// given.
+// Stands on strc_balance, strc_startup, strc_order, strc_sched, strc_circuit and strc_runner, which
+// it calls, and on strc_graph, strc_work and strc_parse, of whose graphs, filters and texts it
+// makes what they are given.
 #![tactic(auto)]
 
 #[cfg(test)]
@@ -19,3 +19,5 @@ mod schedules;
 mod sizes;
 #[cfg(test)]
 mod small_graphs;
+#[cfg(test)]
+mod splits;

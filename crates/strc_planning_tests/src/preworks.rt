@@ -30,7 +30,7 @@ const GIVES: &str = "int->int filter Body {
 }";
 
 /// The only filter of a text, without a name.
-fn filter_of(alloc: Global, text: &str) -> Result<Node, Fail> {
+pub(crate) fn instance_of(alloc: Global, text: &str) -> Result<Instance, Fail> {
     let tokens = lex(alloc, text.as_bytes())?;
     let program = parse(alloc, &tokens)?;
     let [only] = program.declarations.as_slice() else {
@@ -40,7 +40,7 @@ fn filter_of(alloc: Global, text: &str) -> Result<Node, Fail> {
         return Err(Fail::from("a pipeline"));
     };
     match lower(alloc, filter, &Constants::new(alloc)) {
-        Ok(code) => Ok(Node::Filter(Instance { name: None, code })),
+        Ok(code) => Ok(Instance { name: None, code }),
         Err(_) => Err(Fail::from("lower")),
     }
 }
@@ -50,7 +50,7 @@ fn loop_answer(rt: &impl Abort, alloc: Global, body: &str, items: usize) -> Resu
     let mut nodes = Vec::new(alloc);
     nodes.push(node_of(alloc, Reader)?)?;
     nodes.push(node_of(alloc, Join(1, 1))?)?;
-    nodes.push(filter_of(alloc, body)?)?;
+    nodes.push(Node::Filter(instance_of(alloc, body)?))?;
     nodes.push(node_of(alloc, Split(1, 1))?)?;
     nodes.push(node_of(alloc, Identity)?)?;
     nodes.push(node_of(alloc, Writer)?)?;
