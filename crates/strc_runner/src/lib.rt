@@ -3,8 +3,8 @@
 // The theorem to rely on: `fire_order` does what the definition of an order's run says, firing by
 // firing, and each change of a machine by its owner is just what is said of it.
 // Stands on strc_admissible, whose definitions say what a run over rings is, on strc_rings, which
-// moves items over them, on strc_circuit, whose circuits it runs and passes on, on strc_order, whose
-// units it fires, and on strc_work, whose codes it fires.
+// moves items over them, on strc_circuit, whose circuits it runs and passes on, on strc_order,
+// whose units it fires, and on strc_work, whose codes it fires.
 #![tactic(auto)]
 
 mod access;
