@@ -118,7 +118,8 @@ module _ (items : Channel → List ℤ) (channels : List Channel) (before : Mach
           let own_is : Some own ≡ Some channel =
           sym here ∙ ap (slice_get channels) (sym same) ∙ there in
           ap (ring_at (set now.rings count (refilled count now own))) same
-          ∙ get_or-set_same now.rings count (refilled count now own) (buffer [] 0) (omega (arith, each, inside))
+          ∙ get_or-set_same now.rings count (refilled count now own)
+          (buffer [] 0) (omega (arith, each, inside))
           ∙ ap (λ (r : Ring). extended (items own) (buffer [] r.capacity))
           (so_far.others count (omega arith))
           ∙ ap (λ (n : ℕ). extended (items own) (buffer [] (ring_at before.rings n).capacity))

@@ -14,7 +14,7 @@ use Rattle.strc_admissible.specs.Machine.{CircuitView, MachineView}
 use Rattle.strc_admissible.specs.Rings.{Ring, at_port, extended, items_at, ring_at}
 use Rattle.strc_admissible.specs.Wiring.{ports_at}
 use Rattle.strc_runner.specs.Actors.{fields_of}
-use Rattle.strc_runner.specs.Keeping.{Kept, HasPlace, kept_at}
+use Rattle.strc_runner.specs.Keeping.{HasPlace, kept_at}
 use Rattle.strc_runner.specs.Running.{IsMachine, machine_view}
 use Rattle.strc_runner.specs.declared.machine.Machine.{Machine}
 use Rattle.strc_fiss.specs.declared.split.Origin.{Origin}
@@ -23,10 +23,7 @@ use Rattle.strc_dealt.specs.Handing.{HasFilled, HasHanded, items_before}
 use Rattle.strc_dealt.specs.Handing.{maybe_inside, ring_before}
 use Rattle.strc_dealt.specs.Origins.{is_inside, old_node}
 use Rattle.strc_dealt.proofs.Filling.{all_join}
-use Rattle.strc_dealt.proofs.Nodes.{not_whole}
-
-abbrev kept : (fields : List ℤ) (fired : ℕ) (words : List Word) → Kept
-kept fields fired words = record { fields = fields; fired = fired; words = words }
+use Rattle.strc_dealt.proofs.Nodes.{kept, not_whole}
 
 -- a machine has a place for each node of its circuit
 pub has_place : (circuit : CircuitView) (machine : Machine) (node : ℕ) → IsMachine circuit machine

@@ -17,7 +17,7 @@ use Rattle.strc_fiss.specs.declared.split.Origin.{Origin}
 use Rattle.strc_dealt.specs.Handing.{AsMany, HasHanded, HavePlaces}
 use Rattle.strc_dealt.specs.Origins.{IsWhole, old_node}
 
-abbrev kept : (fields : List ℤ) (fired : ℕ) (words : List Word) → Kept
+abbrev pub kept : (fields : List ℤ) (fired : ℕ) (words : List Word) → Kept
 kept fields fired words = record { fields = fields; fired = fired; words = words }
 
 pub same_or_not : (one other : ℕ) → (one ≡ other) ⊎ (one ≢ other)

@@ -1,4 +1,6 @@
 pub mod Origins
 pub mod Dealt
 pub mod Handing
+pub mod States
+pub mod Laws
 pub mod Rows

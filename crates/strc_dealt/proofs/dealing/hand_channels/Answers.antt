@@ -1,4 +1,5 @@
-use Rattle.std.proofs.Common.{◌≡◌, ◌∙◌, sym, ap, subst, List, ℤ, ℕ, ◌+◌, ◌<◌, suc, length, map, arith}
+use Rattle.std.proofs.Common.{◌≡◌, ◌∙◌, sym, ap, subst, List, ℤ, ℕ, ◌+◌, ◌<◌, suc, length}
+use Rattle.std.proofs.Common.{map, arith}
 use Rattle.strc_graph.specs.NodeView.{channel_view, graph_view, node_view}
 use Rattle.strc_graph.specs.declared.graph.Node.{Node}
 use Rattle.strc_circuit.specs.Circuits.{circuit_view}
