@@ -4,7 +4,9 @@ use Rattle.strc_semantics.specs.Filters.{body_prints, filter_of}
 use Rattle.strc_semantics.specs.Firing.{fired}
 use Rattle.strc_inst.specs.Running.{WantsOnlyWords}
 use Rattle.strc_work.specs.Answers.{WantsGivenWords}
+use Rattle.strc_graph.specs.Rates.{filter_pops}
 use Rattle.strc_admissible.specs.Rings.{items_at}
+use Rattle.strc_admissible.specs.Steps.{filter_looks}
 use Rattle.strc_runner.specs.Handing.{with_held}
 use Rattle.strc_runner.proofs.Held.{all_found, goes_held, halts_held, stays_held}
 use Rattle.strc_runner.proofs.Wanting.{filter_wants}
@@ -51,8 +53,9 @@ returns-in-Err-clause-memory c =
     c.requires.all in
     let many = ap length window in
     let cut = length-take-le held.count items c.requires.held.count in
-    filter_wants filter firing fields c.args.batch.now.input c.args.batch.now.output joined
-    c.taking_at.result.window c.in-Err.halt before after looks (omega (arith, many, cut, test))
+    filter_wants filter firing (filter_looks filter firing) (filter_pops filter firing) fields
+    c.args.batch.now.input c.args.batch.now.output joined c.in-Err.halt before after
+    (omega (arith, many, cut, test, looks))
     (subst (λ b. WantsOnlyWords (body_prints b filter) (Err c.in-Err.halt)) body_is
     c.in-Err.ensures.memory)
     (subst (λ b. WantsGivenWords (fired filter b fields (items_at joined c.args.batch.now.input))
