@@ -1,1 +1,2 @@
+mod Boxes
 mod Texts

@@ -35,24 +35,32 @@ five_more r text one two three four five a b c d e first second third fourth las
     (more text three four ((a ++ b) ++ c) d
     (more text two three (a ++ b) c (more text one two a b first second) third) fourth) last
 
+-- a piece of the whole is written, and the rest is left
+pub piece_more : (text piece later rest all whole : List ℕ) → later ≡ text ++ piece
+    → all ≡ piece ++ rest → text ++ all ≡ whole → later ++ rest ≡ whole
+piece_more text piece later rest all whole written first before =
+    ap (λ (l : List ℕ). l ++ rest) written ∙ append_assoc text piece rest
+    ∙ ap (λ (l : List ℕ). text ++ l) (sym first) ∙ before
+
 -- the line of a channel is written, and those after it are left
-pub one_channel_more : (nodes : List Node) (number : ℕ) (channels : List Channel) (sizes : List ℕ)
-    (channel : Channel) (size : ℕ) (text later whole : List ℕ)
-    → number < length channels → channel ≡ get_or channels number channel
+pub one_channel_more : (bounds : List ℕ) (nodes : List Node) (number : ℕ)
+    (channels : List Channel) (sizes : List ℕ) (channel : Channel) (size : ℕ)
+    (text later whole : List ℕ) → number < length channels
+    → channel ≡ get_or channels number channel
     → number < length sizes → size ≡ slice_index sizes number
-    → later ≡ text ++ channel_line nodes channel size
-    → text ++ channel_lines nodes (drop number channels) (drop number sizes) ≡ whole
-    → later ++ channel_lines nodes (drop (number + 1) channels) (drop (number + 1) sizes) ≡ whole
-one_channel_more nodes number channels sizes channel size text later whole there same sized is
-    written before =
-    let line = channel_line nodes channel size in
-    let rest = channel_lines nodes (drop (number + 1) channels) (drop (number + 1) sizes) in
+    → later ≡ text ++ channel_line bounds nodes channel size
+    → text ++ channel_lines bounds nodes (drop number channels) (drop number sizes) ≡ whole
+    → later ++ channel_lines bounds nodes (drop (number + 1) channels) (drop (number + 1) sizes)
+    ≡ whole
+one_channel_more bounds nodes number channels sizes channel size text later whole there same sized
+    is written before =
+    let line = channel_line bounds nodes channel size in
+    let rest = channel_lines bounds nodes (drop (number + 1) channels) (drop (number + 1) sizes) in
     let next : drop number sizes ≡ size ∷ drop (number + 1) sizes =
     drop_more sizes number 0 sized ∙ ap (λ (n : ℕ). n ∷ drop (number + 1) sizes) (sym is) in
     let own : drop number channels ≡ channel ∷ drop (number + 1) channels =
     drop_more channels number channel there
     ∙ ap (λ (c : Channel). c ∷ drop (number + 1) channels) (sym same) in
-    let first : channel_lines nodes (drop number channels) (drop number sizes) ≡ line ++ rest =
-    rw (own, next) refl in
-    ap (λ (l : List ℕ). l ++ rest) written ∙ append_assoc text line rest
-    ∙ ap (λ (l : List ℕ). text ++ l) (sym first) ∙ before
+    let first : channel_lines bounds nodes (drop number channels) (drop number sizes)
+    ≡ line ++ rest = rw (own, next) refl in
+    piece_more text line later rest _ whole written first before

@@ -1,3 +1,4 @@
 pub mod Marks
 pub mod Pictures
+pub mod Stages
 pub mod Lists

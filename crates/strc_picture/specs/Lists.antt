@@ -6,6 +6,7 @@ use Rattle.strc_picture.specs.Pictures.{Nodes}
 abbrev pub nodes_of : Counted → Nodes
 nodes_of counted = record {
   names = node_names counted.graph.now;
+  kinds = counted.graph.now.nodes;
   round = counted.round.now;
   startup = counted.startup.now;
   tapes = counted.tapes.now;

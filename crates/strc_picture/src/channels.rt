@@ -11,40 +11,68 @@ use strc_graph::rates::{pops_at, pushes_at};
 /// A firing of `work`: firing 0 may be a prework's.
 const LATER: u64 = 1;
 
-/// Adds a line for each channel.
+/// Adds a line for each channel of a graph in stages with these bounds.
 pub(crate) fn push_channels(
     text: &mut Vec<u8>,
+    bounds: &[usize],
     nodes: &[Node],
     channels: &[Channel],
     sizes: &[u32],
 ) -> Result<(), AllocError>
     requires { length sizes.now ≡ length channels.now }
     ensures { OnOk result (text.new.items ≡ text.old.items
-        ++ spec.channel_lines nodes.now channels.now sizes.now) }
+        ++ spec.channel_lines bounds.now nodes.now channels.now sizes.now) }
 {
     for number in 0..channels.len() {
-        push_channel(text, nodes, &channels[number], sizes[number])?;
+        push_channel(text, bounds, nodes, &channels[number], sizes[number])?;
     }
     Ok(())
 }
 
-/// The line of a channel: what a firing of `work` pushes and pops at its ends, the size of its
-/// buffer, and how many items are enqueued on it.
+/// The line of a channel: whether parcels carry its items, what a firing of `work` pushes and pops
+/// at its ends, the size of its buffer, and how many items are enqueued on it.
 fn push_channel(
     text: &mut Vec<u8>,
+    bounds: &[usize],
     nodes: &[Node],
     channel: &Channel,
     size: u32,
 ) -> Result<(), AllocError>
     ensures { OnOk result (text.new.items ≡ text.old.items
-        ++ spec.channel_line nodes.now channel.now size) }
+        ++ spec.channel_line bounds.now nodes.now channel.now size) }
 {
     push_bytes(text, b"  n")?;
     push_number(text, u128::from(channel.source.node))?;
     push_bytes(text, b" -> n")?;
     push_number(text, u128::from(channel.target.node))?;
+    push_crossing(text, crosses(bounds, channel))?;
     push_rates(text, nodes, channel)?;
     push_size(text, channel, size)
+}
+
+/// Whether a channel goes from a stage to a later one.
+fn crosses(bounds: &[usize], channel: &Channel) -> bool
+    ensures { result ≡ spec.crosses bounds.now channel.now }
+{
+    let source = channel.source.node as usize;
+    let target = channel.target.node as usize;
+    for bound in bounds {
+        if source < *bound && *bound <= target {
+            return true;
+        }
+    }
+    false
+}
+
+/// How a channel is drawn whose items parcels carry.
+fn push_crossing(text: &mut Vec<u8>, crosses: bool) -> Result<(), AllocError>
+    ensures { OnOk result (text.new.items ≡ text.old.items ++ spec.crossing_words crosses) }
+{
+    if crosses {
+        push_bytes(text, b" [style=bold]")
+    } else {
+        Ok(())
+    }
 }
 
 /// What a firing of `work` pushes and pops at a channel's ends.

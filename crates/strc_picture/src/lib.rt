@@ -1,13 +1,17 @@
-// Takes a program's stream of instances, its flat graph, its counts and the sizes of its buffers.
+// Takes a program's stream of instances, its flat graph, its counts and the sizes of its buffers;
+// or, for a plan, the units of its round and the bounds of its stages.
 // Gives a picture of the flat graph, as a text for Graphviz.
-// The theorem to rely on: `picture` writes just the text of the definition: a line for each node
-// and for each channel, and boxes as the stream's tree has split-joins and feedback loops.
-// Stands on strc_stream and strc_graph.
+// The theorem to rely on: `picture` and `plan_picture` write just the texts of their definitions: a
+// line for each node and for each channel, and boxes, as the stream's tree has split-joins and
+// feedback loops, or as the plan has stages and fused units.
+// Stands on strc_stream, strc_graph and strc_order, whose units a round has.
 #![tactic(auto)]
 
 mod channels;
 pub mod marks;
 mod nodes;
 pub mod picture;
+mod stages;
 mod tapes;
 mod text;
+mod units;

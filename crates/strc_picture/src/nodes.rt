@@ -8,7 +8,7 @@ ghost use Rattle.strc_picture.specs.Lists.{nodes_of};
 use crate::marks::{Construct, Mark};
 use crate::text::{push_bytes, push_number};
 use std::alloc::AllocError;
-use strc_graph::graph::Graph;
+use strc_graph::graph::{Graph, Node};
 
 /// A graph, how often each node fires before the first round and in a round, and the tapes of those
 /// that have one.
@@ -47,16 +47,32 @@ pub(crate) fn push_marks(
     Ok(())
 }
 
-/// The line of a node: its name, how often it fires in a round and before the first one, and its
-/// tape.
-fn push_node(text: &mut Vec<u8>, counted: Counted<'_>, node: usize) -> Result<(), AllocError>
+/// The line of a node: its name, how often it fires in a round and before the first one, its
+/// tape, and its shape.
+pub(crate) fn push_node(
+    text: &mut Vec<u8>,
+    counted: Counted<'_>,
+    node: usize,
+) -> Result<(), AllocError>
     ensures { OnOk result (text.new.items ≡ text.old.items
         ++ spec.node_line (nodes_of counted.entry) node) }
 {
     push_name(text, counted.graph, node)?;
     push_counts(text, counted, node)?;
     push_tape(text, tape_of(counted.tapes, node))?;
-    push_bytes(text, b"\"];\n")
+    push_end(text, counted.graph.nodes(), node)
+}
+
+/// The end of a node's line, with its shape where it isn't a box.
+fn push_end(text: &mut Vec<u8>, nodes: &[Node], node: usize) -> Result<(), AllocError>
+    ensures { OnOk result (text.new.items ≡ text.old.items ++ spec.end_at nodes.now node) }
+{
+    match nodes.get(node) {
+        Some(Node::Scatter(_)) => push_bytes(text, b"\", shape=trapezium];\n"),
+        Some(Node::Copy(_, _)) => push_bytes(text, b"\", shape=box3d];\n"),
+        Some(Node::Gather(_)) => push_bytes(text, b"\", shape=invtrapezium];\n"),
+        _ => push_bytes(text, b"\"];\n"),
+    }
 }
 
 /// The beginning of a node's line, up to its name.

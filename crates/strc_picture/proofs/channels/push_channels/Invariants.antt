@@ -6,5 +6,5 @@ use Rattle.strc_picture.proofs.channels.push_channels.Given as goal
 abbrev pub invariant-loop-number : goal.invariant-loop-number
 invariant-loop-number l =
     l.text.items
-    ++ channel_lines l.nodes (drop l.number l.channels) (drop l.number l.sizes)
-    ≡ l.fn.text.items ++ channel_lines l.nodes l.channels l.sizes
+    ++ channel_lines l.bounds l.nodes (drop l.number l.channels) (drop l.number l.sizes)
+    ≡ l.fn.text.items ++ channel_lines l.bounds l.nodes l.channels l.sizes
