@@ -1,24 +1,28 @@
 -- Firing nodes makes no ring and drops none.
-use Rattle.std.proofs.Common.{◌≡◌, refl, ◌∙◌, ℕ, suc, ℤ, Bool, true, false}
+use Rattle.std.proofs.Common.{◌≡◌, refl, ◌∙◌, ℕ, zero, suc, ◌*◌, ℤ, Bool, true, false}
 use Rattle.std.proofs.Common.{List, [], ◌∷◌, length, map, take, drop, Option, Some, None, subst}
 use Rattle.std.specs.Prelude.{nat_le, nat_lt, sum, Result, Ok, Err, slice_get, slice_index}
-use Rattle.std.specs.Prelude.{slice_index_or}
+use Rattle.std.specs.Prelude.{slice_index_or, replicate}
 use Rattle.std.proofs.lemmas.List.{length-set}
 use Rattle.strc_semantics.specs.Firing as firing
 use Rattle.strc_semantics.specs.declared.fault.Cause.{Cause}
 use Rattle.strc_graph.specs.Graphs as graphs
-use Rattle.strc_graph.specs.Graphs.{NodeCode, SplitterCode, Duplicate, Roundrobin}
-use Rattle.strc_graph.specs.Meaning.{line_of}
-use Rattle.strc_graph.specs.Rates.{body_at, filter_pops}
+use Rattle.strc_graph.specs.Graphs.{NodeCode, SplitterCode, Duplicate, Roundrobin, CopiedCode}
+use Rattle.strc_graph.specs.Graphs.{OfFilter, OfIdentity}
+use Rattle.strc_graph.specs.Meaning.{line_of, scattered}
+use Rattle.strc_graph.specs.Rates.{body_at, filter_pops, reach, round_pops, copy_pops}
+use Rattle.strc_graph.specs.declared.graph.Fission.{Fission}
 use Rattle.strc_semantics.specs.Filters as filters
 use Rattle.strc_admissible.specs.Machine.{CircuitView, MachineView, Progress, Went, Stopped}
 use Rattle.strc_admissible.specs.Machine.{after_step, next_step, order_run, then_go}
 use Rattle.strc_admissible.specs.Rings.{Ring, at_port, given, taken, moved, dealt_out, copied_out}
 use Rattle.strc_admissible.specs.Rings.{gathered_in, items_at, ring_at, shortened, extended}
+use Rattle.strc_admissible.specs.Rings.{scattered_out}
 use Rattle.strc_admissible.specs.Steps.{Step, Stays, Goes, Faults, if_found, filter_after}
 use Rattle.strc_admissible.specs.Steps.{node_step, maybe_step, filter_step, filter_looks}
 use Rattle.strc_admissible.specs.Steps.{identity_step, reader_step, writer_step, splitter_step}
-use Rattle.strc_admissible.specs.Steps.{joiner_step, finds_weights}
+use Rattle.strc_admissible.specs.Steps.{joiner_step, finds_weights, looking_step, look_by}
+use Rattle.strc_admissible.specs.Steps.{scatter_step, copy_step}
 use Rattle.strc_admissible.specs.Wiring.{ports_at}
 use Rattle.strc_launch.specs.Laws.{RunsKeepRings}
 
@@ -61,6 +65,15 @@ gathered_many (weight ∷ weights) inputs to port rings =
     gathered_many weights inputs to (suc port) (moved (at_port inputs port) to weight rings)
     ∙ moved_many (at_port inputs port) to weight rings
 
+scattered_many : (fission : Fission) (from : Option ℕ) (outputs : List (Option ℕ)) (ports : ℕ)
+    (rings : List Ring)
+    → length (scattered_out fission from outputs ports rings) ≡ length rings
+scattered_many fission from outputs zero rings = refl
+scattered_many fission from outputs (suc port) rings =
+    let before = scattered_out fission from outputs port rings in
+    given_many (at_port outputs port) (scattered fission (items_at before from) port) before
+    ∙ scattered_many fission from outputs port rings
+
 -- what a step leaves has so many rings
 abbrev LeavesMany : ℕ → Step → Type 0
 LeavesMany count Stays = Unit {0}
@@ -83,14 +96,20 @@ module _ (rings : List Ring) where
   abbrev waits : (count : ℕ) (port : Option ℕ) → Bool
   waits count port = nat_le count (length (items_at rings port))
 
+  looking_many : (filter : filters.Filter) (number looks pops : ℕ) (fields : List ℤ)
+      (input output : Option ℕ)
+      → LeavesMany (length rings) (looking_step filter number looks pops fields input output rings)
+  looking_many filter number looks pops fields input output =
+      let done = firing.fired filter (body_at number) fields (items_at rings input) in
+      found_many (waits looks input) (filter_after pops input output rings done) (length rings)
+      (filter_many pops input output rings done)
+
   filter_step_many : (filter : filters.Filter) (number : ℕ) (fields : List ℤ)
       (input output : Option ℕ)
       → LeavesMany (length rings) (filter_step filter number fields input output rings)
   filter_step_many filter number fields input output =
-      let done = firing.fired filter (body_at number) fields (items_at rings input) in
-      found_many (waits (filter_looks filter number) input)
-      (filter_after (filter_pops filter number) input output rings done) (length rings)
-      (filter_many (filter_pops filter number) input output rings done)
+      looking_many filter number (filter_looks filter number) (filter_pops filter number) fields
+      input output
 
   identity_many : (input output : Option ℕ)
       → LeavesMany (length rings) (identity_step input output rings)
@@ -129,6 +148,27 @@ module _ (rings : List Ring) where
       (Goes [] (gathered_in weights inputs output 0 rings) []) (length rings)
       (gathered_many weights inputs output 0 rings)
 
+  scatter_many : (fission : Fission) (input : Option ℕ) (outputs : List (Option ℕ))
+      → LeavesMany (length rings) (scatter_step fission input outputs rings)
+  scatter_many fission input outputs =
+      let given_out = scattered_out fission input outputs fission.ways rings in
+      found_many (waits (reach fission (fission.ways * fission.firings)) input)
+      (Goes [] (taken input (round_pops fission) given_out) []) (length rings)
+      (taken_many input (round_pops fission) given_out
+      ∙ scattered_many fission input outputs fission.ways rings)
+
+  copy_many : (copied : CopiedCode) (fission : Fission) (number : ℕ) (fields : List ℤ)
+      (input output : Option ℕ)
+      → LeavesMany (length rings) (copy_step copied fission number fields input output rings)
+  copy_many (OfFilter name filter) fission number fields input output =
+      looking_many filter number (look_by filter.input fission.window) (copy_pops fission number)
+      fields input output
+  copy_many OfIdentity fission number fields input output =
+      let left = taken input (copy_pops fission number) rings in
+      let item = take 1 (items_at rings input) in
+      found_many (waits 1 input) (Goes [] (given output item left) []) (length rings)
+      (given_many output item left ∙ taken_many input (copy_pops fission number) rings)
+
 step_many : (code : NodeCode) (number : ℕ) (fields : List ℤ) (inputs outputs : List (Option ℕ))
     (input : List ℤ) (rings : List Ring)
     → LeavesMany (length rings) (node_step code number fields inputs outputs input rings)
@@ -144,9 +184,13 @@ step_many (graphs.Splitter splitter) number fields inputs outputs input rings =
     splitter_many rings splitter (at_port inputs 0) outputs
 step_many (graphs.Joiner weights) number fields inputs outputs input rings =
     joiner_many rings weights inputs (at_port outputs 0)
-step_many (graphs.Scatter fission) number fields inputs outputs input rings = tt
-step_many (graphs.Copy copied fission) number fields inputs outputs input rings = tt
-step_many (graphs.Gather fission) number fields inputs outputs input rings = tt
+step_many (graphs.Scatter fission) number fields inputs outputs input rings =
+    scatter_many rings fission (at_port inputs 0) outputs
+step_many (graphs.Copy copied fission) number fields inputs outputs input rings =
+    copy_many rings copied fission number fields (at_port inputs 0) (at_port outputs 0)
+step_many (graphs.Gather fission) number fields inputs outputs input rings =
+    joiner_many rings (replicate fission.ways (fission.firings * fission.push)) inputs
+    (at_port outputs 0)
 
 maybe_many : (code : Option NodeCode) (number : ℕ) (fields : List ℤ)
     (inputs outputs : List (Option ℕ)) (input : List ℤ) (rings : List Ring)
