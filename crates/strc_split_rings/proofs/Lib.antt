@@ -1,0 +1,4 @@
+pub mod Own
+pub mod Running
+pub mod Room
+pub mod Rings
