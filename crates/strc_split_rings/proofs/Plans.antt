@@ -55,8 +55,8 @@ plans_are_cut_runs stream old schedule round ways threshold plan input rounds st
         is = is.is;
         planned = is.planned;
         known = is.known;
-        own = greedy_rounds_own old stream is.counts round schedule ways is.typed is.program is.loops
-            is.greedy;
+        own = greedy_rounds_own old stream is.counts round schedule ways is.typed is.program
+            is.loops is.greedy;
         placed = subst (λ (c : Firings). ArePlaced (rates_of old) c (is_free old)
             (round_units schedule.round)) fires
             (programs_are_placed old stream is.counts (count_at round) schedule is.typed
