@@ -1,0 +1,5 @@
+pub mod Own
+pub mod Running
+pub mod Room
+pub mod Rings
+pub mod Plans
