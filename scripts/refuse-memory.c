@@ -36,6 +36,12 @@ void *malloc(size_t size) {
     return is_refused() ? 0 : real(size);
 }
 
+void *calloc(size_t count, size_t size) {
+    static void *(*real)(size_t, size_t);
+    if (!real) real = dlsym(RTLD_NEXT, "calloc");
+    return is_refused() ? 0 : real(count, size);
+}
+
 void *realloc(void *old, size_t size) {
     static void *(*real)(void *, size_t);
     if (!real) real = dlsym(RTLD_NEXT, "realloc");
