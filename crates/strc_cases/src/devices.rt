@@ -30,8 +30,8 @@ fn rounds(count: u32) -> Command {
 
 // Takes at most so many bytes at a time, and fails or takes none after so many calls.
 #[derive(Drop)]
-struct Writer {
-    taken: Vec<u8>,
+pub(crate) struct Writer {
+    pub(crate) taken: Vec<u8>,
     at_once: usize,
     calls_left: u32,
     fails: bool,
@@ -59,7 +59,8 @@ impl Write for Writer {
     }
 }
 
-fn told_writer(
+/// Such a writer, before its first call.
+pub(crate) fn told_writer(
     alloc: Global,
     at_once: usize,
     calls_left: u32,
@@ -75,10 +76,10 @@ fn told_writer(
 
 // Gives at most so many bytes at a time, and fails at one call.
 #[derive(Drop)]
-struct Reader<'a> {
-    rest: &'a [u8],
-    at_once: usize,
-    calls_left: u32,
+pub(crate) struct Reader<'a> {
+    pub(crate) rest: &'a [u8],
+    pub(crate) at_once: usize,
+    pub(crate) calls_left: u32,
 }
 
 impl Read for Reader<'_> {
@@ -123,7 +124,6 @@ pub(crate) fn run_devices<T: Threads + Wait + Sync>(
             "input in pieces of any size",
             takes_input_in_pieces(threads, alloc)?,
         ),
-        ("input that fails", reports_failed_inputs(threads, alloc)?),
     ];
     let mut different: usize = 0;
     for (name, is_as_wanted) in devices {
@@ -163,7 +163,7 @@ fn reports_failed_writes<T: Threads + Wait + Sync>(
     alloc: Global,
     fails: bool,
 ) -> Result<bool, AllocError> {
-    for calls in 0..3 {
+    for calls in 0..4 {
         let nothing: &[u8] = &[];
         let mut input = Told::new(nothing);
         let mut output = told_writer(alloc, 3, calls, fails)?;
@@ -274,37 +274,6 @@ fn takes_input_in_pieces<T: Threads + Wait + Sync>(
         );
         let taken = output.into_device().taken;
         if outcome != Ok(Status::Done) || taken.as_slice() != b"12\n-345\n6\n".as_slice() {
-            return Ok(false);
-        }
-    }
-    Ok(true)
-}
-
-/// After each number of calls. Nothing is written then.
-fn reports_failed_inputs<T: Threads + Wait + Sync>(
-    threads: &T,
-    alloc: Global,
-) -> Result<bool, AllocError> {
-    for calls_left in 0..3 {
-        let mut input = Told::new(Reader {
-            rest: b"12 34 56",
-            at_once: 2,
-            calls_left,
-        });
-        let mut output = told_writer(alloc, 1000, 1000, true)?;
-        let text = ECHO.as_bytes();
-        let outcome = execute(
-            threads,
-            alloc,
-            text,
-            &rounds(1),
-            &mut input,
-            &mut output,
-            &OpenGate,
-        );
-        let is_reported = input.failed() && !output.failed();
-        let is_empty = output.into_device().taken.is_empty();
-        if outcome != Err(CliError::Read) || !is_reported || !is_empty {
             return Ok(false);
         }
     }

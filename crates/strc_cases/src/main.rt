@@ -5,14 +5,18 @@
 // with, NAME.status, if that isn't 0; and what a person reads of it, NAME.message, if there is one.
 // Where a case's text is run by one worker, it is to come to the same by several, and with fused
 // units.
-// Gives a line for each case that differs, and at the end how many do; and the same of devices that
-// fail or take little at a time.
+// A case with a file NAME.pieces is broken at each place too: its text cut at each byte, and
+// devices that take so many bytes at a time failing at each call.
+// Gives a line for each case that differs, and at the end how many do; the same of the places at
+// which cases were broken, and of devices that fail or take little at a time.
 // There is no theorem here; the values are those of the language's rules.
 // Stands on strc_cli, whose `command` it calls, and on strc_explain, whose `execute_explained`.
 #![tactic(auto)]
 
+mod broken;
 mod devices;
 
+use crate::broken::run_broken;
 use crate::devices::run_devices;
 use std::io::ErrorKind;
 use std::process::ExitCode;
@@ -83,17 +87,26 @@ fn status_of<T: Threads + Wait + Sync>(rt: &HostRuntime, threads: &T) -> u8 {
 /// Whether no case and no device differs. An error is out of memory, or a folder or an output that
 /// fails.
 fn run_all<T: Threads + Wait + Sync>(rt: &HostRuntime, threads: &T) -> io::Result<bool> {
-    let cases_are_as_wanted = run_cases(rt, threads)?;
+    let names = case_names(rt)?;
+    let cases_are_as_wanted = run_cases(rt, threads, &names)?;
+    let broken = run_broken(rt, threads, &names)?;
+    println!(rt;
+        "{} places broken, {} differ",
+        broken.places, broken.different
+    )?;
     let (devices, different) = run_devices(rt, threads)?;
     println!(rt; "{devices} devices, {different} differ")?;
-    Ok(cases_are_as_wanted && different == 0)
+    Ok(cases_are_as_wanted && broken.different == 0 && different == 0)
 }
 
 /// Whether no case differs.
-fn run_cases<T: Threads + Wait + Sync>(rt: &HostRuntime, threads: &T) -> io::Result<bool> {
-    let names = case_names(rt)?;
+fn run_cases<T: Threads + Wait + Sync>(
+    rt: &HostRuntime,
+    threads: &T,
+    names: &[String],
+) -> io::Result<bool> {
     let mut different: usize = 0;
-    for name in &names {
+    for name in names {
         if !is_as_wanted(rt, threads, name)? {
             different = different.saturating_add(1);
         }
@@ -229,6 +242,20 @@ fn found_answer<T: Threads + Wait + Sync>(
     name: &str,
     given: &str,
 ) -> io::Result<Answer> {
+    let Some(command) = command_of(rt, name, given)? else {
+        return Ok(Answer {
+            output: Vec::new(rt.alloc()),
+            status: WORDS,
+            message: Vec::new(rt.alloc()),
+        });
+    };
+    let text = part(rt, name, "str")?;
+    let input = part_if_there(rt, name, "in")?;
+    answer_to(rt, threads, name, &text, &input, &command)
+}
+
+/// The command of a case's words; none where they aren't understood.
+fn command_of(rt: &HostRuntime, name: &str, given: &str) -> io::Result<Option<Command>> {
     let alloc = rt.alloc();
     let file = format!(in alloc; "{name}.str")?;
     let mut given = given.split_whitespace();
@@ -237,26 +264,23 @@ fn found_answer<T: Threads + Wait + Sync>(
         words.push(word)?;
     }
     match command(alloc, &words) {
-        Ok(line) => run(rt, threads, name, &line.command),
-        Err(LineFault::Words) => Ok(Answer {
-            output: Vec::new(alloc),
-            status: WORDS,
-            message: Vec::new(alloc),
-        }),
+        Ok(line) => Ok(Some(line.command)),
+        Err(LineFault::Words) => Ok(None),
         Err(LineFault::Memory) => Err(io::Error::from(ErrorKind::OutOfMemory)),
     }
 }
 
-fn run<T: Threads + Wait + Sync>(
+/// What the program does with a text and an input.
+fn answer_to<T: Threads + Wait + Sync>(
     rt: &HostRuntime,
     threads: &T,
     name: &str,
+    text: &[u8],
+    input: &[u8],
     command: &Command,
 ) -> io::Result<Answer> {
     let alloc = rt.alloc();
-    let text = part(rt, name, "str")?;
-    let input = part_if_there(rt, name, "in")?;
-    let mut input = Told::new(input.as_slice());
+    let mut input = Told::new(input);
     let mut output = Told::new(Vec::new(alloc));
     let file = format!(in alloc; "{name}.str")?;
     // The gate that measures lets each step through as the open one does.
@@ -266,7 +290,7 @@ fn run<T: Threads + Wait + Sync>(
             threads,
             alloc,
             &file,
-            &text,
+            text,
             command,
             &mut input,
             &mut output,
@@ -277,7 +301,7 @@ fn run<T: Threads + Wait + Sync>(
             threads,
             alloc,
             &file,
-            &text,
+            text,
             command,
             &mut input,
             &mut output,
