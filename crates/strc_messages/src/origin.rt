@@ -8,7 +8,8 @@ use strc_nodes::preorder::preorder_of;
 use strc_source::added::{Added, added_at};
 use strc_source::message::Extent;
 use strc_trial::elaborates::Elaborates;
-use strc_trial::trial::{LONGEST, Trial, with_part};
+use strc_trial::slow::is_slow;
+use strc_trial::trial::{Trial, with_part};
 
 /// How many statements are tried.
 const MOST: usize = 100;
@@ -20,7 +21,7 @@ pub(crate) fn origin_of<E: Elaborates>(
     name: &[u8],
 ) -> Result<Option<Extent>, NoMemory> {
     let source = trial.source;
-    if source.text.len() > LONGEST {
+    if is_slow(trial)? {
         return Ok(None);
     }
     let mut tried: usize = 0;

@@ -6,7 +6,8 @@ ghost use Rattle.strc_source.specs.Messages.{IsWithin};
 
 use crate::elaborates::Elaborates;
 use crate::follow::{Follower, Found, closed_declaration, main_area};
-use crate::trial::{LONGEST, Trial};
+use crate::slow::is_slow;
+use crate::trial::Trial;
 use strc_base::memory::NoMemory;
 use strc_lex::lexer::lex;
 use strc_semantics::fault::Cause;
@@ -51,7 +52,7 @@ fn last_statement<E: Elaborates>(
         IsWithin trial.entry.source.text.now place)) }
 {
     let source = trial.source;
-    if source.text.len() > LONGEST {
+    if is_slow(trial)? {
         return Ok(None);
     }
     let braced = with_braces(trial.alloc, source)?;

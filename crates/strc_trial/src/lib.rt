@@ -14,6 +14,7 @@ pub mod expected;
 pub mod faulting;
 mod follow;
 mod search;
+pub mod slow;
 pub mod statement;
 pub mod trial;
 pub mod turns;

@@ -8,7 +8,8 @@ use crate::ends::{end_part, is_foreign};
 use crate::faulting::statement_of;
 use crate::follow::{Follower, Found};
 use crate::search::Search;
-use crate::trial::{LONGEST, Trial};
+use crate::slow::is_slow;
+use crate::trial::Trial;
 use strc_base::memory::NoMemory;
 use strc_lex::lexer::lex;
 use strc_lex::token::{Keyword, Token, TokenKind};
@@ -69,7 +70,7 @@ fn refused_part<E: Elaborates>(
     declaration: usize,
 ) -> Result<Option<Part>, NoMemory> {
     let source = trial.source;
-    if source.text.len() > LONGEST {
+    if is_slow(trial)? {
         return Ok(None);
     }
     let Some(body) = body_of(source.tokens, declaration) else {
@@ -166,7 +167,7 @@ pub fn refused_use<E: Elaborates>(
         IsWithin trial.entry.source.text.now place)) }
 {
     let source = trial.source;
-    if source.text.len() > LONGEST {
+    if is_slow(trial)? {
         return Ok(None);
     }
     let mut search = Search::of_uses(trial, MOST);

@@ -24,16 +24,30 @@ use strc_steps::statements::plain_end;
 /// its streams are put together.
 const MOST_TURNS: usize = 600_000;
 
+/// A loop that makes so many turns in one body makes each trial slow.
+const MANY_TURNS: usize = 10_000;
+
 /// How many loops of filters are tried.
 const MOST: usize = 8;
 
 /// A loop that may turn before a program runs.
 #[derive(Clone, Copy)]
-struct Loop {
+pub(crate) struct Loop {
     header: usize,
     /// The brace that opens its body.
     open: usize,
     in_filter: bool,
+}
+
+/// Which loops are counted, and what each does at its last turn.
+#[derive(Clone, Copy)]
+pub(crate) enum Counted {
+    /// Those of composite streams, each of which asks for a name of its own.
+    Composites,
+    /// Those of filters; the one whose body this brace opens faults.
+    Filters(usize),
+    /// All; each faults so after many turns.
+    All(Cause),
 }
 
 /// The header of the loop that turns too often, where it can be known.
@@ -73,7 +87,7 @@ fn endless_header<E: Elaborates>(
 }
 
 /// The loops that may turn before a program runs.
-fn loops_of(alloc: Global, tokens: &[Token]) -> Result<Vec<Loop>, NoMemory> {
+pub(crate) fn loops_of(alloc: Global, tokens: &[Token]) -> Result<Vec<Loop>, NoMemory> {
     let mut loops = Vec::new(alloc);
     let mut filter_end: usize = 0;
     let mut work_end: usize = 0;
@@ -117,7 +131,7 @@ fn endless_in_composite<E: Elaborates>(
     if loops.iter().all(|found| found.in_filter) {
         return Ok(None);
     }
-    let text = counting_text(trial.alloc, trial.source, loops, None)?;
+    let text = counting_text(trial.alloc, trial.source, loops, Counted::Composites)?;
     let Some(name) = trial.unknown_name(&text)? else {
         return Ok(None);
     };
@@ -140,7 +154,8 @@ fn endless_in_filter<E: Elaborates>(
     for found in loops {
         if found.in_filter && tried < MOST {
             tried += 1;
-            let text = counting_text(trial.alloc, trial.source, loops, Some(found.open))?;
+            let counted = Counted::Filters(found.open);
+            let text = counting_text(trial.alloc, trial.source, loops, counted)?;
             if trial.answer_to(&text)? == Answer::Fault(Cause::DivZero) {
                 return Ok(Some(found.header));
             }
@@ -149,13 +164,12 @@ fn endless_in_filter<E: Elaborates>(
     Ok(None)
 }
 
-/// A text that counts the turns of each body; a loop of a filter is sought, or one of another
-/// stream.
-fn counting_text(
+/// A text that counts the turns of each body.
+pub(crate) fn counting_text(
     alloc: Global,
     source: Source<'_>,
     loops: &[Loop],
-    sought: Option<usize>,
+    counted: Counted,
 ) -> Result<Vec<u8>, NoMemory> {
     let mut text = Vec::new(alloc);
     let mut written: usize = 0;
@@ -165,7 +179,7 @@ fn counting_text(
         written = end;
         if is_mark(token, Punctuation::OpenBrace) {
             match loops.iter().find(|found| found.open == place) {
-                Some(found) => push_turn(&mut text, *found, sought)?,
+                Some(found) => push_turn(&mut text, *found, counted)?,
                 None => push_counter(&mut text, source.tokens, place)?,
             }
         }
@@ -175,24 +189,41 @@ fn counting_text(
 }
 
 /// What counts a turn.
-fn push_turn(text: &mut Vec<u8>, turning: Loop, sought: Option<usize>) -> Result<(), NoMemory> {
-    match sought {
-        Some(open) if open == turning.open => {
-            text.extend_from_slice(b" if (++strc_turn == ")?;
-            push_number(text, TURN_LIMIT as usize)?;
-            text.extend_from_slice(b") strc_turn = 1 / 0; ")?;
+fn push_turn(text: &mut Vec<u8>, turning: Loop, counted: Counted) -> Result<(), NoMemory> {
+    match counted {
+        Counted::Filters(open) if open == turning.open => {
+            push_last(text, TURN_LIMIT as usize)?;
+            text.extend_from_slice(b"strc_turn = 1 / 0; ")?;
         }
-        None if !turning.in_filter => {
-            text.extend_from_slice(b" if (++strc_turn == ")?;
-            push_number(text, MOST_TURNS)?;
-            text.extend_from_slice(b") ")?;
+        Counted::Filters(_) if turning.in_filter => text.extend_from_slice(b" strc_turn++; ")?,
+        Counted::Composites if !turning.in_filter => {
+            push_last(text, MOST_TURNS)?;
             push_loop_name(text, turning.open)?;
             text.extend_from_slice(b"; ")?;
         }
-        Some(_) if turning.in_filter => text.extend_from_slice(b" strc_turn++; ")?,
+        Counted::All(cause) => {
+            push_last(text, MANY_TURNS)?;
+            text.extend_from_slice(fault_of(cause))?;
+        }
         _ => {}
     }
     Ok(())
+}
+
+/// What counts a turn, and asks whether it is the last one.
+fn push_last(text: &mut Vec<u8>, turns: usize) -> Result<(), NoMemory> {
+    text.extend_from_slice(b" if (++strc_turn == ")?;
+    push_number(text, turns)?;
+    text.extend_from_slice(b") ")?;
+    Ok(())
+}
+
+/// A statement that faults.
+fn fault_of(cause: Cause) -> &'static [u8] {
+    match cause {
+        Cause::Index => b"{ int[1] strc_turns; strc_turns[1] = 0; } ",
+        _ => b"strc_turn = 1 / 0; ",
+    }
 }
 
 /// What a body has that counts turns, where a brace opens a stream's body.

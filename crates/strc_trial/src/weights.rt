@@ -4,7 +4,8 @@ ghost use Rattle.std.specs.Prelude.{IfOk, IfSome};
 ghost use Rattle.strc_source.specs.Messages.{IsWithin};
 
 use crate::elaborates::Elaborates;
-use crate::trial::{Answer, LONGEST, Trial, with_part};
+use crate::slow::is_slow;
+use crate::trial::{Answer, Trial, with_part};
 use std::alloc::Global;
 use strc_base::memory::NoMemory;
 use strc_lex::token::{Keyword, Token, TokenKind};
@@ -25,7 +26,7 @@ pub fn refused_weights<E: Elaborates>(
         IsWithin trial.entry.source.text.now place)) }
 {
     let source = trial.source;
-    if source.text.len() > LONGEST {
+    if is_slow(trial)? {
         return Ok(None);
     }
     let Some(body) = body_of(source.tokens, declaration) else {
