@@ -32,7 +32,7 @@ const FAILED: u8 = 5;
 // statements 256 deep, and the walk over them calls itself for each.
 const STACK: usize = 0x1000_0000;
 
-// Runs on a thread with that much room; on this one, where there can't be such a thread.
+// Runs on a thread with that much room; out of memory where there can't be such a thread.
 fn main(rt: HostRuntime) -> ExitCode {
     let status = thread::scope(thread::scope_env(), &rt, |scope| {
         match Builder::new()
@@ -40,7 +40,7 @@ fn main(rt: HostRuntime) -> ExitCode {
             .spawn_scoped(scope, || run(&rt, &rt))
         {
             Ok(handle) => handle.join(&rt),
-            Err(_) => run(&rt, &rt),
+            Err(_) => out_of_memory(&rt),
         }
     });
     ExitCode::from(status)

@@ -22,6 +22,7 @@ fn rounds(count: u32) -> Command {
     Command::Run {
         rounds: Some(count),
         workers: 1,
+        ways: 1,
         fuse: 0,
         stats: false,
         main: None,
@@ -252,6 +253,7 @@ fn takes_input_in_pieces<T: Threads + Wait + Sync>(
     let all = Command::Run {
         rounds: None,
         workers: 1,
+        ways: 1,
         fuse: 0,
         stats: false,
         main: None,

@@ -3,12 +3,12 @@
 // Takes the files of the folder that it runs in. A case is a text NAME.str and its words NAME.args,
 // the command first; its input NAME.in, if it has one; what it writes, NAME.out; the status it ends
 // with, NAME.status, if that isn't 0; and what a person reads of it, NAME.message, if there is one.
-// Where a case's text is run by one worker, it is to come to the same by several, and with fused
-// units.
+// Where a case's text is run by one worker, it is to come to the same by several, with copies and
+// with fused units.
 // A case with a file NAME.pieces is broken at each place too: its text cut at each byte, and
 // devices that take so many bytes at a time failing at each call.
-// Gives a line for each case that differs, and at the end how many do; the same of the places at
-// which cases were broken, and of devices that fail or take little at a time.
+// Gives a line for each case that differs, and at the end how many do; and the same of the places
+// at which cases were broken, and of devices that fail or take little at a time.
 // There is no theorem here; the values are those of the language's rules.
 // Stands on strc_cli, whose `command` it calls, and on strc_explain, whose `execute_explained`.
 #![tactic(auto)]
@@ -33,9 +33,15 @@ use strc_worker::OpenGate;
 // The status of a command line that isn't understood, as of the program's.
 const WORDS: u8 = 1;
 
-// By how many workers a case is run besides, and with how many entries in the list of a fused unit:
-// it comes to the same.
-const RUNS: [(&str, &str); 4] = [("2", "0"), ("3", "2"), ("64", "8"), ("1", "1000")];
+// The words with which a case is run besides: it comes to the same.
+const RUNS: [&str; 6] = [
+    "--workers 2",
+    "--workers 3 --fuse 2",
+    "--workers 64 --fuse 8",
+    "--fuse 1000",
+    "--workers 3 --ways 2",
+    "--workers 4 --ways 64 --fuse 2",
+];
 
 // The statuses of this program where not all cases are as they are to be.
 const DIFFERENT: u8 = 1;
@@ -163,17 +169,18 @@ fn compare<T: Threads + Wait + Sync>(
     is_same_otherwise(rt, threads, name, &given, &wanted)
 }
 
-/// Whether a case's words leave workers and fusion open, and its text comes to a run: one that is
-/// refused is so before there are workers.
+/// Whether a case's words leave workers, copies and fusion open, and its text comes to a run: one
+/// that is refused is so before there are workers.
 fn comes_to_a_run(given: &str, wanted: &Answer) -> bool {
     given.split_whitespace().next() == Some("run")
         && !given.contains("--workers")
+        && !given.contains("--ways")
         && !given.contains("--fuse")
         && wanted.status != WORDS
         && !wanted.output.starts_with(b"refused E")
 }
 
-/// Whether several workers, and fused units, come to the same.
+/// Whether several workers, copies and fused units come to the same.
 fn is_same_otherwise<T: Threads + Wait + Sync>(
     rt: &HostRuntime,
     threads: &T,
@@ -181,9 +188,9 @@ fn is_same_otherwise<T: Threads + Wait + Sync>(
     given: &str,
     wanted: &Answer,
 ) -> io::Result<bool> {
-    for (workers, fuse) in RUNS {
-        let words = format!(in rt.alloc(); "{given} --workers {workers} --fuse {fuse}")?;
-        let title = format!(in rt.alloc(); "{name} by {workers} workers, fuse {fuse}")?;
+    for more in RUNS {
+        let words = format!(in rt.alloc(); "{given} {more}")?;
+        let title = format!(in rt.alloc(); "{name} with {more}")?;
         if !is_answer(
             rt,
             &title,

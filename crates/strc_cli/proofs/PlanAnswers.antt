@@ -1,13 +1,11 @@
 -- What a text's plan says of the text: its size, and how its rounds end.
 use Rattle.std.proofs.Common.{◌≡◌, ◌∙◌, refl, ℕ, ℤ, Bool, true, false, List, Option, Vec}
 use Rattle.std.proofs.Common.{String, Global, length, sym, ap, subst, Result, Ok, Err}
-use Rattle.std.specs.Prelude.{string_bytes}
-use Rattle.std.specs.Option.{option_map}
 use Rattle.std.specs.List.{list_any}
 use Rattle.std.proofs.lemmas.List.{length-map}
 use Rattle.strc_graph.specs.Graphs.{reads_input}
 use Rattle.strc_graph.specs.NodeView.{channel_view, node_view}
-use Rattle.strc_stage.specs.Plans.{PlanParts, Planning, planning_of}
+use Rattle.strc_stage.specs.Plans.{PlanParts}
 use Rattle.strc_run.specs.Choices.{Choice}
 use Rattle.strc_run.specs.Laws.{PlansAnswerTexts}
 use Rattle.strc_run.specs.Plans.{IsPlanOf}
@@ -24,33 +22,34 @@ use Rattle.strc_input.specs.Input.{WritesNumbers}
 use Rattle.strc_cli.specs.Answering.{chosen, HasSize, IsAnswered, IsInput, ReadsText}
 use Rattle.strc_cli.specs.Input.{IsInputOf, IsRunAnswer, unread}
 
--- both parts of a choice
-pub same_choice : (one other : Choice) → one.main ≡ other.main → one.fuse ≡ other.fuse
-    → one ≡ other
-same_choice one other main fuse =
-    ap (λ (m : Option (List ℕ)). record { main = m; fuse = one.fuse }) main
-    ∙ ap (λ (n : ℕ). record { main = other.main; fuse = n }) fuse
+-- all parts of a choice
+pub same_choice : (one other : Choice) → one.main ≡ other.main → one.ways ≡ other.ways
+    → one.fuse ≡ other.fuse → one ≡ other
+same_choice one other main ways fuse =
+    ap (λ (m : Option (List ℕ)). record { main = m; ways = one.ways; fuse = one.fuse }) main
+    ∙ ap (λ (n : ℕ). record { main = other.main; ways = n; fuse = one.fuse }) ways
+    ∙ ap (λ (n : ℕ). record { main = other.main; ways = other.ways; fuse = n }) fuse
 
 -- the size of a plan is that of its text's graph
 pub plan_size : (text : List ℕ) (choice : Choice) (plan : PlanParts)
-    → IsPlanOf text choice (planning_of plan)
+    → IsPlanOf text choice plan
     → HasSize text choice (length plan.graph.nodes) (length plan.graph.channels)
 plan_size text choice plan is = record {
-  plan = planning_of plan;
+  plan = plan;
   accepted = is.accepted;
   nodes = sym (length-map plan.graph.nodes node_view);
   channels = sym (length-map plan.graph.channels channel_view);
 }
 
-module _ (text : List ℕ) (main : Option (String Global)) (fuse : ℕ) (plan : Planning)
-    (is : IsPlanOf text (chosen main fuse) plan) (rounds : Option ℕ)
+module _ (text : List ℕ) (main : Option (String Global)) (ways fuse : ℕ) (plan : PlanParts)
+    (is : IsPlanOf text (chosen main ways fuse) plan) (rounds : Option ℕ)
     (workers : ℕ) (stats : Bool) (bytes : Option (List ℕ)) where
   -- the plan's nodes are the stream's
   same_reader : plan_reads plan ≡ has_reader is.accepted.stream
   same_reader = ap (list_any reads_input) is.nodes
 
   -- where the graph reads, the text's stream has a reader
-  pub reads_text : plan_reads plan ≡ true → ReadsText text (chosen main fuse)
+  pub reads_text : plan_reads plan ≡ true → ReadsText text (chosen main ways fuse)
   reads_text is_true = record {
     plan = plan;
     accepted = is.accepted;
@@ -77,15 +76,15 @@ module _ (text : List ℕ) (main : Option (String Global)) (fuse : ℕ) (plan : 
     given_here = subst (λ b. IsInput b bytes input) same_reader given
 
     plan_answered : (result : Result Answer Stop) → IsRunAnswer plan input rounds workers result
-        → IsAnswered text (command.Run rounds workers fuse stats main) bytes (Ok result)
+        → IsAnswered text (command.Run rounds workers ways fuse stats main) bytes (Ok result)
     plan_answered (Ok (answer.Ran own outcome)) runs = (
-      subst (IsPlanOf text (chosen main fuse)) (sym runs.0) is,
+      subst (IsPlanOf text (chosen main ways fuse)) (sym runs.0) is,
       record {
         plan = plan;
         accepted = is.accepted;
         input = input;
         given = given_here;
-        ends = answers text (chosen main fuse) plan input rounds workers (Ok outcome)
+        ends = answers text (chosen main ways fuse) plan input rounds workers (Ok outcome)
             is runs.1;
       },
     )
@@ -95,7 +94,7 @@ module _ (text : List ℕ) (main : Option (String Global)) (fuse : ℕ) (plan : 
       accepted = is.accepted;
       input = input;
       given = given_here;
-      ends = answers text (chosen main fuse) plan input rounds workers (Err why) is
+      ends = answers text (chosen main ways fuse) plan input rounds workers (Err why) is
           unrun;
     }
     plan_answered (Err why) never = absurd never
@@ -104,13 +103,13 @@ module _ (text : List ℕ) (main : Option (String Global)) (fuse : ℕ) (plan : 
   pub input_run : PlansAnswerTexts → (numbers : Vec ℤ Global) (result : Result Answer Stop)
       → IsInputOf (plan_reads plan) bytes (Ok numbers)
       → IsRunAnswer plan numbers.items rounds workers result
-      → IsAnswered text (command.Run rounds workers fuse stats main) bytes (Ok result)
+      → IsAnswered text (command.Run rounds workers ways fuse stats main) bytes (Ok result)
   input_run law numbers result given answers =
       plan_answered law numbers.items (input_is (plan_reads plan) numbers given) result answers
 
   -- or the input isn't read to its end
   pub stopped_run : (why : ReadStop) → IsInputOf (plan_reads plan) bytes (Err why)
-      → IsAnswered text (command.Run rounds workers fuse stats main) bytes (unread why)
+      → IsAnswered text (command.Run rounds workers ways fuse stats main) bytes (unread why)
   stopped_run (read.BadInput word) given = (
     reads_text (no_input (plan_reads plan) (read.BadInput word) given),
     bad_input (plan_reads plan) word given,

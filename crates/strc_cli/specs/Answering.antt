@@ -1,17 +1,23 @@
 -- What is answered for a text, a command and an input, before anything is written.
 use Rattle.std.specs.Prelude.{◌≡◌, ℕ, ℤ, Bool, true, false, List, [], length, Option, Result, Ok}
-use Rattle.std.specs.Prelude.{Err, String, string_bytes}
+use Rattle.std.specs.Prelude.{Err, String, string_bytes, None, unwrap_or}
 use Rattle.std.specs.declared.alloc.Global.{Global}
 use Rattle.std.specs.Option.{option_map}
 use Rattle.strc_input.specs.Input.{WritesNumbers}
 use Rattle.strc_outcome.specs.declared.outcome.Outcome.{Outcome}
 use Rattle.strc_outcome.specs.declared.refusal.RunRefusal.{RunRefusal}
+use Rattle.strc_outcome.specs.declared.refusal.RunRefusal.TheVariants.{BadWorkers}
 use Rattle.strc_stream.specs.Instances.{Stream}
+use Rattle.strc_fuse.specs.Units.{round_units}
+use Rattle.strc_picture.specs.Parts.{round_shares, startup_shares}
 use Rattle.strc_picture.specs.Pictures.{picture_text}
-use Rattle.strc_stage.specs.Plans.{Planning, PlanParts, planning_of}
+use Rattle.strc_picture.specs.Stages.{plan_picture_text}
+use Rattle.strc_stage.specs.Plans.{PlanParts, graph_of}
+use Rattle.strc_cut.specs.Bounds.{stage_bounds}
 use Rattle.strc_run.specs.Accepts.{Accepts}
 use Rattle.strc_run.specs.Choices.{Choice}
 use Rattle.strc_run.specs.Plans.{IsPlanOf}
+use Rattle.strc_run.specs.Rounds.{AreWorkers}
 use Rattle.strc_run.specs.Streams.{IsStreamOf}
 use Rattle.strc_run.specs.Refuses.{IsTrueOf}
 use Rattle.strc_run.specs.TextRuns.{IsTextRun, has_reader}
@@ -24,17 +30,26 @@ use Rattle.strc_output.specs.declared.stop.Stop.TheVariants as stop
 use Rattle.strc_command.specs.declared.line.Command.{Command}
 use Rattle.strc_command.specs.declared.line.Command.TheVariants as command
 
--- a text is compiled for the main stream of this name, where there is one, with so many entries in
--- the list of a fused unit
-abbrev pub chosen : (main : Option (String Global)) → (fuse : ℕ) → Choice
-chosen main fuse = record { main = option_map string_bytes main; fuse = fuse }
+-- a text is compiled for the main stream of this name, where there is one, with so many copies of a
+-- node, and so many entries in the list of a fused unit
+abbrev pub chosen : (main : Option (String Global)) → (ways fuse : ℕ) → Choice
+chosen main ways fuse = record { main = option_map string_bytes main; ways = ways; fuse = fuse }
 
--- how a command's text is compiled: only to run it units are fused
+-- nothing is split or fused
+abbrev pub plain : (main : Option (String Global)) → Choice
+plain main = chosen main 1 0
+
+-- to draw what is run, with these numbers where they are given
+abbrev pub drawn_so : (ways fuse : Option ℕ) → (main : Option (String Global)) → Choice
+drawn_so ways fuse main = chosen main (unwrap_or ways 1) (unwrap_or fuse 0)
+
+-- how a command's text is compiled: nodes are split and units fused to run it, and to draw what is
+-- run
 abbrev pub choice_of : Command → Choice
-choice_of (command.Run rounds workers fuse stats main) = chosen main fuse
-choice_of (command.Check main) = chosen main 0
-choice_of (command.Plan main) = chosen main 0
-choice_of (command.Graph main) = chosen main 0
+choice_of (command.Run rounds workers ways fuse stats main) = chosen main ways fuse
+choice_of (command.Check main) = plain main
+choice_of (command.Plan main) = plain main
+choice_of (command.Graph workers ways fuse main) = drawn_so ways fuse main
 
 -- the input of a program that reads one is what the bytes write; that of another one is empty
 abbrev pub IsInput : (reads : Bool) → (bytes : Option (List ℕ)) → List ℤ → Type 0
@@ -46,7 +61,7 @@ IsInput false bytes input = input ≡ []
 -- of workers, or with why they aren't run
 pub record RunsText (text : List ℕ) (choice : Choice) (rounds : Option ℕ) (workers : ℕ)
     (bytes : Option (List ℕ)) (result : Result Outcome RunRefusal) : Type 0 where
-  pub plan : Planning
+  pub plan : PlanParts
   pub accepted : Accepts text choice plan
   pub input : List ℤ
   pub given : IsInput (has_reader accepted.stream) bytes input
@@ -54,56 +69,90 @@ pub record RunsText (text : List ℕ) (choice : Choice) (rounds : Option ℕ) (w
 
 -- the text is accepted, and its main stream has a reader of the input
 pub record ReadsText (text : List ℕ) (choice : Choice) : Type 0 where
-  pub plan : Planning
+  pub plan : PlanParts
   pub accepted : Accepts text choice plan
   pub reads : has_reader accepted.stream ≡ true
 
 -- the text is accepted, and its flat graph has so many nodes and channels
 pub record HasSize (text : List ℕ) (choice : Choice)
     (node_count channel_count : ℕ) : Type 0 where
-  pub plan : Planning
+  pub plan : PlanParts
   pub accepted : Accepts text choice plan
-  pub nodes : node_count ≡ length plan.graph.nodes
-  pub channels : channel_count ≡ length plan.graph.channels
+  pub nodes : node_count ≡ length (graph_of plan).nodes
+  pub channels : channel_count ≡ length (graph_of plan).channels
 
 -- the text is accepted, and this is the picture of its flat graph, with the counts and the sizes of
 -- its plan, in boxes as its main stream has split-joins and feedback loops
 pub record HasPicture (text : List ℕ) (choice : Choice) (picture : List ℕ) : Type 0 where
   pub plan : PlanParts
-  pub planned : IsPlanOf text choice (planning_of plan)
+  pub planned : IsPlanOf text choice plan
   pub stream : Stream
   pub means : IsStreamOf text choice.main stream
   pub drawn : picture
       ≡ picture_text stream plan.graph plan.startup_counts plan.round_counts plan.schedule.sizes
 
+-- the picture of what so many workers run: of a plan's graph after fission, in boxes of stages and
+-- of fused units
+abbrev pub stages_text : PlanParts → (workers : ℕ) → List ℕ
+stages_text plan workers =
+    let split = plan.split in
+    let round = split.schedule.round in
+    plan_picture_text split.graph
+    (startup_shares split.graph.nodes split.origins plan.startup_counts)
+    (round_shares split.graph.nodes split.origins plan.round_counts)
+    split.schedule.sizes round
+    (stage_bounds split.graph.outer_loops (round_units round) workers)
+
+-- the text is accepted, and this is the picture of what so many workers run, which can run it
+pub record HasStagesPicture (text : List ℕ) (choice : Choice) (workers : ℕ) (picture : List ℕ)
+    : Type 0 where
+  pub plan : PlanParts
+  pub planned : IsPlanOf text choice plan
+  pub are : AreWorkers workers
+  pub drawn : picture ≡ stages_text plan workers
+
+-- the picture of a text's flat graph, or of what is run where one of three numbers is given
+abbrev pub IsPictureOf : List ℕ → (workers ways fuse : Option ℕ) → (main : Option (String Global))
+    → (picture : List ℕ) → Type 0
+IsPictureOf text None None None main picture = HasPicture text (drawn_so None None main) picture
+IsPictureOf text workers ways fuse main picture =
+    HasStagesPicture text (drawn_so ways fuse main) (unwrap_or workers 1) picture
+
 -- an answer is what a command asks of the text: the outcome of its rounds, with its plan, the size
--- of its graph, its plan, or the picture of its graph
+-- of its graph, its plan, or a picture
 abbrev pub IsAsked : List ℕ → Command → (bytes : Option (List ℕ)) → Answer → Type 0
-IsAsked text (command.Run rounds workers fuse stats main) bytes (answer.Ran plan outcome) =
-    IsPlanOf text (chosen main fuse) (planning_of plan)
-    × RunsText text (chosen main fuse) rounds workers bytes (Ok outcome)
+IsAsked text (command.Run rounds workers ways fuse stats main) bytes (answer.Ran plan outcome) =
+    IsPlanOf text (chosen main ways fuse) plan
+    × RunsText text (chosen main ways fuse) rounds workers bytes (Ok outcome)
 IsAsked text (command.Check main) bytes (answer.Checked nodes channels) =
-    HasSize text (chosen main 0) nodes channels
-IsAsked text (command.Plan main) bytes (answer.Planned plan) =
-    IsPlanOf text (chosen main 0) (planning_of plan)
-IsAsked text (command.Graph main) bytes (answer.Drawn picture) =
-    HasPicture text (chosen main 0) picture.items
+    HasSize text (plain main) nodes channels
+IsAsked text (command.Plan main) bytes (answer.Planned plan) = IsPlanOf text (plain main) plan
+IsAsked text (command.Graph workers ways fuse main) bytes (answer.Drawn picture) =
+    IsPictureOf text workers ways fuse main picture.items
 IsAsked text _ bytes _ = ⊥
 
 -- a command asks for a run, which reads the input
 abbrev pub ReadsInput : List ℕ → Command → Type 0
-ReadsInput text (command.Run rounds workers fuse stats main) =
-    ReadsText text (chosen main fuse)
+ReadsInput text (command.Run rounds workers ways fuse stats main) =
+    ReadsText text (chosen main ways fuse)
 ReadsInput text _ = ⊥
 
+-- the text is accepted, and so many workers can't run it
+pub record HasBadWorkers (text : List ℕ) (choice : Choice) (workers : ℕ) : Type 0 where
+  pub plan : PlanParts
+  pub accepted : Accepts text choice plan
+  pub bad : ¬ AreWorkers workers
+
 -- a command has no answer, for this reason: the text is refused; a word of its input writes no
--- number; its rounds aren't run
+-- number; its rounds aren't run, or what would run them isn't drawn
 abbrev pub IsStopped : List ℕ → Command → (bytes : Option (List ℕ)) → Stop → Type 0
 IsStopped text command bytes (stop.Refused refused) = IsTrueOf text (choice_of command) refused
 IsStopped text command bytes (stop.BadInput word) =
     ReadsInput text command × WritesNumbers bytes (Err word)
-IsStopped text (command.Run rounds workers fuse stats main) bytes (stop.NotRun refused) =
-    RunsText text (chosen main fuse) rounds workers bytes (Err refused)
+IsStopped text (command.Run rounds workers ways fuse stats main) bytes (stop.NotRun refused) =
+    RunsText text (chosen main ways fuse) rounds workers bytes (Err refused)
+IsStopped text (command.Graph workers ways fuse main) bytes (stop.NotRun BadWorkers) =
+    HasBadWorkers text (drawn_so ways fuse main) (unwrap_or workers 1)
 IsStopped text _ bytes (stop.NotRun refused) = ⊥
 
 -- a command is answered, or has no answer; or the input fails, or memory runs out while it is read
@@ -116,9 +165,9 @@ IsAnswered text command bytes (Err error.Memory) = ReadsInput text command
 IsAnswered text command bytes (Err error.Write) = ⊥
 
 -- a run of a plan is answered, whatever text it is the plan of
-abbrev pub AnswersPlan : Planning → (rounds : Option ℕ) → (workers : ℕ)
+abbrev pub AnswersPlan : PlanParts → (rounds : Option ℕ) → (workers : ℕ)
     → (bytes : Option (List ℕ)) → Result (Result Answer Stop) CliError → Type 0
 AnswersPlan plan rounds workers bytes result =
-    (text : List ℕ) (main : Option (String Global)) (fuse : ℕ) (stats : Bool)
-    → IsPlanOf text (chosen main fuse) plan
-    → IsAnswered text (command.Run rounds workers fuse stats main) bytes result
+    (text : List ℕ) (main : Option (String Global)) (ways fuse : ℕ) (stats : Bool)
+    → IsPlanOf text (chosen main ways fuse) plan
+    → IsAnswered text (command.Run rounds workers ways fuse stats main) bytes result

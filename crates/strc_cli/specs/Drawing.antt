@@ -1,19 +1,31 @@
--- The picture of a plan, for whatever text it is the plan of.
-use Rattle.std.specs.Prelude.{ℕ, List, Result, Ok, Err}
-use Rattle.strc_stage.specs.Plans.{PlanParts, planning_of}
+-- The pictures of a plan, for whatever text it is the plan of.
+use Rattle.std.specs.Prelude.{◌≡◌, ℕ, List, Result, Ok, Err}
+use Rattle.strc_stage.specs.Plans.{PlanParts}
+use Rattle.strc_refusal.specs.declared.refusal.Refusal.TheVariants.{NoMemory}
+use Rattle.strc_outcome.specs.declared.refusal.RunRefusal.TheVariants.{BadWorkers}
 use Rattle.strc_run.specs.Choices.{Choice}
 use Rattle.strc_run.specs.Plans.{IsPlanOf}
 use Rattle.strc_run.specs.Refuses.{IsTrueOf}
+use Rattle.strc_run.specs.Rounds.{AreWorkers}
 use Rattle.strc_cli.specs.declared.answer.Answer.{Answer}
 use Rattle.strc_cli.specs.declared.answer.Answer.TheVariants as answer
 use Rattle.strc_output.specs.declared.stop.Stop.{Stop}
 use Rattle.strc_output.specs.declared.stop.Stop.TheVariants as stop
-use Rattle.strc_cli.specs.Answering.{HasPicture}
+use Rattle.strc_cli.specs.Answering.{HasPicture, stages_text}
 
 -- the plan of this text is drawn, or the text is refused
 abbrev pub IsDrawn : List ℕ → Choice → PlanParts → Result Answer Stop → Type 0
 IsDrawn text choice plan (Ok (answer.Drawn picture)) =
-    IsPlanOf text choice (planning_of plan) → HasPicture text choice picture.items
+    IsPlanOf text choice plan → HasPicture text choice picture.items
 IsDrawn text choice plan (Ok _) = ⊥
 IsDrawn text choice plan (Err (stop.Refused refused)) = IsTrueOf text choice refused
 IsDrawn text choice plan (Err _) = ⊥
+
+-- what so many workers run of a plan is drawn; or they can't run it, or memory runs out
+abbrev pub AreStagesDrawn : PlanParts → (workers : ℕ) → Result Answer Stop → Type 0
+AreStagesDrawn plan workers (Ok (answer.Drawn picture)) =
+    AreWorkers workers × (picture.items ≡ stages_text plan workers)
+AreStagesDrawn plan workers (Ok _) = ⊥
+AreStagesDrawn plan workers (Err (stop.Refused NoMemory)) = Unit {0}
+AreStagesDrawn plan workers (Err (stop.NotRun BadWorkers)) = ¬ AreWorkers workers
+AreStagesDrawn plan workers (Err _) = ⊥

@@ -5,7 +5,7 @@ use Rattle.std.specs.declared.alloc.Global.{Global}
 use Rattle.strc_input.specs.declared.input.ReadStop.{ReadStop}
 use Rattle.strc_input.specs.declared.input.ReadStop.TheVariants as stop
 use Rattle.strc_input.specs.Input.{ReadsNumbers}
-use Rattle.strc_stage.specs.Plans.{Planning, planning_of}
+use Rattle.strc_stage.specs.Plans.{PlanParts}
 use Rattle.strc_run.specs.Rounds.{IsRunOf}
 use Rattle.strc_cli.specs.declared.execute.CliError.{CliError}
 use Rattle.strc_cli.specs.declared.execute.CliError.TheVariants as failure
@@ -22,10 +22,10 @@ IsInputOf false bytes (Ok numbers) = numbers.items ≡ []
 IsInputOf false bytes (Err why) = ⊥
 
 -- how the rounds of a plan are answered by so many workers
-abbrev pub IsRunAnswer : Planning → List ℤ → (rounds : Option ℕ) → (workers : ℕ)
+abbrev pub IsRunAnswer : PlanParts → List ℤ → (rounds : Option ℕ) → (workers : ℕ)
     → Result Answer Stop → Type 0
 IsRunAnswer plan input rounds workers (Ok (answer.Ran own outcome)) =
-    (planning_of own ≡ plan) × IsRunOf plan input rounds workers (Ok outcome)
+    (own ≡ plan) × IsRunOf plan input rounds workers (Ok outcome)
 IsRunAnswer plan input rounds workers (Ok _) = ⊥
 IsRunAnswer plan input rounds workers (Err (no_answer.NotRun refused)) =
     IsRunOf plan input rounds workers (Err refused)

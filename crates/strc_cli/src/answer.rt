@@ -2,19 +2,19 @@
 
 ghost use Rattle.std.specs.Prelude.{◌≡◌, ◌≢◌, ◌⊎◌, true, Err, IfOk};
 ghost use Rattle.std.specs.Option.{option_map};
-ghost use Rattle.strc_stage.specs.Plans.{planning_of};
 ghost use Rattle.strc_run.specs.Choices as choices;
 ghost use Rattle.strc_run.specs.Rounds.{plan_reads};
 ghost use Rattle.strc_cli.specs.Answering.{AnswersPlan, IsAnswered, ReadsInput, choice_of};
 ghost use Rattle.strc_cli.specs.Input as spec;
 ghost use Rattle.strc_cli.specs.Input.{IsInputOf, IsRunAnswer};
 
-use crate::drawing::drawn;
+use crate::drawing::{drawn, stages_drawn};
 use crate::execute::CliError;
 use std::alloc::{AllocError, Global};
 use std::sync::Wait;
 use std::thread::Threads;
 use strc_command::line::Command;
+use strc_command::words::{BARE_FUSE, BARE_WAYS, BARE_WORKERS};
 use strc_input::device::Source;
 use strc_input::input::{ReadStop, read_numbers};
 use strc_output::stop::Stop;
@@ -35,7 +35,7 @@ pub enum Answer {
     Checked { nodes: usize, channels: usize },
     /// Its plan.
     Planned(Plan),
-    /// The picture of its flat graph.
+    /// The picture of its flat graph, or of what is run.
     Drawn(Vec<u8>),
 }
 
@@ -66,6 +66,7 @@ pub fn answer_to<G: Gate<Stage>, R: Threads + Wait + Sync, I: Source>(
         Command::Run {
             rounds,
             workers,
+            ways: _,
             fuse: _,
             stats: _,
             main: _,
@@ -75,7 +76,16 @@ pub fn answer_to<G: Gate<Stage>, R: Threads + Wait + Sync, I: Source>(
             channels: plan.graph().channels().len(),
         })),
         Command::Plan { main: _ } => Ok(Ok(Answer::Planned(plan))),
-        Command::Graph { main: _ } => Ok(drawn(alloc, text, &options, &plan)),
+        Command::Graph {
+            workers: None,
+            ways: None,
+            fuse: None,
+            main: _,
+        } => Ok(drawn(alloc, text, &options, &plan)),
+        Command::Graph { workers, .. } => {
+            let workers = workers.unwrap_or(BARE_WORKERS);
+            Ok(stages_drawn(alloc, &plan, workers))
+        }
     }
 }
 
@@ -89,12 +99,12 @@ fn run_plan<G: Gate<Stage>, R: Threads + Wait + Sync, I: Source>(
     input: &mut I,
     gate: &G,
 ) -> Result<Result<Answer, Stop>, CliError>
-    ensures run { AnswersPlan (planning_of plan) rounds workers (I.remaining input.old)
+    ensures run { AnswersPlan plan rounds workers (I.remaining input.old)
         result }
     ensures failed { result ≡ Err CliError.Read → I.has_failed input.new ≡ true }
     ensures steady { result ≢ Err CliError.Read → I.has_failed input.new ≡ I.has_failed input.old }
     ensures unread { (input.new ≡ input.old)
-        ⊎ (plan_reads (planning_of plan) ≡ true) }
+        ⊎ (plan_reads plan ≡ true) }
 {
     // The answer for the plan is the answer for its text.
     plans_answer_texts();
@@ -117,12 +127,12 @@ fn unread(stop: ReadStop) -> Result<Result<Answer, Stop>, CliError>
 
 // The numbers of the input, where the plan's graph has a reader.
 fn input_of<I: Source>(alloc: Global, plan: &Plan, input: &mut I) -> Result<Vec<i32>, ReadStop>
-    ensures numbers { IsInputOf (plan_reads (planning_of plan.now)) (I.remaining input.old) result }
+    ensures numbers { IsInputOf (plan_reads plan.now) (I.remaining input.old) result }
     ensures failed { result ≡ Err ReadStop.Failed → I.has_failed input.new ≡ true }
     ensures steady { result ≢ Err ReadStop.Failed
         → I.has_failed input.new ≡ I.has_failed input.old }
     ensures unread { (input.new ≡ input.old)
-        ⊎ (plan_reads (planning_of plan.now) ≡ true) }
+        ⊎ (plan_reads plan.now ≡ true) }
 {
     if reads_input(plan) {
         read_numbers(alloc, input)
@@ -141,7 +151,7 @@ fn run_numbers<G: Gate<Stage>, R: Threads + Wait + Sync>(
     input: &[i32],
     gate: &G,
 ) -> Result<Answer, Stop>
-    ensures { IsRunAnswer (planning_of plan) input.now rounds workers result }
+    ensures { IsRunAnswer plan input.now rounds workers result }
 {
     match run(rt, alloc, &plan, input, rounds, workers, gate) {
         Ok(outcome) => Ok(Answer::Ran(plan, outcome)),
@@ -153,16 +163,35 @@ fn run_numbers<G: Gate<Stage>, R: Threads + Wait + Sync>(
 fn options_of(alloc: Global, command: &Command) -> Result<Options, AllocError>
     ensures main { IfOk result (λ options. (choices.choice_of options).main
         ≡ (choice_of command.now).main) }
+    ensures ways { IfOk result (λ options. (choices.choice_of options).ways
+        ≡ (choice_of command.now).ways) }
     ensures fuse { IfOk result (λ options. (choices.choice_of options).fuse
         ≡ (choice_of command.now).fuse) }
 {
+    let ways = ways_of(command);
     let fuse = fuse_of(command);
     match main_name(command) {
         Some(name) => Ok(Options {
             main: Some(String::from_str(alloc, name)?),
+            ways,
             fuse,
         }),
-        None => Ok(Options { main: None, fuse }),
+        None => Ok(Options {
+            main: None,
+            ways,
+            fuse,
+        }),
+    }
+}
+
+// Among how many copies a node may be split.
+fn ways_of(command: &Command) -> u32
+    ensures { result ≡ (choice_of command.now).ways }
+{
+    match command {
+        Command::Run { ways, .. } => *ways,
+        Command::Graph { ways, .. } => ways.unwrap_or(BARE_WAYS),
+        Command::Check { main: _ } | Command::Plan { main: _ } => BARE_WAYS,
     }
 }
 
@@ -172,7 +201,8 @@ fn fuse_of(command: &Command) -> u32
 {
     match command {
         Command::Run { fuse, .. } => *fuse,
-        Command::Check { main: _ } | Command::Plan { main: _ } | Command::Graph { main: _ } => 0,
+        Command::Graph { fuse, .. } => fuse.unwrap_or(BARE_FUSE),
+        Command::Check { main: _ } | Command::Plan { main: _ } => BARE_FUSE,
     }
 }
 
@@ -181,16 +211,10 @@ pub fn main_name(command: &Command) -> Option<&str>
     ensures { option_map (λ name. name.now) result ≡ (choice_of command.now).main }
 {
     let main = match command {
-        Command::Run {
-            rounds: _,
-            workers: _,
-            fuse: _,
-            stats: _,
-            main,
-        } => main,
+        Command::Run { main, .. } => main,
         Command::Check { main } => main,
         Command::Plan { main } => main,
-        Command::Graph { main } => main,
+        Command::Graph { main, .. } => main,
     };
     match main {
         Some(name) => Some(name.as_str()),

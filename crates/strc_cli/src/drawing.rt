@@ -1,16 +1,20 @@
-// The picture of a text's flat graph.
+// The pictures of a text's plan.
 
-ghost use Rattle.strc_stage.specs.Plans.{planning_of};
+ghost use Rattle.std.specs.Prelude.{◌≡◌, IfOk};
 ghost use Rattle.strc_run.specs.Choices as choices;
-ghost use Rattle.strc_cli.specs.Drawing.{IsDrawn};
+ghost use Rattle.strc_cli.specs.Answering.{stages_text};
+ghost use Rattle.strc_cli.specs.Drawing.{AreStagesDrawn, IsDrawn};
 
 use crate::answer::Answer;
-use std::alloc::Global;
+use std::alloc::{AllocError, Global};
+use strc_cut::bounds::stage_bounds;
 use strc_output::stop::Stop;
-use strc_picture::picture::picture;
+use strc_picture::parts::{round_shares, startup_shares};
+use strc_picture::picture::{picture, plan_picture};
 use strc_run::compile::{Plan, stream_of};
 use strc_run::options::Options;
 use strc_run::refusal::Refusal;
+use strc_run::run::{RunRefusal, WORKER_LIMIT};
 
 /// The picture of the flat graph of a text's plan.
 pub(crate) fn drawn(
@@ -36,4 +40,34 @@ pub(crate) fn drawn(
         Ok(picture) => Ok(Answer::Drawn(picture)),
         Err(_) => Err(Stop::Refused(Refusal::NoMemory)),
     }
+}
+
+/// The picture of what so many workers run of a plan. `BadWorkers` comes where their number isn't
+/// one from 1 to 64.
+pub(crate) fn stages_drawn(alloc: Global, plan: &Plan, workers: u32) -> Result<Answer, Stop>
+    ensures { AreStagesDrawn plan.now workers result }
+{
+    if workers == 0 || workers > WORKER_LIMIT {
+        return Err(Stop::NotRun(RunRefusal::BadWorkers));
+    }
+    match stages_picture(alloc, plan, workers) {
+        Ok(picture) => Ok(Answer::Drawn(picture)),
+        Err(_) => Err(Stop::Refused(Refusal::NoMemory)),
+    }
+}
+
+/// A plan's graph after fission, in stages for so many workers.
+fn stages_picture(alloc: Global, plan: &Plan, workers: u32) -> Result<Vec<u8>, AllocError>
+    ensures { IfOk result (λ picture. picture.items ≡ stages_text plan.now workers) }
+{
+    plan.known();
+    let graph = plan.transformed_graph();
+    let units = plan.transformed_schedule().round();
+    let startup = plan.startup_counts().as_slice();
+    let round = plan.round_counts().as_slice();
+    let startup = startup_shares(alloc, graph.nodes(), plan.origins(), startup)?;
+    let round = round_shares(alloc, graph.nodes(), plan.origins(), round)?;
+    let bounds = stage_bounds(alloc, graph, units, workers)?;
+    let sizes = plan.transformed_sizes();
+    plan_picture(alloc, graph, &startup, &round, sizes, units, &bounds)
 }

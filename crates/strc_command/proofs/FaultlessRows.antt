@@ -1,5 +1,5 @@
 -- Words that have no fault leave rows of one value each, a number of 32 bits for `--rounds`
--- and `--workers`, and one of at most 65,536 for `--fuse`.
+-- and `--workers`, one from 1 to 64 for `--ways`, and one of at most 65,536 for `--fuse`.
 use Rattle.std.proofs.Common.{append-nil, ◌≡◌, ◌∙◌, ℕ, zero, suc, Bool, true, false, cond, not}
 use Rattle.std.proofs.Common.{◌&&◌, refl, sym, ap, subst, List, [], ◌∷◌, ◌++◌, length, Option, Some}
 use Rattle.std.proofs.Common.{None, is_some, ◌⊎◌, inl, inr, arith, codes}
@@ -38,7 +38,7 @@ use Rattle.clap.specs.declared.builder.value_parser.Reading.{Reading}
 use Rattle.clap.specs.declared.builder.value_parser.Reading.TheVariants.{WithoutMinus}
 use Rattle.clap.specs.declared.builder.value_parser.ValueParser.{ValueParser}
 use Rattle.clap.specs.declared.builder.value_parser.ValueParser.TheVariants.{Signed}
-use Rattle.strc_command.specs.Lines.{most_fused}
+use Rattle.strc_command.specs.Lines.{most_fused, most_ways}
 
 -- ---- faults of two steps
 
@@ -87,14 +87,18 @@ no_row id change missing (row ∷ rows) none = go (bytes_eq row.id id) none
 
 -- ---- one use of an argument
 
--- the value is read as a number that is at most this one
-abbrev pub IsRead : (most : ℕ) → Reading → Text → Type 0
-IsRead most reading value = (reading ≡ WithoutMinus) ×
-    (accepts false (Signed (pos 0) (pos most)) value ≡ true)
+-- the value is read as a number between these
+abbrev pub IsRead : (least most : ℕ) → Reading → Text → Type 0
+IsRead least most reading value = (reading ≡ WithoutMinus) ×
+    (accepts false (Signed (pos least) (pos most)) value ≡ true)
 
 -- whether an option takes a number of 32 bits
 abbrev pub takes_number : Text → Bool
 takes_number id = bytes_eq id (codes "rounds") || bytes_eq id (codes "workers")
+
+-- whether an option takes a number of copies
+abbrev pub takes_ways : Text → Bool
+takes_ways id = bytes_eq id (codes "ways")
 
 -- whether an option takes a number of entries
 abbrev pub takes_entries : Text → Bool
@@ -102,8 +106,9 @@ takes_entries id = bytes_eq id (codes "fuse")
 
 -- a value of the option with this id is a number where the option takes one
 pub record IsValueFor (id : Text) (reading : Reading) (value : Text) : Type 0 where
-  pub number : takes_number id ≡ true → IsRead 4294967295 reading value
-  pub entries : takes_entries id ≡ true → IsRead most_fused reading value
+  pub number : takes_number id ≡ true → IsRead 0 4294967295 reading value
+  pub ways : takes_ways id ≡ true → IsRead 1 most_ways reading value
+  pub entries : takes_entries id ≡ true → IsRead 0 most_fused reading value
 
 -- a row of one value, which is a number where the row is that of an option that takes one
 pub record IsGood (row : Row) : Type 0 where
@@ -118,13 +123,18 @@ pub record TakesOne (rule : Rule) : Type 0 where
   pub fits : (value : Text) → accepts rule.ignore_case (parser_of_value rule.parser) value ≡ true
       → IsValueFor rule.id (reading_by rule) value
 
+-- an option of this id takes no number
+pub record TakesText (id : Text) : Type 0 where
+  pub number : takes_number id ≡ false
+  pub ways : takes_ways id ≡ false
+  pub entries : takes_entries id ≡ false
+
 -- an argument of no value that one use turns to one, and that takes no number
 pub record SetsFlag (rule : Rule) : Type 0 where
   pub action : rule.action ≡ Some action.SetTrue
   pub range : rule.range ≡ Some (record { start_inclusive = 0; end_inclusive = 0 })
   pub missing : rule.missing ≡ codes "true" ∷ []
-  pub number : takes_number rule.id ≡ false
-  pub entries : takes_entries rule.id ≡ false
+  pub text : TakesText rule.id
 
 -- an argument of one value, a flag, or one that shows the help
 abbrev pub IsPlainRule : Rule → Type 0
@@ -178,9 +188,13 @@ flag_once rule flag rows new =
     rw (flag.action, flag.missing) (row_once rule (codes "true") rows new)
 
 -- any value is good for an option that takes no number
-other_value : (rule : Rule) → takes_number rule.id ≡ false → takes_entries rule.id ≡ false
-    → (value : Text) → IsValueFor rule.id (reading_by rule) value
-other_value rule number entries value = record { number = λ is. cc; entries = λ is. cc }
+pub any_value : (id : Text) (reading : Reading) (value : Text) → TakesText id
+    → IsValueFor id reading value
+any_value id reading value text =
+    let number = text.number in
+    let ways = text.ways in
+    let entries = text.entries in
+    record { number = λ is. cc; ways = λ is. cc; entries = λ is. cc }
 
 two_values : (count : ℕ) → range_kinds 1 1 (suc (suc count)) ≡ [] → ⊥
 two_values count none =
@@ -221,7 +235,7 @@ flag_good rule flag [] rows none good =
     let value = codes "true" in
     let new = repeats_none rule.id rows
     (none_first (repeat_fault false rule.id rows) (values_fault rule (value ∷ [])) set) in
-    let fits = other_value rule flag.number flag.entries value in
+    let fits = any_value rule.id (reading_by rule) value flag.text in
     subst (Each IsGood) (sym (flag_once rule flag rows new))
     (each_more IsGood rows (row_with rule CommandLine value) good
     (record { value = value; values = refl; fits = fits }))
@@ -254,8 +268,7 @@ use_good rule (inr (inr help)) values rows none good = help_bad rule help values
 pub record HasDefault (rule : Rule) : Type 0 where
   pub value : Text
   pub is : rule.defaults ≡ value ∷ []
-  pub number : takes_number rule.id ≡ false
-  pub entries : takes_entries rule.id ≡ false
+  pub text : TakesText rule.id
 
 -- the argument has no default, or takes no number
 abbrev pub HasPlainDefault : Rule → Type 0
@@ -278,7 +291,7 @@ default_good rule plain rows good = go (has_row rule.id rows) refl plain
         (record {
           value = one.value;
           values = refl;
-          fits = other_value rule one.number one.entries one.value;
+          fits = any_value rule.id (reading_by rule) one.value one.text;
         })))
 
 pub defaults_good : (rules : List Rule) → Each HasPlainDefault rules → (rows : List Row)

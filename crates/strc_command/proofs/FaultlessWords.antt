@@ -12,12 +12,13 @@ use Rattle.std.proofs.lemmas.Str.Parse.{digit_from_value}
 use Rattle.clap.proofs.ValueTestLemmas.{accepts-Accepts}
 use Rattle.std.specs.Option.{option_map_or}
 use Rattle.clap.specs.Lexer.{long_of, short_of, without_minus}
-use Rattle.clap.specs.Facts.{explicit_source}
+use Rattle.clap.specs.Facts.{explicit_source, parser_of_value}
 use Rattle.clap.specs.ValueTests.{accepts}
 use Rattle.clap.specs.Walk.{Held, Names, Row, Rule, Step, Text, Waiting, Walk, Outcome, after_flag}
 use Rattle.clap.specs.Walk.{after_step, answers_to, arg_by_index, arg_by_long, bundle}
 use Rattle.clap.specs.Walk.{first_of, has_row, long_met, long_or_other, nothing_held}
-use Rattle.clap.specs.Walk.{one_of, plain_word, row_text, rows_after, settled, short_or_plain}
+use Rattle.clap.specs.Walk.{one_of, plain_word, reading_by, row_text, rows_after, settled}
+use Rattle.clap.specs.Walk.{short_or_plain}
 use Rattle.clap.specs.Walk.{stop_after, subcommand_met, subcommand_or_other, to_positional, walk}
 use Rattle.clap.specs.Walk.{walk_from, walked, walked_from, with_default, word_met}
 use Rattle.clap.specs.Walk as walking
@@ -29,14 +30,16 @@ use Rattle.clap.specs.Values.{IsSignedIn}
 use Rattle.clap.specs.Faults.{check_fault, defaults_fault, entered_fault, level_fault, other_fault}
 use Rattle.clap.specs.Faults.{settle_fault, step_fault, turn_fault, walk_fault, word_fault}
 use Rattle.std.specs.Prelude.{if◌then◌else◌}
+use Rattle.clap.specs.declared.builder.action.ArgAction.TheVariants as action
 use Rattle.clap.specs.declared.builder.value_parser.Reading.{Reading}
 use Rattle.clap.specs.declared.builder.value_parser.ValueParser.TheVariants.{Signed}
-use Rattle.strc_command.specs.Lines.{IsCommand, IsNumber, IsUpTo, Writes32, check_app, faults}
-use Rattle.strc_command.specs.Lines.{graph_app, most_fused, plan_app, run_app, strc_app}
+use Rattle.strc_command.specs.Lines.{HasSharing, IsBetween, IsCommand, IsNumber, Writes32}
+use Rattle.strc_command.specs.Lines.{WritesBetween, check_app, faults, graph_app, most_fused}
+use Rattle.strc_command.specs.Lines.{most_ways, plan_app, run_app, strc_app}
 use Rattle.strc_command.proofs.FaultlessRows.{none_first, none_second, Each, find_each, IsGood}
 use Rattle.strc_command.proofs.FaultlessRows.{HasPlainDefault, IsPlainRule, IsRead, IsValueFor}
-use Rattle.strc_command.proofs.FaultlessRows.{defaults_good, settled_good, takes_entries}
-use Rattle.strc_command.proofs.FaultlessRows.{takes_number, walk_good}
+use Rattle.strc_command.proofs.FaultlessRows.{TakesText, any_value, defaults_good, settled_good}
+use Rattle.strc_command.proofs.FaultlessRows.{takes_entries, takes_number, takes_ways, walk_good}
 
 -- ---- where the program's words stop
 
@@ -188,46 +191,63 @@ abbrev shape_of : App → Shape
 shape_of app = built_leaf (inherited (with_leaf_noted (marked_built strc_app.top)) app.top)
 
 -- FILE and NAME, which are no numbers
-text_fits : {id : Text} {reading : Reading} {value : Text} → takes_number id ≡ false
-    → takes_entries id ≡ false → IsValueFor id reading value
-text_fits number entries = record { number = λ is. cc; entries = λ is. cc }
+is_text : {id : Text} → takes_number id ≡ false → takes_ways id ≡ false → takes_entries id ≡ false
+    → TakesText id
+is_text number ways entries = record { number = number; ways = ways; entries = entries }
+
+text_fits : {id : Text} {reading : Reading} {value : Text} → TakesText id
+    → IsValueFor id reading value
+text_fits {id} {reading} {value} text = any_value id reading value text
+
+-- an argument that one use gives one value
+takes_one : (rule : Rule) → rule.action ≡ Some action.Set
+    → rule.range ≡ Some (record { start_inclusive = 1; end_inclusive = 1 })
+    → ((value : Text) → accepts rule.ignore_case (parser_of_value rule.parser) value ≡ true
+    → IsValueFor rule.id (reading_by rule) value) → IsPlainRule rule
+takes_one rule set one fits = inl (record { action = set; range = one; fits = fits })
 
 plain_run : Each IsPlainRule (shape_of run_app).rules
 plain_run = (
-  inl (record { action = refl; range = refl; fits = λ value passes. text_fits refl refl }),
+  takes_one _ refl refl (λ value passes. text_fits (is_text refl refl refl)),
   (
-    inl (record {
-      action = refl;
-      range = refl;
-      fits = λ value passes. record { number = λ is. (refl, passes); entries = λ is. cc };
-    }),
-    (
-      inl (record {
-        action = refl;
-        range = refl;
-        fits = λ value passes. record { number = λ is. (refl, passes); entries = λ is. cc };
-      }),
-      (
-        inl (record {
-          action = refl;
-          range = refl;
-          fits = λ value passes. record { number = λ is. cc; entries = λ is. (refl, passes) };
+    takes_one _ refl refl
+        (λ value passes. record {
+          number = λ is. (refl, passes);
+          ways = λ is. cc;
+          entries = λ is. cc;
         }),
+    (
+      takes_one _ refl refl
+          (λ value passes. record {
+            number = λ is. (refl, passes);
+            ways = λ is. cc;
+            entries = λ is. cc;
+          }),
+      (
+        takes_one _ refl refl
+            (λ value passes. record {
+              number = λ is. cc;
+              ways = λ is. (refl, passes);
+              entries = λ is. cc;
+            }),
         (
-          inr (inl (record {
-            action = refl;
-            range = refl;
-            missing = refl;
-            number = refl;
-            entries = refl;
-          })),
+          takes_one _ refl refl
+              (λ value passes. record {
+                number = λ is. cc;
+                ways = λ is. cc;
+                entries = λ is. (refl, passes);
+              }),
           (
-            inl (record {
+            inr (inl (record {
               action = refl;
               range = refl;
-              fits = λ value passes. text_fits refl refl;
-            }),
-            (inr (inr refl), tt),
+              missing = refl;
+              text = is_text refl refl refl;
+            })),
+            (
+              takes_one _ refl refl (λ value passes. text_fits (is_text refl refl refl)),
+              (inr (inr refl), tt),
+            ),
           ),
         ),
       ),
@@ -245,28 +265,67 @@ default_run = (
       (
         inl refl,
         (
-          inr (record {
-            value = codes "false";
-            is = refl;
-            number = refl;
-            entries = refl;
-          }),
-          (inl refl, (inl refl, tt)),
+          inl refl,
+          (
+            inr (record {
+              value = codes "false";
+              is = refl;
+              text = is_text refl refl refl;
+            }),
+            (inl refl, (inl refl, tt)),
+          ),
         ),
       ),
     ),
   ),
 )
 
--- the words of the other subcommands have these rules
+plain_graph : Each IsPlainRule (shape_of graph_app).rules
+plain_graph = (
+  takes_one _ refl refl (λ value passes. text_fits (is_text refl refl refl)),
+  (
+    takes_one _ refl refl
+        (λ value passes. record {
+          number = λ is. (refl, passes);
+          ways = λ is. cc;
+          entries = λ is. cc;
+        }),
+    (
+      takes_one _ refl refl
+          (λ value passes. record {
+            number = λ is. cc;
+            ways = λ is. (refl, passes);
+            entries = λ is. cc;
+          }),
+      (
+        takes_one _ refl refl
+            (λ value passes. record {
+              number = λ is. cc;
+              ways = λ is. cc;
+              entries = λ is. (refl, passes);
+            }),
+        (
+          takes_one _ refl refl (λ value passes. text_fits (is_text refl refl refl)),
+          (inr (inr refl), tt),
+        ),
+      ),
+    ),
+  ),
+)
+
+default_graph : Each HasPlainDefault (shape_of graph_app).rules
+default_graph =
+    (inl refl, (inl refl, (inl refl, (inl refl, (inl refl, (inl refl, tt))))))
+
+-- the words of `check` and `plan` have these rules
 abbrev other_rules : List Rule
 other_rules = (shape_of check_app).rules
 
 plain_other : Each IsPlainRule other_rules
 plain_other = (
-  inl (record { action = refl; range = refl; fits = λ value passes. text_fits refl refl }),
+  takes_one _ refl refl (λ value passes. text_fits (is_text refl refl refl)),
   (
-    inl (record { action = refl; range = refl; fits = λ value passes. text_fits refl refl }),
+    takes_one _ refl refl (λ value passes. text_fits (is_text refl refl refl)),
     (inr (inr refl), tt),
   ),
 )
@@ -292,41 +351,47 @@ no_plus (digit ∷ digits) numeral =
     ap (λ (b : Bool). drop (cond b 1 0) (digit ∷ digits)) plus
 
 -- what passes such bounds is read as a number of 32 bits within them
-is_number : (most : ℕ) → most < 2 ^ 32 → (text : Text)
-    → accepts false (Signed (pos 0) (pos most)) text ≡ true
-    → (number : ℕ) × (Writes32 (without_minus text) number × (number ≤ most))
-is_number most bound text passes = go (starts_with_minus text) refl
+is_number : (least most : ℕ) → most < 2 ^ 32 → (text : Text)
+    → accepts false (Signed (pos least) (pos most)) text ≡ true
+    → (number : ℕ) × (Writes32 (without_minus text) number × IsBetween least most number)
+is_number least most bound text passes = go (starts_with_minus text) refl
   where
-    passed : IsSignedIn (pos 0) (pos most) text
-    passed = accepts-Accepts false (Signed (pos 0) (pos most)) text passes
+    passed : IsSignedIn (pos least) (pos most) text
+    passed = accepts-Accepts false (Signed (pos least) (pos most)) text passes
 
     go : (b : Bool) → starts_with_minus text ≡ b
-        → (number : ℕ) × (Writes32 (without_minus text) number × (number ≤ most))
+        → (number : ℕ) × (Writes32 (without_minus text) number × IsBetween least most number)
     go true minus =
-        let least = rw minus at passed.2 in
+        let least_is = rw minus at passed.2 in
         let numeral : IsNumeral 10 (drop 1 text) = rw minus at passed.0 in
+        let high : least ≤ digits_value 10 (drop 1 text) = omega (arith, ints) in
         let low : digits_value 10 (drop 1 text) ≤ most = omega (arith, ints) in
         let small : digits_value 10 (drop 1 text) < 2 ^ 32 = omega (arith, low, bound) in
         let is : without_minus text ≡ drop 1 text = without_minus-cond text ∙ ap
         (λ (b : Bool). cond b (drop 1 text) text) minus in (
           digits_value 10 (drop 1 text),
-          (rw (is, no_plus (drop 1 text) numeral) (numeral, refl, small), low),
+          (rw (is, no_plus (drop 1 text) numeral) (numeral, refl, small), (high, low)),
         )
     go false minus =
+        let least_is = rw minus at passed.2 in
         let most_is = rw minus at passed.3 in
         let numeral : IsNumeral 10 (without_leading_plus text) = rw minus at passed.0 in
+        let high : least ≤ digits_value 10 (without_leading_plus text) = omega (arith, ints) in
         let low : digits_value 10 (without_leading_plus text) ≤ most = omega (arith, ints) in
         let small : digits_value 10 (without_leading_plus text) < 2 ^ 32 =
         omega (arith, low, bound) in
         let is : without_minus text ≡ text = without_minus-cond text ∙ ap
-        (λ (b : Bool). cond b (drop 1 text) text) minus in
-        (digits_value 10 (without_leading_plus text), (rw is (numeral, refl, small), low))
+        (λ (b : Bool). cond b (drop 1 text) text) minus in (
+          digits_value 10 (without_leading_plus text),
+          (rw is (numeral, refl, small), (high, low)),
+        )
 
 -- a text writes one number
-one_number : (most : ℕ) (text : Text) (written : ℕ) → Writes32 text written → written ≤ most
-    → (number : ℕ) → Writes32 text number → number ≤ most
-one_number most text written writes small number is =
-    subst (λ (n : ℕ). n ≤ most) (sym writes.1 ∙ is.1) small
+one_number : (least most : ℕ) (text : Text) (written : ℕ) → Writes32 text written
+    → IsBetween least most written → (number : ℕ) → Writes32 text number
+    → IsBetween least most number
+one_number least most text written writes between number is =
+    subst (IsBetween least most) (sym writes.1 ∙ is.1) between
 
 given_file : (rows : List Row) → Each IsGood rows → is_given (codes "FILE") rows ≡ true → IsSome
     (first_of (codes "FILE") rows)
@@ -340,32 +405,38 @@ given_file rows good = go (find (λ row. bytes_eq row.id (codes "FILE")) rows)
     go None is given = cc
     go (Some row) is given = rw is.0.values refl
 
--- what the option of this id takes is a number, at most this one
-abbrev Takes : Text → ℕ → Type 0
-Takes option most = (id : Text) (reading : Reading) (value : Text) → bytes_eq id option ≡ true
-    → IsValueFor id reading value → IsRead most reading value
+-- what the option of this id takes is a number between these
+abbrev Takes : Text → (least most : ℕ) → Type 0
+Takes option least most = (id : Text) (reading : Reading) (value : Text)
+    → bytes_eq id option ≡ true → IsValueFor id reading value → IsRead least most reading value
 
-row_number : (most : ℕ) → most < 2 ^ 32 → (row : Row) (value : Text) → row.values ≡ value ∷ []
-    → IsRead most row.reading value
-    → IsNumber (row_text row) × IsUpTo most (row_text row)
-row_number most bound row value values read =
-    let writes = is_number most bound value read.1 in (
-      (Some writes.0, rw (values, read.0) writes.1.0),
-      rw (values, read.0)
-          (one_number most (without_minus value) writes.0 writes.1.0 writes.1.1),
-    )
+-- what was given of an option is none, or such a number
+record IsGiven (text : Option Text) (least most : ℕ) : Type 0 where
+  number : IsNumber text
+  between : WritesBetween least most text
 
-number_read : (option : Text) (most : ℕ) → most < 2 ^ 32 → Takes option most → (rows : List Row)
-    → Each IsGood rows → IsNumber (one_of option rows) × IsUpTo most (one_of option rows)
-number_read option most bound takes rows good = go (find (λ row. bytes_eq row.id option) rows)
+row_number : (least most : ℕ) → most < 2 ^ 32 → (row : Row) (value : Text)
+    → row.values ≡ value ∷ [] → IsRead least most row.reading value
+    → IsGiven (row_text row) least most
+row_number least most bound row value values read =
+    let writes = is_number least most bound value read.1 in record {
+      number = (Some writes.0, rw (values, read.0) writes.1.0);
+      between = rw (values, read.0)
+          (one_number least most (without_minus value) writes.0 writes.1.0 writes.1.1);
+    }
+
+number_read : (option : Text) (least most : ℕ) → most < 2 ^ 32 → Takes option least most
+    → (rows : List Row) → Each IsGood rows → IsGiven (one_of option rows) least most
+number_read option least most bound takes rows good =
+    go (find (λ row. bytes_eq row.id option) rows)
     (find_each IsGood (λ row. bytes_eq row.id option) rows good)
   where
     go : (found : Option Row) → IfSome found
         (λ row. IsGood row × (bytes_eq row.id option ≡ true))
-        → IsNumber (option_and_then row_text found) × IsUpTo most (option_and_then row_text found)
-    go None is = ((None, tt), λ number zero. omega (arith, zero))
+        → IsGiven (option_and_then row_text found) least most
+    go None is = record { number = (None, tt); between = λ number none. absurd none }
     go (Some row) is =
-        row_number most bound row is.0.value is.0.values
+        row_number least most bound row is.0.value is.0.values
         (takes row.id row.reading is.0.value is.1 is.0.fits)
 
 or_second : (first second : Bool) → second ≡ true → (first || second) ≡ true
@@ -373,19 +444,28 @@ or_second true second is = refl
 or_second false second is = is
 
 rounds_read : (rows : List Row) → Each IsGood rows → IsNumber (one_of (codes "rounds") rows)
-rounds_read rows good = (number_read (codes "rounds") 4294967295 (omega arith)
+rounds_read rows good = (number_read (codes "rounds") 0 4294967295 (omega arith)
     (λ id reading value is fits.
-    fits.number (ap (λ (b : Bool). b || bytes_eq id (codes "workers")) is)) rows good).0
+    fits.number (ap (λ (b : Bool). b || bytes_eq id (codes "workers")) is)) rows good).number
 
 workers_read : (rows : List Row) → Each IsGood rows → IsNumber (one_of (codes "workers") rows)
-workers_read rows good = (number_read (codes "workers") 4294967295 (omega arith)
+workers_read rows good = (number_read (codes "workers") 0 4294967295 (omega arith)
     (λ id reading value is fits. fits.number (or_second (bytes_eq id (codes "rounds")) _ is))
-    rows good).0
+    rows good).number
 
-fuse_read : (rows : List Row) → Each IsGood rows
-    → IsNumber (one_of (codes "fuse") rows) × IsUpTo most_fused (one_of (codes "fuse") rows)
-fuse_read = number_read (codes "fuse") most_fused (omega arith)
-    (λ id reading value is fits. fits.entries is)
+sharing_read : (rows : List Row) → Each IsGood rows → HasSharing rows
+sharing_read rows good =
+    let ways = number_read (codes "ways") 1 most_ways (omega arith)
+    (λ id reading value is fits. fits.ways is) rows good in
+    let fuse = number_read (codes "fuse") 0 most_fused (omega arith)
+    (λ id reading value is fits. fits.entries is) rows good in
+    record {
+      workers = workers_read rows good;
+      ways = ways.number;
+      few = ways.between;
+      fuse = fuse.number;
+      short = fuse.between;
+    }
 
 file_given : (given : Bool) → check_kinds false false (not given || false) ≡ [] → given ≡ true
 file_given true none = refl
@@ -438,12 +518,11 @@ runs words none =
     let faultless = faultless_level run [] words false [] none in
     let rows = rows_after run.rules [] words in
     let good = rows_good run plain_run default_run refl words faultless in
-    let fuse = fuse_read rows good in
     record {
       name = codes "run";
       rows = rows;
       is = refl;
-      known = inl (refl, (rounds_read rows good, workers_read rows good, fuse.0, fuse.1));
+      known = inl (refl, (rounds_read rows good, sharing_read rows good));
       file = given_file rows good (file_given (is_given (codes "FILE") rows) faultless.checks);
     }
 
@@ -486,12 +565,12 @@ graphs words none =
     let graph = shape_of graph_app in
     let faultless = faultless_level graph [] words false [] none in
     let rows = rows_after graph.rules [] words in
-    let good = rows_good graph plain_other default_other refl words faultless in
+    let good = rows_good graph plain_graph default_graph refl words faultless in
     record {
       name = codes "graph";
       rows = rows;
       is = refl;
-      known = inr (inr (inr refl));
+      known = inr (inr (inr (refl, sharing_read rows good)));
       file = given_file rows good (file_given (is_given (codes "FILE") rows) faultless.checks);
     }
 

@@ -7,13 +7,15 @@ use Rattle.std.specs.Str.Parse.{ParsesUnsigned}
 use Rattle.std.specs.declared.num.ParseIntError.{ParseIntError}
 use Rattle.std.specs.declared.str.ParseBoolError.{ParseBoolError}
 use Rattle.std.specs.Box.{box_value}
+use Rattle.std.specs.Str.{bytes_eq}
+use Rattle.std.proofs.lemmas.Bool.{true≢false}
 use Rattle.clap.specs.Matches.{ReadsOne, TriesOne, found_of, subcommand_name_of}
 use Rattle.clap.specs.Simple.{subcommand_rows_of}
 use Rattle.clap.specs.declared.parser.matches.ArgMatches.{ArgMatches}
 use Rattle.clap.specs.declared.parser.matches.ArgMatches.TheViews.{out-ArgMatches, out-SubCommand}
 use Rattle.clap.specs.Walk.{Row, Text, first_of, rows_of}
-use Rattle.strc_command.specs.Lines.{HasNumbers, IsCommand, IsFlagOf, IsKnown, IsNumberOf}
-use Rattle.strc_command.specs.Lines.{IsNumberOr}
+use Rattle.strc_command.specs.Lines.{HasNumbers, HasSharing, IsCommand, IsFlagOf, IsKnown}
+use Rattle.strc_command.specs.Lines.{IsNumberOf, IsNumberOr}
 
 some_same : {A : Type 0} (one other : A) → Some one ≡ Some other → one ≡ other
 some_same one other is = cc
@@ -66,7 +68,19 @@ pub no_numbers : (name : Text) (rows : List Row) → name ≡ codes "run" → (H
 no_numbers name rows run none (inl (is, numbers)) = none numbers
 no_numbers name rows run none (inr (inl is)) = cc
 no_numbers name rows run none (inr (inr (inl is))) = cc
-no_numbers name rows run none (inr (inr (inr is))) = cc
+no_numbers name rows run none (inr (inr (inr (is, sharing)))) = cc
+
+-- nor is `graph`, which is not `check`
+pub not_check : (name : Text) → name ≡ codes "graph" → name ≡ codes "check" → ⊥
+not_check name graph check = true≢false
+    (sym (ap (λ (text : Text). bytes_eq text (codes "check")) (sym graph ∙ check)))
+
+pub no_sharing : (name : Text) (rows : List Row) → name ≡ codes "graph" → (HasSharing rows → ⊥)
+    → IsKnown name rows → ⊥
+no_sharing name rows graph none (inl (is, numbers)) = cc
+no_sharing name rows graph none (inr (inl is)) = not_check name graph is
+no_sharing name rows graph none (inr (inr (inl is))) = cc
+no_sharing name rows graph none (inr (inr (inr (is, sharing)))) = none sharing
 
 -- a number that is given, or the one in its place
 pub number_or : (absent : ℕ) (text : Option Text) (given : Option ℕ) → IsNumberOf text given

@@ -1,9 +1,10 @@
 -- What the words of a command line ask for. After the program's name they are
--- `run FILE [--rounds N] [--workers N] [--fuse N] [--stats] [--main NAME]`,
--- `check FILE [--main NAME]`, `plan FILE [--main NAME]` or `graph FILE [--main NAME]`, and are read
--- as the crate `clap` reads the words of a command: `strc_app` describes ours.
+-- `run FILE [--rounds N] [--workers N] [--ways N] [--fuse N] [--stats] [--main NAME]`,
+-- `check FILE [--main NAME]`, `plan FILE [--main NAME]` or
+-- `graph FILE [--workers N] [--ways N] [--fuse N] [--main NAME]`, and are read as the crate `clap`
+-- reads the words of a command: `strc_app` describes ours.
 use Rattle.std.specs.Prelude.{◌≡◌, ◌⊎◌, ◌↔◌, ℕ, ◌<◌, ◌≤◌, ◌^◌, pos, Bool, true, false, List, []}
-use Rattle.std.specs.Prelude.{Option, Some, None, IsSome, option_map, string_bytes, codes}
+use Rattle.std.specs.Prelude.{Option, Some, None, IfSome, IsSome, option_map, string_bytes, codes}
 use Rattle.std.specs.Str.Parse.{IsNumeral, digits_value, without_leading_plus}
 use Rattle.clap.specs.Walk.{Row, Rule, Text, first_of, one_of}
 use Rattle.clap.specs.Simple.{App, new_app, new_rule, on_top, subcommand_of, with_rule}
@@ -22,15 +23,15 @@ use Rattle.strc_command.specs.declared.line.Command.TheVariants as command
 
 -- the name of the main stream that a command gives
 abbrev pub main_of : Command → Option (List ℕ)
-main_of (command.Run rounds workers fuse stats main) = option_map string_bytes main
+main_of (command.Run rounds workers ways fuse stats main) = option_map string_bytes main
 main_of (command.Check main) = option_map string_bytes main
 main_of (command.Plan main) = option_map string_bytes main
-main_of (command.Graph main) = option_map string_bytes main
+main_of (command.Graph workers ways fuse main) = option_map string_bytes main
 
 -- without words the text comes from standard input, and five rounds are run by one worker, whose
--- units aren't fused
+-- nodes aren't split and whose units aren't fused
 abbrev pub default_line : Line
-default_line = record { file = None; command = command.Run (Some 5) 1 0 false None }
+default_line = record { file = None; command = command.Run (Some 5) 1 1 0 false None }
 
 -- FILE, which has to be given
 abbrev pub file_rule : Rule
@@ -52,6 +53,14 @@ rounds_rule = number_rule (codes "rounds")
 abbrev pub workers_rule : Rule
 workers_rule = number_rule (codes "workers")
 
+-- the greatest number of copies that can be asked for
+abbrev pub most_ways : ℕ
+most_ways = 64
+
+-- `--ways N`
+abbrev pub ways_rule : Rule
+ways_rule = record (number_rule (codes "ways")) { parser = Some (Signed (pos 1) (pos most_ways)) }
+
 -- the greatest length of a fused unit's list that can be asked for
 abbrev pub most_fused : ℕ
 most_fused = 65536
@@ -69,15 +78,17 @@ stats_rule =
 abbrev pub main_rule : Rule
 main_rule = record (new_rule (codes "main")) { long = Some (codes "main"); value_names = 1 }
 
--- the words of `run` that give its file and its numbers
-abbrev pub numbers_app : App
-numbers_app =
-    with_rule (with_rule (with_rule (with_rule (new_app (codes "run")) file_rule) rounds_rule)
-    workers_rule) fuse_rule
+-- how a round is shared among workers
+abbrev pub with_sharing : App → App
+with_sharing app = with_rule (with_rule (with_rule app workers_rule) ways_rule) fuse_rule
+
+-- the words of `run` that give its file and its rounds
+abbrev pub rounds_app : App
+rounds_app = with_rule (with_rule (new_app (codes "run")) file_rule) rounds_rule
 
 -- the words of `run`
 abbrev pub run_app : App
-run_app = with_rule (with_rule numbers_app stats_rule) main_rule
+run_app = with_rule (with_rule (with_sharing rounds_app) stats_rule) main_rule
 
 -- the words of `check`
 abbrev pub check_app : App
@@ -89,7 +100,7 @@ plan_app = with_rule (with_rule (new_app (codes "plan")) file_rule) main_rule
 
 -- the words of `graph`
 abbrev pub graph_app : App
-graph_app = with_rule (with_rule (new_app (codes "graph")) file_rule) main_rule
+graph_app = with_rule (with_sharing (with_rule (new_app (codes "graph")) file_rule)) main_rule
 
 -- the words of the program, which wants a subcommand
 abbrev pub strc_app : App
@@ -120,25 +131,33 @@ abbrev pub IsNumberOr : (absent : ℕ) → Option Text → ℕ → Type 0
 IsNumberOr absent None number = number ≡ absent
 IsNumberOr absent (Some text) number = Writes32 text number
 
--- whatever number a text writes is at most this one
-abbrev pub IsUpTo : (most : ℕ) → Option Text → Type 0
-IsUpTo most text = (number : ℕ) → IsNumberOr 0 text number → number ≤ most
+-- a number is between these
+abbrev pub IsBetween : (least most number : ℕ) → Type 0
+IsBetween least most number = (least ≤ number) × (number ≤ most)
+
+-- whatever number a text writes is between these
+abbrev pub WritesBetween : (least most : ℕ) → Option Text → Type 0
+WritesBetween least most text =
+    (number : ℕ) → IsNumberOf text (Some number) → IsBetween least most number
 
 -- a flag is set just where the text is `true`
 abbrev pub IsFlagOf : Option Text → Bool → Type 0
 IsFlagOf text flag = (flag ≡ true) ↔ (text ≡ Some (codes "true"))
 
 -- this command is that of the name and of what was found for its options, whatever its main stream;
--- `run` alone has a number of rounds, one of workers, which is 1 where none is given, one of
--- entries, which is 0 there, and a flag
+-- `run` has a number of rounds, one of workers and one of copies, which are 1 where none is given,
+-- one of entries, which is 0 there, and a flag; `graph` has the middle three, where they are given
 abbrev pub IsCommandOf : Text → List Row → Command → Type 0
-IsCommandOf name rows (command.Run rounds workers fuse stats main) =
+IsCommandOf name rows (command.Run rounds workers ways fuse stats main) =
     (name ≡ codes "run") × IsNumberOf (one_of (codes "rounds") rows) rounds
     × IsNumberOr 1 (one_of (codes "workers") rows) workers
+    × IsNumberOr 1 (one_of (codes "ways") rows) ways
     × IsNumberOr 0 (one_of (codes "fuse") rows) fuse × IsFlagOf (one_of (codes "stats") rows) stats
 IsCommandOf name rows (command.Check main) = name ≡ codes "check"
 IsCommandOf name rows (command.Plan main) = name ≡ codes "plan"
-IsCommandOf name rows (command.Graph main) = name ≡ codes "graph"
+IsCommandOf name rows (command.Graph workers ways fuse main) =
+    (name ≡ codes "graph") × IsNumberOf (one_of (codes "workers") rows) workers
+    × IsNumberOf (one_of (codes "ways") rows) ways × IsNumberOf (one_of (codes "fuse") rows) fuse
 
 -- the line has what was found for a subcommand's FILE and options
 pub record IsLineOf (name : Text) (rows : List Row) (line : Line) : Type 0 where
@@ -152,22 +171,32 @@ abbrev pub IsLineIn : Option (Text × List Row) → Line → Type 0
 IsLineIn met line =
     (name : Text) × (rows : List Row) × (met ≡ Some (name, rows)) × IsLineOf name rows line
 
--- the options of `run` that take numbers are given some, or not given
+-- the options that say how a round is shared are given numbers within their bounds, or not given
+pub record HasSharing (rows : List Row) : Type 0 where
+  pub workers : IsNumber (one_of (codes "workers") rows)
+  pub ways : IsNumber (one_of (codes "ways") rows)
+  pub few : WritesBetween 1 most_ways (one_of (codes "ways") rows)
+  pub fuse : IsNumber (one_of (codes "fuse") rows)
+  pub short : WritesBetween 0 most_fused (one_of (codes "fuse") rows)
+
+-- so are the options of `run` that take numbers
 abbrev pub HasNumbers : List Row → Type 0
-HasNumbers rows =
-    IsNumber (one_of (codes "rounds") rows) × IsNumber (one_of (codes "workers") rows)
-    × IsNumber (one_of (codes "fuse") rows) × IsUpTo most_fused (one_of (codes "fuse") rows)
+HasNumbers rows = IsNumber (one_of (codes "rounds") rows) × HasSharing rows
 
--- what a command fuses has a list of at most so many entries
-abbrev pub FusesUpTo : (most : ℕ) → Command → Type 0
-FusesUpTo most (command.Run rounds workers fuse stats main) = fuse ≤ most
-FusesUpTo most command = Unit {0}
+-- the numbers of copies and of entries are within their bounds
+abbrev pub AreWithin : Command → Type 0
+AreWithin (command.Run rounds workers ways fuse stats main) =
+    IsBetween 1 most_ways ways × (fuse ≤ most_fused)
+AreWithin (command.Graph workers ways fuse main) =
+    IfSome ways (IsBetween 1 most_ways) × IfSome fuse (λ entries. entries ≤ most_fused)
+AreWithin command = Unit {0}
 
--- the name is that of a subcommand: `run`, with its numbers, `check`, `plan` or `graph`
+-- the name is that of a subcommand: `run` or `graph`, with their numbers, `check` or `plan`
 abbrev pub IsKnown : Text → List Row → Type 0
 IsKnown name rows =
     ((name ≡ codes "run") × HasNumbers rows)
-    ⊎ ((name ≡ codes "check") ⊎ ((name ≡ codes "plan") ⊎ (name ≡ codes "graph")))
+    ⊎ ((name ≡ codes "check") ⊎ ((name ≡ codes "plan")
+    ⊎ ((name ≡ codes "graph") × HasSharing rows)))
 
 -- one of the subcommands was met, with a FILE
 pub record IsCommand (met : Option (Text × List Row)) : Type 0 where
@@ -186,7 +215,7 @@ faults words = fault_of strc_app words
 pub record AsksFor (words : List Text) (line : Line) : Type 0 where
   pub faultless : faults words ≡ []
   pub asked : IsLineIn (subcommand_of strc_app words) line
-  pub fuses : FusesUpTo most_fused line.command
+  pub within : AreWithin line.command
 
 -- how a kind of error is reported
 abbrev pub fault_by : ErrorKind → LineFault

@@ -11,6 +11,8 @@ pub enum Command {
         rounds: Option<u32>,
         /// 0 to 4,294,967,295 workers: those from 1 to 64 can run it.
         workers: u32,
+        /// A filter without state is split among at most so many copies, 1 to 64.
+        ways: u32,
         /// Two neighbouring units become one where their list has at most so many entries, 0 to
         /// 65,536.
         fuse: u32,
@@ -30,8 +32,15 @@ pub enum Command {
         /// The name of the main stream, where one is given.
         main: Option<String>,
     },
-    /// Draw the program's flat graph, as a text for Graphviz.
+    /// Draw the program's flat graph, as a text for Graphviz; or the graph and the stages that run,
+    /// where one of the three numbers is given.
     Graph {
+        /// 0 to 4,294,967,295 workers, where a number is given: those from 1 to 64 can run it.
+        workers: Option<u32>,
+        /// The number of copies, 1 to 64, where one is given.
+        ways: Option<u32>,
+        /// The number of entries, 0 to 65,536, where one is given.
+        fuse: Option<u32>,
         /// The name of the main stream, where one is given.
         main: Option<String>,
     },

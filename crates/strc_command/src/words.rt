@@ -7,12 +7,13 @@ ghost use Rattle.clap.specs.Words.{app_of, found_of, kind_of, new_app, rows_of, 
 ghost use Rattle.clap.specs.Words.{subcommand_rows_of, with_rule};
 ghost use Rattle.clap.specs.Walk.{one_of, texts};
 ghost use Rattle.clap.specs.declared.builder.command.Command.TheViews.{out-Command as fields_of};
-ghost use Rattle.strc_command.specs.Lines.{AsksFor, HasNumbers, IsCommand, IsCommandOf, IsKnown};
-ghost use Rattle.strc_command.specs.Lines.{IsLineIn, IsNumber, IsNumberOf, check_app, default_line};
-ghost use Rattle.strc_command.specs.Lines.{IsFlagOf, fault_by, faults, file_rule, fuse_rule};
-ghost use Rattle.strc_command.specs.Lines.{graph_app, main_of, main_rule, number_rule};
-ghost use Rattle.strc_command.specs.Lines.{numbers_app, plan_app, rounds_rule, run_app, stats_rule};
-ghost use Rattle.strc_command.specs.Lines.{strc_app, workers_rule};
+ghost use Rattle.strc_command.specs.Lines.{AsksFor, HasNumbers, HasSharing, IsCommand};
+ghost use Rattle.strc_command.specs.Lines.{IsCommandOf, IsFlagOf, IsKnown, IsLineIn, IsNumber};
+ghost use Rattle.strc_command.specs.Lines.{IsNumberOf, check_app, default_line, fault_by, faults};
+ghost use Rattle.strc_command.specs.Lines.{file_rule, fuse_rule, graph_app, main_of, main_rule};
+ghost use Rattle.strc_command.specs.Lines.{number_rule, plan_app, rounds_app, rounds_rule, run_app};
+ghost use Rattle.strc_command.specs.Lines.{stats_rule, strc_app, ways_rule, with_sharing};
+ghost use Rattle.strc_command.specs.Lines.{workers_rule};
 
 use crate::line::{Command, Line, LineFault};
 use clap::error::ErrorKind;
@@ -25,11 +26,17 @@ pub const VERSION: &str = "0.9.0";
 // How many rounds the program runs with no words after its name.
 const BARE_ROUNDS: u32 = 5;
 
-// How many workers run it where no number is given.
-const BARE_WORKERS: u32 = 1;
+/// How many workers run it where no number is given.
+pub const BARE_WORKERS: u32 = 1;
 
-// How long the list of a fused unit may be where no number is given: no units are fused.
-const BARE_FUSE: u32 = 0;
+/// Among how many copies a filter is split where no number is given: none is split.
+pub const BARE_WAYS: u32 = 1;
+
+/// How long the list of a fused unit may be where no number is given: no units are fused.
+pub const BARE_FUSE: u32 = 0;
+
+/// The greatest number of copies that can be asked for.
+pub const WAYS_LIMIT: u32 = 64;
 
 /// The greatest length of a fused unit's list that can be asked for.
 pub const FUSE_LIMIT: u32 = 65_536;
@@ -49,6 +56,7 @@ pub fn command<'a>(alloc: Global, words: &'a [&'a str]) -> Result<Line, LineFaul
             command: Command::Run {
                 rounds: Some(BARE_ROUNDS),
                 workers: BARE_WORKERS,
+                ways: BARE_WAYS,
                 fuse: BARE_FUSE,
                 stats: false,
                 main: None,
@@ -124,24 +132,37 @@ fn with_last<T: Drop>(
     Ok(items)
 }
 
-// The words `run FILE [--rounds N] [--workers N] [--fuse N] [--stats] [--main NAME]`.
+// The words `run FILE [--rounds N] [--workers N] [--ways N] [--fuse N] [--stats] [--main NAME]`.
 fn run_command<'a>(alloc: Global) -> Result<clap::Command<'a>, AllocError>
     ensures app { IfOk result (λ run. app_of run ≡ run_app) }
     ensures local { IfOk result (λ run. (fields_of run).has_globals ≡ false) }
 {
-    numbers_command(alloc)?
+    let rounds = rounds_command(alloc)?;
+    with_sharing_options(alloc, rounds)?
         .arg(stats_option(alloc))?
         .arg(main_option(alloc))
 }
 
-// The words `run FILE [--rounds N] [--workers N] [--fuse N]`.
-fn numbers_command<'a>(alloc: Global) -> Result<clap::Command<'a>, AllocError>
-    ensures app { IfOk result (λ run. app_of run ≡ numbers_app) }
+// The words `run FILE [--rounds N]`.
+fn rounds_command<'a>(alloc: Global) -> Result<clap::Command<'a>, AllocError>
+    ensures app { IfOk result (λ run. app_of run ≡ rounds_app) }
     ensures local { IfOk result (λ run. (fields_of run).has_globals ≡ false) }
 {
-    file_command(alloc, "run", "Runs a StreamIt program")?
-        .arg(rounds_option(alloc))?
+    file_command(alloc, "run", "Runs a StreamIt program")?.arg(rounds_option(alloc))
+}
+
+// These words and `[--workers N] [--ways N] [--fuse N]`: how a round is shared among workers.
+fn with_sharing_options<'a>(
+    alloc: Global,
+    command: clap::Command<'a>,
+) -> Result<clap::Command<'a>, AllocError>
+    requires { (fields_of command).has_globals ≡ false }
+    ensures app { IfOk result (λ longer. app_of longer ≡ with_sharing (app_of command.entry)) }
+    ensures local { IfOk result (λ longer. (fields_of longer).has_globals ≡ false) }
+{
+    command
         .arg(workers_option(alloc))?
+        .arg(ways_option(alloc))?
         .arg(fuse_option(alloc))
 }
 
@@ -162,13 +183,14 @@ fn plan_command<'a>(alloc: Global) -> Result<clap::Command<'a>, AllocError>
     main_command(alloc, "plan", about)
 }
 
-// The words `graph FILE [--main NAME]`.
+// The words `graph FILE [--workers N] [--ways N] [--fuse N] [--main NAME]`.
 fn graph_command<'a>(alloc: Global) -> Result<clap::Command<'a>, AllocError>
     ensures app { IfOk result (λ graph. app_of graph ≡ graph_app) }
     ensures local { IfOk result (λ graph. (fields_of graph).has_globals ≡ false) }
 {
     let about = "Draws the flat graph of a StreamIt program, for Graphviz";
-    main_command(alloc, "graph", about)
+    let graph = file_command(alloc, "graph", about)?;
+    with_sharing_options(alloc, graph)?.arg(main_option(alloc))
 }
 
 // The words `NAME FILE [--main NAME]`.
@@ -220,6 +242,15 @@ fn workers_option<'a>(alloc: Global) -> Arg<'a>
     ensures local { result.global ≡ false }
 {
     number_option(alloc, "workers").help("How many workers run them, 1 to 64")
+}
+
+fn ways_option<'a>(alloc: Global) -> Arg<'a>
+    ensures rule { rule_of result ≡ ways_rule }
+    ensures local { result.global ≡ false }
+{
+    number_option(alloc, "ways")
+        .value_parser(value_parser!(u32).range(1..=i64::from(WAYS_LIMIT)))
+        .help("A filter without state is split among at most N copies, 1 to 64")
 }
 
 fn fuse_option<'a>(alloc: Global) -> Arg<'a>
@@ -294,7 +325,7 @@ fn command_of(name: &str, found: &ArgMatches, main: Option<String>) -> Result<Co
         "run" => run_of(found, main),
         "check" => Ok(Command::Check { main }),
         "plan" => Ok(Command::Plan { main }),
-        "graph" => Ok(Command::Graph { main }),
+        "graph" => graph_of(found, main),
         _ => Err(LineFault::Words),
     }
 }
@@ -308,13 +339,33 @@ fn run_of(found: &ArgMatches, main: Option<String>) -> Result<Command, LineFault
 {
     let rounds = number_of(found, "rounds")?;
     let workers = number_of(found, "workers")?.unwrap_or(BARE_WORKERS);
+    let ways = number_of(found, "ways")?.unwrap_or(BARE_WAYS);
     let fuse = number_of(found, "fuse")?.unwrap_or(BARE_FUSE);
     let stats = is_set(found, "stats");
     Ok(Command::Run {
         rounds,
         workers,
+        ways,
         fuse,
         stats,
+        main,
+    })
+}
+
+// The command `graph`, with what was found for its options.
+fn graph_of(found: &ArgMatches, main: Option<String>) -> Result<Command, LineFault>
+    ensures answered { IfOk result (λ command. IsCommandOf (codes "graph")
+        (rows_of (found_of found.now)) command
+        × (main_of command ≡ option_map string_bytes main)) }
+    ensures refused { IfErr result (λ fault. HasSharing (rows_of (found_of found.now)) → ⊥) }
+{
+    let workers = number_of(found, "workers")?;
+    let ways = number_of(found, "ways")?;
+    let fuse = number_of(found, "fuse")?;
+    Ok(Command::Graph {
+        workers,
+        ways,
+        fuse,
         main,
     })
 }

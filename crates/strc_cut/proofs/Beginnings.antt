@@ -157,6 +157,6 @@ module _ (loops : Loops) (number : ℕ) (is : AreNumbered 0 loops) where
   ]
 
 pub groups_begin_between : GroupsBeginBetween
-groups_begin_between graph number whole =
-    let is = loops_numbered whole.stream graph.outer_loops whole.loops in
-    (is_between graph.outer_loops number is, begins_group graph.outer_loops number is)
+groups_begin_between stream loops number same =
+    let is = loops_numbered stream loops same in
+    (is_between loops number is, begins_group loops number is)

@@ -11,17 +11,14 @@ use Rattle.std.proofs.lemmas.Option.{get_or_from_slice_get, slice_get_within}
 use Rattle.std.proofs.lemmas.List.Elements.{filter_passes}
 use Rattle.strc_graph.specs.Graphs.{Graph}
 use Rattle.strc_rounds.specs.FusedUnits.{RoundUnit}
-use Rattle.strc_fuse.specs.Units.{round_units}
-use Rattle.strc_stage.proofs.Fused.{nodes_of_fused}
 use Rattle.strc_cut.specs.Cuts.{BeginsGroup, IsBetweenUnits, IsCutOf}
 use Rattle.strc_cut.specs.Bounds.{begins, begins_at, group_starts, stage_count, first_group}
 use Rattle.strc_cut.specs.Bounds.{parts_unit, stage_bound}
-use Rattle.strc_cut.specs.Laws.{BoundsAreACut}
-use Rattle.strc_cut.proofs.Beginnings.{AreNumbered, loops_numbered, is_between}
+use Rattle.strc_cut.proofs.Beginnings.{AreNumbered, is_between}
 use Rattle.strc_cut.proofs.Between.{between, between_past, parts_none_at_0}
-use Rattle.strc_cut.proofs.FusedSplits.{AllPass, passes_all}
+use Rattle.strc_cut.proofs.FusedSplits.{AllPass}
 use Rattle.strc_cut.proofs.GroupBounds.{Loops}
-use Rattle.strc_cut.proofs.Shares.{bound_within, bound_past, each_has_loop}
+use Rattle.strc_cut.proofs.Shares.{bound_within, bound_past}
 
 -- numbers from one on and before another, in rising order
 record AreRising (first next : ℕ) (numbers : List ℕ) : Type 0 where
@@ -235,10 +232,3 @@ module _ (graph : Graph) (round : List RoundUnit) (workers : ℕ)
   pub shared_evenly : (0 < stages) × IsCutOf graph round bound stages
       × ((stage : ℕ) → stage < stages → bound stage < bound (suc stage))
   shared_evenly = (staged, shared_cut, rises)
-
-pub bounds_are_a_cut : BoundsAreACut
-bounds_are_a_cut plan workers is =
-    shared_evenly plan.graph (round_units plan.fused.round) workers
-    (each_has_loop plan.graph is.whole)
-    (loops_numbered is.whole.stream plan.graph.outer_loops is.whole.loops)
-    (passes_all (λ node. node < length plan.graph.nodes) plan.fused.round (nodes_of_fused plan is))

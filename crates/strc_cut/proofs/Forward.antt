@@ -67,5 +67,5 @@ module _ (stream : Stream) (graph : Graph) (typed : IsWellTyped stream)
         (sources_below channel.target.node channel.target.port below))
 
 pub channels_go_forward : ChannelsGoForward
-channels_go_forward graph bound whole =
-    closed_below whole.stream graph whole.closed.typed whole.program whole.loops bound
+channels_go_forward stream graph bound typed program loops =
+    closed_below stream graph typed program loops bound

@@ -4,11 +4,8 @@ pub mod Segments
 pub mod FusedSplits
 pub mod Between
 pub mod Ranges
-pub mod Ranged
-pub mod Staged
 pub mod Beginnings
 pub mod StageUnits
 pub mod Row
-pub mod BlockRates
 pub mod Shares
 pub mod EvenShares

@@ -70,15 +70,14 @@ all_alone number =
     (alone number 4 1 [] (λ k d less. absurd (omega (arith, less)))))))
 
 pub cut_round_a_loop : CutRoundALoop
-cut_round_a_loop plan five are units = (
+cut_round_a_loop graph five are = (
   record {
     first = refl;
     all = sym five;
     rising = rising_at;
     between = subst (λ l. (stage : ℕ) → stage ≤ 3 → IsBetweenGroups l (bound_in bounds stage))
         (sym are) between_at;
-    units = λ stage less. subst (λ l. IsBetweenUnits l (bound_in bounds stage)) (sym units)
-        (all_alone (bound_in bounds stage));
+    units = λ stage less. all_alone (bound_in bounds stage);
   },
   λ bound past less cut. parted (bound 1) past less
       (subst (λ l. IsBetweenGroups l (bound 1)) are (cut.between 1 (omega arith))),

@@ -4,18 +4,13 @@ use Rattle.std.proofs.Common.{List, [], ◌∷◌, ◌++◌, length, map, Bool, 
 use Rattle.std.specs.Prelude.{filter, min, slice_index}
 use Rattle.std.specs.List.{range_with_len}
 use Rattle.std.proofs.lemmas.Bool.{lt-ltb, le-ltb}
-use Rattle.std.proofs.lemmas.List.{length-map}
 use Rattle.std.proofs.lemmas.List.Elements.{filter-append}
 use Rattle.std.proofs.lemmas.List.FromFn.{map-range_with_len_more, length-map-range_with_len}
 use Rattle.std.proofs.lemmas.List.FromFn.{get_or-map-range_with_len}
-use Rattle.strc_graph.specs.Graphs.{Graph}
-use Rattle.strc_graph.specs.NodeView.{GraphParts, graph_view, node_view}
 use Rattle.strc_rounds.specs.FusedUnits.{RoundUnit}
-use Rattle.strc_stage.specs.Plans.{IsWhole}
 use Rattle.strc_cut.specs.Bounds.{first_group, bound_at, group_starts, stage_count}
 use Rattle.strc_cut.specs.Bounds.{stage_bound, stage_bounds}
 use Rattle.strc_cut.specs.Laws.{BoundsAreListed}
-use Rattle.strc_cut.proofs.Forward.{loops_many}
 
 numbers_from : (first count next : ℕ) → first + count ≡ next
     → range_with_len first (suc count) ≡ range_with_len first count ++ next ∷ []
@@ -80,16 +75,6 @@ bounds_are_shared loops order workers nodes stages starts bounds many are count 
     ∙ ap (λ l. map (bound_at (length loops) l stages) (range_with_len 0 (suc stages))) are
     ∙ ap (λ n. map (bound_at (length loops) (group_starts loops order) n)
     (range_with_len 0 (suc n))) counted
-
-pub each_has_loop : (graph : Graph) → IsWhole graph
-    → length graph.outer_loops ≡ length graph.nodes
-each_has_loop graph whole =
-    loops_many whole.stream graph whole.closed.typed whole.program whole.loops
-
-pub each_node_has_loop : (graph : GraphParts) → IsWhole (graph_view graph)
-    → length graph.outer_loops ≡ length graph.nodes
-each_node_has_loop graph whole =
-    each_has_loop (graph_view graph) whole ∙ length-map graph.nodes node_view
 
 pub bounds_are_listed : BoundsAreListed
 bounds_are_listed loops order workers =

@@ -1,23 +1,11 @@
 -- A round cut into stages between the groups of its graph's nodes (Gordon, Thies and Amarasinghe
 -- 2006: coarse-grained software pipelining).
-use Rattle.std.specs.Prelude.{◌≡◌, ℕ, suc, ◌<◌, ◌≤◌, Bool, ◌&&◌, ◌||◌, nat_le}
-use Rattle.std.specs.Prelude.{nat_lt, if◌then◌else◌, ℤ, List, [], ◌∷◌, length, Option, Some}
+use Rattle.std.specs.Prelude.{◌≡◌, ℕ, suc, ◌<◌, ◌≤◌, ◌&&◌, nat_le}
+use Rattle.std.specs.Prelude.{nat_lt, if◌then◌else◌, List, [], ◌∷◌, length, Option, Some}
 use Rattle.std.specs.Prelude.{slice_get, slice_index, All, ◌⊎◌}
-use Rattle.strc_semantics.specs.declared.fault.Cause.{Cause}
-use Rattle.strc_semantics.specs.declared.word.Word.{Word}
-use Rattle.strc_graph.specs.Graphs.{Graph, NodeCode, reads_input}
-use Rattle.strc_graph.specs.Carriers.{carries_in}
-use Rattle.strc_graph.specs.Meaning.{node_meaning}
-use Rattle.strc_stream.specs.Instances.{Stream}
-use Rattle.strc_stream.specs.Flattening.{meaning_of, tree_of}
+use Rattle.strc_graph.specs.Graphs.{Graph}
 use Rattle.strc_rounds.specs.FusedUnits.{RoundUnit}
-use Rattle.strc_fuse.specs.Units.{round_units}
 use Rattle.strc_order.specs.declared.unit as units
-use Rattle.strc_order.specs.Order.{firing_count}
-use Rattle.strc_admissible.specs.Laws.{startup_order, round_order}
-use Rattle.strc_stage.specs.Plans.{Planning}
-use Rattle.strc_staging.specs.Ranges.{stage_within}
-use Rattle.strc_staging.specs.Rewired.{StagedStream}
 
 -- a number is between groups: no outermost feedback loop has nodes on both of its sides
 abbrev pub IsBetweenGroups : (loops : List (Option ℕ)) → (bound : ℕ) → Type 0
@@ -47,10 +35,6 @@ pub record IsCutOf (graph : Graph) (round : List RoundUnit) (bound : (stage : �
   pub between : (stage : ℕ) → stage ≤ stages → IsBetweenGroups graph.outer_loops (bound stage)
   pub units : (stage : ℕ) → stage ≤ stages → IsBetweenUnits round (bound stage)
 
--- of a plan's graph, and of its round after fusion
-abbrev pub IsCut : Planning → (bound : (stage : ℕ) → ℕ) → (stages : ℕ) → Type 0
-IsCut plan = IsCutOf plan.graph (round_units plan.fused.round)
-
 -- the firings of an order that are of nodes from one number on, and before another
 abbrev pub firings_within : (first next : ℕ) → (order : List ℕ) → List ℕ
 firings_within first next [] = []
@@ -69,26 +53,3 @@ units_within first next [] = []
 units_within first next (unit ∷ order) =
     if nat_le first (slice_index unit.nodes.items 0) && nat_lt (slice_index unit.nodes.items 0) next
     then unit ∷ units_within first next order else units_within first next order
-
--- whether something comes to an input port: items of a channel, or the program's input
-abbrev pub takes_items : NodeCode → (port : ℕ) → Bool
-takes_items code port = reads_input code || carries_in code port
-
--- the stream of a plan, its graph and its schedule after fusion, with stages from these bounds on
-abbrev pub staged_stream : Planning → Stream → (input : List ℤ) → (rounds : ℕ)
-    → (bound : (stage : ℕ) → ℕ) → (last : ℕ) → StagedStream NodeCode (List ℤ) Cause Word
-staged_stream plan stream input rounds bound last = record {
-  meaning = node_meaning;
-  stream = tree_of stream;
-  input = input;
-  startup = firing_count (startup_order plan.fused);
-  round = firing_count (round_order plan.fused);
-  startup_order = startup_order plan.fused;
-  round_order = round_order plan.fused;
-  rounds = rounds;
-  source = (meaning_of stream).source;
-  carries = λ node port. takes_items ((meaning_of stream).code node) port;
-  stage_of = stage_within bound last;
-  segment = segment_of bound (round_order plan.fused);
-  stages = suc last;
-}

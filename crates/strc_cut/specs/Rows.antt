@@ -3,9 +3,8 @@
 use Rattle.std.specs.Prelude.{◌≡◌, ℕ, ◌<◌, List, [], ◌∷◌, length, slice_index, Option, Some, None}
 use Rattle.strc_rounds.specs.FusedUnits.{RoundUnit}
 use Rattle.strc_rounds.specs.Pieces.{unit_of}
-use Rattle.strc_stage.specs.Plans.{Planning}
-use Rattle.strc_fuse.specs.Units.{round_units}
-use Rattle.strc_cut.specs.Cuts.{IsBetweenUnits, IsCut}
+use Rattle.strc_graph.specs.Graphs.{Graph}
+use Rattle.strc_cut.specs.Cuts.{IsBetweenUnits, IsCutOf}
 use Rattle.strc_cut.specs.Bounds.{group_starts, stage_bounds}
 
 -- one node, then a loop of three, of which the joiner is node 1, and another node
@@ -22,10 +21,10 @@ bound_in bounds stage = slice_index bounds stage
 -- stages may begin at the loop and after it, and none begins within it
 abbrev pub CutRoundALoop : Type 0
 CutRoundALoop =
-    (plan : Planning) → length plan.graph.nodes ≡ 5 → plan.graph.outer_loops ≡ loops
-    → round_units plan.fused.round ≡ order
-    → IsCut plan (bound_in (0 ∷ 1 ∷ 4 ∷ 5 ∷ [])) 3
-    × ((bound : (stage : ℕ) → ℕ) → (1 < bound 1) → (bound 1 < 4) → ¬ IsCut plan bound 2)
+    (graph : Graph) → length graph.nodes ≡ 5 → graph.outer_loops ≡ loops
+    → IsCutOf graph order (bound_in (0 ∷ 1 ∷ 4 ∷ 5 ∷ [])) 3
+    × ((bound : (stage : ℕ) → ℕ) → (1 < bound 1) → (bound 1 < 4)
+    → ¬ IsCutOf graph order bound 2)
 
 -- there are three groups: two workers have one and two of them, and of nine only three have any
 abbrev pub BoundsRoundALoop : Type 0

@@ -1,4 +1,4 @@
-// Bounds of stages: a plan's groups, shared among workers.
+// Bounds of stages: a graph's groups, shared among workers.
 
 ghost use Rattle.std.specs.Prelude.{◌≡◌, ◌*◌, ◌/◌, ◌<◌, ◌≤◌, ◌++◌, ◌∷◌, [], length, map, min, IfOk};
 ghost use Rattle.std.specs.Prelude.{All, ◌&&◌, false, get_or, None, not, slice_index_or};
@@ -11,21 +11,25 @@ use crate::parting::parted_units;
 use std::alloc::{AllocError, Global};
 use strc_graph::graph::Graph;
 use strc_order::unit::Unit;
-use strc_stage::plan::Plan;
 
-/// The bounds of a plan's stages for so many workers: the node with which each stage begins, and
+/// The bounds of a round's stages for so many workers: the node with which each stage begins, and
 /// the number of nodes.
 ///
 /// A group is all nodes of an outermost feedback loop, or those of one unit of the round outside
 /// feedback loops. There are as many stages as workers, or as groups where these are fewer. A stage
 /// has the groups that fall to it when stages share them evenly, by number.
-pub fn stage_bounds(alloc: Global, plan: &Plan, workers: u32) -> Result<Vec<usize>, AllocError>
+pub fn stage_bounds(
+    alloc: Global,
+    graph: &Graph,
+    round: &[Unit],
+    workers: u32,
+) -> Result<Vec<usize>, AllocError>
+    requires loops { length graph.now.outer_loops ≡ length graph.now.nodes }
+    requires nodes { All (HasNodes (length graph.now.nodes)) round.now }
     ensures { IfOk result (λ bounds. bounds.items
-        ≡ spec.stage_bounds plan.now.graph.outer_loops (round_units plan.now.fused.round)
-        workers) }
+        ≡ spec.stage_bounds graph.now.outer_loops (round_units round.now) workers) }
 {
-    let graph = plan.graph();
-    let starts = group_starts(alloc, graph, plan.transformed_schedule().round())?;
+    let starts = group_starts(alloc, graph, round)?;
     let stages = starts.len().min(workers as usize);
     shared(alloc, graph.nodes().len(), &starts, stages)
 }

@@ -1,19 +1,15 @@
-// Takes: a plan, and a number of workers.
+// Takes: a graph, the units of its round, and a number of workers.
 // Gives: bounds of stages between the groups of its nodes, outermost feedback loops and units of
-// the round after fusion, and laws on such bounds, each the contract of a public function with an
-// empty body.
-// The theorem to rely on: `plans_are_staged`: the round of a plan, cut at such bounds, is staged,
-// so that what a chain of workers makes of it is the answer of the stream equations.
-// Stands on strc_staging, whose laws it makes good for plans, on strc_stage, whose plans these are,
-// on strc_fuse, whose units their rounds have,
-// on strc_order, whose orders go range by range, and on strc_admissible, strc_wiring, strc_stream
-// and strc_graph.
+// the round, and laws on such bounds, each the contract of a public function with an empty body.
+// The theorem to rely on: `stage_bounds`: its bounds are those of the definition; strc_split_cut
+// shows that a round that is cut there is staged.
+// Stands on strc_staging, whose groups of streams it tells by number, on strc_fuse, whose units
+// rounds have, on strc_order, whose orders go range by range, and on strc_wiring, strc_stream and
+// strc_graph.
 #![tactic(auto)]
 
-ghost use Rattle.strc_cut.specs.Laws.{BoundsAreOfGroups, ChainGivesPlanAnswer, ChannelsGoForward};
-ghost use Rattle.strc_cut.specs.Laws.{GroupsBeginBetween, PlansAreRanged, PlansAreStaged};
-ghost use Rattle.strc_cut.specs.Laws.{BlocksHaveRoundRates, BoundsAreACut, BoundsAreListed};
-ghost use Rattle.strc_cut.specs.Laws.{SegmentsAreUnits};
+ghost use Rattle.strc_cut.specs.Laws.{BoundsAreListed, BoundsAreOfGroups, ChannelsGoForward};
+ghost use Rattle.strc_cut.specs.Laws.{GroupsBeginBetween, SegmentsAreUnits};
 ghost use Rattle.strc_cut.specs.Rows.{BoundsRoundALoop, BoundsRoundAUnit, CutRoundALoop};
 
 pub mod bounds;
@@ -40,35 +36,9 @@ pub fn bounds_are_listed()
     ensures { BoundsAreListed }
 {}
 
-/// Groups that workers share evenly are a cut, of which each stage has some node.
-pub fn bounds_are_a_cut()
-    ensures { BoundsAreACut }
-{}
-
 /// The firings of a stage are those of its units.
 pub fn segments_are_units()
     ensures { SegmentsAreUnits }
-{}
-
-/// The round of a plan that is cut between groups is the firings of each stage's nodes, stage by
-/// stage, and no channel goes back.
-pub fn plans_are_ranged()
-    ensures { PlansAreRanged }
-{}
-
-/// The stream of a plan, cut so, is staged.
-pub fn plans_are_staged()
-    ensures { PlansAreStaged }
-{}
-
-/// What a chain of workers, one for each stage, makes of it is the answer of the stream equations.
-pub fn chain_gives_plan_answer()
-    ensures { ChainGivesPlanAnswer }
-{}
-
-/// A block that crosses by a channel has as many items as its source's firings in a round push.
-pub fn blocks_have_round_rates()
-    ensures { BlocksHaveRoundRates }
 {}
 
 /// The bounds of two and nine workers where three nodes are fused.

@@ -68,12 +68,16 @@ fn compare_row(rt: &impl Abort, alloc: Global, row: &str) -> Result<(), Fail> {
     let fuse: Option<u32> = threshold.parse().ok();
     let options = Options {
         main: None,
+        ways: 1,
         fuse: fuse.ok_or("no number")?,
     };
     let plan = compile(alloc, TEXT, &options).ok().ok_or("no plan")?;
     let units = units_of(alloc, &plan)?;
     let sizes = listed(alloc, &widened(alloc, plan.transformed_sizes())?, " ")?;
-    let bounds = listed(alloc, &stage_bounds(alloc, &plan, 64)?, " ")?;
+    plan.known();
+    let round = plan.transformed_schedule().round();
+    let bounds = stage_bounds(alloc, plan.transformed_graph(), round, 64)?;
+    let bounds = listed(alloc, &bounds, " ")?;
     let found = format!(in alloc; "{units}|{sizes}|{bounds}")?;
     assert_eq!(rt; found.as_str(), wanted, "{threshold}");
     let before = listed(alloc, &widened(alloc, plan.sizes())?, " ")?;

@@ -1,8 +1,9 @@
 // Where the stages of a program with a feedback loop begin.
 
+use std::alloc::{AllocError, Global};
 use std::test::Fail;
 use strc_cut::bounds::stage_bounds;
-use strc_run::compile::compile;
+use strc_run::compile::{Plan, compile};
 use strc_run::options::Options;
 
 /// A reader is node 0, the loop has nodes 1 to 4, and a writer is node 5.
@@ -30,18 +31,25 @@ fn digits(bounds: &[usize]) -> usize {
     digits
 }
 
+fn bounds(alloc: Global, plan: &Plan, workers: u32) -> Result<Vec<usize>, AllocError> {
+    plan.known();
+    let round = plan.transformed_schedule().round();
+    stage_bounds(alloc, plan.transformed_graph(), round, workers)
+}
+
 #[test]
 fn a_loop_stays_in_one_stage(rt: HostRuntime) -> Result<(), Fail> {
     let alloc = rt.alloc();
     let options = Options {
         main: None,
+        ways: 1,
         fuse: 0,
     };
     let plan = compile(alloc, TEXT, &options).ok().ok_or("no plan")?;
-    assert_eq!(rt; digits(&stage_bounds(alloc, &plan, 0)?), 16);
-    assert_eq!(rt; digits(&stage_bounds(alloc, &plan, 1)?), 106);
-    assert_eq!(rt; digits(&stage_bounds(alloc, &plan, 2)?), 1016);
-    assert_eq!(rt; digits(&stage_bounds(alloc, &plan, 3)?), 10156);
-    assert_eq!(rt; digits(&stage_bounds(alloc, &plan, 9)?), 10156);
+    assert_eq!(rt; digits(&bounds(alloc, &plan, 0)?), 16);
+    assert_eq!(rt; digits(&bounds(alloc, &plan, 1)?), 106);
+    assert_eq!(rt; digits(&bounds(alloc, &plan, 2)?), 1016);
+    assert_eq!(rt; digits(&bounds(alloc, &plan, 3)?), 10156);
+    assert_eq!(rt; digits(&bounds(alloc, &plan, 9)?), 10156);
     Ok(())
 }

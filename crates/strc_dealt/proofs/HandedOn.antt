@@ -21,7 +21,8 @@ use Rattle.strc_fiss.specs.declared.split.Origin.{Origin}
 use Rattle.strc_dealt.specs.Dealt.{HaveRoom, IsDealt, starting, waiting_at}
 use Rattle.strc_dealt.specs.Handing.{HasFilled, HasHanded, items_before}
 use Rattle.strc_dealt.specs.Handing.{maybe_inside, ring_before}
-use Rattle.strc_dealt.specs.Origins.{is_inside, old_node}
+use Rattle.strc_split.specs.Named.{old_node}
+use Rattle.strc_dealt.specs.Origins.{is_inside}
 use Rattle.strc_dealt.proofs.Filling.{all_join}
 use Rattle.strc_dealt.proofs.Nodes.{kept, not_whole}
 

@@ -1,7 +1,8 @@
 -- A machine to which a state is dealt out holds the state dealt out.
-use Rattle.std.proofs.Common.{◌≡◌, refl, sym, ap, ◌∙◌, ℕ, zero, suc, ◌+◌, ◌<◌, ◌≤◌, ℤ}
-use Rattle.std.proofs.Common.{List, [], ◌∷◌, length, get_or, map, Bool, true, false, inl, inr}
-use Rattle.std.proofs.Common.{slice_get, Some, arith}
+use Rattle.std.proofs.Common.{◌≡◌, refl, sym, ap, ◌∙◌, ℕ, suc, ◌+◌, ◌<◌, ◌≤◌, ℤ}
+use Rattle.std.proofs.Common.{List, length, get_or, Bool, true, false}
+use Rattle.std.proofs.Common.{slice_get, Some, arith, drop}
+use Rattle.std.proofs.lemmas.Option.{slice_get_within}
 use Rattle.std.specs.Prelude.{slice_index}
 use Rattle.circular_buffer.specs.Buffer.{buffer}
 use Rattle.strc_dataflow.specs.Answer.{words_of}
@@ -10,67 +11,38 @@ use Rattle.strc_dataflow.specs.Streams as trees
 use Rattle.strc_dataflow.specs.Streams.{any_code}
 use Rattle.strc_semantics.specs.declared.fault.Cause.{Cause}
 use Rattle.strc_semantics.specs.declared.word.Word.{Word}
+use Rattle.strc_graph.specs.Graphs.{FileReader}
 use Rattle.strc_graph.specs.Graphs.{NodeCode, Graph, Channel, IsGraph, JoinsPorts, input_ports}
 use Rattle.strc_graph.specs.Meaning.{node_meaning}
 use Rattle.strc_graph.specs.Rates.{fires_by_rounds}
 use Rattle.strc_graph.specs.declared.graph.Fission.{Fission}
-use Rattle.strc_graph.specs.declared.graph.Port.{Port}
 use Rattle.strc_order.specs.Schedules.{ScheduleParts}
 use Rattle.strc_admissible.specs.Circuits.{IsCircuit}
 use Rattle.strc_admissible.specs.Fits.{Queues}
 use Rattle.strc_admissible.specs.Machine.{CircuitView, MachineView, words_at}
 use Rattle.strc_admissible.specs.Planned.{IsPlanned}
-use Rattle.strc_admissible.specs.Rings.{Ring, items_at, ring_at}
-use Rattle.strc_rounds.specs.Starting.{queues_dealt, state_dealt}
+use Rattle.strc_admissible.specs.Simulation.{Simulates}
+use Rattle.strc_admissible.specs.Rings.{ring_at}
 use Rattle.strc_runner.specs.Keeping.{Kept, kept_at}
 use Rattle.strc_fiss.specs.Numbers.{is_dealt, last_part, base}
-use Rattle.strc_fiss.specs.Splitting.{new_code, renamed_channel, to_copy, from_copy}
+use Rattle.strc_fiss.specs.Splitting.{code_at, new_code, renamed_channel, to_copy, from_copy}
 use Rattle.strc_fiss.specs.Ways.{fission_of}
 use Rattle.strc_fiss.proofs.Each.{Each, all_each}
 use Rattle.strc_fiss.proofs.Shares.{there_by}
 use Rattle.strc_split.specs.Laws.{new_graph}
-use Rattle.strc_split.specs.Owners.{owner}
-use Rattle.strc_split.specs.Runs.{parts_of, graph_before}
+use Rattle.strc_split.specs.Named.{new_origins}
+use Rattle.strc_split.specs.Runs.{dealt_from}
 use Rattle.strc_split.proofs.Members.{In, each_in, each_from}
 use Rattle.strc_split.proofs.NewChannels.{copy_within, each_new, gather_within}
-use Rattle.strc_split.proofs.Owners.{owner_is}
 use Rattle.strc_dealt.specs.Dealt.{IsDealt, starting, waiting_at}
-use Rattle.strc_dealt.specs.Laws.{DealtMachinesHold, origins_of}
-use Rattle.strc_dealt.specs.States.{Holds, dealt_to}
-use Rattle.strc_dealt.proofs.Nodes.{kept, some_same}
-use Rattle.strc_dealt.proofs.Numbers.{IsNumber, number_of, code_there, origin_is, whole_plain}
-use Rattle.strc_dealt.proofs.Parts.{own_run, part_run}
-use Rattle.strc_dealt.proofs.Numbers.{part_fires, later_inside, first_outside}
-
--- ---- lists
-
--- what is at a place is in the list
-pub slice_in : {A : Type 0} (xs : List A) (number : ℕ) (x : A) → slice_get xs number ≡ Some x
-    → In x xs
-slice_in [] number x there = absurd (cc)
-slice_in (y ∷ xs) zero x there = inl (sym (some_same y x there))
-slice_in (y ∷ xs) (suc number) x there = inr (slice_in xs number x there)
-
-pub in_slice : {A : Type 0} (xs : List A) (x : A) → In x xs
-    → (number : ℕ) × (slice_get xs number ≡ Some x)
-in_slice [] x there = absurd there
-in_slice (y ∷ xs) x (inl here) = (0, ap Some (sym here))
-in_slice (y ∷ xs) x (inr later) =
-    let found = in_slice xs x later in
-    (suc found.0, found.1)
-
-map_at : {A B : Type 0} (f : A → B) (xs : List A) (number : ℕ) (x : A)
-    → slice_get xs number ≡ Some x → slice_get (map f xs) number ≡ Some (f x)
-map_at f [] number x there = absurd (cc)
-map_at f (y ∷ xs) zero x there = ap (λ a. Some (f a)) (some_same y x there)
-map_at f (y ∷ xs) (suc number) x there = map_at f xs number x there
-
-at_map : {A B : Type 0} (f : A → B) (xs : List A) (number : ℕ) (y : B)
-    → slice_get (map f xs) number ≡ Some y
-    → (x : A) × (slice_get xs number ≡ Some x) × (f x ≡ y)
-at_map f [] number y there = absurd (cc)
-at_map f (x ∷ xs) zero y there = (x, refl, some_same (f x) y there)
-at_map f (x ∷ xs) (suc number) y there = at_map f xs number y there
+use Rattle.strc_dealt.specs.Laws.{DealtMachinesHold}
+use Rattle.strc_dealt.proofs.Nodes.{kept}
+use Rattle.strc_split.proofs.NewNumbers.{IsNumber, number_of, code_there, origin_is, whole_plain}
+use Rattle.strc_split.proofs.NewNumbers.{part_fires, whole_code, whole_part, told_whole}
+use Rattle.strc_split.proofs.NewNumbers.{old_there}
+use Rattle.strc_split.proofs.DealtRuns.{own_run, part_run}
+use Rattle.strc_dealt.proofs.Waiting.{slice_in, queue_first, queue_later, waiting_is}
+use Rattle.strc_dealt.proofs.Numbers.{later_inside, first_outside}
 
 -- what a run has come to
 abbrev kept_of : Run (List ℤ) Cause Word → Kept
@@ -78,10 +50,10 @@ kept_of run = record { fields = run.state; fired = run.fired; words = run.words 
 
 module _ (tree : trees.Stream NodeCode) (old : Graph) (schedule : ScheduleParts)
     (round : List ℕ) (ways : ℕ) (started : Queues) (circuit : CircuitView)
-    (old_sizes sizes : List ℕ) (before after : MachineView) (is : IsGraph old)
+    (old_sizes sizes : List ℕ) (input : List ℤ) (before after : MachineView) (is : IsGraph old)
     (planned : IsPlanned old schedule) (wired : IsCircuit old circuit)
-    (holds : Holds old old_sizes started before)
-    (dealt : IsDealt circuit (new_graph old schedule round ways) (origins_of old round ways) sizes
+    (holds : Simulates old old_sizes input started before)
+    (dealt : IsDealt circuit (new_graph old schedule round ways) (new_origins old round ways) sizes
     before after) where
   abbrev share : ℕ → Fission
   share = fission_of old round ways
@@ -90,7 +62,7 @@ module _ (tree : trees.Stream NodeCode) (old : Graph) (schedule : ScheduleParts)
   new = new_graph old schedule round ways
 
   abbrev now : Queues
-  now = dealt_to tree old schedule round ways started
+  now = dealt_from tree old schedule round ways started
 
   abbrev plain : (node : ℕ) (code : NodeCode) → slice_get old.nodes node ≡ Some code
       → fires_by_rounds code ≡ false
@@ -140,46 +112,6 @@ module _ (tree : trees.Stream NodeCode) (old : Graph) (schedule : ScheduleParts)
 
   -- ---- channels
 
-  -- the items at a port of an old node where a channel ends
-  waiting_is : (own : Channel) → In own old.channels
-      → waiting_at circuit before own.target.node own.target.port
-      ≡ started.queues own.target.node own.target.port
-  waiting_is own there =
-      let (number, at) = in_slice old.channels own there in
-      let (other, found) = wired.inputs.complete number own.target
-      (map_at target_of old.channels number own at) in
-      let (beside, here, same) = at_map target_of old.channels other
-      (record { node = own.target.node; port = own.target.port })
-      (wired.inputs.sound own.target.node own.target.port other found) in
-      ap (items_at before.rings) found
-      ∙ ap (λ (r : Ring). r.items) (holds.rings other beside here)
-      ∙ ap (λ (p : Port). started.queues p.node p.port) same
-    where
-      target_of : Channel → Port
-      target_of channel = channel.target
-
-  abbrev queues : (node part : ℕ) → ℕ → List ℤ
-  queues node part = queues_dealt (parts_of tree old schedule round ways) node_meaning
-      (graph_before tree old schedule round ways) started node part
-
-  queue_first : (node port : ℕ) → node < length old.nodes
-      → now.queues (base share node) port ≡ started.queues node port
-  unfolding state_dealt queues_dealt
-  queue_first node port inside =
-      let at : base share node ≡ base share node + 0 = omega arith in
-      let who = owner_is share node 0 (omega arith) in
-      ap (λ (n : ℕ). queues (owner share n).node (owner share n).part port) at
-      ∙ ap (λ (n : ℕ). queues n (owner share (base share node + 0)).part port) who.0
-      ∙ ap (λ (n : ℕ). queues node n port) who.1
-
-  queue_later : (node part port : ℕ) → suc part ≤ last_part share node
-      → now.queues (base share node + suc part) port ≡ []
-  unfolding state_dealt queues_dealt
-  queue_later node part port within =
-      let who = owner_is share node (suc part) within in
-      ap (λ (n : ℕ). queues n (owner share (base share node + suc part)).part port) who.0
-      ∙ ap (λ (n : ℕ). queues node n port) who.1
-
   -- its ring holds its queue, whatever its number
   abbrev HoldsIts : Channel → Type 0
   HoldsIts channel = (number : ℕ) → slice_get new.channels number ≡ Some channel
@@ -205,8 +137,8 @@ module _ (tree : trees.Stream NodeCode) (old : Graph) (schedule : ScheduleParts)
       (slice_index sizes number))
       (origin_is share old.nodes plain (base share node) node 0 first)
       ∙ ap (λ (l : List ℤ). buffer l (slice_index sizes number))
-      (waiting_is own there
-      ∙ sym (queue_first node own.target.port inside))
+      (waiting_is old started circuit old_sizes input before wired holds own there
+      ∙ sym (queue_first tree old schedule round ways started node own.target.port))
 
   inner_holds : (channel : Channel) (node part : ℕ) → node < length old.nodes
       → is_dealt (share node) ≡ true → suc part ≤ last_part share node
@@ -222,7 +154,7 @@ module _ (tree : trees.Stream NodeCode) (old : Graph) (schedule : ScheduleParts)
       (later_inside share old.nodes plain channel.target.node node (suc part) own e part refl)
       ∙ ap (λ (l : List ℤ). buffer l (slice_index sizes number))
       (sym (ap (λ (n : ℕ). now.queues n channel.target.port) target
-      ∙ queue_later node part channel.target.port within))
+      ∙ queue_later tree old schedule round ways started node part channel.target.port within))
 
   each_holds : Each HoldsIts new.channels
   each_holds =
@@ -233,19 +165,46 @@ module _ (tree : trees.Stream NodeCode) (old : Graph) (schedule : ScheduleParts)
       (λ v i inside e less. inner_holds (from_copy (base share v) (share v).ways i).channel v
       (share v).ways inside e (gather_within share v e) refl)
 
-  pub holds_now : Holds new sizes now after
+  -- a reader is never split
+  reads_now : (number : ℕ) (text : List ℕ) → slice_get new.nodes number ≡ Some (FileReader text)
+      → now.queues number 0 ≡ drop (now.runs number).fired input
+  reads_now number text there =
+      let (v, k, own) = number_of share old.nodes plain number
+      (slice_get_within new.nodes number (FileReader text) there) in
+      let whole = told_whole share old.nodes plain number v k own (FileReader text) there refl in
+      let part = whole_part share old.nodes plain number v k own whole in
+      let at : base share v ≡ number =
+      omega (arith, own.at, part) in
+      let code : Some (code_at old.nodes v) ≡ Some (FileReader text) =
+      sym (ap Some (whole_code share old.nodes plain number v k own whole))
+      ∙ sym (code_there share old.nodes plain number v k own)
+      ∙ there in
+      let old_reads : slice_get old.nodes v ≡ Some (FileReader text) =
+      old_there share old.nodes plain number v k own ∙ code in
+      ap (λ (n : ℕ). now.queues n 0) (sym at)
+      ∙ queue_first tree old schedule round ways started v 0
+      ∙ holds.reads v text old_reads
+      ∙ ap (λ (r : Run (List ℤ) Cause Word). drop r.fired input)
+      (sym (own_run tree old schedule round ways started planned number v k own whole))
+
+  pub holds_now : Simulates new sizes input now after
   unfolding words_of
   holds_now = record {
+    each_fields = dealt.each_fields;
+    each_fired = dealt.each_fired;
+    each_ring = dealt.each_ring;
     fields = λ node less. ap (λ (k : Kept). k.fields) (kept_now node less);
     fired = λ node less. ap (λ (k : Kept). k.fired) (kept_now node less);
     rings = λ number channel there.
         each_in HoldsIts channel new.channels each_holds
         (slice_in new.channels number channel there) number there;
+    reads = reads_now;
+    each_words = dealt.each_words;
     words = λ node less. ap (λ (k : Kept). k.words) (kept_now node less);
   }
 
 pub dealt_machines_hold : DealtMachinesHold
-dealt_machines_hold tree old schedule round ways started circuit old_sizes sizes before after is
-    planned wired holds dealt =
-    holds_now tree old schedule round ways started circuit old_sizes sizes before after is planned
-    wired holds dealt
+dealt_machines_hold tree old schedule round ways started circuit old_sizes sizes input before after
+    is planned wired holds dealt =
+    holds_now tree old schedule round ways started circuit old_sizes sizes input before after is
+    planned wired holds dealt

@@ -2,7 +2,7 @@ pub mod Nodes
 pub mod Filling
 pub mod HandedOn
 pub mod Numbers
-pub mod Parts
+pub mod Waiting
 pub mod Holding
-pub mod Agreeing
+pub mod Room
 pub mod Rows

@@ -15,7 +15,8 @@ use Rattle.strc_admissible.specs.Machine.{MachineView}
 use Rattle.strc_runner.specs.Keeping.{Kept, HasPlace, kept_at, with_kept}
 use Rattle.strc_fiss.specs.declared.split.Origin.{Origin}
 use Rattle.strc_dealt.specs.Handing.{AsMany, HasHanded, HavePlaces}
-use Rattle.strc_dealt.specs.Origins.{IsWhole, old_node}
+use Rattle.strc_split.specs.Named.{old_node}
+use Rattle.strc_dealt.specs.Origins.{IsWhole}
 
 abbrev pub kept : (fields : List ℤ) (fired : ℕ) (words : List Word) → Kept
 kept fields fired words = record { fields = fields; fired = fired; words = words }

@@ -1,20 +1,18 @@
--- The nodes after fission by their numbers.
-use Rattle.std.proofs.Common.{◌≡◌, refl, sym, ap, ◌∙◌, subst, ℕ, zero, suc, ◌+◌, ◌<◌, ◌≤◌, arith}
-use Rattle.std.proofs.Common.{List, [], length, get_or, Bool, true, false, cond, inl, inr, Some}
-use Rattle.std.proofs.Common.{slice_get, nat_lt}
-use Rattle.std.proofs.lemmas.Bool.{cases_lt}
-use Rattle.std.proofs.lemmas.Option.{slice_get-get_or, slice_get_within}
+-- The nodes after fission by their numbers: which are between parts, and their origins.
+use Rattle.std.proofs.Common.{◌≡◌, refl, sym, ap, ◌∙◌, subst, ℕ, suc, ◌+◌, ◌<◌}
+use Rattle.std.proofs.Common.{List, length, Bool, true, false, cond, Some, slice_get, nat_lt}
+use Rattle.std.proofs.lemmas.Option.{slice_get_within}
 use Rattle.strc_graph.specs.Graphs.{NodeCode, Scatter, Copy, Gather, Filter, Identity}
 use Rattle.strc_graph.specs.Graphs.{FileReader, FileWriter, Splitter, Joiner}
 use Rattle.strc_graph.specs.Rates.{fires_by_rounds}
 use Rattle.strc_graph.specs.declared.graph.Fission.{Fission}
-use Rattle.strc_rounds.proofs.Numbers as numbers
-use Rattle.strc_fiss.specs.Numbers.{is_dealt, last_part, base, each_part, origin_of, parts_after}
+use Rattle.strc_fiss.specs.Numbers.{is_dealt, base, origin_of}
 use Rattle.strc_fiss.specs.Splitting.{code_at, copied, new_code, part_of}
-use Rattle.strc_fiss.specs.declared.split.Origin.{Origin}
-use Rattle.strc_fiss.proofs.Bases.{base_up}
-use Rattle.strc_fiss.proofs.Lookup.{part_many, part_there, part_value}
-use Rattle.strc_dealt.specs.Origins.{AreOrigins, is_inside, old_node}
+use Rattle.strc_fiss.proofs.Lookup.{part_many}
+use Rattle.strc_split.proofs.NewNumbers.{IsNumber, nodes, origins, number_of, code_there}
+use Rattle.strc_split.proofs.NewNumbers.{origin_is, old_there, old_plain, whole_code, whole_part}
+use Rattle.strc_split.proofs.NewNumbers.{dealt_code, told_whole}
+use Rattle.strc_dealt.specs.Origins.{AreOrigins, is_inside}
 
 -- nodes that aren't of fission aren't between parts
 pub plain_outside : (code : NodeCode) → fires_by_rounds code ≡ false → is_inside code ≡ false
@@ -31,107 +29,11 @@ plain_outside (Gather fission) e = absurd (cc)
 module _ (share : ℕ → Fission) (codes : List NodeCode)
     (plain : (node : ℕ) (code : NodeCode) → slice_get codes node ≡ Some code
     → fires_by_rounds code ≡ false) where
-  abbrev pub size : ℕ
-  size = length codes
-
-  abbrev pub nodes : List NodeCode
-  nodes = each_part share (new_code share codes) (length codes)
-
-  abbrev pub origins : List Origin
-  origins = each_part share (origin_of share) (length codes)
-
-  -- a number is that of a part of a node
-  pub record IsNumber (number node part : ℕ) : Type 0 where
-    pub inside : node < length codes
-    pub within : part ≤ last_part share node
-    pub at : base share node + part ≡ number
-
-  pub number_of : (number : ℕ) → number < length nodes
-      → (node : ℕ) × (part : ℕ) × IsNumber number node part
-  number_of number less =
-      let (v, k, is) = numbers.owner (parts_after share (λ w. 0)) (base share)
-      (record { first = refl; next = λ w. refl; names = λ w j. refl }) number in
-      let at : base share v + k ≡ number = is.is in
-      (v, k, record { inside = inside_is v k at; within = is.within; at = at })
-    where
-      inside_is : (v k : ℕ) → base share v + k ≡ number → v < length codes
-      inside_is v k at = elim (cases_lt v (length codes)) [
-        | inl inside ↦ inside
-        | inr past ↦
-            absurd (omega (
-              arith,
-              at,
-              less,
-              part_many share (new_code share codes) (length codes),
-              base_up share (length codes) v past,
-            ))
-      ]
-
-  module _ (number node part : ℕ) (is : IsNumber number node part) where
-    pub code_there : slice_get nodes number ≡ Some (new_code share codes node part)
-    code_there =
-        ap (slice_get nodes) (sym is.at)
-        ∙ part_there share (new_code share codes) (length codes) node part is.inside is.within
-
-    pub origin_is : old_node origins number ≡ node
-    origin_is =
-        ap (λ (n : ℕ). (get_or origins n none).node) (sym is.at)
-        ∙ ap (λ (o : Origin). o.node)
-        (part_value share (origin_of share) (length codes) node part none is.inside is.within)
-      where
-        none : Origin
-        none = record { node = 0; first = 0 }
-
-    pub old_there : slice_get codes node ≡ Some (code_at codes node)
-    old_there = slice_get-get_or codes node (Joiner []) is.inside
-
-    pub old_plain : fires_by_rounds (code_at codes node) ≡ false
-    old_plain = plain node (code_at codes node) old_there
-
-    -- a node that isn't split
-    pub whole_code : is_dealt (share node) ≡ false
-        → new_code share codes node part ≡ code_at codes node
-    whole_code e =
-        ap (λ (t : Bool). cond t (part_of (code_at codes node) (share node) part)
-        (code_at codes node)) e
-
-    pub whole_plain : is_dealt (share node) ≡ false
-        → fires_by_rounds (new_code share codes node part) ≡ false
-    whole_plain e = ap fires_by_rounds (whole_code e) ∙ old_plain
-
-    pub whole_part : is_dealt (share node) ≡ false → part ≡ 0
-    whole_part e =
-        let last : last_part share node ≡ 0 =
-        ap (λ (t : Bool). cond t (suc (share node).ways) 0) e in
-        let within = is.within in
-        omega (arith, last, within)
-
-    -- parts of one that is
-    dealt_code : is_dealt (share node) ≡ true
-        → new_code share codes node part ≡ part_of (code_at codes node) (share node) part
-    dealt_code e =
-        ap (λ (t : Bool). cond t (part_of (code_at codes node) (share node) part)
-        (code_at codes node)) e
-
-    pub part_fires : is_dealt (share node) ≡ true
-        → fires_by_rounds (new_code share codes node part) ≡ true
-    part_fires e = ap fires_by_rounds (dealt_code e) ∙ by_part part
-      where
-        by_copy : (t : Bool)
-            → fires_by_rounds (cond t (Copy (copied (code_at codes node)) (share node))
-            (Gather (share node)))
-            ≡ true
-        by_copy true = refl
-        by_copy false = refl
-
-        by_part : (k : ℕ) → fires_by_rounds (part_of (code_at codes node) (share node) k) ≡ true
-        by_part zero = refl
-        by_part (suc copy) = by_copy (nat_lt copy (share node).ways)
-
+  module _ (number node part : ℕ) (is : IsNumber share codes plain number node part) where
     pub later_inside : is_dealt (share node) ≡ true → (k : ℕ) → part ≡ suc k
         → is_inside (new_code share codes node part) ≡ true
     later_inside e k later =
-        ap is_inside (dealt_code e
+        ap is_inside (dealt_code share codes plain number node part is e
         ∙ ap (part_of (code_at codes node) (share node)) later)
         ∙ by_copy (nat_lt k (share node).ways)
       where
@@ -148,50 +50,43 @@ module _ (share : ℕ → Fission) (codes : List NodeCode)
         by_test : (t : Bool) → is_dealt (share node) ≡ t
             → is_inside (new_code share codes node part) ≡ false
         by_test true e =
-            ap is_inside (dealt_code e
+            ap is_inside (dealt_code share codes plain number node part is e
             ∙ ap (part_of (code_at codes node) (share node)) first)
         by_test false e =
-            ap is_inside (whole_code e) ∙ plain_outside (code_at codes node) old_plain
-
-    -- a node that isn't split, told by its code
-    pub told_whole : (code : NodeCode) → slice_get nodes number ≡ Some code
-        → fires_by_rounds code ≡ false → is_dealt (share node) ≡ false
-    told_whole code there own = by_test (is_dealt (share node)) refl
-      where
-        by_test : (t : Bool) → is_dealt (share node) ≡ t → is_dealt (share node) ≡ false
-        by_test false e = e
-        by_test true e =
-            let same : Some (new_code share codes node part) ≡ Some code =
-            sym code_there ∙ there in
-            let code_is : new_code share codes node part ≡ code = cc in
-            let fires : true ≡ false =
-            sym (part_fires e) ∙ ap fires_by_rounds code_is ∙ own in
-            absurd (cc)
+            ap is_inside (whole_code share codes plain number node part is e)
+            ∙ plain_outside (code_at codes node)
+            (old_plain share codes plain number node part is)
 
   -- ---- the origins
 
-  pub origins_are : AreOrigins codes nodes origins
+  pub origins_are : AreOrigins codes (nodes share codes plain) (origins share codes plain)
   origins_are = record {
     each = part_many share (origin_of share) (length codes)
         ∙ sym (part_many share (new_code share codes) (length codes));
     within = λ number less.
-        let (v, k, is) = number_of number less in
-        subst (λ (n : ℕ). n < length codes) (sym (origin_is number v k is)) is.inside;
+        let (v, k, is) = number_of share codes plain number less in
+        subst (λ (n : ℕ). n < length codes) (sym (origin_is share codes plain number v k is))
+        is.inside;
     kept = λ number code there own.
-        let (v, k, is) = number_of number (slice_get_within nodes number code there) in
-        let whole = told_whole number v k is code there own in
-        ap (slice_get codes) (origin_is number v k is)
-        ∙ old_there number v k is
-        ∙ sym (sym there ∙ code_there number v k is ∙ ap Some (whole_code number v k is whole));
+        let (v, k, is) = number_of share codes plain number
+        (slice_get_within (nodes share codes plain) number code there) in
+        let whole = told_whole share codes plain number v k is code there own in
+        ap (slice_get codes) (origin_is share codes plain number v k is)
+        ∙ old_there share codes plain number v k is
+        ∙ sym (sym there ∙ code_there share codes plain number v k is
+        ∙ ap Some (whole_code share codes plain number v k is whole));
     apart = λ one other own beside same.
-        let (v, k, is) = number_of one (slice_get_within nodes one own.code own.there) in
-        let (u, l, there) = number_of other
-        (slice_get_within nodes other beside.code beside.there) in
-        let first = whole_part one v k is (told_whole one v k is own.code own.there own.whole) in
-        let second = whole_part other u l there
-        (told_whole other u l there beside.code beside.there beside.whole) in
+        let (v, k, is) = number_of share codes plain one
+        (slice_get_within (nodes share codes plain) one own.code own.there) in
+        let (u, l, there) = number_of share codes plain other
+        (slice_get_within (nodes share codes plain) other beside.code beside.there) in
+        let first = whole_part share codes plain one v k is
+        (told_whole share codes plain one v k is own.code own.there own.whole) in
+        let second = whole_part share codes plain other u l there
+        (told_whole share codes plain other u l there beside.code beside.there beside.whole) in
         let nodes_same : v ≡ u =
-        sym (origin_is one v k is) ∙ same ∙ origin_is other u l there in
+        sym (origin_is share codes plain one v k is) ∙ same
+        ∙ origin_is share codes plain other u l there in
         sym is.at
         ∙ ap (λ (n : ℕ). base share n + k) nodes_same
         ∙ ap (λ (n : ℕ). base share u + n) (first ∙ sym second)

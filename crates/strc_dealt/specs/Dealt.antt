@@ -10,7 +10,8 @@ use Rattle.strc_admissible.specs.Rings.{at_port, items_at, ring_at}
 use Rattle.strc_admissible.specs.Wiring.{ports_at}
 use Rattle.strc_runner.specs.Keeping.{Kept, kept_at}
 use Rattle.strc_fiss.specs.declared.split.Origin.{Origin}
-use Rattle.strc_dealt.specs.Origins.{old_node, is_inside}
+use Rattle.strc_split.specs.Named.{old_node}
+use Rattle.strc_dealt.specs.Origins.{is_inside}
 
 -- what a node has that starts
 abbrev pub starting : NodeCode → Kept

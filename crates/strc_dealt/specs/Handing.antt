@@ -9,7 +9,8 @@ use Rattle.strc_admissible.specs.Wiring.{ports_at}
 use Rattle.strc_runner.specs.Keeping.{HasPlace, kept_at}
 use Rattle.strc_runner.specs.Running.{with_rings}
 use Rattle.strc_fiss.specs.declared.split.Origin.{Origin}
-use Rattle.strc_dealt.specs.Origins.{IsWhole, is_inside, old_node}
+use Rattle.strc_split.specs.Named.{old_node}
+use Rattle.strc_dealt.specs.Origins.{IsWhole, is_inside}
 
 -- as many nodes
 pub record AsMany (one other : MachineView) : Type 0 where

@@ -1,6 +1,5 @@
 pub mod Origins
 pub mod Dealt
 pub mod Handing
-pub mod States
 pub mod Laws
 pub mod Rows

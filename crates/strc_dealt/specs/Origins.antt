@@ -1,14 +1,10 @@
 -- What the nodes of a graph after fission stand for.
 use Rattle.std.specs.Prelude.{◌≡◌, ℕ, ◌<◌, Bool, true, false, List, length, Some, slice_get}
-use Rattle.std.specs.Prelude.{slice_index_or}
 use Rattle.strc_graph.specs.Graphs as graphs
 use Rattle.strc_graph.specs.Graphs.{NodeCode}
 use Rattle.strc_graph.specs.Rates.{fires_by_rounds}
 use Rattle.strc_fiss.specs.declared.split.Origin.{Origin}
-
--- the node before fission that a node is a part of
-abbrev pub old_node : List Origin → (number : ℕ) → ℕ
-old_node origins number = (slice_index_or origins number (record { node = 0; first = 0 })).node
+use Rattle.strc_split.specs.Named.{old_node}
 
 -- only channels between the parts of one node end here
 abbrev pub is_inside : NodeCode → Bool

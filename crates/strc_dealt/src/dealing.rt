@@ -14,7 +14,8 @@ ghost use Rattle.strc_dealt.specs.Handing as handing;
 ghost use Rattle.strc_dealt.specs.Handing.{HasFilled, HasHanded, HavePlaces, items_before};
 ghost use Rattle.strc_dealt.specs.Handing.{with_items};
 ghost use Rattle.strc_dealt.specs.Origins as spec;
-ghost use Rattle.strc_dealt.specs.Origins.{AreOrigins, IsWhole, old_node};
+ghost use Rattle.strc_dealt.specs.Origins.{AreOrigins, IsWhole};
+ghost use Rattle.strc_split.specs.Named.{old_node};
 
 use std::alloc::Global;
 use strc_base::memory::NoMemory;
@@ -26,8 +27,8 @@ use strc_runner::machine::Machine;
 
 /// A machine for a graph after fission, to which the state of the machine of the graph before it is
 /// dealt out: nodes that aren't split keep what they had, and parts of the others start. What waits
-/// at a node waits at its first part. `old` is the circuit of the graph before fission, and each
-/// ring gets the room that is given for it.
+/// at a node waits at its first part, where there is room for it. `old` is the circuit of the graph
+/// before fission, and each ring gets the room that is given for it.
 pub fn deal_out(
     alloc: Global,
     before: Machine,
@@ -42,11 +43,13 @@ pub fn deal_out(
     requires starts { AreStartable (graph_view graph.now).nodes }
     requires origins { AreOrigins (circuit_view old.now).codes (graph_view graph.now).nodes
         origins.now }
-    requires room { HaveRoom (circuit_view old.now) (graph_view graph.now) origins.now sizes.now
-        (machine_view before) }
     ensures machine { IfOk result (IsMachine (circuit_view circuit.now)) }
-    ensures dealt { IfOk result (λ after. IsDealt (circuit_view old.now) (graph_view graph.now)
-        origins.now sizes.now (machine_view before) (machine_view after)) }
+    ensures dealt { HaveRoom (circuit_view old.now) (graph_view graph.now) origins.now sizes.now
+        (machine_view before)
+        → IfOk result (λ after. IsDealt (circuit_view old.now) (graph_view graph.now) origins.now
+        sizes.now (machine_view before) (machine_view after)) }
+    ensures rings { IfOk result (λ after. length (machine_view after).rings
+        ≡ length graph.now.channels) }
 {
     let mut left = before;
     let mut after = Machine::new(alloc, graph, circuit, sizes)?;

@@ -1,6 +1,7 @@
 // What dealing a state out is worth.
 
-ghost use Rattle.strc_dealt.specs.Laws.{DealtMachinesHold, DealtStatesAgree, FissionsHaveOrigins};
+ghost use Rattle.strc_dealt.specs.Laws.{DealtMachinesHold, DealtStatesHaveRoom};
+ghost use Rattle.strc_dealt.specs.Laws.{FissionsHaveOrigins};
 ghost use Rattle.strc_dealt.specs.Rows.{DealtRow};
 
 /// The origins that fission gives say what each node after it stands for.
@@ -14,9 +15,9 @@ pub fn dealt_machines_hold()
     ensures { DealtMachinesHold }
 {}
 
-/// The state dealt out, where each part starts as its own code does, agrees with the old one.
-pub fn dealt_states_agree()
-    ensures { DealtStatesAgree }
+/// Where rings have room for the state dealt out, they have it for what waits after start-up.
+pub fn dealt_states_have_room()
+    ensures { DealtStatesHaveRoom }
 {}
 
 /// Two items that wait at a filter after start-up wait at its scatter, and no part has fired.

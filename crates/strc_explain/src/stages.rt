@@ -7,8 +7,9 @@ use strc_graph::graph::Graph;
 use strc_run::compile::Plan;
 use strc_times::{StageTimes, alone_line, stage_line};
 
-/// A line for each stage of a plan that so many workers ran, with its nodes, its steps and their
-/// time; or one line where the calling thread did all. No bytes where memory runs out.
+/// A line for each stage of a plan that so many workers ran, with its nodes after fission, its
+/// steps and their time; or one line where the calling thread did all. No bytes where memory runs
+/// out.
 pub fn times_message<C: Clock>(
     alloc: Global,
     plan: &Plan,
@@ -42,10 +43,13 @@ fn stage_lines<C: Clock>(
     workers: u32,
     times: &StageTimes<'_, C>,
 ) -> Result<Vec<u8>, AllocError> {
-    let bounds = stage_bounds(alloc, plan, workers)?;
+    plan.known();
+    let graph = plan.transformed_graph();
+    let round = plan.transformed_schedule().round();
+    let bounds = stage_bounds(alloc, graph, round, workers)?;
     let mut lines = Vec::new(alloc);
     for at in 1..bounds.len() {
-        let names = names_of(alloc, plan.graph(), bounds[at - 1], bounds[at])?;
+        let names = names_of(alloc, graph, bounds[at - 1], bounds[at])?;
         let stage = at - 1;
         let line = stage_line(alloc, stage, times.stage(stage), times.run_time(), &names)?;
         lines.extend_from_slice(&line)?;

@@ -16,9 +16,9 @@ use Rattle.strc_core.specs.Actors as actors
 use Rattle.strc_core.specs.States.{AreFresh, IsFresh}
 use Rattle.strc_parcel.specs.declared.stop.Stop.{Stop}
 use Rattle.strc_parcel.specs.Parcels.{ParcelView, parcel, empty_load}
-use Rattle.strc_stage.specs.Plans.{Planning}
+use Rattle.strc_stage.specs.Plans.{PlanParts, transformed_of}
 use Rattle.strc_staged.specs.Beginnings.{IsBeginning, IsFree, IsStageOf, crosses, rooms_of}
-use Rattle.strc_staged.specs.Runnings.{running_of}
+use Rattle.strc_split_rings.specs.Plans.{running_of}
 use Rattle.strc_staged.specs.Steps.{Gathered, StageState}
 use Rattle.strc_stages.specs.Blocks as blocks
 use Rattle.strc_stages.specs.Blocks.{IsFreeFor}
@@ -71,7 +71,7 @@ fresh_from rounds number (own ∷ stages) each = (
 )
 
 -- what a ring is made of
-pub record AreParts (plan : Planning) (bounds : List ℕ) (circuit : CircuitView)
+pub record AreParts (plan : PlanParts) (bounds : List ℕ) (circuit : CircuitView)
     (started : MachineView) (rounds : ℕ) (stages : List StageParts) (free : List ParcelView)
     (words : Vec (Vec Word)) : Type 0 where
   pub some : 0 < rounds
@@ -81,9 +81,9 @@ pub record AreParts (plan : Planning) (bounds : List ℕ) (circuit : CircuitView
   pub free_are : (first : StageParts) → slice_get stages 0 ≡ Some first
       → All (IsFreeFor first) free
   pub words_are : map vec_items words.items
-      ≡ map (words_at started.words) (tape_nodes plan.graph.nodes)
+      ≡ map (words_at started.words) (tape_nodes (transformed_of plan).nodes)
 
-module _ (plan : Planning) (bounds : List ℕ) (circuit : CircuitView)
+module _ (plan : PlanParts) (bounds : List ℕ) (circuit : CircuitView)
     (started : MachineView) (rounds : ℕ) (stages : List StageParts) (free : List ParcelView)
     (words : Vec (Vec Word))
     (parts : AreParts plan bounds circuit started rounds stages free words) where
@@ -97,7 +97,7 @@ module _ (plan : Planning) (bounds : List ℕ) (circuit : CircuitView)
       (ap (map blocks.room_of) made.blocks ∙ rooms_are plan bounds 0)
       ∙ ap (λ (tapes : ℕ). parcel (empty_load
       (rooms_of (crosses (bound_in bounds) (last_of bounds)) (running_of plan)
-      plan.graph.channels) tapes)
+      (transformed_of plan).channels) tapes)
       None false) made.tapes)
   free_is first own there (inr is) = inr is
 

@@ -5,13 +5,12 @@ use Rattle.std.specs.Prelude.{eqb, if◌then◌else◌, ◌&&◌}
 use Rattle.strc_graph.specs.Graphs.{Channel, NodeCode, gives_words}
 use Rattle.strc_graph.specs.Tapes.{tape_nodes_from}
 use Rattle.strc_circuit.specs.Parts.{is_within}
-use Rattle.strc_cut.specs.Cuts.{IsCut}
-use Rattle.strc_stage.specs.Plans.{Planning}
+use Rattle.strc_stage.specs.Plans.{PlanParts, transformed_of}
 use Rattle.strc_staging.specs.Ranges.{stage_within}
 use Rattle.strc_staged.specs.Beginnings.{crosses, crossings_from, entering_at, leaving_at}
 use Rattle.strc_staged.specs.Beginnings.{ends_in, begins_in, rooms_of, tapes_from}
 use Rattle.strc_staged.specs.Blocks.{raised}
-use Rattle.strc_staged.specs.Runnings.{running_of}
+use Rattle.strc_split_rings.specs.Plans.{IsCut, running_of}
 use Rattle.strc_staged.specs.declared.crossing.Crossing.{Crossing}
 use Rattle.strc_staged.specs.declared.crossing.TapeOf.{TapeOf}
 use Rattle.strc_stages.specs.Blocks as blocks
@@ -44,7 +43,7 @@ room_step : (cross : Bool) (block : Block) (own : List Block) (rooms : List ℕ)
 room_step true block own rooms same = ap (λ (l : List ℕ). block.room ∷ l) same
 room_step false block own rooms same = same
 
-module _ (plan : Planning) (bounds : List ℕ) (stage : ℕ) where
+module _ (plan : PlanParts) (bounds : List ℕ) (stage : ℕ) where
   entering_from : (block ring : ℕ) (channels : List Channel)
       → crossings_in side.Entering stage block ring (map (link_of plan bounds) channels)
       ≡ crossings_from (bound_in bounds) (last_of bounds) block ring
@@ -72,12 +71,12 @@ module _ (plan : Planning) (bounds : List ℕ) (stage : ℕ) where
       (λ b. leaving_from b (suc ring) channels)
 
   pub entering_is : crossings_in side.Entering stage 0 0 (links_of plan bounds)
-      ≡ entering_at (bound_in bounds) (last_of bounds) stage plan.graph.channels
-  entering_is = entering_from 0 0 plan.graph.channels
+      ≡ entering_at (bound_in bounds) (last_of bounds) stage (transformed_of plan).channels
+  entering_is = entering_from 0 0 (transformed_of plan).channels
 
   pub leaving_is : crossings_in side.Leaving stage 0 0 (links_of plan bounds)
-      ≡ leaving_at (bound_in bounds) (last_of bounds) stage plan.graph.channels
-  leaving_is = leaving_from 0 0 plan.graph.channels
+      ≡ leaving_at (bound_in bounds) (last_of bounds) stage (transformed_of plan).channels
+  leaving_is = leaving_from 0 0 (transformed_of plan).channels
 
   -- ---- blocks
 
@@ -93,8 +92,9 @@ module _ (plan : Planning) (bounds : List ℕ) (stage : ℕ) where
       (rooms_from channels)
 
   pub rooms_are : map blocks.room_of (blocks_in stage (links_of plan bounds))
-      ≡ rooms_of (crosses (bound_in bounds) (last_of bounds)) (running_of plan) plan.graph.channels
-  rooms_are = rooms_from plan.graph.channels
+      ≡ rooms_of (crosses (bound_in bounds) (last_of bounds)) (running_of plan)
+      (transformed_of plan).channels
+  rooms_are = rooms_from (transformed_of plan).channels
 
 -- ---- tapes
 
@@ -138,10 +138,10 @@ tapes_after first next from tape node (code ∷ codes) less =
     (λ t. tapes_after first next from t (suc node) codes (omega (arith, less)))
 
 -- a stage's are those of its nodes
-module _ (plan : Planning) (bound : ℕ → ℕ) (last : ℕ) (cut : IsCut plan bound (suc last))
+module _ (plan : PlanParts) (bound : ℕ → ℕ) (last : ℕ) (cut : IsCut plan bound (suc last))
     (stage : ℕ) (most : stage ≤ last) where
   pub tapes_are : (tape node : ℕ) (codes : List NodeCode)
-      → node + length codes ≤ length plan.graph.nodes
+      → node + length codes ≤ length (transformed_of plan).nodes
       → tapes_in (bound stage) (bound (suc stage)) tape (tape_nodes_from node codes)
       ≡ tapes_from bound last tape node stage codes
   tapes_are tape node [] within = refl

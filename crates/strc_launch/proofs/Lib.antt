@@ -1,6 +1,5 @@
 pub mod Lists
 pub mod Ranges
-pub mod RingCounts
 pub mod TapeNodes
 pub mod Cuts
 pub mod Crossings
@@ -8,3 +7,4 @@ pub mod Parting
 pub mod Remainders
 pub mod Begun
 pub mod Started
+pub mod Repeated

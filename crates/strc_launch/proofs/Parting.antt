@@ -19,9 +19,10 @@ use Rattle.strc_admissible.proofs.Supplies.{element}
 use Rattle.strc_circuit.specs.Parts.{IsOutside, IsPartOf, IsPartCircuit}
 use Rattle.strc_circuit.proofs.PartCircuits.{parts_are_part_circuits}
 use Rattle.strc_runner.specs.Parts.{IsPart}
-use Rattle.strc_stage.specs.Plans.{Planning}
+use Rattle.strc_stage.specs.Plans.{PlanParts, transformed_of}
 use Rattle.strc_staged.specs.Beginnings.{IsCircuitOf, IsMachineOf, is_own}
-use Rattle.strc_staged.specs.Runnings.{running_of, round_pushes}
+use Rattle.strc_staged.specs.Runnings.{round_pushes}
+use Rattle.strc_split_rings.specs.Plans.{running_of}
 use Rattle.strc_launch.specs.Bounds.{bound_in, last_of}
 use Rattle.strc_launch.specs.Cuts.{IsCutAt}
 use Rattle.strc_launch.proofs.Ranges.{own_from, own_below, is_outside}
@@ -38,18 +39,18 @@ bound_read bounds stage place own some most is read =
     ∙ ap (bound_in bounds) is
 
 -- a stage's part of a circuit and of a machine
-pub record IsParted (plan : Planning) (bounds : List ℕ) (circuit own : CircuitView)
+pub record IsParted (plan : PlanParts) (bounds : List ℕ) (circuit own : CircuitView)
     (rooms : List ℕ) (before part : MachineView) (stage first next : ℕ) : Type 0 where
   pub at : IsCutAt plan bounds
   pub most : stage ≤ last_of bounds
   pub first_is : first ≡ bound_in bounds stage
   pub next_is : next ≡ bound_in bounds (suc stage)
-  pub whole : IsCircuit plan.graph circuit
+  pub whole : IsCircuit (transformed_of plan) circuit
   pub of : IsPartOf first next circuit own
-  pub rooms_are : rooms ≡ map (round_pushes (running_of plan)) plan.graph.channels
-  pub each_fields : length before.fields ≡ length plan.graph.nodes
-  pub each_fired : length before.fired ≡ length plan.graph.nodes
-  pub is : IsPart plan.graph first next rooms before part
+  pub rooms_are : rooms ≡ map (round_pushes (running_of plan)) (transformed_of plan).channels
+  pub each_fields : length before.fields ≡ length (transformed_of plan).nodes
+  pub each_fired : length before.fired ≡ length (transformed_of plan).nodes
+  pub is : IsPart (transformed_of plan) first next rooms before part
 
 -- a port is one of a node that is there
 port_there : (nodes : List NodeCode) (node port : ℕ) → port < inputs_at nodes node
@@ -84,7 +85,7 @@ none_anywhere {A} count node = elim (cases_lt node count) [
       (omega (arith, past, length-replicate {A = List A} count []))
 ]
 
-module _ (plan : Planning) (bounds : List ℕ) (circuit own : CircuitView) (rooms : List ℕ)
+module _ (plan : PlanParts) (bounds : List ℕ) (circuit own : CircuitView) (rooms : List ℕ)
     (before part : MachineView) (stage first next : ℕ)
     (parted : IsParted plan bounds circuit own rooms before part stage first next) where
   abbrev bound : ℕ → ℕ
@@ -103,7 +104,7 @@ module _ (plan : Planning) (bounds : List ℕ) (circuit own : CircuitView) (room
     own_from plan bound last parted.at.cut stage node is,
   )
 
-  below : (node : ℕ) → node < length plan.graph.nodes → IsOwn node → node < next
+  below : (node : ℕ) → node < length (transformed_of plan).nodes → IsOwn node → node < next
   below node less is = omega (
     arith,
     parted.next_is,
@@ -117,13 +118,13 @@ module _ (plan : Planning) (bounds : List ℕ) (circuit own : CircuitView) (room
 
   -- ---- the circuit
 
-  part_circuit : IsPartCircuit plan.graph first next own
+  part_circuit : IsPartCircuit (transformed_of plan) first next own
   part_circuit =
-      parts_are_part_circuits plan.graph circuit own first next parted.whole parted.of
+      parts_are_part_circuits (transformed_of plan) circuit own first next parted.whole parted.of
 
   codes_are : (node : ℕ) → IsOwn node
       → slice_get own.codes node ≡ slice_get circuit.codes node
-  codes_are node is = elim (cases_lt node (length plan.graph.nodes)) [
+  codes_are node is = elim (cases_lt node (length (transformed_of plan).nodes)) [
     | inl less ↦ part_circuit.own node (from node is) (below node less is)
         ∙ ap (λ (l : List NodeCode). slice_get l node) (sym parted.whole.codes)
     | inr past ↦ slice_get_past own.codes node (omega (arith, past, part_circuit.each))
@@ -144,7 +145,7 @@ module _ (plan : Planning) (bounds : List ℕ) (circuit own : CircuitView) (room
 
   fields_are : (node : ℕ) → IsOwn node
       → slice_index_or part.fields node [] ≡ slice_index_or before.fields node []
-  fields_are node is = elim (cases_lt node (length plan.graph.nodes)) [
+  fields_are node is = elim (cases_lt node (length (transformed_of plan).nodes)) [
     | inl less ↦ parted.is.fields node (from node is) (below node less is)
     | inr past ↦
         get_or_past part.fields node [] (omega (arith, past, parted.is.each_fields))
@@ -153,7 +154,7 @@ module _ (plan : Planning) (bounds : List ℕ) (circuit own : CircuitView) (room
 
   fired_is : (node : ℕ) → IsOwn node
       → slice_index part.fired node ≡ slice_index before.fired node
-  fired_is node is = elim (cases_lt node (length plan.graph.nodes)) [
+  fired_is node is = elim (cases_lt node (length (transformed_of plan).nodes)) [
     | inl less ↦ parted.is.fired node (from node is) (below node less is)
     | inr past ↦
         get_or_past part.fired node 0 (omega (arith, past, parted.is.each_fired))
@@ -161,27 +162,28 @@ module _ (plan : Planning) (bounds : List ℕ) (circuit own : CircuitView) (room
   ]
 
   module _ (number : ℕ) (channel : Channel)
-      (there : slice_get plan.graph.channels number ≡ Some channel) where
-    joins : JoinsPorts plan.graph.nodes channel
-    joins = element (JoinsPorts plan.graph.nodes) plan.graph.channels number channel
-        parted.at.graph.channels there
+      (there : slice_get (transformed_of plan).channels number ≡ Some channel) where
+    joins : JoinsPorts (transformed_of plan).nodes channel
+    joins = element (JoinsPorts (transformed_of plan).nodes) (transformed_of plan).channels number
+        channel parted.at.graph.channels there
 
     ending_is : IsOwn channel.target.node
         → ring_at part.rings number ≡ ring_at before.rings number
     ending_is is =
         parted.is.ended number channel there (from channel.target.node is)
-        (below channel.target.node (port_there plan.graph.nodes channel.target.node
+        (below channel.target.node (port_there (transformed_of plan).nodes channel.target.node
         channel.target.port joins.target) is)
 
     room_is : slice_index rooms number ≡ round_pushes (running_of plan) channel
     room_is =
         ap (λ (l : List ℕ). slice_index l number) parted.rooms_are
-        ∙ get_or-map (round_pushes (running_of plan)) plan.graph.channels number channel 0
-        (slice_get_within plan.graph.channels number channel there)
+        ∙ get_or-map (round_pushes (running_of plan)) (transformed_of plan).channels number
+        channel 0
+        (slice_get_within (transformed_of plan).channels number channel there)
         ∙ ap (round_pushes (running_of plan))
-        (get_or_from_slice_get plan.graph.channels number channel channel there)
+        (get_or_from_slice_get (transformed_of plan).channels number channel channel there)
 
-    leaving_is : (source : channel.source.node < length plan.graph.nodes)
+    leaving_is : (source : channel.source.node < length (transformed_of plan).nodes)
         → IsOwn channel.source.node → (IsOwn channel.target.node → ⊥)
         → ring_at part.rings number ≡ buffer [] (round_pushes (running_of plan) channel)
     leaving_is source is other =
@@ -194,13 +196,14 @@ module _ (plan : Planning) (bounds : List ℕ) (circuit own : CircuitView) (room
     each_fields = parted.is.each_fields;
     each_fired = parted.is.each_fired;
     each_ring = parted.is.each_ring;
-    each_words = ap length parted.is.words ∙ length-replicate (length plan.graph.nodes) [];
+    each_words = ap length parted.is.words
+        ∙ length-replicate (length (transformed_of plan).nodes) [];
     fields = fields_are;
     fired = fired_is;
     ending = ending_is;
     leaving = λ number channel there is other. leaving_is number channel there
-        (source_there plan.graph.nodes channel.source.node channel.source.port
+        (source_there (transformed_of plan).nodes channel.source.node channel.source.port
         (joins number channel there).source) is other;
     words = λ node. ap (λ (l : List (List Word)). words_at l node) parted.is.words
-        ∙ none_anywhere (length plan.graph.nodes) node;
+        ∙ none_anywhere (length (transformed_of plan).nodes) node;
   }

@@ -3,10 +3,10 @@ use Rattle.std.proofs.Common.{◌≡◌, refl, sym, ap, ◌∙◌, subst, ℕ, z
 use Rattle.std.proofs.Common.{Bool, true, false, cond, leb, arith, inl, inr, length, true≢false}
 use Rattle.std.specs.Prelude.{eqb}
 use Rattle.std.proofs.lemmas.Bool.{cases_order, cases_lt, eq-eqb, eqb-true, le-leb, lt-leb}
-use Rattle.strc_stage.specs.Plans.{Planning}
+use Rattle.strc_stage.specs.Plans.{PlanParts, transformed_of}
 use Rattle.strc_circuit.specs.Parts.{IsOutside, is_within}
 use Rattle.strc_circuit.proofs.PartLists.{within_true, within_false}
-use Rattle.strc_cut.specs.Cuts.{IsCut}
+use Rattle.strc_split_rings.specs.Plans.{IsCut}
 use Rattle.strc_staging.specs.Ranges.{stage_within}
 use Rattle.strc_staging.proofs.Ranges.{bounds_from, within_at_most, within_from, within_below}
 
@@ -37,13 +37,13 @@ module _ (bound : ℕ → ℕ) where
       (lt-leb (bound (stage + 1)) node below))
 
 -- which nodes a stage has
-module _ (plan : Planning) (bound : ℕ → ℕ) (last : ℕ) (cut : IsCut plan bound (suc last)) where
+module _ (plan : PlanParts) (bound : ℕ → ℕ) (last : ℕ) (cut : IsCut plan bound (suc last)) where
   pub own_from : (stage node : ℕ) → stage_within bound last node ≡ stage → bound stage ≤ node
   own_from zero node is = omega (arith, cut.first)
   own_from (suc stage) node is =
       subst (λ (n : ℕ). bound n ≤ node) is (within_from bound last node (omega (arith, is)))
 
-  pub own_below : (stage node : ℕ) → node < length plan.graph.nodes
+  pub own_below : (stage node : ℕ) → node < length (transformed_of plan).nodes
       → stage_within bound last node ≡ stage → node < bound (suc stage)
   own_below stage node less is = elim (cases_lt stage last) [
     | inl below ↦ subst (λ (n : ℕ). node < bound (suc n)) is
@@ -91,7 +91,7 @@ module _ (plan : Planning) (bound : ℕ → ℕ) (last : ℕ) (cut : IsCut plan 
   ]
 
   -- the two tests agree on nodes
-  pub same_test : (stage node : ℕ) → stage ≤ last → node < length plan.graph.nodes
+  pub same_test : (stage node : ℕ) → stage ≤ last → node < length (transformed_of plan).nodes
       → eqb (stage_within bound last node) stage
       ≡ is_within (bound stage) (bound (suc stage)) node
   same_test stage node most less = by_test (eqb (stage_within bound last node) stage) refl

@@ -2,9 +2,9 @@
 use Rattle.std.proofs.Common.{◌≡◌, sym, ◌∙◌, subst, ℕ, suc, ◌≤◌, List, []}
 use Rattle.std.proofs.Common.{◌∷◌, ◌++◌, length, arith}
 use Rattle.strc_admissible.specs.Machine.{CircuitView, MachineView}
-use Rattle.strc_cut.specs.Cuts.{IsCut}
+use Rattle.strc_split_rings.specs.Plans.{IsCut}
 use Rattle.strc_runner.specs.Parts.{IsRest}
-use Rattle.strc_stage.specs.Plans.{Planning}
+use Rattle.strc_stage.specs.Plans.{PlanParts, transformed_of}
 use Rattle.strc_stages.specs.declared.stage.StageParts.{StageParts}
 use Rattle.strc_launch.specs.Bounds.{bound_in, last_of}
 use Rattle.strc_launch.specs.Cuts.{IsCutAt}
@@ -13,11 +13,11 @@ use Rattle.strc_launch.proofs.Lists.{each_next}
 use Rattle.strc_launch.proofs.Ranges.{own_from}
 
 -- what is left after two parts
-pub rest_next : (plan : Planning) (bound : ℕ → ℕ) (last stage : ℕ)
+pub rest_next : (plan : PlanParts) (bound : ℕ → ℕ) (last stage : ℕ)
     (started before after : MachineView) → IsCut plan bound (suc last) → stage ≤ last
-    → IsRest plan.graph (bound stage) started before
-    → IsRest plan.graph (bound (suc stage)) before after
-    → IsRest plan.graph (bound (suc stage)) started after
+    → IsRest (transformed_of plan) (bound stage) started before
+    → IsRest (transformed_of plan) (bound (suc stage)) before after
+    → IsRest (transformed_of plan) (bound (suc stage)) started after
 rest_next plan bound last stage started before after cut most was is =
     let rises = cut.rising stage (omega (arith, most)) in record {
       fields = λ node from. is.fields node from ∙ was.fields node (omega (arith, from, rises));
@@ -30,11 +30,11 @@ rest_next plan bound last stage started before after cut most was is =
       each_ring = is.each_ring ∙ was.each_ring;
     }
 
-module _ (plan : Planning) (bounds : List ℕ) (circuit : CircuitView) (at : IsCutAt plan bounds)
+module _ (plan : PlanParts) (bounds : List ℕ) (circuit : CircuitView) (at : IsCutAt plan bounds)
     (started before : MachineView) (rounds stage : ℕ) where
   -- a stage that is made of what is left has what there was at first
   made_since : (own : StageParts)
-      → IsRest plan.graph (bound_in bounds stage) started before
+      → IsRest (transformed_of plan) (bound_in bounds stage) started before
       → IsMade plan bounds circuit before rounds stage own
       → IsMade plan bounds circuit started rounds stage own
   made_since own rest made =
@@ -76,7 +76,7 @@ module _ (plan : Planning) (bounds : List ℕ) (circuit : CircuitView) (at : IsC
   -- one more
   pub made_more : (stages more : List StageParts) (own : StageParts) → length stages ≡ stage
       → more ≡ stages ++ own ∷ []
-      → IsRest plan.graph (bound_in bounds stage) started before
+      → IsRest (transformed_of plan) (bound_in bounds stage) started before
       → AreMade plan bounds circuit started rounds stages
       → IsMade plan bounds circuit before rounds stage own
       → AreMade plan bounds circuit started rounds more

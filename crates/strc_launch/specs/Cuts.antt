@@ -2,22 +2,22 @@
 use Rattle.std.specs.Prelude.{◌≡◌, ℕ, suc, ◌≤◌, List, length, map}
 use Rattle.strc_graph.specs.Graphs.{IsGraph}
 use Rattle.strc_graph.specs.Tapes.{tape_nodes}
-use Rattle.strc_stage.specs.Plans.{Planning, IsPlan}
-use Rattle.strc_cut.specs.Cuts.{IsCut}
-use Rattle.strc_staged.specs.Runnings.{running_of, round_pushes}
+use Rattle.strc_stage.specs.Plans.{IsPlan, PlanParts, transformed_of}
+use Rattle.strc_staged.specs.Runnings.{round_pushes}
+use Rattle.strc_split_rings.specs.Plans.{IsCut, running_of}
 use Rattle.strc_launch.specs.Bounds.{bound_in, last_of}
 use Rattle.strc_launch.specs.Links.{links_of}
 use Rattle.strc_launch.specs.declared.cutting.Cut.{Cut}
 
 -- A plan whose stages have these bounds.
-pub record IsCutAt (plan : Planning) (bounds : List ℕ) : Type 0 where
+pub record IsCutAt (plan : PlanParts) (bounds : List ℕ) : Type 0 where
   pub is : IsPlan plan
-  pub graph : IsGraph plan.graph
+  pub graph : IsGraph (transformed_of plan)
   pub some : 2 ≤ length bounds
   pub cut : IsCut plan (bound_in bounds) (suc (last_of bounds))
 
-pub record IsCutting (plan : Planning) (cut : Cut) : Type 0 where
+pub record IsCutting (plan : PlanParts) (cut : Cut) : Type 0 where
   pub at : IsCutAt plan cut.bounds.items
   pub links : cut.links.items ≡ links_of plan cut.bounds.items
-  pub rooms : cut.rooms.items ≡ map (round_pushes (running_of plan)) plan.graph.channels
-  pub tapes : cut.tapes.items ≡ tape_nodes plan.graph.nodes
+  pub rooms : cut.rooms.items ≡ map (round_pushes (running_of plan)) (transformed_of plan).channels
+  pub tapes : cut.tapes.items ≡ tape_nodes (transformed_of plan).nodes

@@ -4,5 +4,5 @@ pub mod Tapes
 pub mod Cuts
 pub mod Made
 pub mod Launches
-pub mod Laws
+pub mod Startups
 pub mod Stages

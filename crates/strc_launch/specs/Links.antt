@@ -2,9 +2,10 @@
 use Rattle.std.specs.Prelude.{ℕ, suc, Bool, ◌&&◌, not, eqb, nat_lt, nat_le, List, [], ◌∷◌, map}
 use Rattle.std.specs.Prelude.{if◌then◌else◌}
 use Rattle.strc_graph.specs.Graphs.{Channel}
-use Rattle.strc_stage.specs.Plans.{Planning}
+use Rattle.strc_stage.specs.Plans.{PlanParts, transformed_of}
 use Rattle.strc_staging.specs.Ranges.{stage_within}
-use Rattle.strc_staged.specs.Runnings.{running_of, round_pushes}
+use Rattle.strc_staged.specs.Runnings.{round_pushes}
+use Rattle.strc_split_rings.specs.Plans.{running_of}
 use Rattle.strc_staged.specs.Blocks.{raised}
 use Rattle.strc_staged.specs.declared.crossing.Crossing.{Crossing}
 use Rattle.strc_stages.specs.declared.stage.Block.{Block}
@@ -13,15 +14,15 @@ use Rattle.strc_launch.specs.declared.links.Link.{Link}
 use Rattle.strc_launch.specs.declared.links.Side.{Side}
 use Rattle.strc_launch.specs.declared.links.Side.TheVariants as side
 
-abbrev pub link_of : Planning → (bounds : List ℕ) → Channel → Link
+abbrev pub link_of : PlanParts → (bounds : List ℕ) → Channel → Link
 link_of plan bounds channel = record {
   from = stage_within (bound_in bounds) (last_of bounds) channel.source.node;
   to = stage_within (bound_in bounds) (last_of bounds) channel.target.node;
   room = round_pushes (running_of plan) channel;
 }
 
-abbrev pub links_of : Planning → (bounds : List ℕ) → List Link
-links_of plan bounds = map (link_of plan bounds) plan.graph.channels
+abbrev pub links_of : PlanParts → (bounds : List ℕ) → List Link
+links_of plan bounds = map (link_of plan bounds) (transformed_of plan).channels
 
 abbrev pub room_of : Link → ℕ
 room_of link = link.room

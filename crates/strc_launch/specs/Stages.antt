@@ -1,6 +1,6 @@
 -- A plan, cut into the stages that so many workers share.
 use Rattle.std.specs.Prelude.{◌≡◌, ℕ, ◌<◌, length}
-use Rattle.strc_stage.specs.Plans.{PlanParts, planning_of}
+use Rattle.strc_stage.specs.Plans.{PlanParts, graph_of}
 use Rattle.strc_launch.specs.Cuts.{IsCutting}
 use Rattle.strc_launch.specs.Launches.{bounds_of}
 use Rattle.strc_launch.specs.declared.cutting.Cut.{Cut}
@@ -16,6 +16,6 @@ stages_view plan workers = record { plan = plan; workers = workers }
 -- a plan with some node is cut so for some workers
 pub record AreStages (plan : PlanParts) (workers : ℕ) (cut : Cut) : Type 0 where
   pub some_worker : 0 < workers
-  pub some_node : 0 < length plan.graph.nodes
-  pub cutting : IsCutting (planning_of plan) cut
-  pub bounds : cut.bounds.items ≡ bounds_of (planning_of plan) workers
+  pub some_node : 0 < length (graph_of plan).nodes
+  pub cutting : IsCutting plan cut
+  pub bounds : cut.bounds.items ≡ bounds_of plan workers

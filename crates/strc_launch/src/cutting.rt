@@ -1,15 +1,16 @@
 // A plan, cut into stages.
 
 ghost use Rattle.std.specs.Prelude.{◌≡◌, ◌<◌, ◌≤◌, ◌-◌, IfOk, length, map};
-ghost use Rattle.strc_cut.specs.Bounds as bounds;
-ghost use Rattle.strc_fuse.specs.Units.{round_units};
+ghost use Rattle.strc_balance.specs.Balance.{count_at};
 ghost use Rattle.strc_graph.specs.NodeView.{channel_view};
-ghost use Rattle.strc_stage.specs.Plans.{planning_of};
 ghost use Rattle.strc_staging.specs.Ranges.{stage_within};
 ghost use Rattle.strc_launch.specs.Bounds.{bound_in, last_of};
 ghost use Rattle.strc_launch.specs.Cuts.{IsCutting};
+ghost use Rattle.strc_launch.specs.Launches.{bounds_of};
 ghost use Rattle.strc_launch.specs.Links as spec;
+ghost use Rattle.strc_split_rings.specs.Plans.{running_of};
 
+use crate::counting::firing_counts;
 use crate::links::{Link, rooms};
 use crate::pushes::round_pushes;
 use crate::tapes::tape_list;
@@ -37,16 +38,17 @@ impl Cut {
     pub(crate) fn new(alloc: Global, plan: &Plan, workers: u32) -> Result<Cut, NoMemory>
         requires workers { 0 < workers }
         requires nodes { 0 < length plan.now.graph.nodes }
-        ensures cut { IfOk result (IsCutting (planning_of plan.now)) }
-        ensures bounds { IfOk result (λ cut. cut.bounds.items
-            ≡ bounds.stage_bounds plan.now.graph.outer_loops (round_units plan.now.fused.round)
-            workers) }
+        ensures cut { IfOk result (IsCutting plan.now) }
+        ensures bounds { IfOk result (λ cut. cut.bounds.items ≡ bounds_of plan.now workers) }
     {
         plan.known();
-        let bounds = stage_bounds(alloc, plan, workers)?;
-        let links = links_of(alloc, plan, &bounds)?;
+        let graph = plan.transformed_graph();
+        let round = plan.transformed_schedule().round();
+        let bounds = stage_bounds(alloc, graph, round, workers)?;
+        let counts = firing_counts(alloc, graph.nodes().len(), round)?;
+        let links = links_of(alloc, plan, &counts, &bounds)?;
         let rooms = rooms(alloc, &links)?;
-        let tapes = tape_list(alloc, plan.graph().nodes())?;
+        let tapes = tape_list(alloc, graph.nodes())?;
         Ok(Cut {
             bounds,
             links,
@@ -57,27 +59,37 @@ impl Cut {
 }
 
 /// The channels of a plan, by the stages that they join.
-fn links_of(alloc: Global, plan: &Plan, bounds: &[usize]) -> Result<Vec<Link>, NoMemory>
-    requires { 2 ≤ length bounds.now }
-    ensures { IfOk result (λ links. links.items
-        ≡ spec.links_of (planning_of plan.now) bounds.now) }
+fn links_of(
+    alloc: Global,
+    plan: &Plan,
+    counts: &[u32],
+    bounds: &[usize],
+) -> Result<Vec<Link>, NoMemory>
+    requires bounds { 2 ≤ length bounds.now }
+    requires counts { count_at counts.now ≡ (running_of plan.now).counts }
+    ensures { IfOk result (λ links. links.items ≡ spec.links_of plan.now bounds.now) }
 {
-    let channels = plan.graph().channels();
+    let channels = plan.transformed_graph().channels();
     let mut links = Vec::with_capacity(alloc, channels.len())?;
     for channel in channels {
-        links.push(link_of(plan, bounds, channel)?)?;
+        links.push(link_of(plan, counts, bounds, channel)?)?;
     }
     Ok(links)
 }
 
 /// A channel, by the stages that it joins.
-fn link_of(plan: &Plan, bounds: &[usize], channel: &Channel) -> Result<Link, NoMemory>
-    requires { 2 ≤ length bounds.now }
+fn link_of(
+    plan: &Plan,
+    counts: &[u32],
+    bounds: &[usize],
+    channel: &Channel,
+) -> Result<Link, NoMemory>
+    requires bounds { 2 ≤ length bounds.now }
+    requires counts { count_at counts.now ≡ (running_of plan.now).counts }
     ensures { IfOk result (λ link. link
-        ≡ spec.link_of (planning_of plan.now) bounds.now (channel_view channel.now)) }
+        ≡ spec.link_of plan.now bounds.now (channel_view channel.now)) }
 {
-    let nodes = plan.graph().nodes();
-    let counts = plan.round_counts().as_slice();
+    let nodes = plan.transformed_graph().nodes();
     Ok(Link {
         from: stage_at(bounds, channel.source.node as usize),
         to: stage_at(bounds, channel.target.node as usize),

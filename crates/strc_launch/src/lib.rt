@@ -1,23 +1,27 @@
 // Takes a plan, the program's input, and how many rounds and workers there are.
-// Gives what start-up comes to on this thread: its fault, or the ring of stages that it leaves.
+// Gives what start-up comes to on this thread: its fault, or the machine of the graph after
+// fission, or the ring of stages that it leaves.
 // The theorem to rely on: `launch`, whose ring is the beginning of strc_staged's law, cut between
 // the groups that workers share.
 // Stands on strc_stages, whose stages and collector it makes, on strc_runner and strc_circuit,
-// whose machine and circuit it parts, on strc_cut, whose bounds it parts them at, on strc_stage,
-// whose plan it launches, and on strc_staged, whose definitions say what a ring begins with.
+// whose machine and circuit it parts, on strc_dealt, by which start-up's state comes to the graph
+// after fission, on strc_cut, whose bounds it parts them at, on strc_stage, whose plan it launches,
+// and on strc_staged, whose definitions say what a ring begins with.
 #![tactic(auto)]
 
+mod counting;
 mod cutting;
 mod freeing;
 mod launching;
-pub mod laws;
 mod links;
 mod making;
 mod pushes;
 mod ringing;
 mod stages;
+mod startup;
 mod tapes;
 mod units;
 
 pub use ringing::{Launch, Ring};
 pub use stages::{Stages, cut, launch};
+pub use startup::{Startup, start_up};

@@ -6,7 +6,6 @@ ghost use Rattle.strc_admissible.specs.Circuits.{IsCircuit};
 ghost use Rattle.strc_circuit.specs.Circuits.{circuit_view, IsReady};
 ghost use Rattle.strc_runner.specs.Parts.{HoldsFrom, IsRest};
 ghost use Rattle.strc_runner.specs.Running.{machine_view};
-ghost use Rattle.strc_stage.specs.Plans.{planning_of};
 ghost use Rattle.strc_launch.specs.Bounds.{bound_in, last_of};
 ghost use Rattle.strc_launch.specs.Cuts.{IsCutting};
 ghost use Rattle.strc_launch.specs.Made.{AreMade, IsMade};
@@ -33,13 +32,13 @@ pub(crate) fn stages_of(
     machine: &mut Machine,
     rounds: u32,
 ) -> Result<Vec<Stage>, NoMemory>
-    requires cut { IsCutting (planning_of plan.now) cut.now }
-    requires circuit { IsCircuit (graph_view plan.now.graph) (circuit_view circuit.now) }
+    requires cut { IsCutting plan.now cut.now }
+    requires circuit { IsCircuit (graph_view plan.now.split.graph) (circuit_view circuit.now) }
     requires ready { IsReady circuit.now }
-    requires holds { HoldsFrom (graph_view plan.now.graph) 0 machine.old }
+    requires holds { HoldsFrom (graph_view plan.now.split.graph) 0 machine.old }
     ensures each { IfOk result (λ stages. length stages.items
         ≡ suc (last_of cut.now.bounds.items)) }
-    ensures made { IfOk result (λ stages. AreMade (planning_of plan.now) cut.now.bounds.items
+    ensures made { IfOk result (λ stages. AreMade plan.now cut.now.bounds.items
         (circuit_view circuit.now) (machine_view machine.old) rounds stages.items) }
     ensures words { OnOk result ((machine_view machine.new).words
         ≡ (machine_view machine.old).words) }
@@ -61,18 +60,18 @@ fn stage_of(
     rounds: u32,
     stage: usize,
 ) -> Result<Stage, NoMemory>
-    requires cut { IsCutting (planning_of plan.now) cut.now }
-    requires circuit { IsCircuit (graph_view plan.now.graph) (circuit_view circuit.now) }
+    requires cut { IsCutting plan.now cut.now }
+    requires circuit { IsCircuit (graph_view plan.now.split.graph) (circuit_view circuit.now) }
     requires ready { IsReady circuit.now }
     requires stage { stage ≤ last_of cut.now.bounds.items }
-    requires holds { HoldsFrom (graph_view plan.now.graph) (bound_in cut.now.bounds.items stage)
-        machine.old }
-    ensures made { IfOk result (IsMade (planning_of plan.now) cut.now.bounds.items
+    requires holds { HoldsFrom (graph_view plan.now.split.graph)
+        (bound_in cut.now.bounds.items stage) machine.old }
+    ensures made { IfOk result (IsMade plan.now cut.now.bounds.items
         (circuit_view circuit.now) (machine_view machine.old) rounds stage) }
-    ensures rest { OnOk result (IsRest (graph_view plan.now.graph)
+    ensures rest { OnOk result (IsRest (graph_view plan.now.split.graph)
         (bound_in cut.now.bounds.items (suc stage)) (machine_view machine.old)
         (machine_view machine.new)) }
-    ensures holds { OnOk result (HoldsFrom (graph_view plan.now.graph)
+    ensures holds { OnOk result (HoldsFrom (graph_view plan.now.split.graph)
         (bound_in cut.now.bounds.items (suc stage)) machine.new) }
 {
     parts_are_part_circuits();
@@ -82,7 +81,14 @@ fn stage_of(
     let round = plan.transformed_schedule().round();
     let units = units_within(alloc, round, first, next)?;
     let order = Order::new(alloc, &own, units)?;
-    let part = machine.take_part(alloc, plan.graph(), &own, first, next, &cut.rooms)?;
+    let part = machine.take_part(
+        alloc,
+        plan.transformed_graph(),
+        &own,
+        first,
+        next,
+        &cut.rooms,
+    )?;
     Ok(Stage::new(StageParts {
         circuit: own,
         order,

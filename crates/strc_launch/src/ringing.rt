@@ -5,7 +5,6 @@ ghost use Rattle.strc_graph.specs.NodeView.{graph_view};
 ghost use Rattle.strc_admissible.specs.Circuits.{IsCircuit};
 ghost use Rattle.strc_circuit.specs.Circuits.{circuit_view, IsReady};
 ghost use Rattle.strc_runner.specs.Running.{IsMachine, machine_view};
-ghost use Rattle.strc_stage.specs.Plans.{planning_of};
 ghost use Rattle.strc_launch.specs.Launches.{IsRingOf};
 ghost use Rattle.strc_launch.specs.Stages.{AreStages};
 
@@ -54,19 +53,19 @@ pub(crate) fn ring_of(
 ) -> Result<Ring, NoMemory>
     requires stages { AreStages plan.now workers cut.now }
     requires rounds { 0 < rounds }
-    requires circuit { IsCircuit (graph_view plan.now.graph) (circuit_view circuit.now) }
+    requires circuit { IsCircuit (graph_view plan.now.split.graph) (circuit_view circuit.now) }
     requires ready { IsReady circuit.now }
     requires machine { IsMachine (circuit_view circuit.now) machine }
     requires rings { length (machine_view machine).rings
-        ≡ length (graph_view plan.now.graph).channels }
-    ensures { IfOk result (IsRingOf (planning_of plan.now) (circuit_view circuit.now)
+        ≡ length (graph_view plan.now.split.graph).channels }
+    ensures { IfOk result (IsRingOf plan.now (circuit_view circuit.now)
         (machine_view machine) rounds workers) }
 {
     whole_machines_hold();
     let mut left = machine;
     let stages = stages_of(alloc, plan, cut, circuit, &mut left, rounds)?;
     let free = free_parcels(alloc, &stages)?;
-    let words = tape_words(alloc, plan.graph().nodes(), left.into_words())?;
+    let words = tape_words(alloc, plan.transformed_graph().nodes(), left.into_words())?;
     Ok(Ring {
         stages,
         free,

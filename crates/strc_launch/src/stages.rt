@@ -1,7 +1,6 @@
 // The stages of a plan, before start-up.
 
 ghost use Rattle.std.specs.Prelude.{◌≡◌, ◌<◌, IfOk, length};
-ghost use Rattle.strc_stage.specs.Plans.{planning_of};
 ghost use Rattle.strc_launch.specs.Launches.{IsLaunch};
 ghost use Rattle.strc_launch.specs.Stages.{stages_view};
 
@@ -76,7 +75,7 @@ pub fn cut(alloc: Global, plan: &Plan, workers: u32) -> Result<Stages, NoMemory>
 /// hold.
 pub fn launch(alloc: Global, stages: Stages, input: &[i32], rounds: u32) -> Result<Launch, NoMemory>
     requires rounds { 0 < rounds }
-    ensures { IfOk result (IsLaunch (planning_of stages.plan) input.now rounds stages.workers) }
+    ensures { IfOk result (IsLaunch stages.plan input.now rounds stages.workers) }
 {
     launched(
         alloc,

@@ -5,5 +5,7 @@ pub mod SameRings
 pub mod Rings
 pub mod CodeCrosses
 pub mod StageCrosses
+pub mod Replaced
+pub mod Renamed
 pub mod Answering
 pub mod Piping

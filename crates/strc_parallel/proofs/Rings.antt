@@ -1,16 +1,14 @@
 -- A ring that has begun is run to an end of its start.
-use Rattle.std.proofs.Common.{◌≡◌, sym, ap, subst, Bool, List, map, IfOk, IfErr, Ok, Err}
+use Rattle.std.proofs.Common.{◌≡◌, sym, ap, subst, Bool, map, IfOk, IfErr, Ok, Err}
 use Rattle.std.proofs.Common.{Result}
-use Rattle.strc_graph.specs.Graphs.{NodeCode}
 use Rattle.strc_outcome.specs.declared.outcome.Outcome.{Outcome}
 use Rattle.strc_outcome.specs.declared.refusal.RunRefusal.{RunRefusal}
 use Rattle.strc_outcome.specs.declared.refusal.RunRefusal.TheVariants as refused
-use Rattle.strc_core.specs.Actors.{Step, Collects}
+use Rattle.strc_core.specs.Actors.{Step, Collects, Collector}
 use Rattle.strc_core.specs.States.{IsStart}
-use Rattle.strc_admissible.specs.Machine.{Ending}
-use Rattle.strc_sched.specs.Plain.{IsEnding}
-use Rattle.strc_staged.specs.Laws.{TellsEnding}
-use Rattle.strc_staged.specs.Steps.{stage_work}
+use Rattle.strc_parcel.specs.declared.stop.Stop.{Stop}
+use Rattle.strc_stage.specs.Plans.{PlanParts}
+use Rattle.strc_staged.specs.Steps.{Gathered, stage_work}
 use Rattle.strc_pipe.specs.Pipes.{Beginning, IsStateOf}
 use Rattle.strc_ring.specs.Cores as cores
 use Rattle.strc_ring.specs.States.{IsRing}
@@ -23,7 +21,7 @@ use Rattle.strc_stages.specs.declared.collector.CollectorParts.{CollectorParts}
 use Rattle.strc_stages.specs.declared.stage.StageParts.{StageParts}
 use Rattle.strc_launch.specs.Launches.{start_of}
 use Rattle.strc_launch.specs.declared.ringing.Ring.{Ring}
-use Rattle.strc_parallel.specs.Running.{Drives, HasEnded, LacksMeans}
+use Rattle.strc_parallel.specs.Running.{Drives, EndsSo, HasEnded, LacksMeans}
 
 -- A ring's start, by whether its actors are done.
 abbrev pub start_done : Ring → Bool → Beginning
@@ -34,28 +32,22 @@ start_done ring done = record {
   done = done;
 }
 
--- An outcome is of whatever ending this collector tells of.
-abbrev pub Tells : List NodeCode → CollectorParts → Outcome → Type 0
-Tells codes parts outcome = (ending : Ending)
-    → TellsEnding codes (total_of parts) parts.stop ending → IsEnding codes outcome ending
-
-module _ (codes : List NodeCode) (ring : Ring) (parts : CollectorParts) where
+module _ (plan : PlanParts) (ring : Ring) (parts : CollectorParts) where
   pub driven_ends : Drives (start_of ring) parts → (outcome : Outcome)
-      → Tells codes parts outcome → HasEnded codes (start_of ring) outcome
-  driven_ends (core, state, over, collected) outcome told = (
+      → EndsSo plan (total_of parts) parts.stop outcome → HasEnded plan (start_of ring) outcome
+  driven_ends (core, state, over, collected) outcome ends = (
     core,
     state,
     over,
-    λ ending tells. told ending
-        (subst (λ collector. TellsEnding codes collector.total collector.stop ending) collected
-        tells),
+    subst (λ (c : Collector Gathered Stop). EndsSo plan c.total c.stop outcome)
+        (sym collected) ends,
   )
 
   pub told_ends : Drives (start_of ring) parts → (result : Result Outcome RunRefusal)
-      → IfOk result (Tells codes parts)
-      → IfOk result (HasEnded codes (start_of ring))
-  told_ends drives (Ok outcome) told = driven_ends drives outcome told
-  told_ends drives (Err refusal) told = tt
+      → IfOk result (EndsSo plan (total_of parts) parts.stop)
+      → IfOk result (HasEnded plan (start_of ring))
+  told_ends drives (Ok outcome) ends = driven_ends drives outcome ends
+  told_ends drives (Err refusal) ends = tt
 
 -- Where only memory may lack, means may.
 pub only_memory : (result : Result Outcome RunRefusal)

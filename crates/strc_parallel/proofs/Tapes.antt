@@ -9,7 +9,6 @@ use Rattle.strc_semantics.specs.declared.word.Word.{Word}
 use Rattle.strc_graph.specs.Graphs.{NodeCode, gives_words}
 use Rattle.strc_graph.specs.Tapes.{tape_nodes, tape_nodes_from}
 use Rattle.strc_outcome.specs.Tapes.{TapeView, tape}
-use Rattle.strc_admissible.specs.Machine.{words_at}
 use Rattle.strc_sched.specs.Tapes as nodes
 use Rattle.strc_sched.specs.Tapes.{tapes_of}
 use Rattle.strc_parallel.specs.Telling.{added, tapes_from, tapes_by}
@@ -27,38 +26,38 @@ drop_head zero (first ∷ words) own rest is = head_is first own words rest is
 drop_head (suc number) (first ∷ words) own rest is = drop_head number words own rest is
 
 -- Where the lists are the words of the tapes' nodes, the tapes are those of the nodes.
-module _ (all : List (List Word)) (words : List (List Word)) where
+module _ (all : ℕ → List Word) (words : List (List Word)) where
   by_nodes : (node number : ℕ) (codes : List NodeCode)
-      → drop number words ≡ map (words_at all) (tape_nodes_from node codes)
-      → tapes_from node number codes words ≡ nodes.tapes_from node codes (words_at all)
+      → drop number words ≡ map all (tape_nodes_from node codes)
+      → tapes_from node number codes words ≡ nodes.tapes_from node codes all
   by_nodes node number [] is = refl
   by_nodes node number (code ∷ codes) is = both (gives_words code)
       (by_nodes (suc node) (suc number) codes) (by_nodes (suc node) number codes) is
     where
       both : (gives : Bool)
-          → (drop (suc number) words ≡ map (words_at all) (tape_nodes_from (suc node) codes)
+          → (drop (suc number) words ≡ map all (tape_nodes_from (suc node) codes)
           → tapes_from (suc node) (suc number) codes words
-          ≡ nodes.tapes_from (suc node) codes (words_at all))
-          → (drop number words ≡ map (words_at all) (tape_nodes_from (suc node) codes)
+          ≡ nodes.tapes_from (suc node) codes all)
+          → (drop number words ≡ map all (tape_nodes_from (suc node) codes)
           → tapes_from (suc node) number codes words
-          ≡ nodes.tapes_from (suc node) codes (words_at all))
-          → drop number words ≡ map (words_at all) (if gives
+          ≡ nodes.tapes_from (suc node) codes all)
+          → drop number words ≡ map all (if gives
           then node ∷ tape_nodes_from (suc node) codes else tape_nodes_from (suc node) codes)
           → (if gives then tape node (get_or words number [])
           ∷ tapes_from (suc node) (suc number) codes words
           else tapes_from (suc node) number codes words)
-          ≡ (if gives then tape node (words_at all node)
-          ∷ nodes.tapes_from (suc node) codes (words_at all)
-          else nodes.tapes_from (suc node) codes (words_at all))
+          ≡ (if gives then tape node (all node)
+          ∷ nodes.tapes_from (suc node) codes all
+          else nodes.tapes_from (suc node) codes all)
       both true later same is =
-          let first = drop_head number words (words_at all node)
-          (map (words_at all) (tape_nodes_from (suc node) codes)) is in
+          let first = drop_head number words (all node)
+          (map all (tape_nodes_from (suc node) codes)) is in
           ap (λ w. tape node w ∷ tapes_from (suc node) (suc number) codes words) first.0
-          ∙ ap (λ l. tape node (words_at all node) ∷ l) (later first.1)
+          ∙ ap (λ l. tape node (all node) ∷ l) (later first.1)
       both false later same is = same is
 
-  pub tapes_are : (codes : List NodeCode) → words ≡ map (words_at all) (tape_nodes codes)
-      → tapes_by codes words ≡ tapes_of codes (words_at all)
+  pub tapes_are : (codes : List NodeCode) → words ≡ map all (tape_nodes codes)
+      → tapes_by codes words ≡ tapes_of codes all
   tapes_are codes is = by_nodes 0 0 codes is
 
 -- Without lists no tape has words.
@@ -130,3 +129,76 @@ pub no_less : (code : NodeCode) (node : ℕ) (before after : List TapeView) (own
     → after ≡ before ++ added code node own → length before ≤ length after
 no_less code node before after own is =
     let e = ap length is ∙ length-append before (added code node own) in omega (arith, e)
+
+-- ---- tapes as a list
+
+-- The tape of a node with its words.
+abbrev pub tape_by : (words : ℕ → List Word) → (node : ℕ) → TapeView
+tape_by words node = tape node (words node)
+
+listed_from : (words : ℕ → List Word) (node : ℕ) (codes : List NodeCode)
+    → nodes.tapes_from node codes words ≡ map (tape_by words) (tape_nodes_from node codes)
+listed_from words node [] = refl
+listed_from words node (code ∷ codes) = by_test (gives_words code)
+    (listed_from words (suc node) codes)
+  where
+    by_test : (t : Bool)
+        → nodes.tapes_from (suc node) codes words
+        ≡ map (tape_by words) (tape_nodes_from (suc node) codes)
+        → (if t then tape node (words node) ∷ nodes.tapes_from (suc node) codes words
+        else nodes.tapes_from (suc node) codes words)
+        ≡ map (tape_by words) (if t then node ∷ tape_nodes_from (suc node) codes
+        else tape_nodes_from (suc node) codes)
+    by_test true later = ap (λ l. tape node (words node) ∷ l) later
+    by_test false later = later
+
+pub tapes_listed : (words : ℕ → List Word) (codes : List NodeCode)
+    → tapes_of codes words ≡ map (tape_by words) (tape_nodes codes)
+tapes_listed words codes = listed_from words 0 codes
+
+-- Nodes with the same words have the same tapes.
+same_from : (own others : ℕ → List Word) (node : ℕ) (codes : List NodeCode)
+    → ((n : ℕ) → n < node + length codes → own n ≡ others n)
+    → nodes.tapes_from node codes own ≡ nodes.tapes_from node codes others
+same_from own others node [] same = refl
+same_from own others node (code ∷ codes) same =
+    by_test (gives_words code) (same node (omega arith))
+    (same_from own others (suc node) codes (λ n less. same n (omega (arith, less))))
+  where
+    by_test : (t : Bool) → own node ≡ others node
+        → nodes.tapes_from (suc node) codes own ≡ nodes.tapes_from (suc node) codes others
+        → (if t then tape node (own node) ∷ nodes.tapes_from (suc node) codes own
+        else nodes.tapes_from (suc node) codes own)
+        ≡ (if t then tape node (others node) ∷ nodes.tapes_from (suc node) codes others
+        else nodes.tapes_from (suc node) codes others)
+    by_test true here later =
+        ap (λ w. tape node w ∷ nodes.tapes_from (suc node) codes own) here
+        ∙ ap (λ l. tape node (others node) ∷ l) later
+    by_test false here later = later
+
+pub same_tapes : (own others : ℕ → List Word) (codes : List NodeCode)
+    → ((n : ℕ) → n < length codes → own n ≡ others n)
+    → tapes_of codes own ≡ tapes_of codes others
+same_tapes own others codes same =
+    same_from own others 0 codes (λ n less. same n (omega (arith, less)))
+
+-- ---- renamed tapes
+
+module _ (name : ℕ → ℕ) (own others : ℕ → List Word) where
+  abbrev renamed : TapeView → TapeView
+  renamed at = tape (name at.node) at.words
+
+  zipped : (numbers : List ℕ) → map own numbers ≡ map others (map name numbers)
+      → map renamed (map (tape_by own) numbers) ≡ map (tape_by others) (map name numbers)
+  zipped [] same = refl
+  zipped (n ∷ numbers) same =
+      let (here, later) = head_is (own n) (others (name n)) (map own numbers)
+      (map others (map name numbers)) same in
+      ap (λ w. tape (name n) w ∷ map renamed (map (tape_by own) numbers)) here
+      ∙ ap (λ l. tape (name n) (others (name n)) ∷ l) (zipped numbers later)
+
+  pub tapes_renamed : (numbers olds : List ℕ) → map name numbers ≡ olds
+      → map own numbers ≡ map others olds
+      → map renamed (map (tape_by own) numbers) ≡ map (tape_by others) olds
+  tapes_renamed numbers olds are same =
+      zipped numbers (same ∙ ap (map others) (sym are)) ∙ ap (map (tape_by others)) are

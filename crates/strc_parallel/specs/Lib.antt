@@ -1,4 +1,7 @@
 pub mod Telling
+pub mod Answers
+pub mod Naming
+pub mod Alone
 pub mod Parting
 pub mod Running
 pub mod Piped

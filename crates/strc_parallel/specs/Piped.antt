@@ -4,7 +4,7 @@ use Rattle.strc_core.specs.declared.event.Event.{Event}
 use Rattle.strc_core.specs.Events as events
 use Rattle.strc_core.specs.Events.{may}
 use Rattle.strc_core.specs.States.{first_core}
-use Rattle.strc_stage.specs.Plans.{Planning}
+use Rattle.strc_stage.specs.Plans.{PlanParts}
 use Rattle.strc_staged.specs.Steps.{stage_work}
 use Rattle.strc_pipe.specs.Pipes.{PipeView, IsStateOf}
 use Rattle.strc_pipe.specs.Seeing.{Ring, core_of}
@@ -12,7 +12,8 @@ use Rattle.strc_stages.specs.Collectors.{sees}
 use Rattle.strc_stages.specs.Stages.{see}
 use Rattle.strc_stages.specs.declared.collector.CollectorParts.{CollectorParts}
 use Rattle.strc_stages.specs.declared.stage.StageParts.{StageParts}
-use Rattle.strc_launch.specs.Launches.{HasBegun, HasFaulted, start_of}
+use Rattle.strc_launch.specs.Launches.{HasBegun, start_of}
+use Rattle.strc_launch.specs.Startups.{HasFaulted}
 use Rattle.strc_launch.specs.declared.ringing as launching
 use Rattle.strc_launch.specs.declared.ringing.Launch.{Launch}
 use Rattle.strc_launch.specs.declared.ringing.Launch.TheVariants as launched
@@ -24,7 +25,7 @@ abbrev pub core_seen : Ring StageParts CollectorParts → PipeView
 core_seen ring = core_of see sees ring
 
 -- Some events have led here from the ring that start-up of a plan left.
-pub record HasGoneOn (plan : Planning) (input : List ℤ) (rounds : ℕ)
+pub record HasGoneOn (plan : PlanParts) (input : List ℤ) (rounds : ℕ)
     (ring : Ring StageParts CollectorParts) : Type 0 where
   pub workers : ℕ
   pub first : launching.Ring.Ring
@@ -32,7 +33,7 @@ pub record HasGoneOn (plan : Planning) (input : List ℤ) (rounds : ℕ)
   pub state : IsStateOf (start_of first) (core_seen ring)
 
 -- Or a firing of start-up faulted.
-abbrev pub IsPipe : Planning → (input : List ℤ) → (rounds : ℕ) → State → Type 0
+abbrev pub IsPipe : PlanParts → (input : List ℤ) → (rounds : ℕ) → State → Type 0
 IsPipe plan input rounds (state.Going ring) = HasGoneOn plan input rounds ring
 IsPipe plan input rounds (state.Faulted node firing cause) =
     HasFaulted plan input node firing cause

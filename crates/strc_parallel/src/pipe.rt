@@ -1,26 +1,22 @@
 // A plan's stages on one thread, event by event.
 
-ghost use Rattle.std.specs.Prelude.{◌≡◌, ◌<◌, ◌≤◌, ◌^◌, ℕ, ℤ, List, length, map, true, false};
+ghost use Rattle.std.specs.Prelude.{◌≡◌, ◌<◌, ◌≤◌, ◌^◌, ℕ, ℤ, List, length, true, false};
 ghost use Rattle.std.specs.Prelude.{IfOk, IfErr};
-ghost use Rattle.strc_graph.specs.NodeView.{node_view};
 ghost use Rattle.strc_outcome.specs.declared.refusal.RunRefusal.TheVariants as refused;
 ghost use Rattle.strc_core.specs.declared.event.Event.{Event};
 ghost use Rattle.strc_core.specs.States.{IsStart};
-ghost use Rattle.strc_sched.specs.Plain.{need_of, AnswersGraph, IsEnding};
-ghost use Rattle.strc_admissible.specs.Machine.{Ending};
-ghost use Rattle.strc_staged.specs.Laws.{TellsEnding};
+ghost use Rattle.strc_split_rings.specs.Plans.{need_of};
 ghost use Rattle.strc_stages.specs.Collectors.{sees};
 ghost use Rattle.strc_stages.specs.Stages.{see};
 ghost use Rattle.strc_pipe.specs.Seeing as pipes;
-ghost use Rattle.strc_stage.specs.Plans.{planning_of};
 ghost use Rattle.strc_launch.specs.Launches.{IsLaunch, start_of};
-ghost use Rattle.strc_parallel.specs.Running.{IsBegun};
+ghost use Rattle.strc_parallel.specs.Answers.{AnswersPlan};
+ghost use Rattle.strc_parallel.specs.Running.{EndsSo, IsBegun};
 ghost use Rattle.strc_parallel.specs.Piped.{IsPipe, Happens, IsFirstOf, StateOf, may_happen};
 
 use crate::telling::{faulted, outcome_of};
 use std::alloc::Global;
 use strc_base::memory::NoMemory;
-use strc_graph::graph::Node;
 use strc_launch::{Launch, Ring, Stages, launch};
 use strc_outcome::outcome::Outcome;
 use strc_outcome::refusal::RunRefusal;
@@ -55,7 +51,7 @@ impl Pipe {
     pub fn new(alloc: Global, stages: Stages, input: &[i32], rounds: u32) -> Result<Pipe, NoMemory>
         requires rounds { 0 < rounds }
         ensures plan { IfOk result (λ pipe. pipe.plan ≡ stages.plan) }
-        ensures state { IfOk result (λ pipe. IsPipe (planning_of stages.plan) input.now rounds
+        ensures state { IfOk result (λ pipe. IsPipe stages.plan input.now rounds
             pipe.state) }
     {
         let plan = stages.plan().copy()?;
@@ -74,8 +70,8 @@ impl Pipe {
         ensures happens { result ≡ true → Happens event self.old.state self.new.state }
         ensures unchanged { result ≡ false → self.new ≡ self.old }
         ensures state { (input : List ℤ) (rounds : ℕ)
-            → IsPipe (planning_of self.old.plan) input rounds self.old.state
-            → IsPipe (planning_of self.old.plan) input rounds self.new.state }
+            → IsPipe self.old.plan input rounds self.old.state
+            → IsPipe self.old.plan input rounds self.new.state }
     {
         match &mut self.state {
             State::Going(ring) => ring.event(alloc, event),
@@ -88,10 +84,8 @@ impl Pipe {
     /// event is allowed. `NoMemory` where memory runs out.
     pub fn finish(self, alloc: Global) -> Result<Result<Outcome, RunRefusal>, Pipe>
         ensures answer { IfOk result (λ ended. (input : List ℤ) (rounds : ℕ) → rounds < 2 ^ 32
-            → need_of (planning_of self.plan).graph self.plan.fused rounds ≤ length input
-            → IsPipe (planning_of self.plan) input rounds self.state
-            → IfOk ended (AnswersGraph (planning_of self.plan).graph self.plan.fused input
-            rounds)) }
+            → need_of self.plan rounds ≤ length input → IsPipe self.plan input rounds self.state
+            → IfOk ended (AnswersPlan self.plan input rounds)) }
         ensures memory { IfOk result (λ ended. IfErr ended (λ refusal. refusal
             ≡ refused.NoMemory)) }
         ensures goes { IfErr result (λ pipe. (pipe ≡ self)
@@ -101,7 +95,7 @@ impl Pipe {
         let Pipe { plan, state } = self;
         match state {
             State::Going(ring) => match ring.finish() {
-                Ok(collector) => Ok(collected(alloc, plan.graph().nodes(), collector)),
+                Ok(collector) => Ok(collected(alloc, &plan, collector)),
                 Err(ring) => Err(Pipe {
                     plan,
                     state: State::Going(ring),
@@ -157,11 +151,9 @@ fn ring_of(alloc: Global, ring: Ring) -> Result<strc_pipe::Pipe<Stage, Collector
 }
 
 /// The outcome that a collector has come to.
-fn collected(alloc: Global, nodes: &[Node], collector: Collector) -> Result<Outcome, RunRefusal>
-    ensures ending { IfOk result (λ outcome. (ending : Ending)
-        → TellsEnding (map node_view nodes.now) (sees collector).total (sees collector).stop ending
-        → IsEnding (map node_view nodes.now) outcome ending) }
+fn collected(alloc: Global, plan: &Plan, collector: Collector) -> Result<Outcome, RunRefusal>
+    ensures ending { IfOk result (EndsSo plan.now (sees collector).total (sees collector).stop) }
     ensures memory { IfErr result (λ refusal. refusal ≡ refused.NoMemory) }
 {
-    outcome_of(alloc, nodes, collector.into_parts())
+    outcome_of(alloc, plan, collector.into_parts())
 }

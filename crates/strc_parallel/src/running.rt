@@ -1,10 +1,9 @@
 // The rounds of a plan, by its stages.
 
-ghost use Rattle.std.specs.Prelude.{◌<◌, ◌≤◌, length, map, IfOk, IfErr};
-ghost use Rattle.strc_graph.specs.NodeView.{node_view};
+ghost use Rattle.std.specs.Prelude.{◌<◌, ◌≤◌, length, IfOk, IfErr};
 ghost use Rattle.strc_core.specs.States.{IsStart};
-ghost use Rattle.strc_sched.specs.Plain.{need_of, AnswersGraph};
-ghost use Rattle.strc_stage.specs.Plans.{planning_of};
+ghost use Rattle.strc_split_rings.specs.Plans.{need_of};
+ghost use Rattle.strc_parallel.specs.Answers.{AnswersPlan};
 ghost use Rattle.strc_launch.specs.Launches.{IsLaunch, start_of};
 ghost use Rattle.strc_parallel.specs.Running.{Drives, HasEnded, IsBegun, IsEndOf};
 ghost use Rattle.strc_parallel.specs.Running.{LacksMeans};
@@ -44,10 +43,8 @@ pub fn run_stages<G: Gate<Stage>, R: Threads + Wait + Sync>(
     requires rounds { 0 < rounds }
     requires workers { 0 < workers }
     requires nodes { 0 < length plan.now.graph.nodes }
-    requires enough { need_of (planning_of plan.now).graph plan.now.fused rounds
-        ≤ length input.now }
-    ensures answer { IfOk result (AnswersGraph (planning_of plan.now).graph plan.now.fused
-        input.now rounds) }
+    requires enough { need_of plan.now rounds ≤ length input.now }
+    ensures answer { IfOk result (AnswersPlan plan.now input.now rounds) }
     ensures means { IfErr result LacksMeans }
 {
     plan.known();
@@ -68,7 +65,7 @@ fn begin(
     requires rounds { 0 < rounds }
     requires workers { 0 < workers }
     requires nodes { 0 < length plan.now.graph.nodes }
-    ensures { IfOk result (IsLaunch (planning_of plan.now) input.now rounds workers) }
+    ensures { IfOk result (IsLaunch plan.now input.now rounds workers) }
 {
     let stages = cut(alloc, plan, workers)?;
     launch(alloc, stages, input, rounds)
@@ -83,7 +80,7 @@ fn run_launched<G: Gate<Stage>, R: Threads + Wait + Sync>(
     gate: &G,
 ) -> Result<Outcome, RunRefusal>
     requires start { IsBegun launched }
-    ensures ended { IfOk result (IsEndOf (map node_view plan.now.graph.nodes) launched) }
+    ensures ended { IfOk result (IsEndOf plan.now launched) }
     ensures means { IfErr result LacksMeans }
 {
     match launched {
@@ -105,11 +102,11 @@ fn run_rounds<G: Gate<Stage>, R: Threads + Wait + Sync>(
     gate: &G,
 ) -> Result<Outcome, RunRefusal>
     requires start { IsStart (start_of ring) }
-    ensures ended { IfOk result (HasEnded (map node_view plan.now.graph.nodes) (start_of ring)) }
+    ensures ended { IfOk result (HasEnded plan.now (start_of ring)) }
     ensures means { IfErr result LacksMeans }
 {
     match collected(rt, alloc, ring, gate) {
-        Ok(collector) => outcome_of(alloc, plan.graph().nodes(), collector.into_parts()),
+        Ok(collector) => outcome_of(alloc, plan, collector.into_parts()),
         Err(Failure::NoMemory) => Err(RunRefusal::NoMemory),
         Err(Failure::NoWorker) => Err(RunRefusal::NoWorker),
     }

@@ -6,12 +6,14 @@ ghost use Rattle.std.specs.Vec.{vec_items};
 ghost use Rattle.strc_graph.specs.NodeView.{node_view};
 ghost use Rattle.strc_outcome.specs.Tapes.{tape, tape_view};
 ghost use Rattle.strc_outcome.specs.declared.refusal.RunRefusal.TheVariants as refused;
-ghost use Rattle.strc_admissible.specs.Machine.{Ending, FaultedAtFirst};
-ghost use Rattle.strc_sched.specs.Plain.{IsEnding};
-ghost use Rattle.strc_staged.specs.Laws.{TellsEnding};
+ghost use Rattle.strc_dataflow.specs.Answer.{Outcome.StartupFault};
+ghost use Rattle.strc_staged.specs.Laws.{TellsOutcome};
+ghost use Rattle.strc_parallel.specs.Answers.{Answer, IsTold, stop_at};
+ghost use Rattle.strc_parallel.specs.Running.{EndsSo};
 ghost use Rattle.strc_stages.specs.Collectors.{total_of};
 ghost use Rattle.strc_parallel.specs.Telling.{added, gathered_so, tapes_by};
 
+use crate::naming::renamed;
 use std::alloc::Global;
 use std::mem;
 use strc_base::memory::NoMemory;
@@ -23,17 +25,31 @@ use strc_outcome::refusal::RunRefusal;
 use strc_parcel::Stop;
 use strc_semantics::fault::Cause;
 use strc_semantics::word::Word;
+use strc_stage::plan::Plan;
 use strc_stages::CollectorParts;
 
-/// The outcome of a run whose collector has come to its end.
+/// The outcome of a plan's rounds whose collector has come to its end, by the nodes before fission.
 pub(crate) fn outcome_of(
+    alloc: Global,
+    plan: &Plan,
+    collector: CollectorParts,
+) -> Result<Outcome, RunRefusal>
+    ensures ending { IfOk result (EndsSo plan.now (total_of collector) collector.stop) }
+    ensures memory { IfErr result (λ refusal. refusal ≡ refused.NoMemory) }
+{
+    let own = own_outcome(alloc, plan.transformed_graph().nodes(), collector)?;
+    Ok(renamed(plan, own))
+}
+
+/// The outcome of a run of these nodes whose collector has come to its end.
+fn own_outcome(
     alloc: Global,
     nodes: &[Node],
     collector: CollectorParts,
 ) -> Result<Outcome, RunRefusal>
-    ensures ending { IfOk result (λ outcome. (ending : Ending)
-        → TellsEnding (map node_view nodes.now) (total_of collector) collector.stop ending
-        → IsEnding (map node_view nodes.now) outcome ending) }
+    ensures ending { IfOk result (λ outcome. (answer : Answer)
+        → TellsOutcome (map node_view nodes.now) (total_of collector) collector.stop answer
+        → IsTold (map node_view nodes.now) answer outcome) }
     ensures memory { IfErr result (λ refusal. refusal ≡ refused.NoMemory) }
 {
     match collector.stop {
@@ -50,10 +66,10 @@ fn stopped(
     gathered: u32,
     stop: Stop,
 ) -> Result<Outcome, RunRefusal>
-    ensures ending { IfOk result (λ outcome. (ending : Ending)
-        → TellsEnding (map node_view nodes.now) (gathered_so (map vec_items words.items) gathered)
-        (Some stop) ending
-        → IsEnding (map node_view nodes.now) outcome ending) }
+    ensures ending { IfOk result (λ outcome. (answer : Answer)
+        → TellsOutcome (map node_view nodes.now) (gathered_so (map vec_items words.items) gathered)
+        (Some stop) answer
+        → IsTold (map node_view nodes.now) answer outcome) }
     ensures memory { IfErr result (λ refusal. refusal ≡ refused.NoMemory) }
 {
     match stop {
@@ -80,8 +96,8 @@ pub(crate) fn faulted(
     firing: u64,
     cause: Cause,
 ) -> Result<Outcome, RunRefusal>
-    ensures ending { IfOk result (λ outcome. IsEnding (map node_view nodes.now) outcome
-        (FaultedAtFirst node firing cause)) }
+    ensures ending { IfOk result (IsTold (map node_view nodes.now)
+        (StartupFault (stop_at node firing cause))) }
     ensures memory { IfErr result (λ refusal. refusal ≡ refused.NoMemory) }
 {
     Ok(Outcome::Fault {

@@ -78,7 +78,7 @@ fn compare_case(rt: &impl Abort, alloc: Global, case: &Case<'_>) -> Result<(), F
     let outcome = run_plain(
         alloc,
         plan.graph(),
-        plan.transformed_schedule(),
+        plan.schedule(),
         &case.input,
         case.rounds,
     )?;

@@ -112,6 +112,7 @@ fn plan_of(alloc: Global, children: &str) -> Result<Plan, Fail> {
     let text = format!(in alloc; "{FILTERS}void->void pipeline Main {{ {children} }}\n")?;
     let options = Options {
         main: None,
+        ways: 1,
         fuse: 0,
     };
     let plan = compile(alloc, text.as_bytes(), &options).ok();

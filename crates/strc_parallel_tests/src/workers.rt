@@ -2,7 +2,6 @@
 
 ghost use Rattle.std.specs.Prelude.{◌≤◌, ◌<◌, length};
 ghost use Rattle.strc_sched.specs.Plain.{need_of};
-ghost use Rattle.strc_stage.specs.Plans.{planning_of};
 
 use crate::programs::{Case, PROGRAMS, case_of};
 use crate::telling::told;
@@ -27,9 +26,7 @@ fn outcome_of<R: Threads + Wait + Sync>(
     if plan.graph().nodes().is_empty() || case.rounds == 0 || workers == 0 {
         return Err("nothing to begin with".into());
     }
-    if (case.input.len() as u64)
-        < input_needed(plan.graph(), plan.transformed_schedule(), case.rounds)
-    {
+    if (case.input.len() as u64) < input_needed(plan.graph(), plan.schedule(), case.rounds) {
         return Err("the input is short".into());
     }
     Ok(run_stages(

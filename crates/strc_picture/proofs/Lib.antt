@@ -1,2 +1,3 @@
 mod Boxes
+mod Shares
 mod Texts

@@ -1,4 +1,5 @@
 pub mod Marks
+pub mod Parts
 pub mod Pictures
 pub mod Stages
 pub mod Lists

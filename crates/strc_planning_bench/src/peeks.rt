@@ -89,6 +89,7 @@ fn plan_of(rt: &HostRuntime, peeks: Peeks) -> io::Result<Option<Plan>> {
         text.as_bytes(),
         &Options {
             main: None,
+            ways: 1,
             fuse: 0,
         },
     ) {

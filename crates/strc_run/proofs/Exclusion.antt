@@ -17,18 +17,19 @@ use Rattle.strc_startup.specs.Rates.{first_count, first_counts, rates_of, rates_
 use Rattle.strc_startup.specs.Startup.{IsLeast}
 use Rattle.strc_order.specs.Schedules.{ScheduleParts, IsSchedule}
 use Rattle.strc_scope.specs.declared.error.ElabError.{ElabError}
-use Rattle.strc_fused.specs.Fusions.{IsFusion}
-use Rattle.strc_fused.specs.Laws.{FusedOrRefused}
+use Rattle.strc_fiss.specs.Fissions.{IsTransformed}
+use Rattle.strc_fiss.specs.Ways.{fission_of}
+use Rattle.strc_split.specs.Refusals.{PassesNoLimit, TransformedOrRefused}
 use Rattle.strc_stage.specs.Laws.{OneStartup, ScheduledOrRefused}
-use Rattle.strc_stage.specs.Plans.{HasSchedule, HasStartup, Planning}
+use Rattle.strc_stage.specs.Plans.{HasSchedule, HasStartup, PlanParts, graph_of}
 use Rattle.strc_refusal.specs.declared.refusal.Refusal.{Refusal}
 use Rattle.strc_refusal.specs.declared.refusal.Refusal.TheVariants as refusal
 use Rattle.strc_run.specs.Accepts.{Accepts, CanRun, round_counts}
 use Rattle.strc_run.specs.Choices.{Choice}
 use Rattle.strc_run.specs.Laws.{AcceptedOrRefused, OneStream}
 use Rattle.strc_run.specs.Rates.{rates_checked}
-use Rattle.strc_run.specs.Refuses.{Breaks, CannotBalance, CannotRun, CannotSchedule, CannotStart}
-use Rattle.strc_run.specs.Refuses.{CannotFuse, IsUnreadable}
+use Rattle.strc_run.specs.Refuses.{Breaks, CannotBalance, CannotFuse, CannotRun, CannotSchedule}
+use Rattle.strc_run.specs.Refuses.{CannotSplit, CannotStart, IsUnreadable}
 
 one_result : (result : Result Stream ElabError) (stream : Stream) (broken : ElabError)
     → result ≡ Ok stream → result ≡ Err broken → ⊥
@@ -129,18 +130,24 @@ schedules_or_not law graph startup round schedule (refusal.BufferLimit channel) 
     (law graph startup round schedule has).1 channel past
 schedules_or_not law graph startup round schedule refused has cannot = cannot
 
--- a schedule can be fused, or it can't
-fused_or_not : FusedOrRefused → (graph : Graph) (startup round : List ℕ) (threshold : ℕ)
-    (schedule fused : ScheduleParts) (refused : Refusal) → HasSchedule graph startup round schedule
-    → IsFusion graph threshold schedule fused → CannotFuse graph startup round threshold refused
-    → ⊥
-fused_or_not law graph startup round threshold schedule fused (refusal.BufferLimit channel) has is
-    cannot =
-    law graph (count_at startup) (count_at round) threshold schedule cannot.schedule fused channel
-    has.is cannot.has.is is cannot.passes
-fused_or_not law graph startup round threshold schedule fused refused has is cannot = cannot
+-- a schedule that passes no limit can be split
+split_or_not : (graph : Graph) (round : List ℕ) (schedule : ScheduleParts) (ways threshold : ℕ)
+    (refused : Refusal) → PassesNoLimit graph round ways threshold schedule
+    → CannotSplit graph round schedule ways refused → ⊥
+split_or_not graph round schedule ways threshold refusal.NodeLimit none cannot = none.nodes cannot
+split_or_not graph round schedule ways threshold (refusal.BufferLimit channel) none cannot =
+    none.split channel cannot
+split_or_not graph round schedule ways threshold refused none cannot = cannot
 
--- what fusion makes of a schedule of one graph it makes of it in an equal one
+-- and then fused
+fused_or_not : (graph : Graph) (round : List ℕ) (schedule : ScheduleParts) (ways threshold : ℕ)
+    (refused : Refusal) → PassesNoLimit graph round ways threshold schedule
+    → CannotFuse graph round schedule ways threshold refused → ⊥
+fused_or_not graph round schedule ways threshold (refusal.BufferLimit channel) none cannot =
+    none.fused channel cannot.split cannot.fission cannot.passes
+fused_or_not graph round schedule ways threshold refused none cannot = cannot
+
+-- graphs with the same nodes, channels and outermost loops are equal
 same_graph : (one other : Graph) → one.nodes ≡ other.nodes → one.channels ≡ other.channels
     → one.outer_loops ≡ other.outer_loops → one ≡ other
 same_graph one other nodes channels loops =
@@ -164,70 +171,119 @@ module _ (one_program : SpellsOneProgram) where
   only_stream text choice plan other accepted again =
       let same = one_program text accepted.program again.program accepted.spells again.spells in
       same_stream (elaborated again.program choice.main) accepted.stream again.stream
-      (subst (λ (program : List Declaration). elaborated program choice.main ≡ Ok accepted.stream) same
-      accepted.elaborates) again.elaborates
+      (subst (λ (program : List Declaration). elaborated program choice.main ≡ Ok accepted.stream)
+      same accepted.elaborates) again.elaborates
 
   module _ (spelled : SpelledTextsAreReadable) (one_graph : HasOneGraph)
-      (one_startup : OneStartup) (scheduled : ScheduledOrRefused) (fused : FusedOrRefused) where
-    module _ (text : List ℕ) (choice : Choice) (plan : Planning)
+      (one_startup : OneStartup) (scheduled : ScheduledOrRefused)
+      (transformed : TransformedOrRefused) where
+    module _ (text : List ℕ) (choice : Choice) (plan : PlanParts)
         (accepted : Accepts text choice plan) (refused : Refusal) where
+      -- what is the plan's is that of an equal graph
+      planned_in : (program : List Declaration) (other : Stream) (graph : Graph)
+          (counts startup : List ℕ) → elaborated program choice.main ≡ Ok accepted.stream
+          → elaborated program choice.main ≡ Ok other → IsFlat other graph
+          → round_counts graph ≡ Ok counts → HasStartup graph startup
+          → graph.outer_loops ≡ outer_loops 0 other
+          → HasSchedule graph startup counts plan.schedule
+          × IsTransformed (fission_of graph counts choice.ways) graph plan.schedule choice.fuse
+          plan.split
+      planned_in program other graph counts startup elaborates is flat balances starts loops =
+          let same = same_stream (elaborated program choice.main) accepted.stream other elaborates
+          is in
+          let one = one_graph accepted.stream (graph_of plan) graph accepted.flat
+          (subst (λ (s : Stream). IsFlat s graph) (sym same) flat) in
+          let first = one_startup graph plan.startup_counts startup
+          (same_startup (graph_of plan) graph plan.startup_counts one.0 one.1 accepted.startup)
+          starts in
+          let round = one_round (graph_of plan) graph plan.round_counts counts one.0 one.1
+          accepted.round balances in
+          let whole = same_graph (graph_of plan) graph one.0 one.1
+          (accepted.loops ∙ ap (λ (s : Stream). outer_loops 0 s) same ∙ sym loops) in (
+            same_schedule (graph_of plan) graph plan.startup_counts startup plan.round_counts counts
+                plan.schedule (same_rates (graph_of plan) graph one.0 one.1) first round
+                accepted.schedule,
+            subst (λ (g : Graph). IsTransformed (fission_of g counts choice.ways) g plan.schedule
+                choice.fuse plan.split) whole
+                (subst (λ (l : List ℕ). IsTransformed (fission_of (graph_of plan) l choice.ways)
+                (graph_of plan) plan.schedule choice.fuse plan.split) round accepted.transformed),
+          )
+
+      -- so no greedy schedule of it passes a limit
+      passes_none : (program : List Declaration) (other : Stream) (graph : Graph)
+          (counts startup : List ℕ) (schedule : ScheduleParts)
+          → elaborated program choice.main ≡ Ok accepted.stream
+          → elaborated program choice.main ≡ Ok other → IsFlat other graph
+          → round_counts graph ≡ Ok counts → HasStartup graph startup
+          → HasSchedule graph startup counts schedule → graph.outer_loops ≡ outer_loops 0 other
+          → PassesNoLimit graph counts choice.ways choice.fuse schedule
+      passes_none program other graph counts startup schedule elaborates is flat balances starts has
+          loops =
+          let here = planned_in program other graph counts startup elaborates is flat balances
+          starts loops in
+          transformed graph (count_at startup) (count_at counts) counts choice.ways choice.fuse
+          plan.schedule schedule plan.split here.0.is has.is here.1
+
       -- a program that means the accepted stream breaks no rule
-      breaks_none : (program : List Declaration) → elaborated program choice.main ≡ Ok accepted.stream
-          → Breaks program choice refused → ⊥
+      breaks_none : (program : List Declaration)
+          → elaborated program choice.main ≡ Ok accepted.stream → Breaks program choice refused
+          → ⊥
       breaks_none program elaborates (Breaks.InElaboration broken is reported) =
           one_result (elaborated program choice.main) accepted.stream broken elaborates is
       breaks_none program elaborates (Breaks.InGraph other is cannot) =
-          let same = same_stream (elaborated program choice.main) accepted.stream other elaborates is in
+          let same = same_stream (elaborated program choice.main) accepted.stream other elaborates
+          is in
           runs_or_not other refused (subst CanRun same accepted.runs) cannot
       breaks_none program elaborates (Breaks.InRates other is runs broken) =
-          let same = same_stream (elaborated program choice.main) accepted.stream other elaborates is in
+          let same = same_stream (elaborated program choice.main) accepted.stream other elaborates
+          is in
           let both : ◌≡◌ {A = Result (Unit {0}) Refusal} (Ok tt) (Err refused) =
           sym accepted.rates ∙ ap (λ (s : Stream). rates_checked 0 (nodes_of s)) same ∙ broken in
           absurd (cc)
       breaks_none program elaborates (Breaks.InBalance other graph is runs rates flat cannot) =
-          let same = same_stream (elaborated program choice.main) accepted.stream other elaborates is in
-          let one = one_graph accepted.stream plan.graph graph accepted.flat
+          let same = same_stream (elaborated program choice.main) accepted.stream other elaborates
+          is in
+          let one = one_graph accepted.stream (graph_of plan) graph accepted.flat
           (subst (λ (s : Stream). IsFlat s graph) (sym same) flat) in
-          balances_or_not plan.round_counts plan.graph graph refused one.0 one.1 accepted.round
+          balances_or_not plan.round_counts (graph_of plan) graph refused one.0 one.1 accepted.round
           cannot
       breaks_none program elaborates
           (Breaks.InStartup other graph counts is runs rates flat balances cannot) =
-          let same = same_stream (elaborated program choice.main) accepted.stream other elaborates is in
-          let one = one_graph accepted.stream plan.graph graph accepted.flat
-          (subst (λ (s : Stream). IsFlat s graph) (sym same) flat) in
-          starts_or_not graph plan.startup_counts refused
-          (same_startup plan.graph graph plan.startup_counts one.0 one.1 accepted.startup) cannot
-      breaks_none program elaborates
-          (Breaks.InSchedule other graph counts startup is runs rates flat balances starts cannot) =
-          let same = same_stream (elaborated program choice.main) accepted.stream other elaborates is in
-          let one = one_graph accepted.stream plan.graph graph accepted.flat
-          (subst (λ (s : Stream). IsFlat s graph) (sym same) flat) in
-          let first = one_startup graph plan.startup_counts startup
-          (same_startup plan.graph graph plan.startup_counts one.0 one.1 accepted.startup) starts in
-          let round = one_round plan.graph graph plan.round_counts counts one.0 one.1
-          accepted.round balances in
-          schedules_or_not scheduled graph startup counts plan.schedule refused
-          (same_schedule plan.graph graph plan.startup_counts startup plan.round_counts counts
-          plan.schedule (same_rates plan.graph graph one.0 one.1) first round accepted.schedule)
-          cannot
-      breaks_none program elaborates
-          (Breaks.InFusion other graph counts startup is runs rates flat balances starts loops
-          cannot) =
           let same = same_stream (elaborated program choice.main) accepted.stream other elaborates
           is in
-          let one = one_graph accepted.stream plan.graph graph accepted.flat
+          let one = one_graph accepted.stream (graph_of plan) graph accepted.flat
+          (subst (λ (s : Stream). IsFlat s graph) (sym same) flat) in
+          starts_or_not graph plan.startup_counts refused
+          (same_startup (graph_of plan) graph plan.startup_counts one.0 one.1 accepted.startup)
+          cannot
+      breaks_none program elaborates
+          (Breaks.InSchedule other graph counts startup is runs rates flat balances starts cannot) =
+          let same = same_stream (elaborated program choice.main) accepted.stream other elaborates
+          is in
+          let one = one_graph accepted.stream (graph_of plan) graph accepted.flat
           (subst (λ (s : Stream). IsFlat s graph) (sym same) flat) in
           let first = one_startup graph plan.startup_counts startup
-          (same_startup plan.graph graph plan.startup_counts one.0 one.1 accepted.startup) starts in
-          let round = one_round plan.graph graph plan.round_counts counts one.0 one.1
+          (same_startup (graph_of plan) graph plan.startup_counts one.0 one.1 accepted.startup)
+          starts in
+          let round = one_round (graph_of plan) graph plan.round_counts counts one.0 one.1
           accepted.round balances in
-          let whole = same_graph plan.graph graph one.0 one.1
-          (accepted.loops ∙ ap (λ (s : Stream). outer_loops 0 s) same ∙ sym loops) in
-          fused_or_not fused graph startup counts choice.fuse plan.schedule plan.fused refused
-          (same_schedule plan.graph graph plan.startup_counts startup plan.round_counts counts
-          plan.schedule (same_rates plan.graph graph one.0 one.1) first round accepted.schedule)
-          (subst (λ (g : Graph). IsFusion g choice.fuse plan.schedule plan.fused) whole
-          accepted.fused) cannot
+          schedules_or_not scheduled graph startup counts plan.schedule refused
+          (same_schedule (graph_of plan) graph plan.startup_counts startup plan.round_counts counts
+          plan.schedule (same_rates (graph_of plan) graph one.0 one.1) first round
+          accepted.schedule)
+          cannot
+      breaks_none program elaborates
+          (Breaks.InFission other graph counts startup schedule is runs rates flat balances starts
+          has loops cannot) =
+          split_or_not graph counts schedule choice.ways choice.fuse refused
+          (passes_none program other graph counts startup schedule elaborates is flat balances
+          starts has loops) cannot
+      breaks_none program elaborates
+          (Breaks.InFusion other graph counts startup schedule is runs rates flat balances starts
+          has loops cannot) =
+          fused_or_not graph counts schedule choice.ways choice.fuse refused
+          (passes_none program other graph counts startup schedule elaborates is flat balances
+          starts has loops) cannot
 
     pub excluded : AcceptedOrRefused
     excluded text choice plan refused accepted (inl unreadable) =
@@ -235,5 +291,6 @@ module _ (one_program : SpellsOneProgram) where
     excluded text choice plan refused accepted (inr broken) =
         let same = one_program text accepted.program broken.0 accepted.spells broken.1 in
         breaks_none text choice plan accepted refused broken.0
-        (subst (λ (program : List Declaration). elaborated program choice.main ≡ Ok accepted.stream) same
+        (subst (λ (program : List Declaration). elaborated program choice.main ≡ Ok accepted.stream)
+        same
         accepted.elaborates) broken.2

@@ -6,6 +6,7 @@ use Rattle.strc_semantics.specs.Filters as filters
 use Rattle.strc_semantics.specs.Firing.{started}
 use Rattle.strc_graph.specs.Graphs as graphs
 use Rattle.strc_graph.specs.Graphs.{NodeCode, Graph}
+use Rattle.strc_graph.specs.NodeView.{GraphParts, graph_view}
 use Rattle.strc_rate.specs.Rates.{FilterRates, checked}
 use Rattle.strc_elab.specs.Sound.{IsInstance}
 use Rattle.strc_balance.specs.Balance.{count_at}
@@ -14,10 +15,9 @@ use Rattle.strc_startup.specs.Rates.{rates_of}
 use Rattle.strc_order.specs.Schedules.{ScheduleParts}
 use Rattle.strc_order.proofs.Runnable.{schedules_are_runnable}
 use Rattle.strc_admissible.specs.Planned.{IsFilterOf, IsPlanned}
-use Rattle.strc_fuse.specs.Laws.{ProgramsArePlaced}
-use Rattle.strc_fuse.specs.Units.{is_free, round_units, ArePlaced}
-use Rattle.strc_fused.specs.Fusions.{IsFusion, IsPlannedAs}
-use Rattle.strc_stage.specs.Plans.{HasRound, HasSchedule, HasStartup, IsPlan, IsWhole}
+use Rattle.strc_fiss.specs.Splits.{SplitParts}
+use Rattle.strc_stage.specs.Plans.{HasRound, HasSchedule, HasStartup, IsPlan, IsTransformation}
+use Rattle.strc_stage.specs.Plans.{IsWhole, parts_of}
 use Rattle.strc_run.proofs.CheckedRates.{filter_ok}
 use Rattle.strc_run.proofs.Instances.{instance_starts}
 use Rattle.strc_run.proofs.RatedGraphs.{IsChecked, checked_at}
@@ -65,40 +65,23 @@ module _ (graph : Graph) (all : AllByRecursion IsChecked graph.nodes) where
         scheduled.is;
   }
 
--- so it has a plan, with what fusion makes of the schedule
-module _ (graph : Graph) (all : AllByRecursion IsChecked graph.nodes) (parts fused : ScheduleParts)
-    (startup round : List ℕ) (rated : All IsRated (equations_of graph))
-    (starts : HasStartup graph startup) (rounds : HasRound graph round)
-    (scheduled : HasSchedule graph startup round parts) (whole : IsWhole graph)
-    (threshold : ℕ) (fusion : IsFusion graph threshold parts fused) where
-  abbrev planned : IsPlanned graph parts
-  planned = graph_is_planned graph all parts startup round rated starts rounds scheduled
-
-  -- where fusion keeps what is planned, and the units are those of a program's greedy round
-  pub graph_has_plan : ProgramsArePlaced
-      → ((before : IsPlanned graph parts)
-      → ArePlaced (rates_of graph) (count_at before.round) (is_free graph) (round_units parts.round)
-      → IsPlannedAs graph parts fused before)
-      → IsPlan (record {
-        graph = graph;
-        startup_counts = startup;
-        round_counts = round;
-        schedule = parts;
-        fused = fused;
-      })
-  unfolding graph_is_planned
-  graph_has_plan are_placed keeps =
-      let after = keeps planned
-      (are_placed graph whole.stream (count_at startup) (count_at round) parts whole.closed.typed
-      whole.program whole.loops scheduled.is) in
-      record {
-        whole = whole;
-        startup = starts;
-        round = rounds;
-        schedule = scheduled;
-        unfused = planned;
-        fusion = (threshold, fusion);
-        planned = after.again;
-        startup_is = after.startup;
-        round_is = after.round;
-      }
+-- so it has a plan, with what fission and fusion make of the graph and its schedule
+pub graph_has_plan : (graph : GraphParts) → AllByRecursion IsChecked (graph_view graph).nodes
+    → (schedule : ScheduleParts) (split : SplitParts) (startup round : List ℕ)
+    → All IsRated (equations_of (graph_view graph)) → HasStartup (graph_view graph) startup
+    → HasRound (graph_view graph) round → HasSchedule (graph_view graph) startup round schedule
+    → IsWhole (graph_view graph) → IsTransformation (graph_view graph) round schedule split
+    → IsPlan (parts_of graph startup round schedule split)
+unfolding graph_is_planned
+graph_has_plan graph all schedule split startup round rated starts rounds scheduled whole
+    transformation = record {
+      whole = whole;
+      startup = starts;
+      round = rounds;
+      schedule = scheduled;
+      planned = graph_is_planned (graph_view graph) all schedule startup round rated starts rounds
+          scheduled;
+      transformation = transformation;
+      startup_is = refl;
+      round_is = refl;
+    }

@@ -1,5 +1,5 @@
 -- What is answered for a text holds by the definitions.
-use Rattle.std.proofs.Common.{◌≡◌, refl, sym, subst, List, [], ◌∷◌, ℕ, ◌+◌, Option, Result}
+use Rattle.std.proofs.Common.{◌≡◌, refl, sym, subst, List, [], ◌∷◌, ℕ, ◌+◌, Result}
 use Rattle.std.proofs.Common.{Ok, Err, inl, inr}
 use Rattle.std.specs.Prelude.{Bool, true, false}
 use Rattle.std.specs.Result.{IsErrAnd}
@@ -22,25 +22,24 @@ use Rattle.strc_balance.specs.declared.error.BalanceError.{BalanceError}
 use Rattle.strc_balance.specs.declared.error.BalanceError.TheVariants as unbalanced
 use Rattle.strc_order.specs.declared.error.ScheduleError.{ScheduleError}
 use Rattle.strc_order.specs.declared.error.ScheduleError.TheVariants as unscheduled
-use Rattle.strc_fuse.specs.declared.error.FuseError.{FuseError}
-use Rattle.strc_fuse.specs.declared.error.FuseError.TheVariants as unfused
 use Rattle.strc_startup.specs.declared.error.StartupError.{StartupError}
 use Rattle.strc_startup.specs.declared.error.StartupError.TheVariants as unprimed
 use Rattle.strc_scope.specs.declared.error.ElabError.{ElabError}
 use Rattle.strc_scope.specs.declared.error.ElabError.TheVariants as error
-use Rattle.strc_stage.specs.Plans.{HasStartup, IsDeadlocked, IsUnbounded, Overflows, PlanParts}
-use Rattle.strc_stage.specs.Plans.{OverflowsFused, planning_of}
+use Rattle.strc_order.specs.Schedules.{ScheduleParts}
+use Rattle.strc_stage.specs.Plans.{HasSchedule, HasStartup, IsDeadlocked, IsUnbounded, Overflows}
+use Rattle.strc_stage.specs.Plans.{PlanParts}
 use Rattle.strc_refusal.specs.declared.refusal.Refusal.{Refusal}
 use Rattle.strc_refusal.specs.declared.refusal.Refusal.TheVariants as refusal
 use Rattle.strc_run.specs.Accepts.{CanRun, round_counts}
 use Rattle.strc_run.specs.Choices.{Choice}
 use Rattle.strc_run.specs.Plans.{HasPlan, IsPlanOf}
 use Rattle.strc_run.specs.Refuses.{Breaks, HasNoBalance, IsTrueOf, IsReadRefusal}
+use Rattle.strc_run.specs.Refuses.{IsUntransformed}
 use Rattle.strc_run.specs.Rates.{rates_checked, node_checked, filter_checked, then_check}
 use Rattle.strc_run.specs.Rates.{rate_refusal_of}
 use Rattle.strc_refusal.specs.Reports.{refusal_of, balance_refusal_of, startup_refusal_of}
 use Rattle.strc_refusal.specs.Reports.{schedule_refusal_of}
-use Rattle.strc_run.specs.Reports.{fusion_refusal_of}
 use Rattle.strc_run.specs.Verdicts.{IsRefusal}
 
 -- a test of rates doesn't speak of the balance
@@ -172,20 +171,32 @@ module _ (text : List ℕ) (choice : Choice) (program : List Declaration)
             )
         schedule_refused startup unscheduled.NoMemory starts deadlocked past = tt
 
-        -- fusion's
-        pub fusion_refused : (startup : List ℕ) (broken : FuseError)
-            → HasStartup graph startup → graph.outer_loops ≡ outer_loops 0 stream
-            → ((channel : ℕ) → broken ≡ unfused.BufferLimit channel
-            → OverflowsFused graph startup counts choice.fuse channel)
-            → IsTrueOf text choice (fusion_refusal_of broken)
-        fusion_refused startup (unfused.BufferLimit channel) starts loops past =
+        -- fission's and fusion's
+        pub transformation_refused : (startup : List ℕ) (schedule : ScheduleParts)
+            (refused : Refusal) → HasStartup graph startup
+            → HasSchedule graph startup counts schedule
+            → graph.outer_loops ≡ outer_loops 0 stream
+            → IsUntransformed graph counts schedule choice.ways choice.fuse refused
+            → IsTrueOf text choice refused
+        transformation_refused startup schedule refusal.NoMemory starts has loops cannot = tt
+        transformation_refused startup schedule (refusal.Inconsistent channel) starts has loops
+            (inl cannot) = absurd cannot
+        transformation_refused startup schedule (refusal.Inconsistent channel) starts has loops
+            (inr cannot) = absurd cannot
+        transformation_refused startup schedule refused starts has loops (inl cannot) =
             inr (
               program,
               spells,
-              Breaks.InFusion stream graph counts startup elaborates runs
-                  rates flat balances starts loops (past channel refl),
+              Breaks.InFission stream graph counts startup schedule elaborates runs rates flat
+                  balances starts has loops cannot,
             )
-        fusion_refused startup unfused.NoMemory starts loops past = tt
+        transformation_refused startup schedule refused starts has loops (inr cannot) =
+            inr (
+              program,
+              spells,
+              Breaks.InFusion stream graph counts startup schedule elaborates runs rates flat
+                  balances starts has loops cannot,
+            )
 
 -- a deadlock is one of start-up, or one of a round
 pub which_deadlock : (graph : Graph) (startup round : List ℕ) (broken : ScheduleError)
@@ -206,9 +217,8 @@ refusal_reported text choice (Err found) refused reported is =
 
 -- the plan that is given
 pub plan_reported : (text : List ℕ) (choice : Choice) (plan parts : PlanParts) → plan ≡ parts
-    → IsPlanOf text choice (planning_of parts) → IsPlanOf text choice (planning_of plan)
-plan_reported text choice plan parts same is =
-    subst (λ (p : PlanParts). IsPlanOf text choice (planning_of p)) (sym same) is
+    → IsPlanOf text choice parts → IsPlanOf text choice plan
+plan_reported text choice plan parts same is = subst (IsPlanOf text choice) (sym same) is
 
 -- before there is a program
 pub read_refused : (text : List ℕ) (choice : Choice) (refused : Refusal)

@@ -1,26 +1,26 @@
 -- The rounds of a plan, by those that are run.
 use Rattle.std.proofs.Common.{◌≡◌, ℕ, ◌<◌, ◌≤◌, ℤ, true, List, length, Option}
-use Rattle.std.proofs.Common.{Some, None, Result, Ok, Err, refl, ◌∙◌, arith}
+use Rattle.std.proofs.Common.{Some, None, Result, Ok, Err, refl, sym, subst, ◌∙◌, arith}
 use Rattle.std.specs.Prelude.{IfOk, IfErr, unwrap_or}
 use Rattle.std.specs.List.{list_any}
 use Rattle.strc_graph.specs.Graphs.{reads_input}
-use Rattle.strc_sched.specs.Plain.{AnswersGraph, IsPlainRefusal}
+use Rattle.strc_parallel.specs.Answers.{AnswersPlan}
 use Rattle.strc_sched.specs.Serving.{IsServed}
 use Rattle.strc_outcome.specs.declared.outcome.Outcome.{Outcome}
 use Rattle.strc_outcome.specs.declared.refusal.RunRefusal.{RunRefusal}
 use Rattle.strc_outcome.specs.declared.refusal.RunRefusal.TheVariants as refused
-use Rattle.strc_stage.specs.Plans.{Planning}
+use Rattle.strc_stage.specs.Plans.{PlanParts, graph_of}
+use Rattle.strc_split_rings.specs.Plans.{need_of}
 use Rattle.strc_parallel.specs.Running.{LacksMeans}
 use Rattle.strc_run.specs.Rounds.{AreWorkers, IsRunOf, IsUnrun, IsWorkedRefusal, is_bounded}
-use Rattle.strc_run.specs.Rounds.{need_of}
 
--- what one thread refuses, workers do
-pub plain_refused : (need got workers : ℕ) (result : Result Outcome RunRefusal)
-    → IfErr result (IsPlainRefusal need got) → IfErr result (IsWorkedRefusal need got workers)
-plain_refused need got workers (Ok outcome) is = tt
-plain_refused need got workers (Err (refused.InputShort needed had)) is = is
-plain_refused need got workers (Err refused.NoMemory) is = is
-plain_refused need got workers (Err refusal) is = absurd is
+-- what one thread refuses where the input is long enough
+pub alone_refused : (need got workers : ℕ) → need ≤ got → (result : Result Outcome RunRefusal)
+    → IfErr result (λ refusal. refusal ≡ refused.NoMemory)
+    → IfErr result (IsWorkedRefusal need got workers)
+alone_refused need got workers enough (Ok outcome) is = tt
+alone_refused need got workers enough (Err refusal) is =
+    subst (IsWorkedRefusal need got workers) (sym is) enough
 
 -- what several workers refuse where the input is long enough
 pub stages_refused : (need got workers : ℕ) → 1 < workers → need ≤ got
@@ -31,9 +31,9 @@ stages_refused need got workers many enough (Err refused.NoMemory) is = enough
 stages_refused need got workers many enough (Err refused.NoWorker) is = (many, enough)
 stages_refused need got workers many enough (Err refusal) is = absurd is
 
-module _ (plan : Planning) (input : List ℤ) (workers : ℕ) (are : AreWorkers workers) where
+module _ (plan : PlanParts) (input : List ℤ) (workers : ℕ) (are : AreWorkers workers) where
   refused_as : (asked : Option ℕ) (rounds : ℕ) (refusal : RunRefusal)
-      → is_bounded asked plan.graph.nodes ≡ true
+      → is_bounded asked (graph_of plan).nodes ≡ true
       → need_of plan rounds ≡ need_of plan (unwrap_or asked 0)
       → IsWorkedRefusal (need_of plan rounds) (length input) workers refusal
       → IsUnrun plan (length input) asked workers refusal
@@ -47,7 +47,7 @@ module _ (plan : Planning) (input : List ℤ) (workers : ℕ) (are : AreWorkers 
 
   -- a number of rounds that is given
   pub given_run : (count : ℕ) (result : Result Outcome RunRefusal)
-      → IfOk result (AnswersGraph plan.graph plan.fused input count)
+      → IfOk result (AnswersPlan plan input count)
       → IfOk result (λ _. need_of plan count ≤ length input)
       → IfErr result (IsWorkedRefusal (need_of plan count) (length input) workers)
       → IsRunOf plan input (Some count) workers result
@@ -65,9 +65,9 @@ module _ (plan : Planning) (input : List ℤ) (workers : ℕ) (are : AreWorkers 
 
   -- as many as the input serves
   pub served_run : (served : Option ℕ) (result : Result Outcome RunRefusal)
-      → list_any reads_input plan.graph.nodes ≡ true
+      → list_any reads_input (graph_of plan).nodes ≡ true
       → IsServed (need_of plan) (length input) served
-      → IfOk result (AnswersGraph plan.graph plan.fused input (unwrap_or served 0))
+      → IfOk result (AnswersPlan plan input (unwrap_or served 0))
       → IfOk result (λ _. need_of plan (unwrap_or served 0) ≤ length input)
       → IfErr result (IsWorkedRefusal (need_of plan (unwrap_or served 0)) (length input) workers)
       → IsRunOf plan input None workers result

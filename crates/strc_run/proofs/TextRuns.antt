@@ -2,23 +2,23 @@
 use Rattle.std.proofs.Common.{◌≡◌, ◌∙◌, ap, sym, subst, ℕ, ◌<◌, ◌≤◌, ℤ, List, length, Option}
 use Rattle.std.proofs.Common.{Ok, Err, true}
 use Rattle.std.specs.Prelude.{unwrap_or}
-use Rattle.strc_graph.specs.Graphs.{NodeCode}
 use Rattle.strc_stream.specs.Flattening.{tree_of, nodes_of}
-use Rattle.strc_sched.specs.Plain.{IsAnswer}
 use Rattle.strc_outcome.specs.declared.outcome.Outcome.{Outcome}
 use Rattle.strc_outcome.specs.declared.refusal.RunRefusal.{RunRefusal}
 use Rattle.strc_outcome.specs.declared.refusal.RunRefusal.TheVariants as refused
-use Rattle.strc_stage.specs.Plans.{Planning}
+use Rattle.strc_stage.specs.Plans.{PlanParts, graph_of}
+use Rattle.strc_split_rings.specs.Plans.{need_of}
 use Rattle.strc_run.specs.Choices.{Choice}
 use Rattle.strc_run.specs.Laws.{PlansAnswerTexts}
 use Rattle.strc_run.specs.Plans.{IsPlanOf}
-use Rattle.strc_run.specs.Rounds.{IsUnrun, RunsRounds, is_bounded, need_of}
+use Rattle.strc_run.specs.Rounds.{IsUnrun, RunsRounds, is_bounded}
 use Rattle.strc_run.specs.TextRuns.{HasInput, IsTextRun, RunsText}
 
-module _ (text : List ℕ) (choice : Choice) (plan : Planning)
+module _ (text : List ℕ) (choice : Choice) (plan : PlanParts)
     (is : IsPlanOf text choice plan) (input : List ℤ) (asked : Option ℕ) (workers : ℕ) where
   -- the plan's nodes are the stream's
-  same_bound : is_bounded asked plan.graph.nodes ≡ is_bounded asked (nodes_of is.accepted.stream)
+  same_bound : is_bounded asked (graph_of plan).nodes
+      ≡ is_bounded asked (nodes_of is.accepted.stream)
   same_bound = ap (is_bounded asked) is.nodes
 
   runs_text : (outcome : Outcome) → RunsRounds plan input asked outcome
@@ -29,14 +29,11 @@ module _ (text : List ℕ) (choice : Choice) (plan : Planning)
     rounds = runs.rounds;
     count = runs.count;
     enough = runs.enough;
-    answer =
-        subst (λ (nodes : List NodeCode). IsAnswer (tree_of is.accepted.stream) plan.fused input
-        runs.rounds nodes outcome) is.nodes
-        (runs.answer (tree_of is.accepted.stream) is.whole);
+    answer = runs.answer (tree_of is.accepted.stream) is.whole;
   }
 
   -- rounds that could be run over the input
-  has_input : is_bounded asked plan.graph.nodes ≡ true
+  has_input : is_bounded asked (graph_of plan).nodes ≡ true
       → need_of plan (unwrap_or asked 0) ≤ length input → HasInput text choice plan input asked
   has_input bounded enough = record {
     accepted = is.accepted;

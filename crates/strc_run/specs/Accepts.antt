@@ -11,8 +11,9 @@ use Rattle.strc_graph.specs.Graphs.{Graph}
 use Rattle.strc_balance.specs.Rates.{equations_of, size_of}
 use Rattle.strc_balance.specs.Verdicts.{judged}
 use Rattle.strc_balance.specs.declared.error.BalanceError.{BalanceError}
-use Rattle.strc_fused.specs.Fusions.{IsFusion}
-use Rattle.strc_stage.specs.Plans.{HasSchedule, HasStartup, Planning}
+use Rattle.strc_fiss.specs.Fissions.{IsTransformed}
+use Rattle.strc_fiss.specs.Ways.{fission_of}
+use Rattle.strc_stage.specs.Plans.{HasSchedule, HasStartup, PlanParts, graph_of}
 use Rattle.strc_run.specs.Choices.{Choice}
 use Rattle.strc_run.specs.Rates.{rates_checked}
 
@@ -26,7 +27,7 @@ abbrev pub round_counts : Graph → Result (List ℕ) BalanceError
 round_counts graph = judged (size_of graph) (equations_of graph)
 
 -- the text is accepted, compiled so, with this plan
-pub record Accepts (text : List ℕ) (choice : Choice) (plan : Planning) : Type 0 where
+pub record Accepts (text : List ℕ) (choice : Choice) (plan : PlanParts) : Type 0 where
   -- the text spells a program
   pub program : List Declaration
   pub spells : Spells text program
@@ -37,10 +38,11 @@ pub record Accepts (text : List ℕ) (choice : Choice) (plan : Planning) : Type 
   pub runs : CanRun stream
   pub rates : rates_checked 0 (nodes_of stream) ≡ Ok tt
   -- the plan's graph is the stream's flat graph, with the outermost loop of each node
-  pub flat : IsFlat stream plan.graph
+  pub flat : IsFlat stream (graph_of plan)
   pub loops : plan.graph.outer_loops ≡ outer_loops 0 stream
-  -- with its counts, its schedule, and what fusion makes of it
-  pub round : round_counts plan.graph ≡ Ok plan.round_counts
-  pub startup : HasStartup plan.graph plan.startup_counts
-  pub schedule : HasSchedule plan.graph plan.startup_counts plan.round_counts plan.schedule
-  pub fused : IsFusion plan.graph choice.fuse plan.schedule plan.fused
+  -- with its counts, its schedule, and what fission and fusion make of both
+  pub round : round_counts (graph_of plan) ≡ Ok plan.round_counts
+  pub startup : HasStartup (graph_of plan) plan.startup_counts
+  pub schedule : HasSchedule (graph_of plan) plan.startup_counts plan.round_counts plan.schedule
+  pub transformed : IsTransformed (fission_of (graph_of plan) plan.round_counts choice.ways)
+      (graph_of plan) plan.schedule choice.fuse plan.split

@@ -2,7 +2,7 @@
 use Rattle.std.specs.Prelude.{◌≡◌, ℕ, ℤ, List, Option, Result}
 use Rattle.strc_outcome.specs.declared.outcome.Outcome.{Outcome}
 use Rattle.strc_outcome.specs.declared.refusal.RunRefusal.{RunRefusal}
-use Rattle.strc_stage.specs.Plans.{Planning}
+use Rattle.strc_stage.specs.Plans.{PlanParts}
 use Rattle.strc_refusal.specs.declared.refusal.Refusal.{Refusal}
 use Rattle.strc_run.specs.Accepts.{Accepts}
 use Rattle.strc_run.specs.Choices.{Choice}
@@ -13,18 +13,18 @@ use Rattle.strc_run.specs.TextRuns.{IsTextRun}
 
 -- no text is both accepted and refused
 abbrev pub AcceptedOrRefused : Type 0
-AcceptedOrRefused = (text : List ℕ) (choice : Choice) (plan : Planning) (refused : Refusal)
+AcceptedOrRefused = (text : List ℕ) (choice : Choice) (plan : PlanParts) (refused : Refusal)
     → Accepts text choice plan → Refuses text choice refused → ⊥
 
 -- a text is accepted with one stream
 abbrev pub OneStream : Type 0
-OneStream = (text : List ℕ) (choice : Choice) (plan other : Planning)
+OneStream = (text : List ℕ) (choice : Choice) (plan other : PlanParts)
     → (accepted : Accepts text choice plan) → (again : Accepts text choice other)
     → accepted.stream ≡ again.stream
 
 -- what the rounds of a text's plan come to is what those of the text come to
 abbrev pub PlansAnswerTexts : Type 0
-PlansAnswerTexts = (text : List ℕ) (choice : Choice) (plan : Planning) (input : List ℤ)
+PlansAnswerTexts = (text : List ℕ) (choice : Choice) (plan : PlanParts) (input : List ℤ)
     (asked : Option ℕ) (workers : ℕ) (result : Result Outcome RunRefusal)
     → IsPlanOf text choice plan → IsRunOf plan input asked workers result
     → IsTextRun text choice plan input asked workers result

@@ -1,7 +1,7 @@
 -- Which texts are refused, and with which refusal: that of the first rule that is broken, of those
 -- on the text's tokens, its tree, its elaboration, its flat graph, its nodes' rates, their balance,
--- their start-up, their schedule, its fusion.
-use Rattle.std.specs.Prelude.{◌≡◌, ℕ, ◌⊎◌, List, Option, Ok, Err}
+-- their start-up, their schedule, fission, fusion.
+use Rattle.std.specs.Prelude.{◌≡◌, ℕ, ◌⊎◌, List, Ok, Err}
 use Rattle.strc_syntax.specs.Tree.{Declaration}
 use Rattle.strc_grammar.specs.declared.error.ParseError.TheVariants as parsing
 use Rattle.strc_parse.specs.Texts.{HasNoToken, IsNoProgram, IsTooLong, Spells}
@@ -16,8 +16,9 @@ use Rattle.strc_graph.specs.Graphs.{Graph}
 use Rattle.strc_balance.specs.Balance.{Balances}
 use Rattle.strc_balance.specs.Rates.{equations_of, size_of}
 use Rattle.strc_balance.specs.declared.error.BalanceError.TheVariants as unbalanced
-use Rattle.strc_stage.specs.Plans.{HasStartup, IsDeadlocked, IsUnbounded, Overflows}
-use Rattle.strc_stage.specs.Plans.{OverflowsFused}
+use Rattle.strc_order.specs.Schedules.{ScheduleParts}
+use Rattle.strc_stage.specs.Plans.{HasSchedule, HasStartup, HasTooManyParts, IsDeadlocked}
+use Rattle.strc_stage.specs.Plans.{IsUnbounded, Overflows, OverflowsFused, OverflowsSplit}
 use Rattle.strc_refusal.specs.declared.refusal.Refusal.{Refusal}
 use Rattle.strc_refusal.specs.declared.refusal.Refusal.TheVariants as refusal
 use Rattle.strc_run.specs.Accepts.{CanRun, round_counts}
@@ -65,11 +66,27 @@ CannotSchedule graph startup round (refusal.BufferLimit channel) =
     Overflows graph startup round channel
 CannotSchedule graph startup round refused = ⊥
 
--- a schedule can't be fused into lists of at most so many entries, for this reason
-abbrev pub CannotFuse : Graph → (startup round : List ℕ) → (threshold : ℕ) → Refusal → Type 0
-CannotFuse graph startup round threshold (refusal.BufferLimit channel) =
-    OverflowsFused graph startup round threshold channel
-CannotFuse graph startup round threshold refused = ⊥
+-- a graph and its schedule can't be split among so many copies of a node, for this reason
+abbrev pub CannotSplit : Graph → (round : List ℕ) → ScheduleParts → (ways : ℕ) → Refusal → Type 0
+CannotSplit graph round schedule ways refusal.NodeLimit = HasTooManyParts graph round ways
+CannotSplit graph round schedule ways (refusal.BufferLimit channel) =
+    OverflowsSplit graph round schedule ways channel
+CannotSplit graph round schedule ways refused = ⊥
+
+-- and then they can't be fused into lists of at most so many entries, for this reason
+abbrev pub CannotFuse : Graph → (round : List ℕ) → ScheduleParts → (ways threshold : ℕ) → Refusal
+    → Type 0
+CannotFuse graph round schedule ways threshold (refusal.BufferLimit channel) =
+    OverflowsFused graph round schedule ways threshold channel
+CannotFuse graph round schedule ways threshold refused = ⊥
+
+-- one of the two, where a refusal is answered; out of memory says nothing of the graph
+abbrev pub IsUntransformed : Graph → (round : List ℕ) → ScheduleParts → (ways threshold : ℕ)
+    → Refusal → Type 0
+IsUntransformed graph round schedule ways threshold refusal.NoMemory = Unit {0}
+IsUntransformed graph round schedule ways threshold refused =
+    CannotSplit graph round schedule ways refused
+    ⊎ CannotFuse graph round schedule ways threshold refused
 
 -- the first rule that a program breaks
 pub data Breaks (program : List Declaration) (choice : Choice) (refused : Refusal) : Type 0
@@ -99,13 +116,23 @@ pub data Breaks (program : List Declaration) (choice : Choice) (refused : Refusa
         → round_counts graph ≡ Ok counts → HasStartup graph startup
         → CannotSchedule graph startup counts refused
         → Breaks program choice refused
-    InFusion : (stream : Stream) (graph : Graph) (counts startup : List ℕ)
-        → elaborated program choice.main ≡ Ok stream
+    InFission : (stream : Stream) (graph : Graph) (counts startup : List ℕ)
+        (schedule : ScheduleParts) → elaborated program choice.main ≡ Ok stream
         → CanRun stream
         → rates_checked 0 (nodes_of stream) ≡ Ok tt → IsFlat stream graph
         → round_counts graph ≡ Ok counts → HasStartup graph startup
+        → HasSchedule graph startup counts schedule
         → graph.outer_loops ≡ outer_loops 0 stream
-        → CannotFuse graph startup counts choice.fuse refused
+        → CannotSplit graph counts schedule choice.ways refused
+        → Breaks program choice refused
+    InFusion : (stream : Stream) (graph : Graph) (counts startup : List ℕ)
+        (schedule : ScheduleParts) → elaborated program choice.main ≡ Ok stream
+        → CanRun stream
+        → rates_checked 0 (nodes_of stream) ≡ Ok tt → IsFlat stream graph
+        → round_counts graph ≡ Ok counts → HasStartup graph startup
+        → HasSchedule graph startup counts schedule
+        → graph.outer_loops ≡ outer_loops 0 stream
+        → CannotFuse graph counts schedule choice.ways choice.fuse refused
         → Breaks program choice refused
 
 -- the text spells a program that breaks this rule

@@ -4,13 +4,13 @@ use Rattle.std.specs.Prelude.{◌≡◌, ℕ, ◌<◌, ◌≤◌, ℤ, Bool, tru
 use Rattle.std.specs.Prelude.{Some, None, unwrap_or, Result, Ok, Err}
 use Rattle.std.specs.List.{list_any}
 use Rattle.strc_graph.specs.Graphs.{NodeCode, reads_input}
-use Rattle.strc_sched.specs.Plain.{AnswersGraph}
-use Rattle.strc_sched.specs.Plain as plain
+use Rattle.strc_parallel.specs.Answers.{AnswersPlan}
 use Rattle.strc_sched.specs.Serving.{Serves}
 use Rattle.strc_outcome.specs.declared.outcome.Outcome.{Outcome}
 use Rattle.strc_outcome.specs.declared.refusal.RunRefusal.{RunRefusal}
 use Rattle.strc_outcome.specs.declared.refusal.RunRefusal.TheVariants as refused
-use Rattle.strc_stage.specs.Plans.{Planning}
+use Rattle.strc_stage.specs.Plans.{PlanParts, graph_of}
+use Rattle.strc_split_rings.specs.Plans.{need_of}
 use Rattle.strc_run.specs.declared.run.TheConstants.{WORKER_LIMIT}
 
 -- rounds can be run by so many workers
@@ -18,12 +18,8 @@ abbrev pub AreWorkers : ℕ → Type 0
 AreWorkers workers = (1 ≤ workers) × (workers ≤ WORKER_LIMIT)
 
 -- whether a node of a plan's graph reads the program's input
-abbrev pub plan_reads : Planning → Bool
-plan_reads plan = list_any reads_input plan.graph.nodes
-
--- how many items of the input start-up and so many rounds read
-abbrev pub need_of : Planning → (rounds : ℕ) → ℕ
-need_of plan rounds = plain.need_of plan.graph plan.fused rounds
+abbrev pub plan_reads : PlanParts → Bool
+plan_reads plan = list_any reads_input (graph_of plan).nodes
 
 -- how many rounds are run: so many as are asked for, or as many as so many items serve
 abbrev pub IsCount : (need : ℕ → ℕ) → (got : ℕ) → (asked : Option ℕ) → (rounds : ℕ) → Type 0
@@ -39,13 +35,13 @@ abbrev pub is_bounded : (asked : Option ℕ) → List NodeCode → Bool
 is_bounded asked nodes = is_given asked || list_any reads_input nodes
 
 -- the rounds that are asked for, or those that the input serves, end so
-pub record RunsRounds (plan : Planning) (input : List ℤ) (asked : Option ℕ) (outcome : Outcome)
+pub record RunsRounds (plan : PlanParts) (input : List ℤ) (asked : Option ℕ) (outcome : Outcome)
     : Type 0 where
-  pub bounded : is_bounded asked plan.graph.nodes ≡ true
+  pub bounded : is_bounded asked (graph_of plan).nodes ≡ true
   pub rounds : ℕ
   pub count : IsCount (need_of plan) (length input) asked rounds
   pub enough : need_of plan rounds ≤ length input
-  pub answer : AnswersGraph plan.graph plan.fused input rounds outcome
+  pub answer : AnswersPlan plan input rounds outcome
 
 -- rounds that read so many items aren't run over an input by so many workers: it is shorter, and
 -- only then; or memory runs out, or a worker of several can't be started
@@ -59,16 +55,17 @@ IsWorkedRefusal need got workers _ = ⊥
 -- or they aren't run: there are too few or too many workers; else nobody says how many rounds where
 -- a number is needed; else the input is shorter than what they read, or than what start-up reads,
 -- where it is to say how many; or memory runs out, or a worker of several can't be started
-abbrev pub IsUnrun : Planning → (got : ℕ) → (asked : Option ℕ) → (workers : ℕ) → RunRefusal → Type 0
+abbrev pub IsUnrun : PlanParts → (got : ℕ) → (asked : Option ℕ) → (workers : ℕ) → RunRefusal
+    → Type 0
 IsUnrun plan got asked workers refused.BadWorkers = ¬ AreWorkers workers
 IsUnrun plan got asked workers refused.RoundsNeeded =
-    AreWorkers workers × (is_bounded asked plan.graph.nodes ≡ false)
+    AreWorkers workers × (is_bounded asked (graph_of plan).nodes ≡ false)
 IsUnrun plan got asked workers refusal =
-    AreWorkers workers × (is_bounded asked plan.graph.nodes ≡ true)
+    AreWorkers workers × (is_bounded asked (graph_of plan).nodes ≡ true)
     × IsWorkedRefusal (need_of plan (unwrap_or asked 0)) got workers refusal
 
 -- how the rounds of a plan are answered: the outcome is the same for each number of workers
-abbrev pub IsRunOf : Planning → List ℤ → (asked : Option ℕ) → (workers : ℕ)
+abbrev pub IsRunOf : PlanParts → List ℤ → (asked : Option ℕ) → (workers : ℕ)
     → Result Outcome RunRefusal → Type 0
 IsRunOf plan input asked workers (Ok outcome) =
     AreWorkers workers × RunsRounds plan input asked outcome

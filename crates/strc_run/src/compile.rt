@@ -8,19 +8,17 @@ ghost use Rattle.strc_run.specs.Choices.{choice_of};
 ghost use Rattle.strc_run.specs.Plans.{HasPlan};
 ghost use Rattle.strc_run.specs.Streams.{HasStream};
 ghost use Rattle.strc_run.specs.Refuses.{HasNoBalance, IsReadRefusal};
-ghost use Rattle.strc_run.specs.Reports as spec;
 ghost use Rattle.strc_refusal.specs.declared.refusal.Refusal.TheVariants as refused;
 
 use crate::options::Options;
 use crate::rates::check_rates;
 use crate::refusal::Refusal;
+use crate::transforming::transformed;
 use std::alloc::Global;
 use strc_balance::balance::balance;
 use strc_elab::elaborate::elaborate;
 use strc_flatten::flatten::flatten;
-use strc_fuse::error::FuseError;
-use strc_fuse::laws::{programs_are_placed, schedules_can_be_fused};
-use strc_fused::fusion::fused_schedule;
+use strc_fuse::laws::schedules_can_be_fused;
 use strc_lex::error::LexError;
 use strc_lex::lexer::lex;
 use strc_order::planning::schedule;
@@ -34,8 +32,8 @@ use strc_syntax::tree::Program;
 /// The plan of the program's main stream.
 ///
 /// The first rule that is broken refuses the text: those of its tokens, its tree, its elaboration,
-/// its flat graph, its rates, its balance, its start-up, its schedule, and the sizes after fusion.
-/// `NoMemory` can come in place of any answer.
+/// its flat graph, its rates, its balance, its start-up, its schedule, and the nodes and the sizes
+/// after fission and fusion. `NoMemory` can come in place of any answer.
 pub fn compile(alloc: Global, text: &[u8], options: &Options) -> Result<Plan, Refusal>
     ensures plan { HasPlan text.now (choice_of options.now) result }
     // No positive counts balance a graph that is answered to be inconsistent.
@@ -43,7 +41,13 @@ pub fn compile(alloc: Global, text: &[u8], options: &Options) -> Result<Plan, Re
         → HasNoBalance text.now (choice_of options.now) }
 {
     match read_program(alloc, text) {
-        Ok(program) => compile_program(alloc, &program, options.main_name(), options.fuse),
+        Ok(program) => compile_program(
+            alloc,
+            &program,
+            options.main_name(),
+            options.ways,
+            options.fuse,
+        ),
         Err(refusal) => Err(refusal),
     }
 }
@@ -69,16 +73,16 @@ fn compile_program(
     alloc: Global,
     program: &Program,
     main: Option<&str>,
+    ways: u32,
     fuse: u32,
 ) -> Result<Plan, Refusal>
     ensures { (text : List ℕ) → Spells text (program_view program.now)
-        → HasPlan text (record { main = option_map (λ n. n.now) main.entry; fuse = fuse })
-        result }
+        → HasPlan text (record
+        { main = option_map (λ n. n.now) main.entry; ways = ways; fuse = fuse }) result }
 {
     // The nodes of a stream move items, which their rates stand on.
     nodes_deal();
-    // The units of a program's greedy round can be fused.
-    programs_are_placed();
+    // A greedy schedule can be fused.
     schedules_can_be_fused();
     let stream = elaborate(alloc, program, main)?;
     let graph = flatten(alloc, &stream)?;
@@ -86,22 +90,9 @@ fn compile_program(
     let round_counts = balance(alloc, &graph)?;
     let startup_counts = startup(alloc, &graph, &round_counts)?;
     let schedule = schedule(alloc, &graph, &startup_counts, &round_counts)?;
-    let fused = match fused_schedule(alloc, &graph, &schedule, fuse) {
-        Ok(fused) => fused,
-        Err(error) => return Err(fusion_refusal_of(error)),
-    };
-    let plan = Plan::new(alloc, graph, startup_counts, round_counts, schedule, fused)?;
+    let split = transformed(alloc, &graph, &round_counts, &schedule, ways, fuse)?;
+    let plan = Plan::new(alloc, graph, startup_counts, round_counts, schedule, split)?;
     Ok(plan)
-}
-
-// Why a schedule isn't fused.
-fn fusion_refusal_of(error: FuseError) -> Refusal
-    ensures { result ≡ spec.fusion_refusal_of error }
-{
-    match error {
-        FuseError::BufferLimit { channel } => Refusal::BufferLimit { channel },
-        FuseError::NoMemory => Refusal::NoMemory,
-    }
 }
 
 // The program that the text spells.

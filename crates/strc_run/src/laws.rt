@@ -2,8 +2,8 @@
 
 ghost use Rattle.strc_run.specs.Laws.{AcceptedOrRefused, OneStream, PlansAnswerTexts};
 
-use strc_fused::laws::fused_or_refused;
 use strc_parse::laws::{one_program, spelled_texts_are_readable};
+use strc_split::laws::transformed_or_refused;
 use strc_stage::laws::{one_startup, scheduled_or_refused};
 use strc_stream::laws::one_flat_graph;
 
@@ -16,7 +16,7 @@ pub fn accepted_or_refused()
     one_flat_graph();
     one_startup();
     scheduled_or_refused();
-    fused_or_refused();
+    transformed_or_refused();
 }
 
 /// A text is accepted with one stream.

@@ -1,12 +1,12 @@
 // Takes a program's text.
-// Gives a plan, its main stream's flat graph with the counts of start-up and of a round and with
-// its schedule, or the first refusal; and runs plans.
+// Gives a plan, its main stream's flat graph with the counts of start-up and of a round, with its
+// schedule and with both after fission and fusion, or the first refusal; and runs plans.
 // The theorem to rely on: `compile` refuses exactly where a layer does, and the outcome of a plan's
 // rounds is the answer of its stream's equations (`laws::plans_answer_texts`).
-// Stands on strc_lex, strc_parse, strc_elab, strc_flatten, strc_rate, strc_balance, strc_startup
-// and strc_order, whose rules a text keeps, on strc_refusal, whose refusals it gives and passes on,
-// on strc_stage, whose plans it gives, and on strc_sched and strc_parallel, which run schedules and
-// stages, with outcomes of strc_outcome.
+// Stands on strc_lex, strc_parse, strc_elab, strc_flatten, strc_rate, strc_balance, strc_startup,
+// strc_order, strc_fiss and strc_fuse, whose rules a text keeps, on strc_refusal, whose refusals it
+// gives and passes on, on strc_stage, whose plans it gives, and on strc_sched and strc_parallel,
+// which run schedules and stages, with outcomes of strc_outcome.
 #![tactic(auto)]
 
 pub mod compile;
@@ -14,5 +14,6 @@ pub mod laws;
 pub mod options;
 mod rates;
 pub mod run;
+mod transforming;
 
 pub use strc_refusal::refusal;

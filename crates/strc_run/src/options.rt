@@ -9,6 +9,8 @@ ghost use Rattle.strc_run.specs.Choices.{choice_of};
 pub struct Options {
     /// The name of the main stream; without one it is the only declaration that can be it.
     pub main: Option<String>,
+    /// Among how many copies a filter without state may be split; with 1 no filter is split.
+    pub ways: u32,
     /// How many entries the list of a fused unit may have; with 0 no units are fused.
     pub fuse: u32,
 }

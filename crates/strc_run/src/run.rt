@@ -1,17 +1,18 @@
 // The rounds of a plan.
 
 ghost use Rattle.std.specs.Prelude.{◌≡◌, ◌≤◌, None, IfErr, IfOk, length};
-ghost use Rattle.strc_sched.specs.Plain.{AnswersGraph};
-ghost use Rattle.strc_stage.specs.Plans.{planning_of};
-ghost use Rattle.strc_run.specs.Rounds.{AreWorkers, IsRunOf, IsWorkedRefusal, need_of, plan_reads};
+ghost use Rattle.strc_parallel.specs.Answers.{AnswersPlan};
+ghost use Rattle.strc_split_rings.specs.Plans.{need_of};
+ghost use Rattle.strc_run.specs.Rounds.{AreWorkers, IsRunOf, IsWorkedRefusal, plan_reads};
 
 use std::alloc::Global;
 use std::sync::Wait;
 use std::thread::Threads;
 pub use strc_outcome::outcome::{Outcome, Round};
 pub use strc_outcome::refusal::RunRefusal;
+use strc_parallel::alone::run_alone;
 use strc_parallel::running::run_stages;
-use strc_sched::plain::{input_needed, run_plain};
+use strc_sched::plain::input_needed;
 use strc_sched::serving;
 use strc_sched::serving::rounds_served;
 use strc_stage::plan::Plan;
@@ -25,7 +26,8 @@ pub const WORKER_LIMIT: u32 = 64;
 /// the input serves, at most 4,294,967,295. Where there are two workers or more, each stage of the
 /// plan runs in a thread of its own, each of its steps is the gate's, and this call waits for them.
 /// The outcome is the answer of the stream equations of whatever stream the plan's graph is the
-/// flat graph of, and so the same for each number of workers.
+/// flat graph of, and so the same for each number of workers, however nodes are split and fused; it
+/// names the nodes of that graph.
 ///
 /// `BadWorkers` comes where the number of workers isn't one from 1 to 64; then `RoundsNeeded` where
 /// no number of rounds is given and the graph has no reader; then `InputShort` where the input has
@@ -40,7 +42,7 @@ pub fn run<G: Gate<Stage>, R: Threads + Wait + Sync>(
     workers: u32,
     gate: &G,
 ) -> Result<Outcome, RunRefusal>
-    ensures { IsRunOf (planning_of plan.now) input.now rounds workers result }
+    ensures { IsRunOf plan.now input.now rounds workers result }
 {
     if workers == 0 || workers > WORKER_LIMIT {
         return Err(RunRefusal::BadWorkers);
@@ -61,17 +63,13 @@ fn run_served<G: Gate<Stage>, R: Threads + Wait + Sync>(
     gate: &G,
 ) -> Result<Outcome, RunRefusal>
     requires workers { AreWorkers workers }
-    ensures { IsRunOf (planning_of plan.now) input.now None workers result }
+    ensures { IsRunOf plan.now input.now None workers result }
 {
     if !reads_input(plan) {
         return Err(RunRefusal::RoundsNeeded);
     }
     // An input that doesn't serve start-up is refused as one that doesn't serve 0 rounds.
-    let served = rounds_served(
-        plan.graph(),
-        plan.transformed_schedule(),
-        input.len() as u64,
-    );
+    let served = rounds_served(plan.graph(), plan.schedule(), input.len() as u64);
     run_rounds(rt, alloc, plan, input, served.unwrap_or(0), workers, gate)
 }
 
@@ -86,28 +84,26 @@ fn run_rounds<G: Gate<Stage>, R: Threads + Wait + Sync>(
     gate: &G,
 ) -> Result<Outcome, RunRefusal>
     requires workers { AreWorkers workers }
-    ensures answer { IfOk result (AnswersGraph (planning_of plan.now).graph plan.now.fused
-        input.now rounds) }
-    ensures enough { IfOk result (λ _. need_of (planning_of plan.now) rounds ≤ length input.now) }
-    ensures refused { IfErr result (IsWorkedRefusal (need_of (planning_of plan.now) rounds)
+    ensures answer { IfOk result (AnswersPlan plan.now input.now rounds) }
+    ensures enough { IfOk result (λ _. need_of plan.now rounds ≤ length input.now) }
+    ensures refused { IfErr result (IsWorkedRefusal (need_of plan.now rounds)
         (length input.now) workers) }
 {
     let graph = plan.graph();
-    let schedule = plan.transformed_schedule();
-    if workers == 1 || rounds == 0 || graph.nodes().is_empty() {
-        return run_plain(alloc, graph, schedule, input, rounds);
-    }
-    let need = input_needed(graph, schedule, rounds);
+    let need = input_needed(graph, plan.schedule(), rounds);
     let got = input.len() as u64;
     if got < need {
         return Err(RunRefusal::InputShort { need, got });
+    }
+    if workers == 1 || rounds == 0 || graph.nodes().is_empty() {
+        return run_alone(alloc, plan, input, rounds);
     }
     run_stages(rt, alloc, plan, input, rounds, workers, gate)
 }
 
 /// Whether a node of the plan's graph reads the program's input.
 pub fn reads_input(plan: &Plan) -> bool
-    ensures { result ≡ plan_reads (planning_of plan.now) }
+    ensures { result ≡ plan_reads plan.now }
 {
     serving::reads_input(plan.graph())
 }

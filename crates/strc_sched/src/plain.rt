@@ -21,7 +21,7 @@ use crate::reading::items_needed;
 use crate::refusal::RunRefusal;
 use crate::tapes::Marks;
 use std::alloc::{AllocError, Global};
-use strc_graph::graph::Graph;
+use strc_graph::graph::{Graph, Node};
 use strc_order::parts::Schedule;
 use strc_order::unit::Unit;
 use strc_runner::batches::Order;
@@ -101,6 +101,33 @@ fn run_circuit(
         return Err(RunRefusal::NoMemory);
     };
     run_orders(alloc, machine, marks, circuit, &startup, &round, rounds)
+}
+
+/// So many rounds of a machine over the circuit of these nodes, each in the order of these units,
+/// on one thread. `NoMemory` comes where memory runs out.
+pub fn run_units(
+    alloc: Global,
+    machine: Machine,
+    nodes: &[Node],
+    circuit: &Circuit,
+    round: &[Unit],
+    rounds: u32,
+) -> Result<Outcome, RunRefusal>
+    requires machine { IsMachine (circuit_view circuit.now) machine }
+    requires ready { IsReady circuit.now }
+    requires nodes { map node_view nodes.now ≡ (circuit_view circuit.now).codes }
+    ensures ending { IfOk result (λ outcome. IsEnding (circuit_view circuit.now).codes outcome
+        (spec.rounds_run (circuit_view circuit.now) (firings_of round.now) rounds 0
+        (machine_view machine))) }
+    ensures memory { IfErr result (λ refusal. refusal ≡ refused.NoMemory) }
+{
+    let Ok(order) = order_of(alloc, circuit, round) else {
+        return Err(RunRefusal::NoMemory);
+    };
+    let Ok(marks) = Marks::new(alloc, nodes) else {
+        return Err(RunRefusal::NoMemory);
+    };
+    run_rounds(alloc, machine, marks, circuit, &order, rounds)
 }
 
 /// The order of a schedule's units.

@@ -1,3 +1,5 @@
+pub mod Agreeing
+pub mod DealtRuns
 pub mod Divisors
 pub mod Ends
 pub mod FusedRuns
@@ -7,7 +9,9 @@ pub mod HeldSplit
 pub mod Lawful
 pub mod Layouts
 pub mod Members
+pub mod Named
 pub mod NewChannels
+pub mod NewNumbers
 pub mod Orders
 pub mod OwnUnits
 pub mod Owners

@@ -47,9 +47,13 @@ use Rattle.strc_fiss.specs.Ways.{fission_of}
 use Rattle.strc_fiss.proofs.Pieced.{pieces_before, pieces_after, pieces_own}
 use Rattle.strc_split.specs.Answers.{FissionKeepsAnswers}
 use Rattle.strc_split.specs.Runs.{graph_before, graph_after, parts_of, dealt_from}
-use Rattle.strc_split.specs.Laws.{split_order}
+use Rattle.strc_split.specs.Laws.{new_graph, split_order}
+use Rattle.strc_split.specs.Named.{new_origins, old_firings}
 use Rattle.strc_split.specs.Runs.{FissionKeepsProgramRuns}
+use Rattle.strc_split.specs.Owners.{owner}
+use Rattle.strc_split.proofs.Agreeing.{agree_now}
 use Rattle.strc_split.proofs.Lawful.{graphs_are_split}
+use Rattle.strc_split.proofs.Named.{AreBelow, blocks_named, nodes_below}
 use Rattle.strc_split.proofs.Orders.{ends_apart, codes_same, channel_order}
 use Rattle.strc_split.proofs.Owners.{owner_is}
 use Rattle.strc_split.proofs.PlannedRounds.{IsRound, order_nodes, order_finds}
@@ -160,13 +164,16 @@ module _ (tree : Stream NodeCode) (old : Graph) (schedule : ScheduleParts) (roun
       (dealt_from tree old schedule round ways started)
   unfolding fifo_at_first initial_run
   agrees =
-      starts_agree node_meaning before parts _ _ started
+      agree_now tree old schedule round ways started planned
+      (starts_agree node_meaning before parts
+      (λ number. (owner (fission_of old round ways) number).node)
+      (λ number. (owner (fission_of old round ways) number).part) started
       (owner_is (fission_of old round ways))
       (λ v is_split.
       let still = stays_still node_meaning before (parts.share v) v
       (split.split v is_split).filter (startup_order schedule)
       (fifo_at_first node_meaning before input) started refl refl went in
-      (counted.fired v, still.0, still.1))
+      (counted.fired v, still.0, still.1)))
 
   pub same_runs : IsSameOutcome parts
       (fifo_rounds node_meaning before input (firings_of units) rounds 0 started)
@@ -187,6 +194,20 @@ module _ (tree : Stream NodeCode) (old : Graph) (schedule : ScheduleParts) (roun
       (blocks_are parts pieces pieces_are) startup in_round rounds keeps within round_counts
       round_valid (λ v. 0) started (dealt_from tree old schedule round ways started) counted
       agrees))
+
+  -- the firings of the round after fission, by the nodes before it
+  pub named_is : old_firings (new_graph old schedule round ways).nodes (new_origins old round ways)
+      (firings_of (split_units (fission_of old round ways) units))
+      ≡ firings_of units
+  named_is =
+      ap (old_firings (new_graph old schedule round ways).nodes (new_origins old round ways))
+      after_is
+      ∙ blocks_named old schedule round ways planned startup blocks
+      (blocks_are parts pieces pieces_are)
+      (subst (AreBelow (length old.nodes)) before_is
+      (nodes_below old (firings_of units) (order_nodes tree old schedule input rounds program
+      planned supplied (firings_of units) are)))
+      ∙ sym before_is
 
   -- the run before fission is the answer
   pub run_answers : IsAnswer node_meaning tree input startup in_round (startup_order schedule)

@@ -26,6 +26,7 @@ use Rattle.strc_fiss.specs.Numbers.{is_dealt}
 use Rattle.strc_fiss.specs.Units.{split_units}
 use Rattle.strc_fiss.specs.Ways.{fission_of}
 use Rattle.strc_split.specs.Laws.{new_graph}
+use Rattle.strc_split.specs.Named.{new_origins, old_firings}
 use Rattle.strc_split.specs.Runs.{graph_before, graph_after, parts_of, dealt_from}
 
 -- whether a node may be fused and isn't split
@@ -51,11 +52,11 @@ FusionFollowsFission =
     (split_units (fission_of old round ways) units) fused
     → IsFissionOfFused old (fission_of old round ways) limit units fused
 
--- an outcome is an answer of a tree's equations by some order of the firings of a schedule's round,
--- in which each firing finds its windows, but for the names of nodes and parts
-pub record ComesToSomeAnswer (tree : trees.Stream NodeCode) (schedule : ScheduleParts)
-    (input : List ℤ) (rounds : ℕ) (parts : Parts) (outcome : Outcome Cause Word) : Type 0 where
-  pub order : List ℕ
+-- an outcome is the answer of a tree's equations, where this is the order of a round's firings, in
+-- which each finds its windows, but for the names of nodes and parts
+pub record ComesToAnswerIn (order : List ℕ) (tree : trees.Stream NodeCode)
+    (schedule : ScheduleParts) (input : List ℤ) (rounds : ℕ) (parts : Parts)
+    (outcome : Outcome Cause Word) : Type 0 where
   pub finds : IsSchedule node_meaning (trees.flat tree) input
       (firing_count (startup_order schedule)) (firing_count (round_order schedule))
       (startup_order schedule) order rounds
@@ -64,8 +65,8 @@ pub record ComesToSomeAnswer (tree : trees.Stream NodeCode) (schedule : Schedule
       (firing_count (round_order schedule)) (startup_order schedule) order rounds answer
   pub same : IsSameOutcome parts answer outcome
 
--- After start-up the fused rounds of a program's graph after fission come to the answer, where the
--- units that may be fused are placed in the round before.
+-- After start-up the fused rounds of a program's graph after fission come to the answer by the
+-- order of their firings, where the units that may be fused are placed in the round before.
 abbrev pub FusedFissionKeepsAnswers : Type 0
 FusedFissionKeepsAnswers =
     (tree : trees.Stream NodeCode) (old : Graph) (schedule : ScheduleParts) (round : List ℕ)
@@ -81,6 +82,8 @@ FusedFissionKeepsAnswers =
     → fifo_go node_meaning (graph_before tree old schedule round ways) (startup_order schedule)
     (fifo_at_first node_meaning (graph_before tree old schedule round ways) input)
     ≡ FifoWent started
-    → ComesToSomeAnswer tree schedule input rounds (parts_of tree old schedule round ways)
+    → ComesToAnswerIn
+    (old_firings (new_graph old schedule round ways).nodes (new_origins old round ways)
+    (firings_of fused)) tree schedule input rounds (parts_of tree old schedule round ways)
     (fifo_rounds node_meaning (graph_after tree old schedule round ways) input
     (firings_of fused) rounds 0 (dealt_from tree old schedule round ways started))

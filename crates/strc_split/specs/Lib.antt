@@ -2,6 +2,7 @@ pub mod Answers
 pub mod Divisors
 pub mod Fusions
 pub mod Laws
+pub mod Named
 pub mod Orders
 pub mod Owners
 pub mod Rounds

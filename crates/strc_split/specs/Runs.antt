@@ -1,6 +1,7 @@
 -- The rounds of a program's graph, and those of the graph after fission.
-use Rattle.std.specs.Prelude.{◌≡◌, ℕ, ◌≤◌, ℤ, List, length}
+use Rattle.std.specs.Prelude.{◌≡◌, ℕ, ◌≤◌, cond, ℤ, List, length}
 use Rattle.strc_dataflow.specs.Flat as flat
+use Rattle.strc_dataflow.specs.Histories.{initial_run}
 use Rattle.strc_dataflow.specs.Queues.{FifoProgress.FifoWent, fifo_go, fifo_at_first}
 use Rattle.strc_dataflow.specs.Queues.{fifo_rounds}
 use Rattle.strc_dataflow.specs.Streams.{any_code}
@@ -15,10 +16,10 @@ use Rattle.strc_admissible.specs.Laws.{startup_order, round_order, counts_at}
 use Rattle.strc_admissible.specs.Planned.{IsPlanned, AreKnown, items_read}
 use Rattle.strc_rounds.specs.Runs.{IsSameOutcome}
 use Rattle.strc_rounds.specs.Split.{Parts}
-use Rattle.strc_rounds.specs.Starting.{state_dealt}
+use Rattle.strc_rounds.specs.Starting.{queues_dealt}
 use Rattle.strc_fuse.specs.Units.{round_units}
 use Rattle.strc_fiss.specs.Laws.{AreOwn}
-use Rattle.strc_fiss.specs.Numbers.{parts_after}
+use Rattle.strc_fiss.specs.Numbers.{is_dealt, parts_after}
 use Rattle.strc_fiss.specs.Ways.{fission_of}
 use Rattle.strc_split.specs.Laws.{new_graph, split_order}
 use Rattle.strc_split.specs.Owners.{owner}
@@ -37,11 +38,18 @@ module _ (tree : trees.Stream NodeCode) (old : Graph) (schedule : ScheduleParts)
   abbrev pub parts_of : Parts
   parts_of = parts_after (fission_of old round ways) (firing_count (startup_order schedule))
 
-  -- the state that start-up came to, dealt out to the parts
+  -- The state that start-up came to, dealt out: a node that isn't split goes on, each part of one
+  -- that is starts as its own code does, and what waits at a node waits at its first part.
   abbrev pub dealt_from : Queues → Queues
-  dealt_from started = state_dealt parts_of node_meaning graph_before started
-      (λ number. (owner (fission_of old round ways) number).node)
-      (λ number. (owner (fission_of old round ways) number).part)
+  dealt_from started = record {
+    runs = λ number. cond
+        (is_dealt (fission_of old round ways (owner (fission_of old round ways) number).node))
+        (initial_run node_meaning (graph_after.code number))
+        (started.runs (owner (fission_of old round ways) number).node);
+    queues = λ number. queues_dealt parts_of node_meaning graph_before started
+        (owner (fission_of old round ways) number).node
+        (owner (fission_of old round ways) number).part;
+  }
 
 -- After start-up so many rounds of a planned graph and of the graph after fission come to the same:
 -- all words of each node that isn't split; or a fault of the same cause in the same round, at the

@@ -46,7 +46,7 @@ use Rattle.strc_split_stages.proofs.Repeats.{new_counts, kept_fires, copy_fires,
 use Rattle.strc_split_rings.specs.Laws.{nodes_of}
 
 -- how often a node can fire
-number_bound : (startup round rounds : ℕ) → startup ≤ count_limit → round ≤ count_limit
+pub number_bound : (startup round rounds : ℕ) → startup ≤ count_limit → round ≤ count_limit
     → rounds < 2 ^ 32 → startup + rounds * round < 2 ^ 64
 number_bound startup round rounds first each few =
     let most : rounds * round ≤ rounds * count_limit = mul-le-mul_left rounds each in

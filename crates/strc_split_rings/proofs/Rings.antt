@@ -2,10 +2,10 @@
 use Rattle.std.proofs.Common.{sym, subst, ℤ, List}
 use Rattle.strc_dataflow.specs.Queues.{fifo_rounds}
 use Rattle.strc_graph.specs.Meaning.{node_meaning}
-use Rattle.strc_split.specs.Fusions.{ComesToSomeAnswer}
+use Rattle.strc_split.specs.Fusions.{ComesToAnswerIn}
 use Rattle.strc_split.specs.Runs.{parts_of}
 use Rattle.strc_split.proofs.FusedRuns.{fused_answers_kept}
-use Rattle.strc_split_stages.specs.Fused.{graph_of, order_of, state_of}
+use Rattle.strc_split_stages.specs.Fused.{graph_of, named_order_of, order_of, state_of}
 use Rattle.strc_staged.proofs.Alike.{stages_run_alike}
 use Rattle.strc_split_rings.specs.Laws.{SplitGraphsAreRunning, SplitRingsAnswer, running_after}
 use Rattle.strc_split_rings.proofs.Room.{room_at_first}
@@ -27,7 +27,7 @@ rings_answer run limit sizes stream bound last circuit started start core is hol
           (graphs_are_running run limit sizes stream bound last circuit started is holds) holds
           begun state over;
       answers = subst (λ (l : List ℤ).
-          ComesToSomeAnswer run.tree run.schedule run.input run.rounds
+          ComesToAnswerIn (named_order_of run) run.tree run.schedule run.input run.rounds
           (parts_of run.tree run.old run.schedule run.round run.ways)
           (fifo_rounds node_meaning (graph_of run) l (order_of run) run.rounds 0 (state_of run)))
           (sym is.reads_it)

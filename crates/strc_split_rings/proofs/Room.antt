@@ -110,7 +110,7 @@ carrier_reads (Scatter fission) port e = refl
 carrier_reads (Copy copied fission) port e = refl
 carrier_reads (Gather fission) port e = refl
 
-taker_reads : (found : Option NodeCode) (port : ℕ)
+pub taker_reads : (found : Option NodeCode) (port : ℕ)
     → option_map_or (λ code. carries_in code port) found false ≡ true
     → takes_input found ≡ false
 taker_reads None port e = refl

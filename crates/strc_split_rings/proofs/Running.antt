@@ -1,10 +1,9 @@
 -- The fused rounds after fission go on from the state that start-up left as stages ask for, where
 -- rings have room in the first of them.
-use Rattle.std.proofs.Common.{◌≡◌, refl, sym, ap, ◌∙◌, subst, ℕ, suc, ◌≤◌, ◌<◌, List, Some}
+use Rattle.std.proofs.Common.{◌≡◌, refl, sym, ap, ◌∙◌, ℕ, suc, ◌≤◌, ◌<◌, List, Some}
 use Rattle.std.proofs.Common.{length, slice_get, Option, true, false, true≢false, None}
 use Rattle.std.specs.Option.{option_map_or}
 use Rattle.std.proofs.lemmas.Option.{slice_get-get_or, slice_get_within}
-use Rattle.strc_dataflow.specs.Streams as trees
 use Rattle.strc_dataflow.specs.Streams.{any_code}
 use Rattle.strc_graph.specs.Carriers.{carries_in, carries_out, JoinsCarriers}
 use Rattle.strc_graph.specs.Graphs.{NodeCode, Channel}
@@ -17,7 +16,6 @@ use Rattle.strc_admissible.specs.Simulation.{Simulates}
 use Rattle.strc_admissible.proofs.Supplies.{element}
 use Rattle.strc_staging.specs.Ranges.{stage_within}
 use Rattle.strc_staging.specs.Staging.{IsStaged}
-use Rattle.strc_split.specs.Runs.{graph_after}
 use Rattle.strc_split_channels.proofs.ByChannels.{split_graphs_are_by_channels}
 use Rattle.strc_split_channels.proofs.ByChannels.{split_copies_have_own_windows}
 use Rattle.strc_split_cut.proofs.Staged.{split_cuts_are_staged}
@@ -89,11 +87,15 @@ module _ (run : FusedRun) (limit : ℕ) (sizes : List ℕ) (stream : Stream)
     (room : HasRoom (running_after run sizes) (graph_of run) (state_of run) 0) where
   staged : IsStaged (graph_of run) (stage_within bound last) (segment_of bound (order_of run))
       (suc last) (order_of run)
-  staged = subst (λ (tree : trees.Stream NodeCode).
-      IsStaged (graph_after tree run.old run.schedule run.round run.ways) (stage_within bound last)
-      (segment_of bound (order_of run)) (suc last) (order_of run)) (sym is.tree)
-      (split_cuts_are_staged stream run.old run.schedule run.round run.ways limit run.fused bound
-      last is.fission is.cut)
+  staged =
+      let by_stream = split_cuts_are_staged stream run.old run.schedule run.round run.ways limit
+      run.fused bound last is.fission is.cut in
+      record {
+        own = by_stream.own;
+        order = by_stream.order;
+        within = by_stream.within;
+        backward = by_stream.backward;
+      }
 
   pub is_running : IsRunning (running_after run sizes) (graph_of run) (state_of run) run.rounds
       bound last circuit

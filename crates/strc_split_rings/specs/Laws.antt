@@ -6,7 +6,6 @@ use Rattle.strc_dataflow.specs.Answer.{Outcome}
 use Rattle.strc_dataflow.specs.Order.{firing_count}
 use Rattle.strc_graph.specs.Graphs.{Graph}
 use Rattle.strc_stream.specs.Instances.{Stream}
-use Rattle.strc_stream.specs.Flattening.{tree_of}
 use Rattle.strc_order.specs.Firings.{none_fired}
 use Rattle.strc_order.specs.Peaks.{AreRaised}
 use Rattle.strc_order.specs.Sizing.{round_rates_on}
@@ -15,10 +14,11 @@ use Rattle.strc_admissible.specs.Machine.{CircuitView, MachineView}
 use Rattle.strc_admissible.specs.Simulation.{Simulates}
 use Rattle.strc_fiss.specs.Splitting.{split_greatest, split_last}
 use Rattle.strc_fiss.specs.Ways.{fission_of}
-use Rattle.strc_split.specs.Fusions.{ComesToSomeAnswer}
+use Rattle.strc_split.specs.Fusions.{ComesToAnswerIn}
 use Rattle.strc_split.specs.Laws.{new_graph}
 use Rattle.strc_split.specs.Runs.{parts_of}
-use Rattle.strc_split_stages.specs.Fused.{FusedRun, IsFusedRun, graph_of, order_of, state_of}
+use Rattle.strc_split_stages.specs.Fused.{FusedRun, IsFusedRun, graph_of, named_order_of}
+use Rattle.strc_split_stages.specs.Fused.{order_of, state_of}
 use Rattle.strc_split_cut.specs.Laws.{IsFusedFission}
 use Rattle.strc_cut.specs.Cuts.{IsCutOf}
 use Rattle.strc_core.specs.Events.{is_over}
@@ -59,7 +59,6 @@ pub record IsCutRun (run : FusedRun) (limit : ℕ) (sizes : List ℕ) (stream : 
     (bound : (stage : ℕ) → ℕ) (last : ℕ) (circuit : CircuitView) : Type 0 where
   pub fused : IsFusedRun run limit
   pub few : run.rounds < 2 ^ 32
-  pub tree : run.tree ≡ tree_of stream
   pub fission : IsFusedFission stream run.old run.schedule run.round run.ways limit run.fused
   pub cut : IsCutOf (nodes_of run) run.fused bound (suc last)
   pub sizes_are : HaveSizes run sizes
@@ -77,15 +76,15 @@ SplitGraphsAreRunning =
     → IsRunning (running_after run sizes) (graph_of run) (state_of run) run.rounds bound last
     circuit
 
--- What a collector has come to is an outcome that is an answer of the program's stream equations;
--- out of memory tells nothing.
-pub record TellsSomeAnswer (run : FusedRun) (total : Gathered) (why : Option Stop) : Type 0 where
+-- What a collector has come to is an outcome that is the answer of the program's stream equations
+-- by the order of the round; out of memory tells nothing.
+pub record TellsAnswer (run : FusedRun) (total : Gathered) (why : Option Stop) : Type 0 where
   pub outcome : Outcome Cause Word
   pub tells : TellsOutcome (nodes_of run).nodes total why outcome
-  pub answers : ComesToSomeAnswer run.tree run.schedule run.input run.rounds
+  pub answers : ComesToAnswerIn (named_order_of run) run.tree run.schedule run.input run.rounds
       (parts_of run.tree run.old run.schedule run.round run.ways) outcome
 
--- So a ring of stages over it that is over, by whatever events, has come to an answer.
+-- So a ring of stages over it that is over, by whatever events, has come to the answer.
 abbrev pub SplitRingsAnswer : Type 0
 SplitRingsAnswer =
     (run : FusedRun) (limit : ℕ) (sizes : List ℕ) (stream : Stream) (bound : (stage : ℕ) → ℕ)
@@ -95,4 +94,4 @@ SplitRingsAnswer =
     → Simulates (nodes_of run) sizes circuit.input (state_of run) started
     → IsBeginning (running_after run sizes) bound last circuit started run.rounds start
     → IsState stage_work start core → is_over core ≡ true
-    → TellsSomeAnswer run core.collector.total core.collector.stop
+    → TellsAnswer run core.collector.total core.collector.stop

@@ -1,75 +1,172 @@
--- Rings of stages from what fission and fusion of a greedy schedule come to.
-use Rattle.std.specs.Prelude.{◌≡◌, ℕ, suc, ◌<◌, ◌≤◌, ◌^◌, ℤ, List, length}
-use Rattle.strc_dataflow.specs.Queues.{FifoProgress.FifoWent, fifo_go, fifo_at_first}
-use Rattle.strc_graph.specs.Graphs.{Graph, IsGraph}
+-- Plans: their rounds are those of the graph after fission, and what these come to is the answer of
+-- the stream equations, in the plan's order by the nodes before fission.
+use Rattle.std.specs.Prelude.{◌≡◌, ℕ, suc, ◌<◌, ◌≤◌, ◌^◌, true, ℤ, List, length, map, Option}
+use Rattle.strc_dataflow.specs.Answer.{Outcome, IsAnswer, Outcome.StartupFault}
+use Rattle.strc_dataflow.specs.Order as orders
+use Rattle.strc_dataflow.specs.Streams as trees
+use Rattle.strc_semantics.specs.declared.fault.Cause.{Cause}
+use Rattle.strc_semantics.specs.declared.word.Word.{Word}
 use Rattle.strc_graph.specs.FlatGraphs.{IsProgram}
+use Rattle.strc_graph.specs.Graphs.{NodeCode, IsGraph}
 use Rattle.strc_graph.specs.Meaning.{node_meaning}
-use Rattle.strc_graph.specs.NodeView.{graph_view}
-use Rattle.strc_stream.specs.Instances.{Stream}
-use Rattle.strc_stream.specs.Types.{IsWellTyped}
-use Rattle.strc_stream.specs.Flattening.{tree_of, outer_loops}
-use Rattle.strc_balance.specs.Balance.{count_at}
-use Rattle.strc_startup.specs.Rates.{rates_of}
-use Rattle.strc_order.specs.Firings.{Firings}
-use Rattle.strc_order.specs.Schedules.{ScheduleParts, IsSchedule}
-use Rattle.strc_admissible.specs.Circuits.{IsCircuit}
-use Rattle.strc_admissible.specs.Fits.{Queues}
-use Rattle.strc_admissible.specs.Laws.{startup_order, counts_at}
-use Rattle.strc_admissible.specs.Machine.{CircuitView}
-use Rattle.strc_admissible.specs.Planned.{IsPlanned, AreKnown, items_read}
+use Rattle.strc_graph.specs.Tapes.{tape_nodes}
+use Rattle.strc_order.specs.Order.{firing_count}
+use Rattle.strc_admissible.specs.Circuits.{IsCircuit, IsFirst}
+use Rattle.strc_admissible.specs.Laws.{startup_order, round_order, counts_at}
+use Rattle.strc_admissible.specs.Machine.{CircuitView, MachineView, Went, Stopped, order_run}
+use Rattle.strc_admissible.specs.Machine.{rounds_run}
+use Rattle.strc_admissible.specs.Planned.{AreKnown, items_read}
+use Rattle.strc_admissible.specs.RingAnswer.{Tells}
 use Rattle.strc_fuse.specs.Units.{round_units}
-use Rattle.strc_fiss.specs.Fissions.{IsTransformed}
-use Rattle.strc_fiss.specs.Splits.{SplitParts}
-use Rattle.strc_fiss.specs.Ways.{fission_of}
-use Rattle.strc_split.specs.Runs.{graph_before}
-use Rattle.strc_split_stages.specs.Fused.{FusedRun}
+use Rattle.strc_split.specs.Named.{old_node}
+use Rattle.strc_stage.specs.Plans.{PlanParts, IsPlan, graph_of, transformed_of}
+use Rattle.strc_cut.specs.Bounds.{stage_bound, stage_count}
 use Rattle.strc_cut.specs.Cuts.{IsCutOf}
-use Rattle.strc_split_rings.specs.Laws.{IsCutRun}
+use Rattle.strc_core.specs.Events.{is_over}
+use Rattle.strc_core.specs.States.{Start, Core, IsState}
+use Rattle.strc_parcel.specs.declared.stop.Stop.{Stop}
+use Rattle.strc_parcel.specs.Parcels.{Load}
+use Rattle.strc_staged.specs.Beginnings.{IsBeginning}
+use Rattle.strc_staged.specs.Laws.{TellsOutcome}
+use Rattle.strc_staged.specs.Runnings.{Running}
+use Rattle.strc_staged.specs.Steps.{StageState, Gathered, stage_work}
+use Rattle.strc_dealt.specs.Dealt.{HaveRoom, IsDealt}
+use Rattle.strc_split_rings.specs.Names.{plan_order, IsNamedSo}
 
--- a whole program's graph and greedy schedule, where nodes fire so often in a round, and what
--- fission and fusion make of them
-pub record IsSplitPlan (stream : Stream) (old : Graph) (schedule : ScheduleParts)
-    (round : List ℕ) (ways threshold : ℕ) (plan : SplitParts) : Type 0 where
-  pub typed : IsWellTyped stream
-  pub program : IsProgram (tree_of stream) old
-  pub loops : old.outer_loops ≡ outer_loops 0 stream
-  pub is : IsGraph old
-  pub planned : IsPlanned old schedule
-  pub known : AreKnown old
-  pub counts : Firings
-  pub greedy : IsSchedule (rates_of old) counts (count_at round) schedule
-  pub transformed : IsTransformed (fission_of old round ways) old schedule threshold plan
+-- ---- the rounds of a plan
 
--- its rounds over an input, from the state to which start-up came
-abbrev pub run_of : (stream : Stream) (old : Graph) (schedule : ScheduleParts) (round : List ℕ)
-    (ways : ℕ) (plan : SplitParts) (input : List ℤ) (rounds : ℕ) (started : Queues) → FusedRun
-run_of stream old schedule round ways plan input rounds started = record {
-  tree = tree_of stream;
-  old = old;
-  schedule = schedule;
-  round = round;
-  ways = ways;
-  fused = round_units plan.schedule.round;
-  input = input;
-  rounds = rounds;
-  started = started;
+-- each node fires as often as it is in the round's order
+abbrev pub running_of : PlanParts → Running
+running_of plan = record {
+  graph = transformed_of plan;
+  counts = orders.firing_count (round_order plan.split.schedule);
+  order = round_order plan.split.schedule;
+  sizes = plan.split.schedule.sizes;
 }
 
--- Where the input suffices and start-up went without a fault, a cut of it is a run that rings of
--- stages can go on with, over rings of its sizes.
-abbrev pub SplitPlansAreCutRuns : Type 0
-SplitPlansAreCutRuns =
-    (stream : Stream) (old : Graph) (schedule : ScheduleParts) (round : List ℕ)
-    (ways threshold : ℕ) (plan : SplitParts) (input : List ℤ) (rounds : ℕ) (started : Queues)
-    (bound : (stage : ℕ) → ℕ) (last : ℕ) (circuit : CircuitView)
-    → IsSplitPlan stream old schedule round ways threshold plan
-    → rounds < 2 ^ 32
-    → items_read old.nodes (counts_at schedule rounds) ≤ length input
-    → fifo_go node_meaning (graph_before (tree_of stream) old schedule round ways)
-    (startup_order schedule)
-    (fifo_at_first node_meaning (graph_before (tree_of stream) old schedule round ways) input)
-    ≡ FifoWent started
-    → IsCutOf (graph_view plan.graph) (round_units plan.schedule.round) bound (suc last)
-    → IsCircuit (graph_view plan.graph) circuit → circuit.input ≡ input
-    → IsCutRun (run_of stream old schedule round ways plan input rounds started) threshold
-    plan.schedule.sizes stream bound last circuit
+-- bounds between the groups of the graph and the units of its round
+abbrev pub IsCut : PlanParts → (bound : (stage : ℕ) → ℕ) → (stages : ℕ) → Type 0
+IsCut plan = IsCutOf (transformed_of plan) (round_units plan.split.schedule.round)
+
+abbrev pub plan_bound : PlanParts → (workers stage : ℕ) → ℕ
+plan_bound plan =
+    stage_bound (transformed_of plan).outer_loops (round_units plan.split.schedule.round)
+
+abbrev pub plan_stages : PlanParts → (workers : ℕ) → ℕ
+plan_stages plan =
+    stage_count (transformed_of plan).outer_loops (round_units plan.split.schedule.round)
+
+-- Groups that workers share evenly are a cut.
+abbrev pub PlanBoundsAreACut : Type 0
+PlanBoundsAreACut =
+    (plan : PlanParts) (workers : ℕ) → IsPlan plan → 0 < workers
+    → 0 < length (graph_of plan).nodes
+    → (0 < plan_stages plan workers)
+    × IsCut plan (plan_bound plan workers) (plan_stages plan workers)
+
+-- how many items of the program's input start-up and so many rounds read
+abbrev pub need_of : PlanParts → (rounds : ℕ) → ℕ
+need_of plan rounds = items_read (graph_of plan).nodes (counts_at plan.schedule rounds)
+
+-- ---- start-up
+
+-- A plan, and the circuit of its graph before fission, with this input.
+pub record IsReadyFor (plan : PlanParts) (input : List ℤ) (old : CircuitView) : Type 0 where
+  pub is : IsPlan plan
+  pub graph : IsGraph (graph_of plan)
+  pub known : AreKnown (graph_of plan)
+  pub wired : IsCircuit (graph_of plan) old
+  pub reads_it : old.input ≡ input
+
+-- An input suffices for so many rounds of a plan.
+pub record Suffices (plan : PlanParts) (input : List ℤ) (rounds : ℕ) : Type 0 where
+  pub few : rounds < 2 ^ 32
+  pub supplied : need_of plan rounds ≤ length input
+
+-- Start-up went to its end, and what it left is dealt out to the machine of the graph after
+-- fission, where there is room for it; its circuit has the same input.
+pub record HasStarted (plan : PlanParts) (input : List ℤ) (old : CircuitView)
+    (circuit : CircuitView) (started : MachineView) : Type 0 where
+  pub first : MachineView
+  pub is_first : IsFirst (graph_of plan) plan.schedule.sizes first
+  pub left : MachineView
+  pub went : order_run old (startup_order plan.schedule) first ≡ Went left
+  pub circuit_is : IsCircuit (transformed_of plan) circuit
+  pub input_is : circuit.input ≡ input
+  pub dealt : HaveRoom old (transformed_of plan) plan.split.origins plan.split.schedule.sizes left
+      → IsDealt old (transformed_of plan) plan.split.origins plan.split.schedule.sizes left started
+
+-- ---- what it comes to
+
+-- an outcome is the answer of a tree's stream equations, at a plan's counts and in its orders
+abbrev pub IsPlanAnswer : (tree : trees.Stream NodeCode) → PlanParts → (input : List ℤ)
+    → (rounds : ℕ) → Outcome Cause Word → Type 0
+IsPlanAnswer tree plan input rounds answer =
+    IsAnswer node_meaning tree input (firing_count (startup_order plan.schedule))
+    (firing_count (round_order plan.schedule)) (startup_order plan.schedule) (plan_order plan)
+    rounds answer
+
+-- or it is, but for the names of nodes and firings
+pub record ComesToAnswer (tree : trees.Stream NodeCode) (plan : PlanParts) (input : List ℤ)
+    (rounds : ℕ) (outcome : Outcome Cause Word) : Type 0 where
+  pub answer : Outcome Cause Word
+  pub is_answer : IsPlanAnswer tree plan input rounds answer
+  pub named : IsNamedSo plan answer outcome
+
+-- what a collector has come to tells such an outcome
+pub record TellsPlanAnswer (tree : trees.Stream NodeCode) (plan : PlanParts) (input : List ℤ)
+    (rounds : ℕ) (total : Gathered) (why : Option Stop) : Type 0 where
+  pub outcome : Outcome Cause Word
+  pub tells : TellsOutcome (transformed_of plan).nodes total why outcome
+  pub comes : ComesToAnswer tree plan input rounds outcome
+
+-- A ring of a plan's stages that is over, by whatever events, has come to the answer of whatever
+-- program the plan's graph is.
+abbrev pub PlanRingsAnswer : Type 0
+PlanRingsAnswer =
+    (tree : trees.Stream NodeCode) (plan : PlanParts) (input : List ℤ) (rounds : ℕ)
+    (old circuit : CircuitView) (started : MachineView) (bound : (stage : ℕ) → ℕ) (last : ℕ)
+    (start : Start StageState Load Stop Gathered) (core : Core StageState Load Stop Gathered)
+    → IsProgram tree (graph_of plan)
+    → IsReadyFor plan input old → Suffices plan input rounds
+    → HasStarted plan input old circuit started
+    → IsCut plan bound (suc last)
+    → IsBeginning (running_of plan) bound last circuit started rounds start
+    → IsState stage_work start core → is_over core ≡ true
+    → TellsPlanAnswer tree plan input rounds core.collector.total core.collector.stop
+
+-- So has one machine that runs all rounds.
+pub record RoundsTellAnswer (tree : trees.Stream NodeCode) (plan : PlanParts) (input : List ℤ)
+    (rounds : ℕ) (circuit : CircuitView) (started : MachineView) : Type 0 where
+  pub outcome : Outcome Cause Word
+  pub tells : Tells (length (transformed_of plan).nodes) outcome
+      (rounds_run circuit (round_order plan.split.schedule) rounds 0 started)
+  pub comes : ComesToAnswer tree plan input rounds outcome
+
+abbrev pub PlanRoundsAnswer : Type 0
+PlanRoundsAnswer =
+    (tree : trees.Stream NodeCode) (plan : PlanParts) (input : List ℤ) (rounds : ℕ)
+    (old circuit : CircuitView) (started : MachineView)
+    → IsProgram tree (graph_of plan)
+    → IsReadyFor plan input old → Suffices plan input rounds
+    → HasStarted plan input old circuit started
+    → RoundsTellAnswer tree plan input rounds circuit started
+
+-- A fault of start-up is the answer.
+abbrev pub PlanFaultsAnswer : Type 0
+PlanFaultsAnswer =
+    (tree : trees.Stream NodeCode) (plan : PlanParts) (input : List ℤ) (rounds : ℕ)
+    (old : CircuitView) (first : MachineView) (node firing : ℕ) (cause : Cause)
+    → IsProgram tree (graph_of plan)
+    → IsReadyFor plan input old → Suffices plan input rounds
+    → IsFirst (graph_of plan) plan.schedule.sizes first
+    → order_run old (startup_order plan.schedule) first ≡ Stopped node firing cause
+    → IsPlanAnswer tree plan input rounds
+    (StartupFault (record { node = node; firing = firing; cause = cause }))
+
+-- The tapes of the graph after fission are those of the nodes before it.
+abbrev pub PlansKeepTapes : Type 0
+PlansKeepTapes =
+    (plan : PlanParts) → IsPlan plan
+    → map (old_node plan.split.origins) (tape_nodes (transformed_of plan).nodes)
+    ≡ tape_nodes (graph_of plan).nodes

@@ -1,10 +1,11 @@
 // Takes: planned graphs after fission, the state that start-up left, dealt out to the parts, and
 // stages of their fused rounds.
-// Gives: laws on rings of such stages, and no code.
-// The theorem to rely on: `split_rings_answer`: a ring that is over, by whatever events, has come
-// to an answer of the program's stream equations; `split_plans_are_cut_runs` gives its premise from
-// what fission and fusion of a greedy schedule come to.
-// Stands on strc_split_stages, which says how these graphs go on from that state, on
+// Gives: laws on rings of such stages, and on plans that are run by them, and no code.
+// The theorem to rely on: `plan_rings_answer`: a ring of a plan's stages that is over, by whatever
+// events, has come to the answer of the program's stream equations, but for the names of parts;
+// `plan_rounds_answer` says so of one machine that runs the rounds.
+// Stands on strc_stage, whose plans these are, on strc_dealt, which deals out the state that
+// start-up left, on strc_split_stages, which says how these graphs go on from that state, on
 // strc_split_channels, which says that their channels join them, on strc_split_cut, which says how
 // their rounds are cut, on strc_staged, whose rings these are, on strc_split, whose graphs these
 // are, on strc_fiss and strc_fuse, whose transformed schedules they run, on strc_admissible, whose
@@ -12,7 +13,8 @@
 #![tactic(auto)]
 
 ghost use Rattle.strc_split_rings.specs.Laws.{SplitGraphsAreRunning, SplitRingsAnswer};
-ghost use Rattle.strc_split_rings.specs.Plans.{SplitPlansAreCutRuns};
+ghost use Rattle.strc_split_rings.specs.Plans.{PlanBoundsAreACut, PlanFaultsAnswer};
+ghost use Rattle.strc_split_rings.specs.Plans.{PlanRingsAnswer, PlanRoundsAnswer, PlansKeepTapes};
 
 /// The fused rounds after fission go on from the state that start-up left as stages ask for.
 pub fn split_graphs_are_running()
@@ -24,7 +26,27 @@ pub fn split_rings_answer()
     ensures { SplitRingsAnswer }
 {}
 
-/// A cut of what fission and fusion of a whole program's greedy schedule come to is such a run.
-pub fn split_plans_are_cut_runs()
-    ensures { SplitPlansAreCutRuns }
+/// Groups of a plan that workers share evenly are a cut of its round.
+pub fn plan_bounds_are_a_cut()
+    ensures { PlanBoundsAreACut }
+{}
+
+/// A ring of a plan's stages that is over has come to the answer of the stream equations.
+pub fn plan_rings_answer()
+    ensures { PlanRingsAnswer }
+{}
+
+/// So has one machine that runs all rounds of a plan.
+pub fn plan_rounds_answer()
+    ensures { PlanRoundsAnswer }
+{}
+
+/// A fault of start-up is the answer.
+pub fn plan_faults_answer()
+    ensures { PlanFaultsAnswer }
+{}
+
+/// The tapes of a plan's graph after fission are those of the nodes before it.
+pub fn plans_keep_tapes()
+    ensures { PlansKeepTapes }
 {}

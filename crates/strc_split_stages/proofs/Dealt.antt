@@ -1,17 +1,20 @@
 -- A state that is dealt out to the parts of nodes.
 use Rattle.std.proofs.Common.{◌≡◌, refl, sym, ap, ◌∙◌, subst, ℕ, suc, ◌+◌, ◌<◌, arith}
-use Rattle.std.proofs.Common.{Bool, true, false, cond, [], length, None}
+use Rattle.std.proofs.Common.{Bool, true, false, cond, List, [], length, None, ℤ}
 use Rattle.strc_dataflow.specs.Flat.{Graph}
-use Rattle.strc_dataflow.specs.Histories.{initial_run}
+use Rattle.strc_dataflow.specs.Histories.{Run, initial_run}
 use Rattle.strc_dataflow.specs.Node.{Meaning}
 use Rattle.strc_dataflow.specs.Queues.{Fifo}
-use Rattle.strc_graph.specs.Meaning.{ports_in}
+use Rattle.strc_semantics.specs.declared.fault.Cause.{Cause}
+use Rattle.strc_semantics.specs.declared.word.Word.{Word}
+use Rattle.strc_graph.specs.Meaning.{node_meaning, ports_in}
 use Rattle.strc_admissible.specs.Fits.{Queues}
 use Rattle.strc_rounds.specs.Split.{Parts}
 use Rattle.strc_rounds.specs.Starting.{run_dealt, state_dealt}
 use Rattle.strc_fiss.specs.Numbers.{is_dealt, base}
 use Rattle.strc_split_stages.proofs.Numbers.{each_number}
-use Rattle.strc_split_stages.proofs.OwnRounds.{OwnRound, share, before, after, split}
+use Rattle.strc_split.specs.Owners.{owner}
+use Rattle.strc_split_stages.proofs.OwnRounds.{OwnRound, share, before, after, dealt, split}
 
 module _ {Code State Cause Word : Type 0} (parts : Parts) (meaning : Meaning Code State Cause Word)
     (graph : Graph Code) (old : Fifo State Cause Word) (node_of part_of : ℕ → ℕ) where
@@ -38,6 +41,34 @@ module _ {Code State Cause Word : Type 0} (parts : Parts) (meaning : Meaning Cod
           (old.runs (node_of number))).fired ≡ cond t 0 (counts (node_of number))
       by_test true = refl
       by_test false = fired (node_of number)
+
+module _ (run : OwnRound) (started : Queues) where
+  abbrev of_number : ℕ → ℕ
+  of_number number = (owner (share run) number).node
+
+  abbrev run_by : (t : Bool) → (number : ℕ) → Run (List ℤ) Cause Word
+  run_by t number = cond t (initial_run node_meaning ((after run).code number))
+      (started.runs (of_number number))
+
+  pub faultless_from : ((node : ℕ) → (started.runs node).fault ≡ None) → (number : ℕ)
+      → ((dealt run started).runs number).fault ≡ None
+  unfolding initial_run
+  faultless_from faultless number = by_test (is_dealt (share run (of_number number)))
+    where
+      by_test : (t : Bool) → (run_by t number).fault ≡ None
+      by_test true = refl
+      by_test false = faultless (of_number number)
+
+  pub fired_from : (counts : ℕ → ℕ) → ((node : ℕ) → (started.runs node).fired ≡ counts node)
+      → (number : ℕ)
+      → ((dealt run started).runs number).fired
+      ≡ cond (is_dealt (share run (of_number number))) 0 (counts (of_number number))
+  unfolding initial_run
+  fired_from counts fired number = by_test (is_dealt (share run (of_number number)))
+    where
+      by_test : (t : Bool) → (run_by t number).fired ≡ cond t 0 (counts (of_number number))
+      by_test true = refl
+      by_test false = fired (of_number number)
 
 module _ (run : OwnRound) where
   -- what waits at a node waits at its first part, and nothing at later ones

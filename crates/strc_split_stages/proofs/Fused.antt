@@ -14,7 +14,6 @@ use Rattle.strc_restart.specs.Chains.{IsResumption}
 use Rattle.strc_restart.specs.Restart.{restarted_meaning, restarted}
 use Rattle.strc_restart.specs.Rounds.{IsBalancedByRounds}
 use Rattle.strc_restart.specs.Schedules.{fired_in, IsSuppliedFrom}
-use Rattle.strc_restart.proofs.Chains.{restarted_chains}
 use Rattle.strc_parts.specs.GoingOn.{resumption}
 use Rattle.strc_rounds.specs.FusedUnits.{RoundUnit, firings_of}
 use Rattle.strc_fuse.specs.Units.{is_free, round_units}
@@ -22,16 +21,13 @@ use Rattle.strc_fuse.proofs.Lawful.{fused_units_stay, fused_units_count}
 use Rattle.strc_fiss.specs.Numbers.{is_dealt}
 use Rattle.strc_fiss.specs.Units.{split_units}
 use Rattle.strc_fiss.specs.Ways.{fission_of}
-use Rattle.strc_split.specs.Fusions.{stays_whole, IsFissionOfFused, ComesToSomeAnswer}
-use Rattle.strc_split.specs.Runs.{parts_of}
-use Rattle.strc_split.proofs.FusedRuns.{fused_answers_kept}
+use Rattle.strc_split.specs.Fusions.{stays_whole, IsFissionOfFused}
 use Rattle.strc_split.proofs.Fusions.{fusion_follows, fewer_placed}
 use Rattle.strc_split.proofs.PlannedRounds.{IsRound}
 use Rattle.strc_split.proofs.Runs.{own_round}
 use Rattle.strc_split_stages.specs.Fused.{FusedRun, IsFusedRun, graph_of, order_of, state_of}
 use Rattle.strc_split_stages.specs.Fused.{resumed, SplitRoundsBalance, SplitRoundIsRestartedOrder}
 use Rattle.strc_split_stages.specs.Fused.{SplitRoundsAreSupplied, SplitGraphsResume}
-use Rattle.strc_split_stages.specs.Fused.{SplitChainsAnswer}
 use Rattle.strc_split_stages.proofs.OwnRounds.{OwnRound}
 use Rattle.strc_split_stages.proofs.Resuming.{balanced, restarted_order, resumes}
 use Rattle.strc_split_stages.proofs.Supplies.{rounds_supplied}
@@ -127,14 +123,3 @@ rounds_are_supplied run limit is = fused_supplied run limit is
 pub graphs_resume : SplitGraphsResume
 graphs_resume run limit stage_of segment stages is staged =
     fused_resumes run limit is stage_of segment stages staged
-
-pub chains_answer : SplitChainsAnswer
-chains_answer run limit stage_of segment stages inputs given taken left outcome is staged staging
-    chain collected =
-    subst (ComesToSomeAnswer run.tree run.schedule run.input run.rounds
-    (parts_of run.tree run.old run.schedule run.round run.ways))
-    (sym (restarted_chains (resumed run stage_of segment stages) inputs given taken left outcome
-    run.input (fused_resumes run limit is stage_of segment stages staged) staging chain collected))
-    (fused_answers_kept run.tree run.old run.schedule run.round run.ways run.input run.rounds
-    run.started limit run.fused is.program is.is is.planned is.known is.own is.placed is.fusion
-    is.supplied is.went)

@@ -35,7 +35,7 @@ use Rattle.strc_split_stages.proofs.Balances.{round_even}
 use Rattle.strc_split_stages.proofs.Blank.{blank, blank_pushes, order_goes}
 use Rattle.strc_split_stages.proofs.BlankSplits.{blank_split}
 use Rattle.strc_split_stages.proofs.Codes.{each_rated}
-use Rattle.strc_split_stages.proofs.Dealt.{faultless_dealt, fired_dealt, QueuesAgree}
+use Rattle.strc_split_stages.proofs.Dealt.{faultless_dealt, fired_dealt, fired_from, QueuesAgree}
 use Rattle.strc_split_stages.proofs.Dealt.{lengths_alike}
 use Rattle.strc_split_stages.proofs.FirstRounds.{order_valid, IsEnd, ends, balanced_at}
 use Rattle.strc_split_stages.proofs.OwnRounds.{OwnRound, share, before, after, parts, startup}
@@ -228,7 +228,7 @@ module _ (run : OwnRound) where
     pub new_fired : (number : ℕ) → ((dealt run started).runs number).fired
         ≡ cond (is_dealt (share run (owner (share run) number).node)) 0
         (startup run (owner (share run) number).node)
-    new_fired = fired_dealt (parts run) node_meaning (before run) started _ _ (startup run)
+    new_fired = fired_from run started (startup run)
         (counted run input rounds supplied started went).fired
 
     pub new_queues : QueuesAgree run started (dealt run started)

@@ -39,6 +39,8 @@ use Rattle.strc_fiss.specs.Units.{split_units}
 use Rattle.strc_fiss.specs.Ways.{fission_of}
 use Rattle.strc_fiss.proofs.Pieced.{pieces_before, pieces_after, pieces_own}
 use Rattle.strc_split.specs.Runs.{graph_before, graph_after, parts_of, dealt_from}
+use Rattle.strc_split.specs.Owners.{owner}
+use Rattle.strc_split.proofs.Agreeing.{agree_now}
 use Rattle.strc_split.proofs.Lawful.{graphs_are_split}
 use Rattle.strc_split.proofs.Orders.{ends_apart, channel_order, codes_same}
 use Rattle.strc_split.proofs.Owners.{owner_is}
@@ -191,9 +193,11 @@ module _ (run : OwnRound) where
       pub agrees : Agree parts node_meaning before (λ v. 0) started (dealt started)
       unfolding fifo_at_first initial_run
       agrees =
-          starts_agree node_meaning before parts _ _ started (owner_is share)
+          agree_now run.tree run.old run.schedule run.round run.ways started run.planned
+          (starts_agree node_meaning before parts (λ number. (owner share number).node)
+          (λ number. (owner share number).part) started (owner_is share)
           (λ v is_split.
           let still = stays_still node_meaning before (parts.share v) v
           (split.split v is_split).filter (startup_order run.schedule)
           (fifo_at_first node_meaning before input) started refl refl went in
-          (counted.fired v, still.0, still.1))
+          (counted.fired v, still.0, still.1)))

@@ -1,8 +1,8 @@
 -- Each firing of a node after fission has the rates of the one a round before.
 use Rattle.std.proofs.Common.{◌≡◌, refl, sym, ap, ◌∙◌, subst, ℕ, suc, ◌+◌, ◌*◌, ◌<◌, ◌≤◌}
-use Rattle.std.proofs.Common.{arith, ℤ, List, length, Bool, true, false, cond, inl, inr}
+use Rattle.std.proofs.Common.{arith, ℤ, List, length, true, false, inl, inr}
 use Rattle.std.proofs.lemmas.Bool.{cases_lt}
-use Rattle.strc_dataflow.specs.Histories.{Run, initial_run}
+use Rattle.strc_dataflow.specs.Histories.{Run}
 use Rattle.strc_dataflow.specs.Order as orders
 use Rattle.strc_dataflow.specs.Queues.{FifoProgress.FifoWent, fifo_go, fifo_at_first}
 use Rattle.strc_semantics.specs.declared.fault.Cause.{Cause}
@@ -16,15 +16,14 @@ use Rattle.strc_restart.specs.Rounds.{RepeatsByRounds}
 use Rattle.strc_restart.specs.Schedules.{fired_in}
 use Rattle.strc_parts.specs.Repeats.{HaveSameRates}
 use Rattle.strc_rounds.specs.FusedUnits.{firings_of}
-use Rattle.strc_rounds.specs.Starting.{run_dealt, state_dealt}
 use Rattle.strc_fuse.specs.Units.{round_units}
-use Rattle.strc_fiss.specs.Numbers.{is_dealt, last_part, base}
+use Rattle.strc_fiss.specs.Numbers.{is_dealt, base}
 use Rattle.strc_fiss.specs.Splitting.{copied, code_at}
 use Rattle.strc_fiss.specs.Units.{split_units}
 use Rattle.strc_fiss.specs.Ways.{fission_of}
 use Rattle.strc_split.specs.Runs.{graph_before}
+use Rattle.strc_split.proofs.DealtRuns.{whole_run}
 use Rattle.strc_split.proofs.NewChannels.{apart}
-use Rattle.strc_split.proofs.Owners.{owner_is}
 use Rattle.strc_split.proofs.Runs.{own_round}
 use Rattle.strc_split_stages.specs.Rounds.{SplitRoundsRepeat}
 use Rattle.strc_split_stages.proofs.Codes.{old_alone, kept_code, scatter_code, copy_code}
@@ -125,21 +124,13 @@ module _ (run : OwnRound) where
       (fifo_at_first node_meaning
       (graph_before run.tree run.old run.schedule run.round run.ways) input)
       ≡ FifoWent started) where
-    run_at : (v k : ℕ) → k ≤ last_part (share run) v
-        → (dealt run started).runs (base (share run) v + k)
-        ≡ run_dealt (parts run) node_meaning (before run) started v
-    unfolding state_dealt
-    run_at v k less = ap (λ (n : ℕ). run_dealt (parts run) node_meaning (before run) started n)
-        (owner_is (share run) v k less).0
-
     pub fired_kept : (u : ℕ) → is_dealt (share run u) ≡ false
         → fired_in node_meaning (after run) (dealt run started) (base (share run) u + 0)
         ≡ startup run u
-    unfolding fired_in run_dealt
+    unfolding fired_in
     fired_kept u whole =
-        ap (λ (r : Run (List ℤ) Cause Word). r.fired) (run_at u 0 (omega arith))
-        ∙ ap (λ (t : Bool). (cond t (initial_run node_meaning ((before run).code u))
-        (started.runs u)).fired) whole
+        ap (λ (r : Run (List ℤ) Cause Word). r.fired)
+        (whole_run run.tree run.old run.schedule run.round run.ways started run.planned u whole)
         ∙ (counted run input rounds supplied started went).fired u
 
     pub repeats : RepeatsByRounds node_meaning (after run)

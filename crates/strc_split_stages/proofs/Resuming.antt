@@ -23,9 +23,9 @@ use Rattle.strc_fiss.specs.Units.{split_units}
 use Rattle.strc_fiss.specs.Ways.{fission_of}
 use Rattle.strc_split.specs.Runs.{graph_before}
 use Rattle.strc_split_stages.proofs.Codes.{each_rated}
-use Rattle.strc_split_stages.proofs.Dealt.{faultless_dealt}
+use Rattle.strc_split_stages.proofs.Dealt.{faultless_from}
 use Rattle.strc_split_stages.proofs.NewRounds.{new_order_valid, new_balanced}
-use Rattle.strc_split_stages.proofs.OwnRounds.{OwnRound, before, after, parts, dealt, after_is}
+use Rattle.strc_split_stages.proofs.OwnRounds.{OwnRound, after, dealt, after_is}
 use Rattle.strc_split_stages.proofs.OwnRounds.{counted}
 use Rattle.strc_split_stages.proofs.Repeats.{new_counts, repeats}
 use Rattle.strc_split_stages.proofs.Supplies.{rounds_supplied}
@@ -93,7 +93,7 @@ module _ (run : OwnRound) (input : List ℤ) (rounds : ℕ)
       (firings_of (split_units (fission_of run.old run.round run.ways) run.units)) rounds stage_of
       segment stages)
   resumes stage_of segment stages staged = record {
-    faultless = faultless_dealt (parts run) node_meaning (before run) started _ _
+    faultless = faultless_from run started
         (counted run input rounds supplied started went).queued.faultless;
     keeps = keeps_on;
     takes_within = λ node firing port less.

@@ -1,15 +1,11 @@
 -- A planned program after fission, its round fused, and the state that start-up left: how it goes
 -- on from there by stages.
-use Rattle.std.specs.Prelude.{◌≡◌, ℕ, ◌<◌, ◌*◌, ◌≤◌, ℤ, List, [], length, Some}
-use Rattle.strc_dataflow.specs.Answer.{Outcome, words_of}
+use Rattle.std.specs.Prelude.{◌≡◌, ℕ, ◌<◌, ◌*◌, ◌≤◌, ℤ, List, [], length}
 use Rattle.strc_dataflow.specs.Flat as flat
-use Rattle.strc_dataflow.specs.Node.{ByPort}
 use Rattle.strc_dataflow.specs.Order.{firing_count, IsOrder}
 use Rattle.strc_dataflow.specs.Queues.{FifoProgress.FifoWent, fifo_go, fifo_at_first}
 use Rattle.strc_dataflow.specs.Streams as trees
-use Rattle.strc_staging.specs.Staging.{IsStaged, IsStaging}
-use Rattle.strc_staging.specs.Stages.{Parcel}
-use Rattle.strc_staging.specs.Workers.{IsChain, collects}
+use Rattle.strc_staging.specs.Staging.{IsStaged}
 use Rattle.strc_semantics.specs.declared.fault.Cause.{Cause}
 use Rattle.strc_semantics.specs.declared.word.Word.{Word}
 use Rattle.strc_graph.specs.Graphs.{NodeCode, Graph, IsGraph}
@@ -21,7 +17,7 @@ use Rattle.strc_order.specs.Schedules.{ScheduleParts}
 use Rattle.strc_admissible.specs.Fits.{Queues}
 use Rattle.strc_admissible.specs.Laws.{startup_order, counts_at}
 use Rattle.strc_admissible.specs.Planned.{IsPlanned, AreKnown, items_read}
-use Rattle.strc_restart.specs.Chains.{Resumption, IsResumption, staging_from, first_from, faults_on}
+use Rattle.strc_restart.specs.Chains.{Resumption, IsResumption}
 use Rattle.strc_restart.specs.Restart.{restarted_meaning, restarted}
 use Rattle.strc_restart.specs.Rounds.{IsBalancedByRounds}
 use Rattle.strc_restart.specs.Schedules.{fired_in, IsSuppliedFrom}
@@ -31,9 +27,9 @@ use Rattle.strc_fuse.specs.Units.{is_free, round_units, ArePlaced}
 use Rattle.strc_fiss.specs.Laws.{AreOwn}
 use Rattle.strc_fiss.specs.Units.{split_units}
 use Rattle.strc_fiss.specs.Ways.{fission_of}
-use Rattle.strc_split.specs.Fusions.{ComesToSomeAnswer}
 use Rattle.strc_split.specs.Laws.{new_graph}
-use Rattle.strc_split.specs.Runs.{graph_before, graph_after, parts_of, dealt_from}
+use Rattle.strc_split.specs.Named.{new_origins, old_firings}
+use Rattle.strc_split.specs.Runs.{graph_before, graph_after, dealt_from}
 
 -- A program's graph with its schedule, which nodes are split by how often they fire in a round and
 -- in how many ways at most, the units of the round after fission, and start-up's state over an
@@ -55,6 +51,11 @@ module _ (run : FusedRun) where
 
   abbrev pub order_of : List ℕ
   order_of = firings_of run.fused
+
+  -- its firings by the nodes before fission
+  abbrev pub named_order_of : List ℕ
+  named_order_of = old_firings (new_graph run.old run.schedule run.round run.ways).nodes
+      (new_origins run.old run.round run.ways) order_of
 
   -- the state that start-up left, dealt out to the parts
   abbrev pub state_of : Queues
@@ -117,21 +118,3 @@ SplitGraphsResume =
     → IsFusedRun run limit
     → IsStaged (graph_of run) stage_of segment stages (order_of run)
     → IsResumption (resumed run stage_of segment stages)
-
--- Whatever a chain of workers over such stages has given and taken: the outcome that its collector
--- comes to is an answer of the program's stream equations.
-abbrev pub SplitChainsAnswer : Type 0
-SplitChainsAnswer =
-    (run : FusedRun) (limit : ℕ) (stage_of : ℕ → ℕ) (segment : ℕ → List ℕ) (stages : ℕ)
-    (inputs : ℕ → ℕ → ByPort) (given taken left : ℕ → List (Parcel Cause Word))
-    (outcome : Outcome Cause Word)
-    → IsFusedRun run limit
-    → IsStaged (graph_of run) stage_of segment stages (order_of run)
-    → IsStaging (staging_from (resumed run stage_of segment stages) inputs)
-    → IsChain (staging_from (resumed run stage_of segment stages) inputs)
-    (first_from (resumed run stage_of segment stages)) given taken left
-    → collects (staging_from (resumed run stage_of segment stages) inputs) run.rounds 0
-    (words_of (state_of run).runs) (taken stages) ≡ Some outcome
-    → ComesToSomeAnswer run.tree run.schedule run.input run.rounds
-    (parts_of run.tree run.old run.schedule run.round run.ways)
-    (faults_on (state_of run) outcome)

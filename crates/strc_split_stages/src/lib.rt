@@ -1,16 +1,15 @@
 // Takes: planned graphs after fission, and the state that start-up left, dealt out to the parts.
 // Gives: laws on how they go on from there by stages, and no code.
-// The theorem to rely on: `split_chains_answer`: what a chain of workers over stages of the round
-// after fission, fused or not, comes to is an answer of the program's stream equations.
+// The theorem to rely on: `split_graphs_resume`: the graph after fission, restarted at that state,
+// can be run by stages of its round, fused or not.
 // Stands on strc_split, whose graphs these are, on strc_parts and strc_restart, whose laws are on
 // graphs that go on from a state, on strc_admissible, which says what a planned graph is, and on
 // what these stand on.
 #![tactic(auto)]
 
 ghost use Rattle.strc_split_stages.specs.Codes.{SplitNodesAreRated};
-ghost use Rattle.strc_split_stages.specs.Fused.{SplitChainsAnswer, SplitGraphsResume};
-ghost use Rattle.strc_split_stages.specs.Fused.{SplitRoundIsRestartedOrder, SplitRoundsAreSupplied};
-ghost use Rattle.strc_split_stages.specs.Fused.{SplitRoundsBalance};
+ghost use Rattle.strc_split_stages.specs.Fused.{SplitGraphsResume, SplitRoundIsRestartedOrder};
+ghost use Rattle.strc_split_stages.specs.Fused.{SplitRoundsAreSupplied, SplitRoundsBalance};
 ghost use Rattle.strc_split_stages.specs.Rounds.{SplitRoundsRepeat};
 
 /// Each node of a planned graph after fission pushes at its rates, and takes no more than it looks
@@ -43,9 +42,4 @@ pub fn split_rounds_are_supplied()
 /// So a planned graph after fission, restarted at that state, can be run by stages.
 pub fn split_graphs_resume()
     ensures { SplitGraphsResume }
-{}
-
-/// What a chain of workers over such stages comes to is an answer of the stream equations.
-pub fn split_chains_answer()
-    ensures { SplitChainsAnswer }
 {}

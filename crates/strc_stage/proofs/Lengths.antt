@@ -6,7 +6,8 @@ use Rattle.strc_balance.specs.Balance.{count_at}
 use Rattle.strc_startup.specs.Rates.{first_count, rates_of, rates_of_channel}
 use Rattle.strc_order.specs.Buffers.{buffer_size}
 use Rattle.strc_order.specs.Schedules.{ScheduleParts}
-use Rattle.strc_stage.specs.Plans.{HasRound, HasSchedule, HasStartup}
+use Rattle.strc_fiss.specs.Splits.{SplitParts}
+use Rattle.strc_stage.specs.Plans.{HasRound, HasSchedule, HasStartup, IsTransformation}
 
 pub each_started : (graph : GraphParts) (counts : List ℕ) → HasStartup (graph_view graph) counts
     → length counts ≡ length graph.nodes
@@ -27,3 +28,9 @@ each_sized graph startup round schedule has =
     (buffer_size (count_at startup) schedule.startup schedule.round)
     ∙ length-map (graph_view graph).channels (rates_of_channel (graph_view graph).nodes)
     ∙ length-map graph.channels channel_view
+
+pub each_transformed : (graph : GraphParts) (round : List ℕ) (schedule : ScheduleParts)
+    (split : SplitParts) → IsTransformation (graph_view graph) round schedule split
+    → length split.schedule.sizes ≡ length split.graph.channels
+each_transformed graph round schedule split is =
+    is.transformed.fusion.each ∙ length-map split.graph.channels channel_view

@@ -1,3 +1,3 @@
 pub mod Exclusion
-pub mod Fused
 pub mod Lengths
+pub mod Transformed

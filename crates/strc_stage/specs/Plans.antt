@@ -1,6 +1,6 @@
 -- Plans: a flat graph, how often its nodes fire, and the schedule of these firings (Lee and
 -- Messerschmitt 1987: a periodic admissible sequential schedule).
-use Rattle.std.specs.Prelude.{◌≡◌, ℕ, ◌≤◌, Bool, true, false, List, All}
+use Rattle.std.specs.Prelude.{◌≡◌, ℕ, ◌<◌, ◌≤◌, Bool, true, false, List, length, All}
 use Rattle.strc_graph.specs.Connections.{IsConnected}
 use Rattle.strc_graph.specs.FlatGraphs.{IsProgram}
 use Rattle.strc_graph.specs.Graphs.{Graph}
@@ -20,7 +20,10 @@ use Rattle.strc_order.specs.Order.{HasOrder}
 use Rattle.strc_order.specs.Schedules.{ScheduleParts, IsSchedule, PassesLimit}
 use Rattle.strc_admissible.specs.Planned.{IsPlanned}
 use Rattle.strc_fuse.specs.Fusion.{FusedPass}
-use Rattle.strc_fused.specs.Fusions.{IsFusion}
+use Rattle.strc_fiss.specs.Fissions.{IsFission, IsTransformed, SplitPasses}
+use Rattle.strc_fiss.specs.Numbers.{node_limit, base}
+use Rattle.strc_fiss.specs.Splits.{SplitParts}
+use Rattle.strc_fiss.specs.Ways.{fission_of}
 
 -- what a plan keeps
 pub record PlanParts : Type 0 where
@@ -28,36 +31,23 @@ pub record PlanParts : Type 0 where
   pub startup_counts : List ℕ
   pub round_counts : List ℕ
   pub schedule : ScheduleParts
-  pub fused : ScheduleParts
+  pub split : SplitParts
 
-abbrev pub parts_of : GraphParts → (startup round : List ℕ) → (schedule fused : ScheduleParts)
-    → PlanParts
-parts_of graph startup round schedule fused = record {
+abbrev pub parts_of : GraphParts → (startup round : List ℕ) → ScheduleParts → SplitParts → PlanParts
+parts_of graph startup round schedule split = record {
   graph = graph;
   startup_counts = startup;
   round_counts = round;
   schedule = schedule;
-  fused = fused;
+  split = split;
 }
 
--- a flat graph, how often each node fires before the first round and in each, and the schedule
--- before fusion and after it
-pub record Planning : Type 0 where
-  pub graph : Graph
-  pub startup_counts : List ℕ
-  pub round_counts : List ℕ
-  pub schedule : ScheduleParts
-  pub fused : ScheduleParts
+-- the flat graph before fission, and the one after it, without where their nodes lie in memory
+abbrev pub graph_of : PlanParts → Graph
+graph_of plan = graph_view plan.graph
 
--- a plan without where its nodes lie in memory
-abbrev pub planning_of : PlanParts → Planning
-planning_of plan = record {
-  graph = graph_view plan.graph;
-  startup_counts = plan.startup_counts;
-  round_counts = plan.round_counts;
-  schedule = plan.schedule;
-  fused = plan.fused;
-}
+abbrev pub transformed_of : PlanParts → Graph
+transformed_of plan = graph_view plan.split.graph
 
 -- the counts of a round: the least ones that balance the graph, within the limit
 pub record HasRound (graph : Graph) (counts : List ℕ) : Type 0 where
@@ -85,20 +75,23 @@ pub record IsWhole (graph : Graph) : Type 0 where
   pub connected : IsConnected graph
   pub loops : graph.outer_loops ≡ outer_loops 0 stream
 
--- a schedule is what fusion makes of another one, with lists of at most so many entries
-abbrev pub IsFused : Graph → (schedule fused : ScheduleParts) → Type 0
-IsFused graph schedule fused = (threshold : ℕ) × IsFusion graph threshold schedule fused
+-- a graph and its schedule are what fission makes of others whose nodes fire so often in a round,
+-- with at most so many copies of a node, and then fusion, with lists of at most so many entries
+pub record IsTransformation (graph : Graph) (round : List ℕ) (schedule : ScheduleParts)
+    (split : SplitParts) : Type 0 where
+  pub ways : ℕ
+  pub threshold : ℕ
+  pub transformed : IsTransformed (fission_of graph round ways) graph schedule threshold split
 
--- a plan: its graph is a whole program's, its schedule is that of its least counts, and it can be
--- run by this schedule, and as well by what fusion makes of it, with the same counts
-pub record IsPlan (plan : Planning) : Type 0 where
-  pub whole : IsWhole plan.graph
-  pub startup : HasStartup plan.graph plan.startup_counts
-  pub round : HasRound plan.graph plan.round_counts
-  pub schedule : HasSchedule plan.graph plan.startup_counts plan.round_counts plan.schedule
-  pub unfused : IsPlanned plan.graph plan.schedule
-  pub fusion : IsFused plan.graph plan.schedule plan.fused
-  pub planned : IsPlanned plan.graph plan.fused
+-- a plan: its graph is a whole program's, its schedule is that of its least counts, and can be run,
+-- and fission and fusion make of both what is run
+pub record IsPlan (plan : PlanParts) : Type 0 where
+  pub whole : IsWhole (graph_of plan)
+  pub startup : HasStartup (graph_of plan) plan.startup_counts
+  pub round : HasRound (graph_of plan) plan.round_counts
+  pub schedule : HasSchedule (graph_of plan) plan.startup_counts plan.round_counts plan.schedule
+  pub planned : IsPlanned (graph_of plan) plan.schedule
+  pub transformation : IsTransformation (graph_of plan) plan.round_counts plan.schedule plan.split
   pub startup_is : planned.startup ≡ plan.startup_counts
   pub round_is : planned.round ≡ plan.round_counts
 
@@ -120,10 +113,20 @@ abbrev pub Overflows : Graph → (startup round : List ℕ) → (channel : ℕ) 
 Overflows graph startup round channel =
     PassesLimit (rates_of graph) (count_at startup) (count_at round) channel
 
--- the buffer of a channel would be larger than the limit after fusion of a greedy schedule, and none
--- of a lower one
-pub record OverflowsFused (graph : Graph) (startup round : List ℕ) (threshold channel : ℕ) : Type 0
-  where
-    pub schedule : ScheduleParts
-    pub has : HasSchedule graph startup round schedule
-    pub passes : FusedPass graph threshold schedule channel
+-- the nodes would be too many after fission, with at most so many copies of each
+abbrev pub HasTooManyParts : Graph → (round : List ℕ) → (ways : ℕ) → Type 0
+HasTooManyParts graph round ways =
+    node_limit < base (fission_of graph round ways) (length graph.nodes)
+
+-- the buffer of a channel would be larger than the limit after fission of a schedule, and none of a
+-- lower one
+abbrev pub OverflowsSplit : Graph → (round : List ℕ) → ScheduleParts → (ways channel : ℕ) → Type 0
+OverflowsSplit graph round schedule ways channel =
+    SplitPasses (fission_of graph round ways) graph schedule channel
+
+-- or after fusion of what fission makes of it
+pub record OverflowsFused (graph : Graph) (round : List ℕ) (schedule : ScheduleParts)
+    (ways threshold channel : ℕ) : Type 0 where
+  pub split : SplitParts
+  pub fission : IsFission (fission_of graph round ways) graph schedule split
+  pub passes : FusedPass (graph_view split.graph) threshold split.schedule channel

@@ -17,8 +17,5 @@ pub mod Alike
 pub mod ParcelsFit
 pub mod Rows
 pub mod Room
-pub mod PlanKeeps
-pub mod PlanStarted
-pub mod PlanCounts
-pub mod PlanRunning
-pub mod PlanAlike
+pub mod Endings
+pub mod OneMachine

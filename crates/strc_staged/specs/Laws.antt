@@ -1,5 +1,5 @@
 -- What a ring of stages is worth.
-use Rattle.std.specs.Prelude.{◌≡◌, ℕ, suc, ◌<◌, ◌≤◌, ◌^◌, true, ℤ, List, length, map, Option}
+use Rattle.std.specs.Prelude.{◌≡◌, ℕ, suc, ◌<◌, ◌≤◌, true, List, length, map, Option}
 use Rattle.std.specs.Prelude.{Some, None, ◌∷◌, slice_get}
 use Rattle.strc_semantics.specs.declared.fault.Cause.{Cause}
 use Rattle.strc_semantics.specs.declared.word.Word.{Word}
@@ -11,20 +11,17 @@ use Rattle.strc_graph.specs.Graphs.{NodeCode}
 use Rattle.strc_graph.specs.Meaning.{node_meaning}
 use Rattle.strc_graph.specs.Tapes.{tape_nodes}
 use Rattle.strc_admissible.specs.ByChannels.{IsByChannels}
-use Rattle.strc_admissible.specs.Circuits.{IsCircuit, IsFirst}
 use Rattle.strc_admissible.specs.Fits.{Queues}
-use Rattle.strc_admissible.specs.Laws.{startup_order, round_order, counts_at}
-use Rattle.strc_admissible.specs.Machine.{CircuitView, MachineView, Went, order_run, whole_run}
-use Rattle.strc_admissible.specs.Machine.{Ending, Ended, FaultedIn, words_at}
-use Rattle.strc_admissible.specs.Planned.{AreKnown, items_read}
+use Rattle.strc_admissible.specs.Machine.{CircuitView, MachineView}
+use Rattle.strc_admissible.specs.Machine.{Ending, Ended, FaultedIn, rounds_run, words_at}
+use Rattle.strc_admissible.specs.RingAnswer.{Tells}
 use Rattle.strc_admissible.specs.Simulation.{Simulates}
 use Rattle.strc_core.specs.Events.{is_over, before}
 use Rattle.strc_core.specs.States.{Start, Core, IsState}
 use Rattle.strc_parcel.specs.declared.stop.Stop.{Stop}
 use Rattle.strc_parcel.specs.declared.stop.Stop.TheVariants as stop
 use Rattle.strc_parcel.specs.Parcels.{Load, ParcelView}
-use Rattle.strc_stage.specs.Plans.{Planning, IsPlan}
-use Rattle.strc_cut.specs.Cuts.{IsCut, segment_of}
+use Rattle.strc_cut.specs.Cuts.{segment_of}
 use Rattle.strc_restart.specs.Chains.{meaning_from, graph_from, staging_from}
 use Rattle.strc_restart.specs.Rounds.{RepeatsByRounds, IsBalancedByRounds}
 use Rattle.strc_restart.specs.Schedules.{fired_in}
@@ -35,7 +32,7 @@ use Rattle.strc_staged.specs.Steps.{StageState, Gathered, stage_work, stage_run}
 use Rattle.strc_staged.specs.Beginnings.{IsBeginning}
 use Rattle.strc_staged.specs.Blocks.{FitsBefore}
 use Rattle.strc_staged.specs.Holding.{IsHeld, IsLoaded, StepsAlike}
-use Rattle.strc_staged.specs.Runnings.{Running, running_of, resumed, HasRoom, IsRunning}
+use Rattle.strc_staged.specs.Runnings.{Running, resumed, CanGoOn, HasRoom, IsRunning}
 
 -- ---- rounds that go on from a state
 
@@ -50,6 +47,18 @@ RoundsHaveRoom =
     running.counts
     → HasRoom running by_source from 0
     → (round : ℕ) → HasRoom running by_source from round
+
+-- One machine over rings that holds the state comes, round by round, to what the rounds of the
+-- graph over queues come to.
+abbrev pub RoundsRunAlike : Type 0
+RoundsRunAlike =
+    (running : Running) (by_source : flat.Graph NodeCode) (from : Queues) (rounds : ℕ)
+    (circuit : CircuitView) (started : MachineView)
+    → CanGoOn running by_source from rounds circuit
+    → Simulates running.graph running.sizes circuit.input from started
+    → Tells (length running.graph.nodes)
+    (fifo_rounds node_meaning by_source circuit.input running.order rounds 0 from)
+    (rounds_run circuit running.order rounds 0 started)
 
 -- What a collector has come to is an outcome: the words of the nodes by tape; or the same fault in
 -- the same round, with the words before it. Out of memory tells nothing.
@@ -120,7 +129,7 @@ StageStepsAlike =
     blocks))
     (stage_run state load held.machine)
 
--- ---- a plan's rounds after its start-up
+-- ---- how a run ends
 
 -- The words of each tape are those of its node.
 abbrev pub HasTapes : List NodeCode → (tapes words : List (List Word)) → Type 0
@@ -135,38 +144,10 @@ TellsEnding codes total (Some (stop.Fault node firing cause)) (FaultedIn round a
 TellsEnding codes total (Some stop.NoMemory) ending = Unit {0}
 TellsEnding _ _ _ _ = ⊥
 
--- A ring of a plan's stages that is over, by whatever events, has come to what one thread comes to.
-abbrev pub PlansRunAlike : Type 0
-PlansRunAlike =
-    (plan : Planning) (is : IsPlan plan) (input : List ℤ) (rounds : ℕ)
-    (bound : (stage : ℕ) → ℕ) (last : ℕ) (circuit : CircuitView) (machine started : MachineView)
-    (start : Start StageState Load Stop Gathered) (core : Core StageState Load Stop Gathered)
-    → AreKnown plan.graph → rounds < 2 ^ 32
-    → items_read plan.graph.nodes (counts_at plan.fused rounds) ≤ length input
-    → IsCut plan bound (suc last)
-    → IsCircuit plan.graph circuit → circuit.input ≡ input
-    → IsFirst plan.graph plan.fused.sizes machine
-    → order_run circuit (startup_order plan.fused) machine ≡ Went started
-    → IsBeginning (running_of plan) bound last circuit started rounds start
-    → IsState stage_work start core → is_over core ≡ true
-    → TellsEnding plan.graph.nodes core.collector.total core.collector.stop
-    (whole_run circuit (startup_order plan.fused) (round_order plan.fused) rounds machine)
-
--- And its parcels fit in any state.
-abbrev pub PlansParcelsFit : Type 0
-PlansParcelsFit =
-    (plan : Planning) (is : IsPlan plan) (input : List ℤ) (rounds : ℕ)
-    (bound : (stage : ℕ) → ℕ) (last : ℕ) (circuit : CircuitView) (machine started : MachineView)
-    (start : Start StageState Load Stop Gathered) (core : Core StageState Load Stop Gathered)
-    → AreKnown plan.graph → rounds < 2 ^ 32
-    → items_read plan.graph.nodes (counts_at plan.fused rounds) ≤ length input
-    → IsCut plan bound (suc last)
-    → IsCircuit plan.graph circuit → circuit.input ≡ input
-    → IsFirst plan.graph plan.fused.sizes machine
-    → order_run circuit (startup_order plan.fused) machine ≡ Went started
-    → IsBeginning (running_of plan) bound last circuit started rounds start
-    → IsState stage_work start core
-    → (actor : ℕ) (parcel : ParcelView) (rest : List ParcelView) → actor ≤ suc last
-    → slice_get core.links (before (length core.stages) actor) ≡ Some (parcel ∷ rest)
-    → parcel.stop ≡ None
-    → FitsBefore (running_of plan) bound last actor parcel.load
+-- An ending of so many nodes that is an outcome is what tells the outcome.
+abbrev pub OutcomesTellEndings : Type 0
+OutcomesTellEndings =
+    (codes : List NodeCode) (total : Gathered) (why : Option Stop) (outcome : Outcome Cause Word)
+    (ending : Ending)
+    → Tells (length codes) outcome ending → TellsOutcome codes total why outcome
+    → TellsEnding codes total why ending

@@ -1,26 +1,25 @@
 -- A graph whose rounds go on from a state, and what is asked of it so that stages can run them.
 use Rattle.std.specs.Prelude.{◌≡◌, ℕ, suc, ◌+◌, ◌*◌, ◌<◌, ◌≤◌, ◌^◌, List, [], ◌++◌, length, drop}
-use Rattle.std.specs.Prelude.{ℤ, Some, slice_get, slice_index}
+use Rattle.std.specs.Prelude.{ℤ, Some, None, slice_get, slice_index}
 use Rattle.strc_semantics.specs.declared.fault.Cause.{Cause}
 use Rattle.strc_semantics.specs.declared.word.Word.{Word}
 use Rattle.strc_dataflow.specs.Flat as flat
-use Rattle.strc_dataflow.specs.Order.{counted, counts_after, fill}
+use Rattle.strc_dataflow.specs.Histories.{KeepsRates}
+use Rattle.strc_dataflow.specs.Order.{counted, counts_after, fill, IsSchedule}
+use Rattle.strc_dataflow.specs.Queues.{TakesWithinWindow}
 use Rattle.strc_graph.specs.Graphs.{NodeCode, FileReader, Channel, Graph}
 use Rattle.strc_graph.specs.Meaning.{node_meaning}
 use Rattle.strc_graph.specs.Rates.{pushes_at}
-use Rattle.strc_balance.specs.Balance.{count_at}
 use Rattle.strc_startup.specs.Rates.{push_at}
 use Rattle.strc_order.specs.Firings.{Firings}
 use Rattle.strc_admissible.specs.ByChannels.{IsByChannels}
 use Rattle.strc_admissible.specs.Circuits.{IsCircuit}
 use Rattle.strc_admissible.specs.Fits.{Queues}
-use Rattle.strc_admissible.specs.Laws.{round_order}
 use Rattle.strc_admissible.specs.Machine.{CircuitView}
 use Rattle.strc_admissible.specs.NodeSteps.{HasOwnWindow}
 use Rattle.strc_restart.specs.Restart.{restarted_meaning, restarted}
 use Rattle.strc_restart.specs.Chains.{Resumption, IsResumption}
 use Rattle.strc_parts.specs.GoingOn as going
-use Rattle.strc_stage.specs.Plans.{Planning}
 use Rattle.strc_staging.specs.Ranges.{stage_within}
 use Rattle.strc_cut.specs.Cuts.{segment_of}
 
@@ -31,15 +30,6 @@ pub record Running : Type 0 where
   pub counts : Firings
   pub order : List ℕ
   pub sizes : List ℕ
-
--- Those of a plan.
-abbrev pub running_of : Planning → Running
-running_of plan = record {
-  graph = plan.graph;
-  counts = count_at plan.round_counts;
-  order = round_order plan.fused;
-  sizes = plan.fused.sizes;
-}
 
 -- How many items a channel's source pushes in a round.
 abbrev pub round_pushes : Running → Channel → ℕ
@@ -89,3 +79,23 @@ module _ (running : Running) (by_source : flat.Graph NodeCode) (from : Queues) (
         → (from.runs node).fired + rounds * running.counts node < 2 ^ 64
     -- rings have room in each round
     pub room : (round : ℕ) → round < rounds → HasRoom running by_source from round
+
+-- What one machine that runs so many rounds from there asks of it.
+pub record CanGoOn (running : Running) (by_source : flat.Graph NodeCode) (from : Queues)
+    (rounds : ℕ) (circuit : CircuitView) : Type 0 where
+  -- the state has no faults, the graph restarted there keeps its rates, and its rounds find their
+  -- windows
+  pub faultless : (node : ℕ) → (from.runs node).fault ≡ None
+  pub keeps : (node : ℕ) → KeepsRates (restarted_meaning node_meaning)
+      ((restarted from by_source).code node)
+  pub takes_within : TakesWithinWindow node_meaning by_source
+  pub schedule : IsSchedule (restarted_meaning node_meaning) (restarted from by_source) []
+      (λ node. 0) running.counts [] running.order rounds
+  -- it is the graph of these nodes and channels, as stages ask
+  pub joins : IsByChannels by_source running.graph
+  pub is_circuit : IsCircuit running.graph circuit
+  pub windows : (node firing : ℕ) → node < length running.graph.nodes
+      → HasOwnWindow (by_source.code node) firing
+  pub nodes : (node : ℕ) → 0 < running.counts node → node < length running.graph.nodes
+  pub numbered : (node : ℕ) → (from.runs node).fired + rounds * running.counts node < 2 ^ 64
+  pub room : (round : ℕ) → round < rounds → HasRoom running by_source from round

@@ -9,8 +9,9 @@
 
 mod crossing;
 
-ghost use Rattle.strc_staged.specs.Laws.{ParcelsFit, PlansParcelsFit, PlansRunAlike};
-ghost use Rattle.strc_staged.specs.Laws.{RoundsHaveRoom, StageStepsAlike, StagesRunAlike};
+ghost use Rattle.strc_staged.specs.Laws.{OutcomesTellEndings, ParcelsFit};
+ghost use Rattle.strc_staged.specs.Laws.{RoundsHaveRoom, RoundsRunAlike, StageStepsAlike};
+ghost use Rattle.strc_staged.specs.Laws.{StagesRunAlike};
 ghost use Rattle.strc_staged.specs.Rows.{TwoStagesRow};
 
 pub use crossing::{Crossing, TapeOf};
@@ -36,15 +37,14 @@ pub fn rounds_have_room()
     ensures { RoundsHaveRoom }
 {}
 
-/// A ring of a plan's stages that is over, by whatever events, has come to what one thread comes
-/// to.
-pub fn plans_run_alike()
-    ensures { PlansRunAlike }
+/// One machine that runs all rounds comes to the same as over queues.
+pub fn rounds_run_alike()
+    ensures { RoundsRunAlike }
 {}
 
-/// In a ring of a plan's stages the parcels fit, too.
-pub fn plans_parcels_fit()
-    ensures { PlansParcelsFit }
+/// What tells the outcome of a run tells how it ends.
+pub fn outcomes_tell_endings()
+    ensures { OutcomesTellEndings }
 {}
 
 /// A source and a writer in a stage each, with a fault in the first stage in round 1.

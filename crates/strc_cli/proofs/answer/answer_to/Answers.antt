@@ -1,5 +1,4 @@
-use Rattle.std.proofs.Common.{ℕ, false, List, Option, length, ap, subst, sym, inl, inr}
-use Rattle.strc_stage.specs.Plans.{planning_of}
+use Rattle.std.proofs.Common.{false, length, ap, subst, sym, inl, inr}
 use Rattle.strc_run.specs.Plans.{IsPlanOf}
 use Rattle.strc_cli.specs.Answering.{choice_of, HasSize, IsAsked, IsAnswered, ReadsInput}
 use Rattle.strc_run.specs.Choices.{Choice}
@@ -18,7 +17,8 @@ returns-in-Check-clause-answered g c =
     subst
     (λ (choice : Choice). HasSize text choice (length plan.graph.nodes)
     (length plan.graph.channels))
-    (same_choice _ _ c.in-Ok.ensures.main c.in-Ok.ensures.fuse) (plan_size text _ plan c.in-Ok-compile.ensures.plan) in
+    (same_choice _ _ c.in-Ok.ensures.main c.in-Ok.ensures.ways c.in-Ok.ensures.fuse)
+    (plan_size text _ plan c.in-Ok-compile.ensures.plan) in
     subst
     (λ (command : Command). IsAsked text command bytes
     (answer.Checked (length c.nodes.result.now) (length c.channels.result.now)))
@@ -34,28 +34,30 @@ returns-in-Check-clause-answered g c =
 pub returns-in-Run-clause-answered : goal.returns-in-Run-clause-answered
 returns-in-Run-clause-answered g c =
     let text = c.args.text.now in
-    let plan = planning_of c.in-Ok-compile.plan in
+    let plan = c.in-Ok-compile.plan in
     let is : IsPlanOf text (choice_of c.args.command.now) plan =
     subst (λ (choice : Choice). IsPlanOf text choice plan)
-    (same_choice _ _ c.in-Ok.ensures.main c.in-Ok.ensures.fuse) c.in-Ok-compile.ensures.plan in
+    (same_choice _ _ c.in-Ok.ensures.main c.in-Ok.ensures.ways c.in-Ok.ensures.fuse)
+    c.in-Ok-compile.ensures.plan in
     subst
     (λ (command : Command). IsAnswered text command (g.I.Source.remaining c.args.input.now)
     c.run_plan.result)
     (sym c.in-Run.is)
-    (c.run_plan.ensures.run text _ _ c.in-Run.stats
+    (c.run_plan.ensures.run text _ _ _ c.in-Run.stats
     (subst (λ (choice : Choice). IsPlanOf text choice plan) (ap choice_of c.in-Run.is) is))
 
 pub returns-in-Run-clause-unread : goal.returns-in-Run-clause-unread
 returns-in-Run-clause-unread g c =
     let text = c.args.text.now in
-    let plan = planning_of c.in-Ok-compile.plan in
+    let plan = c.in-Ok-compile.plan in
     let is : IsPlanOf text (choice_of c.args.command.now) plan =
     subst (λ (choice : Choice). IsPlanOf text choice plan)
-    (same_choice _ _ c.in-Ok.ensures.main c.in-Ok.ensures.fuse) c.in-Ok-compile.ensures.plan in
+    (same_choice _ _ c.in-Ok.ensures.main c.in-Ok.ensures.ways c.in-Ok.ensures.fuse)
+    c.in-Ok-compile.ensures.plan in
     elim c.run_plan.ensures.unread [
       | inl same ↦ inl same
       | inr reads ↦ inr (subst (ReadsInput text) (sym c.in-Run.is)
-          (reads_text text _ _ plan
+          (reads_text text _ _ _ plan
           (subst (λ (choice : Choice). IsPlanOf text choice plan) (ap choice_of c.in-Run.is)
           is) c.in-Run.rounds c.in-Run.workers false
           (g.I.Source.remaining c.args.input.now) reads))

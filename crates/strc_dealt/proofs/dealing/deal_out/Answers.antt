@@ -28,7 +28,7 @@ returns-clause-machine c =
     c.requires.before c.in_ok-after.ensures.machine)
 
 pub returns-clause-dealt : goal.returns-clause-dealt
-returns-clause-dealt c =
+returns-clause-dealt c room =
     let graph = c.args.graph.now in
     let origins = c.args.origins.now in
     let old = circuit_view c.args.old.now in
@@ -46,4 +46,4 @@ returns-clause-dealt c =
     (subst (λ (n : ℕ). HasFilled (items_before old (graph_view graph).nodes origins left)
     (graph_view graph).channels n given after)
     (sym (length-map graph.channels channel_view)) c.hand_channels.ensures.filled)
-    c.requires.room
+    room

@@ -8,7 +8,7 @@ use Rattle.strc_runner.specs.Keeping.{kept_at, with_kept}
 use Rattle.strc_runner.specs.Running.{IsMachine, machine_view}
 use Rattle.strc_runner.specs.declared.machine.Machine.{Machine}
 use Rattle.strc_dealt.specs.Handing.{HasHanded}
-use Rattle.strc_dealt.specs.Origins.{old_node}
+use Rattle.strc_split.specs.Named.{old_node}
 use Rattle.strc_dealt.proofs.Nodes.{node_there, not_whole, skipped, swapped}
 use Rattle.strc_dealt.proofs.dealing.hand_nodes.Goals as goal
 use Rattle.strc_dealt.proofs.dealing.hand_nodes.Goals.{then-not-is_part, else-not-is_part}

@@ -17,8 +17,8 @@ use Rattle.strc_admissible.specs.Laws.{round_order}
 use Rattle.strc_runner.specs.Actors.{fields_of}
 use Rattle.strc_runner.specs.Parts.{HoldsFrom, IsPart, IsRest}
 use Rattle.strc_runner.specs.Running.{machine_view}
-use Rattle.strc_stage.specs.Plans.{planning_of}
 use Rattle.strc_stages.specs.Tapes.{AreAfter}
+use Rattle.strc_stage.specs.Plans.{transformed_of}
 use Rattle.strc_launch.specs.Bounds.{bound_in, last_of}
 use Rattle.strc_launch.specs.Links.{blocks_in, crossings_in}
 use Rattle.strc_launch.specs.Made.{IsMade}
@@ -31,8 +31,8 @@ use Rattle.strc_launch.proofs.making.stage_of.Goals as goal
 pub take_part-requires-clause-own : goal.take_part-requires-clause-own
 take_part-requires-clause-own c =
     subst (λ (g : GraphParts). IsPartCircuit (graph_view g) c.index-first.result.now
-    c.index-next.result.now (circuit_view c.in_ok-own.own)) (sym c.graph.ensures.graph)
-    (c.parts_are_part_circuits.ensures (graph_view c.args.plan.now.graph)
+    c.index-next.result.now (circuit_view c.in_ok-own.own)) (sym c.transformed_graph.ensures)
+    (c.parts_are_part_circuits.ensures (graph_view c.args.plan.now.split.graph)
     (circuit_view c.args.circuit.now) (circuit_view c.in_ok-own.own) c.index-first.result.now
     c.index-next.result.now c.requires.circuit c.in_ok-own.ensures.part)
 
@@ -45,12 +45,13 @@ new-requires-2 c =
       order = c.in_ok-order.ensures.order;
       tapes = subst (AreAfter 0) (sym (c.in_ok-tapes_within.ensures
           ∙ ap (tapes_in first next 0) (c.deref-4.ensures.value ∙ c.requires.cut.tapes)))
-          (tapes_after first next 0 0 0 (graph_view c.args.plan.now.graph).nodes (omega arith));
+          (tapes_after first next 0 0 0 (graph_view c.args.plan.now.split.graph).nodes
+          (omega arith));
       stopped = λ broken. absurd (true≢false (sym broken));
     }
 
 parted : (c : goal.After-new-2)
-    → IsParted (planning_of c.args.plan.now) c.args.cut.now.bounds.items
+    → IsParted c.args.plan.now c.args.cut.now.bounds.items
     (circuit_view c.args.circuit.now) (circuit_view c.in_ok-own.own) c.args.cut.now.rooms.items
     (machine_view c.args.machine.now) (machine_view c.in_ok-part.part) c.args.stage
     c.index-first.result.now c.index-next.result.now
@@ -73,8 +74,8 @@ parted c =
       each_fired = c.requires.holds.fired;
       is = subst (λ (g : GraphParts). IsPart (graph_view g) c.index-first.result.now
           c.index-next.result.now c.args.cut.now.rooms.items (machine_view before) part)
-          c.graph.ensures.graph
-          (subst (λ (rooms : List ℕ). IsPart (graph_view c.graph.result.now)
+          c.transformed_graph.ensures
+          (subst (λ (rooms : List ℕ). IsPart (graph_view c.transformed_graph.result.now)
           c.index-first.result.now c.index-next.result.now rooms (machine_view before) part)
           c.deref.ensures.value c.in_ok-part.ensures.part);
     }
@@ -82,32 +83,32 @@ parted c =
 order_is : (c : goal.After-new-2)
     → firings_of c.in_ok-order.order.units.items
     ≡ segment_of (bound_in c.args.cut.now.bounds.items)
-    (round_order (planning_of c.args.plan.now).fused) c.args.stage
+    (round_order c.args.plan.now.split.schedule) c.args.stage
 order_is c =
-    let plan = planning_of c.args.plan.now in
+    let plan = c.args.plan.now in
     let at = c.requires.cut.at in
-    let between_first = subst (λ (n : ℕ). IsBetweenUnits (round_units plan.fused.round) n)
+    let between_first = subst (λ (n : ℕ). IsBetweenUnits (round_units plan.split.schedule.round) n)
     (sym (parted c).first_is)
     (at.cut.units c.args.stage (omega (arith, c.requires.stage))) in
-    let between_next = subst (λ (n : ℕ). IsBetweenUnits (round_units plan.fused.round) n)
+    let between_next = subst (λ (n : ℕ). IsBetweenUnits (round_units plan.split.schedule.round) n)
     (sym (parted c).next_is)
     (at.cut.units (suc c.args.stage) (omega (arith, c.requires.stage))) in
     let first = c.index-first.result.now in
     let next = c.index-next.result.now in
     let is = parted c in
     ap firings_of c.in_ok-order.ensures.units
-    ∙ same_firings c.in_ok-units.units.items (units_within first next plan.fused.round)
+    ∙ same_firings c.in_ok-units.units.items (units_within first next plan.split.schedule.round)
     (c.in_ok-units.ensures ∙ ap (λ (l : List units.Unit.Unit).
     unit_views (units_within first next l)) (c.round-round.ensures
     ∙ ap (λ (s : ScheduleParts). s.round) c.transformed_schedule.ensures.schedule))
-    ∙ segments_are_units plan.fused.round first next between_first between_next
-    ∙ ap (λ (n : ℕ). firings_within n next (round_order plan.fused)) is.first_is
+    ∙ segments_are_units plan.split.schedule.round first next between_first between_next
+    ∙ ap (λ (n : ℕ). firings_within n next (round_order plan.split.schedule)) is.first_is
     ∙ ap (λ (n : ℕ). firings_within (bound_in c.args.cut.now.bounds.items c.args.stage) n
-    (round_order plan.fused)) is.next_is
+    (round_order plan.split.schedule)) is.next_is
 
 pub returns-clause-made : goal.returns-clause-made
 returns-clause-made c =
-    let plan = planning_of c.args.plan.now in
+    let plan = c.args.plan.now in
     let cut = c.args.cut.now in
     let bounds = cut.bounds.items in
     let stage = c.args.stage in
@@ -131,11 +132,11 @@ returns-clause-made c =
             ∙ c.requires.cut.links)
             ∙ leaving_is plan bounds stage;
         tapes_are = tapes
-            ∙ ap (λ (n : ℕ). tapes_in n next 0 (tape_nodes plan.graph.nodes)) is.first_is
+            ∙ ap (λ (n : ℕ). tapes_in n next 0 (tape_nodes (transformed_of plan).nodes)) is.first_is
             ∙ ap (λ (n : ℕ). tapes_in (bound_in bounds stage) n 0
-            (tape_nodes plan.graph.nodes)) is.next_is
+            (tape_nodes (transformed_of plan).nodes)) is.next_is
             ∙ tapes_are plan (bound_in bounds) (last_of bounds) c.requires.cut.at.cut stage
-            c.requires.stage 0 0 plan.graph.nodes (omega arith);
+            c.requires.stage 0 0 (transformed_of plan).nodes (omega arith);
         machine = machine_view c.in_ok-part.part;
         machine_is = refl;
         is_machine = machine_of plan bounds _ _ _ _ _ _ _ _ is;
@@ -157,14 +158,15 @@ returns-clause-rest c =
     let before = machine_view c.args.machine.now in
     let after = machine_view c.take_part.new.self in
     subst (λ (g : GraphParts). IsRest (graph_view g)
-    (bound_in c.args.cut.now.bounds.items (suc c.args.stage)) before after) c.graph.ensures.graph
-    (subst (λ (n : ℕ). IsRest (graph_view c.graph.result.now) n before after)
+    (bound_in c.args.cut.now.bounds.items (suc c.args.stage)) before after)
+    c.transformed_graph.ensures
+    (subst (λ (n : ℕ). IsRest (graph_view c.transformed_graph.result.now) n before after)
     (parted c).next_is c.in_ok-part.ensures.rest)
 
 pub returns-clause-holds : goal.returns-clause-holds
 returns-clause-holds c =
     subst (λ (g : GraphParts). HoldsFrom (graph_view g)
     (bound_in c.args.cut.now.bounds.items (suc c.args.stage)) c.take_part.new.self)
-    c.graph.ensures.graph
-    (subst (λ (n : ℕ). HoldsFrom (graph_view c.graph.result.now) n c.take_part.new.self)
+    c.transformed_graph.ensures
+    (subst (λ (n : ℕ). HoldsFrom (graph_view c.transformed_graph.result.now) n c.take_part.new.self)
     (parted c).next_is c.in_ok-part.ensures.holds)

@@ -3,14 +3,14 @@ use Rattle.std.proofs.lemmas.List.{length_push}
 use Rattle.strc_circuit.specs.Circuits.{circuit_view}
 use Rattle.strc_runner.specs.Parts.{HoldsFrom, IsRest}
 use Rattle.strc_runner.specs.Running.{machine_view}
-use Rattle.strc_stage.specs.Plans.{planning_of}
+use Rattle.strc_stage.specs.Plans.{transformed_of}
 use Rattle.strc_launch.specs.Bounds.{bound_in, last_of}
 use Rattle.strc_launch.proofs.Remainders.{made_more, rest_next}
 use Rattle.strc_launch.proofs.making.stages_of.Goals as goal
 
 pub loop-stage-preserved : goal.loop-stage-preserved
 loop-stage-preserved c =
-    let plan = planning_of c.args.plan.now in
+    let plan = c.args.plan.now in
     let bounds = c.args.cut.now.bounds.items in
     let stage = c.loop-stage.stage in
     let so_far = c.loop-stage.invariant in
@@ -33,10 +33,10 @@ loop-stage-preserved c =
           c.args.rounds stage c.loop-stage.stages.items c.push.new.self.items
           c.in_ok-stage_of.field-0 so_far.each c.in_ok-push.ensures.items so_far.rest so_far.made
           own.made;
-      rest = subst (λ (n : ℕ). IsRest plan.graph (bound_in bounds n) started
+      rest = subst (λ (n : ℕ). IsRest (transformed_of plan) (bound_in bounds n) started
           (machine_view c.stage_of.new.machine)) e
           (rest_next plan (bound_in bounds) (last_of bounds) stage started before
           (machine_view c.stage_of.new.machine) at.cut most so_far.rest own.rest);
-      holds = subst (λ (n : ℕ). HoldsFrom plan.graph (bound_in bounds n)
+      holds = subst (λ (n : ℕ). HoldsFrom (transformed_of plan) (bound_in bounds n)
           c.stage_of.new.machine) e own.holds;
     }

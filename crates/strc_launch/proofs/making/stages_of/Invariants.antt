@@ -3,7 +3,6 @@ use Rattle.strc_circuit.specs.Circuits.{circuit_view}
 use Rattle.strc_graph.specs.NodeView.{graph_view}
 use Rattle.strc_runner.specs.Parts.{HoldsFrom, IsRest}
 use Rattle.strc_runner.specs.Running.{machine_view}
-use Rattle.strc_stage.specs.Plans.{planning_of}
 use Rattle.strc_launch.specs.Bounds.{bound_in}
 use Rattle.strc_launch.specs.Made.{AreMade}
 use Rattle.strc_launch.proofs.making.stages_of.Given as goal
@@ -11,10 +10,10 @@ use Rattle.strc_launch.proofs.making.stages_of.Given as goal
 abbrev pub invariant-loop-stage : goal.invariant-loop-stage
 invariant-loop-stage l = record {
   each : length l.stages.items ≡ l.stage;
-  made : AreMade (planning_of l.fn.plan) l.fn.cut.bounds.items (circuit_view l.fn.circuit)
+  made : AreMade l.fn.plan l.fn.cut.bounds.items (circuit_view l.fn.circuit)
       (machine_view l.fn.machine) l.fn.rounds l.stages.items;
-  rest : IsRest (graph_view l.fn.plan.graph) (bound_in l.fn.cut.bounds.items l.stage)
+  rest : IsRest (graph_view l.fn.plan.split.graph) (bound_in l.fn.cut.bounds.items l.stage)
       (machine_view l.fn.machine) (machine_view l.machine);
-  holds : HoldsFrom (graph_view l.fn.plan.graph) (bound_in l.fn.cut.bounds.items l.stage)
+  holds : HoldsFrom (graph_view l.fn.plan.split.graph) (bound_in l.fn.cut.bounds.items l.stage)
       l.machine;
 }

@@ -1,4 +1,4 @@
-use Rattle.std.proofs.Common.{◌≡◌, ◌∙◌, sym, ap, subst, ◌<◌, ◌*◌, ℕ, List, length, map}
+use Rattle.std.proofs.Common.{◌≡◌, ◌∙◌, sym, ap, subst, ◌*◌, ℕ, List, length, map}
 use Rattle.std.specs.Prelude.{slice_get}
 use Rattle.std.specs.Vec.{vec_items}
 use Rattle.std.proofs.lemmas.List.{length-map}
@@ -7,9 +7,8 @@ use Rattle.strc_graph.specs.Tapes.{tape_nodes}
 use Rattle.strc_admissible.specs.Machine.{words_at}
 use Rattle.strc_circuit.specs.Circuits.{circuit_view}
 use Rattle.strc_runner.specs.Running.{machine_view}
-use Rattle.strc_stage.specs.Plans.{planning_of}
 use Rattle.strc_staged.specs.Beginnings.{IsBeginning}
-use Rattle.strc_staged.specs.Runnings.{running_of}
+use Rattle.strc_split_rings.specs.Plans.{running_of}
 use Rattle.strc_stages.specs.Collectors.{begun}
 use Rattle.strc_stages.specs.declared.collector.CollectorParts.{CollectorParts}
 use Rattle.strc_launch.specs.Bounds.{bound_in, last_of}
@@ -26,21 +25,20 @@ tape_words-requires c =
     sym (length-map c.into_words.result.items vec_items)
     ∙ ap length (c.into_words.ensures ∙ c.in_ok-stages.ensures.words)
     ∙ length-map machine.words.items vec_items ∙ c.requires.machine.words
-    ∙ ap length c.requires.circuit.codes ∙ length-map c.args.plan.now.graph.nodes node_view
+    ∙ ap length c.requires.circuit.codes ∙ length-map c.args.plan.now.split.graph.nodes node_view
     ∙ ap length (sym (c.nodes.ensures
-    ∙ ap (λ (g : GraphParts). g.nodes) c.graph.ensures.graph))
+    ∙ ap (λ (g : GraphParts). g.nodes) c.transformed_graph.ensures))
 
 pub returns : goal.returns
 returns c =
-    let plan = planning_of c.args.plan.now in
+    let plan = c.args.plan.now in
     let bounds = c.args.cut.now.bounds.items in
     let circuit = circuit_view c.args.circuit.now in
     let started = machine_view c.args.machine in
     let workers = c.args.workers in
     let stages = c.in_ok-stages.stages.items in
     let is = c.requires.stages.cutting.at.is in
-    let some = subst (λ n. 0 < n) (sym (length-map c.args.plan.now.graph.nodes node_view))
-    c.requires.stages.some_node in
+    let some = c.requires.stages.some_node in
     let same : bounds ≡ bounds_of plan workers = c.requires.stages.bounds in
     let stages_are_made = c.in_ok-stages.ensures in
     let parts : AreParts plan bounds circuit started c.args.rounds stages
@@ -55,7 +53,7 @@ returns c =
           ∙ ap (λ l. map (words_at l) (tape_nodes (map node_view c.nodes.result.now)))
           (c.into_words.ensures ∙ stages_are_made.words)
           ∙ ap (λ l. map (words_at started.words) (tape_nodes (map node_view l)))
-          (c.nodes.ensures ∙ ap (λ (g : GraphParts). g.nodes) c.graph.ensures.graph);
+          (c.nodes.ensures ∙ ap (λ (g : GraphParts). g.nodes) c.transformed_graph.ensures);
     } in
     subst (λ (collector : CollectorParts). IsRingOf plan circuit started c.args.rounds workers
     (record {

@@ -7,8 +7,6 @@ use Rattle.strc_parallel.proofs.telling.faulted.Goals as goal
 pub returns-clause-ending : goal.returns-clause-ending
 returns-clause-ending c = (
   refl,
-  refl,
-  refl,
   c.in_ok-told_tapes.ensures.tapes
       ∙ ap (λ l. tapes_by (map node_view c.args.nodes.now) (map vec_items l)) c.new.ensures.items
       ∙ no_words 0 0 (map node_view c.args.nodes.now),

@@ -1,17 +1,17 @@
-use Rattle.std.proofs.Common.{map}
-use Rattle.strc_graph.specs.NodeView.{node_view}
+use Rattle.std.proofs.Common.{◌∙◌, ap, subst, map}
+use Rattle.strc_graph.specs.NodeView.{GraphParts, node_view}
 use Rattle.strc_stages.specs.Collectors.{total_of}
-use Rattle.strc_parallel.proofs.Endings.{ends_done, with_told}
+use Rattle.strc_staged.specs.Laws.{TellsOutcome}
+use Rattle.strc_parallel.specs.Answers.{Answer, IsTold}
 use Rattle.strc_parallel.proofs.telling.outcome_of.Goals as goal
 
-pub returns-in_ok-told_tapes-in-None-clause-ending :
-    goal.returns-in_ok-told_tapes-in-None-clause-ending
-returns-in_ok-told_tapes-in-None-clause-ending c =
-    ends_done (map node_view c.args.nodes.now) (total_of c.args.collector)
-    c.in_ok-told_tapes-in-None.field-0 c.in_ok-told_tapes-in-None.ensures.tapes
-    c.args.collector.stop c.in-None.is
-
-pub returns-in-Some-clause-ending : goal.returns-in-Some-clause-ending
-returns-in-Some-clause-ending c =
-    with_told (map node_view c.args.nodes.now) (total_of c.args.collector) c.args.collector.stop
-    c.in-Some.stop c.in-Some.is c.stopped.result c.stopped.ensures.ending
+pub returns-clause-ending : goal.returns-clause-ending
+returns-clause-ending c = record {
+  own = c.in_ok-own.own;
+  tells = subst (λ nodes. (answer : Answer)
+      → TellsOutcome (map node_view nodes) (total_of c.args.collector) c.args.collector.stop answer
+      → IsTold (map node_view nodes) answer c.in_ok-own.own)
+      (c.nodes.ensures ∙ ap (λ (g : GraphParts). g.nodes) c.transformed_graph.ensures)
+      c.in_ok-own.ensures.ending;
+  renamed = c.renamed.ensures;
+}

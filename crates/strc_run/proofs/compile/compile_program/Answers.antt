@@ -1,4 +1,4 @@
-use Rattle.std.proofs.Common.{List, map, sym, ap, ◌∙◌, subst, Err, arith, ◌≤◌}
+use Rattle.std.proofs.Common.{List, map, sym, ap, ◌∙◌, subst, Err, arith}
 use Rattle.std.specs.List.{AllByRecursion}
 use Rattle.strc_graph.specs.Graphs.{NodeCode}
 use Rattle.strc_stream.specs.View.{stream_view}
@@ -6,15 +6,13 @@ use Rattle.strc_graph.specs.NodeView.{node_view, graph_view}
 use Rattle.strc_run.specs.Rates.{rates_checked}
 use Rattle.strc_refusal.specs.Reports.{refusal_of, balance_refusal_of, startup_refusal_of}
 use Rattle.strc_refusal.specs.Reports.{schedule_refusal_of}
-use Rattle.strc_run.specs.Refuses.{IsTrueOf}
 use Rattle.strc_run.specs.Verdicts.{IsRefusal}
 use Rattle.strc_run.proofs.Refusals.{elaboration_refused, graph_refused, rates_refused}
 use Rattle.strc_run.proofs.Refusals.{balance_refused, startup_refused, schedule_refused}
-use Rattle.strc_run.proofs.Refusals.{fusion_refused}
-use Rattle.strc_run.proofs.Refusals.{plan_reported, refusal_reported, which_deadlock}
+use Rattle.strc_run.proofs.Refusals.{plan_reported, refusal_reported, transformation_refused}
+use Rattle.strc_run.proofs.Refusals.{which_deadlock}
 use Rattle.strc_run.proofs.RatedGraphs.{IsChecked, flat_is_rated, stream_checked}
 use Rattle.strc_balance.specs.Balance.{count_at}
-use Rattle.strc_stage.proofs.Lengths.{each_sized}
 use Rattle.strc_run.proofs.PlannedGraphs.{graph_has_plan}
 use Rattle.strc_run.proofs.compile.compile_program.Goals as goal
 
@@ -140,33 +138,39 @@ returns-in_err-schedule c = λ text spells.
     (λ is. (reported.before (ap Err is), reported.round (ap Err is))))
     (λ channel is. reported.limit channel (ap Err is)))
 
-pub returns-in-Err : goal.returns-in-Err
-returns-in-Err c = λ text spells.
+pub transformed-requires : goal.transformed-requires
+transformed-requires c =
+    let counts = c.in_ok-round_counts.ensures in
+    c.schedules_can_be_fused.ensures (graph_view c.in_ok-graph.graph)
+    (count_at c.in_ok-startup_counts.startup_counts) c.in_ok-round_counts.round_counts
+    c.in_ok-schedule.schedule c.in_ok-schedule.ensures.schedule
+    (omega (arith, counts.least.balances.each))
+
+pub returns-in_err-split : goal.returns-in_err-split
+returns-in_err-split c = λ text spells.
     let elaborates = c.in_ok-stream.ensures.verdict in
     let sound = c.in_ok-stream.ensures.sound in
     let rates = ap (rates_checked 0) (sym
     (ap (map node_view) c.nodes.ensures ∙ c.in_ok-graph.ensures.nodes))
     ∙ c.in_ok-check_rates.ensures in
-    let schedule = c.in_ok-schedule.schedule in
-    subst (IsTrueOf text _) (sym c.fusion_refusal_of.ensures)
-    (fusion_refused _ _ _ spells (stream_view c.in_ok-stream.stream) elaborates
+    let broken = c.in_err-split.field-0.0 in
+    refusal_reported _ _ c.from_residual-in_err-split.result broken
+    c.from_residual-in_err-split.ensures.1
+    (transformation_refused _ _ _ spells (stream_view c.in_ok-stream.stream) elaborates
     (graph_view c.in_ok-graph.graph)
     (c.in_ok-graph.ensures.verdict sound.closed.typed) rates
     (c.in_ok-graph.ensures.graph sound.closed.typed) c.in_ok-round_counts.round_counts
-    c.in_ok-round_counts.ensures.verdict c.in_ok-startup_counts.startup_counts c.in-Err.error
+    c.in_ok-round_counts.ensures.verdict c.in_ok-startup_counts.startup_counts
+    c.in_ok-schedule.schedule broken
     (record {
       least = c.in_ok-startup_counts.ensures.least;
       within = c.in_ok-startup_counts.ensures.within;
     })
-    c.in_ok-graph.ensures.loops
-    (λ channel is. record {
-      schedule = schedule;
-      has = record {
-        is = c.in_ok-schedule.ensures.schedule;
-        within = c.in_ok-schedule.ensures.within;
-      };
-      passes = c.in-Err.ensures.limit channel (ap Err is);
-    }))
+    (record {
+      is = c.in_ok-schedule.ensures.schedule;
+      within = c.in_ok-schedule.ensures.within;
+    })
+    c.in_ok-graph.ensures.loops c.in_err-split.ensures.refused)
 
 pub new-requires : goal.new-requires
 new-requires c =
@@ -175,11 +179,11 @@ new-requires c =
     let nodes = c.in_ok-graph.ensures.nodes in
     let checks = ap (rates_checked 0) (sym (ap (map node_view) c.nodes.ensures))
     ∙ c.in_ok-check_rates.ensures in
-    graph_has_plan graph
+    graph_has_plan c.in_ok-graph.graph
     (subst (AllByRecursion IsChecked) (sym nodes)
     (stream_checked c.nodes_deal.ensures (stream_view c.in_ok-stream.stream) sound
     (ap (rates_checked 0) (sym nodes) ∙ checks)))
-    c.in_ok-schedule.schedule c.in-Ok.fused
+    c.in_ok-schedule.schedule c.in_ok-split.split
     c.in_ok-startup_counts.startup_counts c.in_ok-round_counts.round_counts
     (flat_is_rated c.nodes_deal.ensures (stream_view c.in_ok-stream.stream) graph sound
     c.in_ok-graph.ensures.graph nodes checks)
@@ -202,23 +206,10 @@ new-requires c =
       connected = c.in_ok-graph.ensures.connected sound.closed.typed;
       loops = c.in_ok-graph.ensures.loops;
     })
-    c.args.fuse c.in-Ok.ensures.fusion c.programs_are_placed.ensures
-    c.in-Ok.ensures.planned
-
-pub fused_schedule-requires-clause-can : goal.fused_schedule-requires-clause-can
-fused_schedule-requires-clause-can c =
-    let counts = c.in_ok-round_counts.ensures in
-    c.schedules_can_be_fused.ensures (graph_view c.in_ok-graph.graph)
-    (count_at c.in_ok-startup_counts.startup_counts) c.in_ok-round_counts.round_counts
-    c.in_ok-schedule.schedule c.in_ok-schedule.ensures.schedule
-    (omega (arith, counts.least.balances.each))
-
-pub fused_schedule-requires-clause-sizes : goal.fused_schedule-requires-clause-sizes
-fused_schedule-requires-clause-sizes c =
-    each_sized c.in_ok-graph.graph c.in_ok-startup_counts.startup_counts
-    c.in_ok-round_counts.round_counts c.in_ok-schedule.schedule (record {
-      is = c.in_ok-schedule.ensures.schedule;
-      within = c.in_ok-schedule.ensures.within;
+    (record {
+      ways = c.args.ways;
+      threshold = c.args.fuse;
+      transformed = c.in_ok-split.ensures.transformed;
     })
 
 pub returns : goal.returns
@@ -245,7 +236,7 @@ returns c = λ text spells.
           is = c.in_ok-schedule.ensures.schedule;
           within = c.in_ok-schedule.ensures.within;
         };
-        fused = c.in-Ok.ensures.fusion;
+        transformed = c.in_ok-split.ensures.transformed;
         loops = c.in_ok-graph.ensures.loops;
       };
       whole = c.in_ok-graph.ensures.program sound.closed;

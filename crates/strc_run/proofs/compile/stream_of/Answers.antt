@@ -9,11 +9,12 @@ use Rattle.strc_run.proofs.compile.stream_of.Goals as goal
 pub returns : goal.returns
 returns c =
     let text = c.args.text.now in
+    let ways = c.args.options.now.ways in
     let fuse = c.args.options.now.fuse in
     subst (λ (refused : Refusal). IsTrueOf text (choice_of c.args.options.now) refused)
     (sym c.from.ensures)
     (subst (λ (main : Option (List ℕ)).
-    IsTrueOf text (record { main = main; fuse = fuse }) (refusal_of c.in-Err-elaborate.error))
-    c.main_name.ensures
-    (elaboration_refused text (record { main = _; fuse = fuse }) _ c.in-Ok.ensures.read
-    c.in-Err-elaborate.error c.in-Err-elaborate.ensures.verdict))
+    IsTrueOf text (record { main = main; ways = ways; fuse = fuse })
+    (refusal_of c.in-Err-elaborate.error)) c.main_name.ensures
+    (elaboration_refused text (record { main = _; ways = ways; fuse = fuse }) _
+    c.in-Ok.ensures.read c.in-Err-elaborate.error c.in-Err-elaborate.ensures.verdict))

@@ -1,5 +1,5 @@
-use Rattle.std.proofs.Common.{◌∙◌, ap, map, length, arith, ◌≤◌}
-use Rattle.strc_graph.specs.NodeView.{graph_view, node_view}
+use Rattle.std.proofs.Common.{length, arith, ◌≤◌}
+use Rattle.strc_graph.specs.NodeView.{graph_view}
 use Rattle.strc_admissible.specs.Laws.{counts_at, startup_order, round_order}
 use Rattle.strc_admissible.specs.Machine.{whole_run}
 use Rattle.strc_admissible.specs.Planned.{items_read}

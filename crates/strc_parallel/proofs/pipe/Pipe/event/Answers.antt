@@ -1,12 +1,11 @@
 use Rattle.std.proofs.Common.{subst}
-use Rattle.strc_stage.specs.Plans.{planning_of}
 use Rattle.strc_launch.specs.Launches.{start_of}
 use Rattle.strc_parallel.specs.Piped.{HasGoneOn, IsPipe}
 use Rattle.strc_parallel.proofs.pipe.Pipe.event.Goals as goal
 
 pub returns-in-Going-clause-state : goal.returns-in-Going-clause-state
 returns-in-Going-clause-state c = λ input rounds is.
-    let plan = planning_of c.args.self.now.plan in
+    let plan = c.args.self.now.plan in
     let before : HasGoneOn plan input rounds c.in-Going.ring =
     subst (IsPipe plan input rounds) c.in-Going.is is in
     record {
